@@ -1,0 +1,2 @@
+-- What the record's fields mean, its rule, and what each call promises.
+pub mod View

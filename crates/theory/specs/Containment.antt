@@ -1,0 +1,33 @@
+-- Containment of queries over all databases that obey the dependencies (demand 2), and a query read as a database.
+use mathlib.Core.Path.{_≡_}
+use mathlib.Core.Logic.{_↔_}
+use mathlib.Core.List.{List, map}
+use Prim.Native.Nat.{ℕ, _+_, _<_}
+use Rattle.theory.specs.Query.{Entry, constant, variable, Row, Query, mapRow, rowEntries, _∈_}
+use Rattle.theory.specs.Database.{Database, Dependency, Obeys, Sound}
+use Rattle.theory.specs.Answer.{Answer, valueOf, itself}
+
+-- p is contained in q: on every sound database that obeys the dependencies, each answer of p is an answer of q
+abbrev pub Contained : List ℕ → List Dependency → Query → Query → Type 0
+Contained widths ds p q = (D : Database) → Sound widths D → Obeys ds D → (t : List ℕ) → Answer D p t → Answer D q t
+
+-- p and q have the same answers on every sound database that obeys the dependencies
+abbrev pub Equivalent : List ℕ → List Dependency → Query → Query → Type 0
+Equivalent widths ds p q = (D : Database) → Sound widths D → Obeys ds D → (t : List ℕ) → Answer D p t ↔ Answer D q t
+
+-- An entry read as a number: a constant as itself, variable v as base + v
+abbrev pub freeze : ℕ → Entry → ℕ
+freeze base = valueOf itself (λ v. base + v)
+
+-- The rows of a query read as a database
+abbrev pub frozenRows : ℕ → Query → Database
+frozenRows base q = map (mapRow (freeze base)) (q .rows)
+
+-- The head of a query read as an answer
+abbrev pub frozenHead : ℕ → Query → List ℕ
+frozenHead base q = map (freeze base) (q .head)
+
+-- Each constant of the query is below the base, so that the reading keeps entries apart
+pub record ConstantsBelow (base : ℕ) (q : Query) : Type 0 where
+  pub of-head : (n : ℕ) → constant n ∈ q .head → n < base
+  pub of-rows : (n : ℕ) → constant n ∈ rowEntries (q .rows) → n < base

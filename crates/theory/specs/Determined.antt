@@ -1,0 +1,55 @@
+-- The columns that a set of columns determines: what it means over all databases, and the closure that computes it.
+use mathlib.Core.Path.{_≡_}
+use mathlib.Core.Bool.{Bool, true, false, cond, not, _&&_}
+use mathlib.Core.List.{List, [], _∷_}
+use mathlib.Core.Option.{Option, none, some}
+use Prim.Native.Nat.{ℕ, zero, suc, _<_}
+use lib.Dec.{eqb}
+use lib.ListN.{length, getD}
+use Rattle.theory.specs.Query.{Row, column, member, _∈_}
+use Rattle.theory.specs.Database.{Database, Dependency, Agree, Obeys, Sound}
+use Rattle.theory.specs.Chase.{firstPassing}
+
+-- The left set determines column c of a relation: two rows of it that agree on the left set agree on c, in every sound database that obeys the dependencies
+abbrev pub Determines : List ℕ → List Dependency → ℕ → List ℕ → ℕ → Type 0
+Determines widths ds relation left c =
+    (D : Database) → Sound widths D → Obeys ds D → (r s : Row ℕ) → r ∈ D → s ∈ D
+    → r .relation ≡ relation → s .relation ≡ relation → Agree 0 left r s → column 0 r c ≡ column 0 s c
+
+-- A dependency fits a schema: its relation is known, and its columns are columns of that relation
+pub record FitsColumns (widths : List ℕ) (d : Dependency) : Type 0 where
+  pub relation : d .relation < length widths
+  pub left : (c : ℕ) → c ∈ d .left → c < getD widths (d .relation) 0
+  pub right : d .right < getD widths (d .relation) 0
+
+-- Whether each number of the first list stands in the second
+unfoldable pub subset : List ℕ → List ℕ → Bool
+subset [] ns = true
+subset (m ∷ ms) ns = member m ns && subset ms ns
+
+-- Whether a dependency adds its right column to the known columns of a relation
+unfoldable pub adds : ℕ → List ℕ → Dependency → Bool
+adds relation known d = eqb (d .relation) relation && subset (d .left) known && not (member (d .right) known)
+
+-- The known columns with those that a found dependency leads to; `again` goes on from the larger set
+unfoldable pub growOn : (List ℕ → List ℕ) → List ℕ → Option Dependency → List ℕ
+growOn again known none = known
+growOn again known (some d) = again (d .right ∷ known)
+
+-- The known columns after at most so many additions
+unfoldable pub growFor : ℕ → List Dependency → ℕ → List ℕ → List ℕ
+growFor zero ds relation known = known
+growFor (suc n) ds relation known = growOn (growFor n ds relation) known (firstPassing (adds relation known) ds)
+
+-- The closure of a set of columns: each dependency adds at most once
+unfoldable pub closure : List Dependency → ℕ → List ℕ → List ℕ
+closure ds relation left = growFor (length ds) ds relation left
+
+-- The numbers of a list below n, ascending from a start: columns start, start + 1, .. of which those in the list are kept
+unfoldable pub columnsIn : List ℕ → ℕ → ℕ → List ℕ
+columnsIn known start zero = []
+columnsIn known start (suc n) = cond (member start known) (start ∷ columnsIn known (suc start) n) (columnsIn known (suc start) n)
+
+-- The columns of a relation of the given width that the left set determines, ascending
+unfoldable pub determined : List Dependency → ℕ → ℕ → List ℕ → List ℕ
+determined ds relation width left = columnsIn (closure ds relation left) 0 width

@@ -1,0 +1,8 @@
+-- The definitions that a reader must believe, in the order in which to read them.
+pub mod Query
+pub mod Database
+pub mod Answer
+pub mod Chase
+pub mod Containment
+pub mod Reduction
+pub mod Determined

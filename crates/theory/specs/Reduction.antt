@@ -1,0 +1,47 @@
+-- What a result of reduction is, and what demand 3 asks of it.
+use mathlib.Core.Path.{_≡_}
+use mathlib.Core.Logic.{_≢_}
+use mathlib.Core.List.{List, [], _∷_, List·Memᴰ·head, List·Memᴰ·tail}
+use Prim.Native.Nat.{ℕ, _≤_}
+use lib.ListN.{length}
+use Rattle.theory.specs.Query.{Entry, Row, Query, _∈_}
+use Rattle.theory.specs.Database.{Dependency}
+use Rattle.theory.specs.Answer.{Mapping}
+use Rattle.theory.specs.Chase.{chase}
+use Rattle.theory.specs.Containment.{Equivalent}
+
+-- A list without the element at one position
+unfoldable pub without : {A : Type 0} {x : A} (xs : List A) → x ∈ xs → List A
+without (y ∷ xs) (List·Memᴰ·head e) = xs
+without (y ∷ xs) (List·Memᴰ·tail at) = y ∷ without xs at
+
+-- A query without one of its rows
+abbrev pub dropRow : {r : Row Entry} (q : Query) → r ∈ q .rows → Query
+dropRow q at = record { head = q .head; rows = without (q .rows) at }
+
+-- A core: the query cannot be mapped into itself without one of its rows
+abbrev pub Core : Query → Type 0
+Core q = (r : Row Entry) (at : r ∈ q .rows) → Mapping q (dropRow q at) → ⊥
+
+-- A result of reduction of S: the chased head with some of the chased rows, into which the chased query can be mapped and from which no row can go.
+-- Which rows stay, and their order, is free. Where S chases to never, the result is that never
+pub record Reduction (ds : List Dependency) (S T : Query) : Type 0 where
+  pub head : T .head ≡ chase ds S .query .head
+  pub rows : (r : Row Entry) → r ∈ T .rows → r ∈ chase ds S .query .rows
+  pub receives : chase ds S .query .rows ≢ [] → Mapping (chase ds S .query) T
+  pub core : Core T
+
+-- `Shrinks q T`: T is what q comes to by losing rows, one at a time, while it can be mapped into itself without one of them.
+-- `proofs/Reduction` shows that the results of reduction are these, up to the order of rows
+pub data Shrinks : Query → Query → Type 0 where
+  stays : {q : Query} → Core q → Shrinks q q
+  loses : {q T : Query} {r : Row Entry} (at : r ∈ q .rows) → Mapping q (dropRow q at) → Shrinks (dropRow q at) T → Shrinks q T
+
+-- R is a rival of S: a query of the same head length with the same answers on every sound database that obeys the dependencies, whatever its rows, variables and constants
+pub record Rival (widths : List ℕ) (ds : List Dependency) (S R : Query) : Type 0 where
+  pub width : length (R .head) ≡ length (S .head)
+  pub same : Equivalent widths ds S R
+
+-- No rival of S has fewer rows than T
+abbrev pub Minimal : List ℕ → List Dependency → Query → Query → Type 0
+Minimal widths ds S T = (R : Query) → Rival widths ds S R → length (T .rows) ≤ length (R .rows)
