@@ -1,2 +1,3 @@
 -- What the record's fields mean, its rule, and what each call promises.
 pub mod View
+pub mod Rule

@@ -42,3 +42,15 @@ pub struct Record {
     pub dependencies: [Dependency; 32],
     pub places: [Place; 8],
 }
+
+// What a call answers: done, or refused with document 01's number.
+pub enum Answer {
+    Done,
+    Refused(u8),
+}
+
+// A call's answer with the record after it. A refused call hands back the record that it was given.
+pub struct Outcome {
+    pub answer: Answer,
+    pub record: Record,
+}
