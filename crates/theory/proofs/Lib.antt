@@ -1,5 +1,6 @@
 -- The theorems about the definitions of specs/, and the laws on the way to them. Each file's header says what is in it.
 pub mod Lists
+pub mod Entries
 pub mod Step
 pub mod Carry
 pub mod Chase

@@ -1,7 +1,6 @@
--- One step of the chase: what the search for a broken dependency finds, what it means that it finds nothing, and what a replacement keeps.
--- In this order: entries; the search, first as equations at a list's head (for loops), then what it tells; variables of entries and rows;
--- the step found; what a replacement does to answers, mappings, variables and constants.
--- Assumes nothing.
+-- One step of the chase. In this order: the search, as equations at the head of a list (for loops that go by what is left);
+-- what the search tells, whether it finds something or not; what a step found says of the query; what a replacement keeps.
+-- Substitution by itself is in `Entries`. Assumes nothing.
 use mathlib.Core.Path.{_≡_, refl, sym, _∙_, ap, ap₂}
 use mathlib.Core.Logic.{_≢_, _↔_, _⊎_, inl, inr, ⊎-elim}
 use mathlib.Core.Bool.{Bool, true, false, cond, not, _&&_, true≢false, false≢true}
@@ -15,39 +14,10 @@ use lib.ListN.{length, getD, List·getD-map, length-map}
 use Rattle.theory.specs.Query.{Entry, constant, variable, Row, Query, sameEntry, column, mapRow, mapQuery, rowEntries, variablesOf, variables, distinct, variableCount, _∈_}
 use Rattle.theory.specs.Database.{Database, Dependency, Agree, Obeys}
 use Rattle.theory.specs.Chase.{orElse, mapFound, firstPassing, firstPair, firstFound, agree, breaks, firstBroken, Resolution, clash, replace, survives, resolve, inHead, substitute, resolvePair, step}
-use Rattle.theory.proofs.Lists.{bool-cases, and-left, and-right, mem-cases}
-
--- ---- entries
-
--- `sameEntry` is equality
-pub sameEntry-eq : (x y : Entry) → sameEntry x y ≡ true → x ≡ y
-unfolding sameEntry
-sameEntry-eq (constant m) (constant n) e = ap constant (eqb-true m n e)
-sameEntry-eq (constant m) (variable w) e = absurd (false≢true e)
-sameEntry-eq (variable v) (constant n) e = absurd (false≢true e)
-sameEntry-eq (variable v) (variable w) e = ap variable (eqb-true v w e)
-
-pub sameEntry-refl : (x : Entry) → sameEntry x x ≡ true
-unfolding sameEntry
-sameEntry-refl (constant n) = eq-eqb n n refl
-sameEntry-refl (variable v) = eq-eqb v v refl
-
-pub eq-sameEntry : (x y : Entry) → x ≡ y → sameEntry x y ≡ true
-eq-sameEntry x y e = rw e (sameEntry-refl y)
-
-pub sameEntry-ne : (x y : Entry) → sameEntry x y ≡ false → x ≢ y
-sameEntry-ne x y e same = true≢false (sym (eq-sameEntry x y same) ∙ e)
-
-pub ne-sameEntry : (x y : Entry) → x ≢ y → sameEntry x y ≡ false
-ne-sameEntry x y other = bool-cases (sameEntry x y) (λ p. absurd (other (sameEntry-eq x y p))) (λ p. p)
-
--- Two entries are equal or not
-pub entry-dec : (x y : Entry) → (x ≡ y) ⊎ (x ≢ y)
-entry-dec x y = bool-cases (sameEntry x y) (λ p. inl (sameEntry-eq x y p)) (λ p. inr (sameEntry-ne x y p))
-
--- A constant is no variable
-pub constant-variable : (n v : ℕ) → constant n ≢ variable v
-constant-variable n v e = let z : _≡_ {A = ℕ} 0 1 = cc in omega arith
+use Rattle.theory.specs.Answer.{valueOf, itself, Carries, Answer}
+use Rattle.theory.specs.Containment.{ConstantsBelow}
+use Rattle.theory.proofs.Lists.{map-empty, bool-cases, and-left, and-right, mem-cases}
+use Rattle.theory.proofs.Entries.{sameEntry-eq, eq-sameEntry, sameEntry-ne, ne-sameEntry, entry-dec, constant-variable, column-rowEntries, substitute-valueOf}
 
 -- ---- the search, at the head of a list
 
@@ -205,6 +175,16 @@ firstFound-nothing find (c ∷ ds) e d at =
     (λ x f. absurd (none-some (c, x) (sym e ∙ firstFound-some find c x ds f)))
     (λ f. mem-cases at (λ here. rw here f) (λ later. firstFound-nothing find ds (sym (firstFound-none find c ds f) ∙ e) d later))
 
+pub mapFound-found : {A B : Type 0} (f : A → B) (y : B) (o : Option A) → mapFound f o ≡ some y → (x : A) × (o ≡ some x) × (f x ≡ y)
+unfolding mapFound
+mapFound-found f y none e = absurd (none-some y e)
+mapFound-found f y (some x) e = (x, refl, some-same e)
+
+pub mapFound-nothing : {A B : Type 0} (f : A → B) (o : Option A) → mapFound f o ≡ none → o ≡ none
+unfolding mapFound
+mapFound-nothing f none e = refl
+mapFound-nothing f (some x) e = absurd (none-some (f x) (sym e))
+
 -- ---- a broken dependency
 
 -- Whether two rows have the same entry in a column
@@ -317,3 +297,201 @@ pub firstBroken-empty : (ds : List Dependency) → firstBroken ds [] ≡ none
 unfolding firstBroken firstFound firstPair mapFound orElse
 firstBroken-empty [] = refl
 firstBroken-empty (d ∷ ds) = firstBroken-empty ds
+
+-- ---- the step
+
+-- The dependencies ask that entries x and y be equal: two rows of the relation of one of them agree on its left columns, and have x and y in its right one
+pub record Forced (ds : List Dependency) (rows : List (Row Entry)) (x y : Entry) : Type 0 where
+  pub dependency : Dependency
+  pub first : Row Entry
+  pub second : Row Entry
+  pub held : dependency ∈ ds
+  pub first-there : first ∈ rows
+  pub second-there : second ∈ rows
+  pub first-relation : first .relation ≡ dependency .relation
+  pub second-relation : second .relation ≡ dependency .relation
+  pub agree-left : Agree (constant 0) (dependency .left) first second
+  pub first-entry : column (constant 0) first (dependency .right) ≡ x
+  pub second-entry : column (constant 0) second (dependency .right) ≡ y
+
+pub forced-swap : {ds : List Dependency} {rows : List (Row Entry)} {x y : Entry} → Forced ds rows x y → Forced ds rows y x
+forced-swap f =
+    record {
+      dependency = f .dependency;
+      first = f .second;
+      second = f .first;
+      held = f .held;
+      first-there = f .second-there;
+      second-there = f .first-there;
+      first-relation = f .second-relation;
+      second-relation = f .first-relation;
+      agree-left = λ c at. sym (f .agree-left c at);
+      first-entry = f .second-entry;
+      second-entry = f .first-entry
+    }
+
+-- A forced entry stands in the rows, or is the constant 0 that stands in for a missing column
+pub forced-entry : {ds : List Dependency} {rows : List (Row Entry)} {x y : Entry} → Forced ds rows x y → (x ≡ constant 0) ⊎ (x ∈ rowEntries rows)
+forced-entry {rows} f =
+    ⊎-elim
+    (λ zero'. inl (sym (f .first-entry) ∙ zero'))
+    (λ there. inr (Memᴰ·cast (sym (f .first-entry)) there))
+    (column-rowEntries rows (f .first) (f .dependency .right) (f .first-there))
+
+-- so a forced variable does
+pub forced-variable : {ds : List Dependency} {rows : List (Row Entry)} {y : Entry} {v : ℕ} → Forced ds rows (variable v) y → variable v ∈ rowEntries rows
+forced-variable {v} f = ⊎-elim (λ zero'. absurd (constant-variable 0 v (sym zero'))) (λ there. there) (forced-entry f)
+
+pub clash-replace : (v : ℕ) (e : Entry) → clash ≡ replace v e → ⊥
+clash-replace v e is = let z : _≡_ {A = ℕ} 0 1 = cc in omega arith
+
+pub replace-number : {v w : ℕ} {x y : Entry} → replace v x ≡ replace w y → v ≡ w
+replace-number e = cc
+
+pub replace-entry : {v w : ℕ} {x y : Entry} → replace v x ≡ replace w y → x ≡ y
+replace-entry e = cc
+
+-- A clash is of two constants
+pub resolve-clash : (inHead' : ℕ → Bool) (x y : Entry) → resolve inHead' x y ≡ clash → (m : ℕ) × (n : ℕ) × (x ≡ constant m) × (y ≡ constant n)
+unfolding resolve
+resolve-clash inHead' (constant m) (constant n) e = (m, n, refl, refl)
+resolve-clash inHead' (constant m) (variable w) e = let z : _≡_ {A = ℕ} 0 1 = cc in absurd (omega arith)
+resolve-clash inHead' (variable v) (constant n) e = let z : _≡_ {A = ℕ} 0 1 = cc in absurd (omega arith)
+resolve-clash inHead' (variable v) (variable w) e =
+    bool-cases
+    (survives inHead' v w)
+    (λ p. absurd (clash-replace w (variable v) (sym (rw p at e))))
+    (λ p. absurd (clash-replace v (variable w) (sym (rw p at e))))
+
+-- A replacement is of one of the two entries by the other
+pub resolve-replace : (inHead' : ℕ → Bool) (x y : Entry) (v : ℕ) (e : Entry) → resolve inHead' x y ≡ replace v e
+    → ((x ≡ variable v) × (y ≡ e)) ⊎ ((x ≡ e) × (y ≡ variable v))
+unfolding resolve
+resolve-replace inHead' (constant m) (constant n) u e is = absurd (clash-replace u e is)
+resolve-replace inHead' (constant m) (variable w) u e is = inr (replace-entry is, ap variable (replace-number is))
+resolve-replace inHead' (variable v) (constant n) u e is = inl (ap variable (replace-number is), replace-entry is)
+resolve-replace inHead' (variable v) (variable w) u e is =
+    bool-cases
+    (survives inHead' v w)
+    (λ p. let is' = rw p at is in inr (replace-entry is', ap variable (replace-number is')))
+    (λ p. let is' = rw p at is in inl (ap variable (replace-number is'), replace-entry is'))
+
+-- What is found makes the step
+pub step-makes : (ds : List Dependency) (q : Query) (found : Dependency × (Row Entry × Row Entry)) → firstBroken ds (q .rows) ≡ some found
+    → step ds q ≡ some (resolvePair q found)
+unfolding step mapFound
+step-makes ds q found e = rw e
+
+pub step-rests : (ds : List Dependency) (q : Query) → firstBroken ds (q .rows) ≡ none → step ds q ≡ none
+unfolding step mapFound
+step-rests ds q e = rw e
+
+-- A step is made by what is found
+pub step-found : (ds : List Dependency) (q : Query) (o : Resolution) → step ds q ≡ some o
+    → (found : Dependency × (Row Entry × Row Entry)) × (firstBroken ds (q .rows) ≡ some found) × (resolvePair q found ≡ o)
+unfolding step
+step-found ds q o e = mapFound-found (resolvePair q) o (firstBroken ds (q .rows)) e
+
+pub step-nothing : (ds : List Dependency) (q : Query) → step ds q ≡ none → firstBroken ds (q .rows) ≡ none
+unfolding step
+step-nothing ds q e = mapFound-nothing (resolvePair q) (firstBroken ds (q .rows)) e
+
+-- The chase rests on a query without rows
+pub step-never : (ds : List Dependency) (q : Query) → q .rows ≡ [] → step ds q ≡ none
+step-never ds q e = step-rests ds q (ap (firstBroken ds) e ∙ firstBroken-empty ds)
+
+-- The entries of the pair found are forced to be equal
+pub found-forced : (ds : List Dependency) (rows : List (Row Entry)) (found : Dependency × (Row Entry × Row Entry)) (x y : Entry)
+    → firstBroken ds rows ≡ some found
+    → column (constant 0) (found .1 .0) (found .0 .right) ≡ x → column (constant 0) (found .1 .1) (found .0 .right) ≡ y → Forced ds rows x y × (x ≢ y)
+found-forced ds rows found x y e first second =
+    let what = firstBroken-found ds rows found e in
+    let broken = what .3 in
+    (record {
+        dependency = found .0;
+        first = found .1 .0;
+        second = found .1 .1;
+        held = what .0;
+        first-there = what .1;
+        second-there = what .2;
+        first-relation = broken .first-relation;
+        second-relation = broken .second-relation;
+        agree-left = broken .agree-left;
+        first-entry = first;
+        second-entry = second
+      },
+      λ same. broken .differ-right (first ∙ same ∙ sym second))
+
+-- A replacement is of a variable that is forced to be the entry, and is another
+pub step-replace : (ds : List Dependency) (q : Query) (v : ℕ) (e : Entry) → step ds q ≡ some (replace v e)
+    → Forced ds (q .rows) (variable v) e × (e ≢ variable v)
+step-replace ds q v e is =
+    let what = step-found ds q (replace v e) is in
+    let found = what .0 in
+    let x = column (constant 0) (found .1 .0) (found .0 .right) in
+    let y = column (constant 0) (found .1 .1) (found .0 .right) in
+    ⊎-elim
+    (λ c. let f = found-forced ds (q .rows) found (variable v) e (what .1) (c .0) (c .1) in (f .0, λ same. f .1 (sym same)))
+    (λ c. let f = found-forced ds (q .rows) found e (variable v) (what .1) (c .0) (c .1) in (forced-swap (f .0), f .1))
+    (resolve-replace (inHead q) x y v e (what .2))
+
+-- A clash is of two constants that are forced to be equal, and are not
+pub step-clash : (ds : List Dependency) (q : Query) → step ds q ≡ some clash
+    → (m : ℕ) × (n : ℕ) × Forced ds (q .rows) (constant m) (constant n) × (m ≢ n)
+step-clash ds q is =
+    let what = step-found ds q clash is in
+    let found = what .0 in
+    let x = column (constant 0) (found .1 .0) (found .0 .right) in
+    let y = column (constant 0) (found .1 .1) (found .0 .right) in
+    let c = resolve-clash (inHead q) x y (what .2) in
+    let f = found-forced ds (q .rows) found (constant (c .0)) (constant (c .1)) (what .1) (c .2) (c .3) in
+    (c .0, c .1, f .0, λ same. f .1 (ap constant same))
+
+-- ---- what a replacement keeps
+
+-- A replacement is a mapping from the query to what it becomes
+pub replace-carries : (v : ℕ) (e : Entry) (q : Query) → q .rows ≢ []
+    → Carries constant (λ w. substitute v e (variable w)) q (mapQuery (substitute v e) q .rows) (mapQuery (substitute v e) q .head)
+replace-carries v e q some' =
+    let same = substitute-valueOf v e in
+    record {
+      not-never = some';
+      to-head = ap (λ f. map f (q .head)) same;
+      to-rows = λ r at. Memᴰ·cast (ap (λ f. mapRow f r) same) (Memᴰ·map (mapRow (substitute v e)) at)
+    }
+
+-- The rows of a mapped query are none exactly when those of the query are
+pub mapQuery-some : (f : Entry → Entry) (q : Query) → q .rows ≢ [] → mapQuery f q .rows ≢ []
+mapQuery-some f q some' e = some' (map-empty (mapRow f) (q .rows) e)
+
+pub some-mapQuery : (f : Entry → Entry) (q : Query) → mapQuery f q .rows ≢ [] → q .rows ≢ []
+some-mapQuery f q some' e = some' (ap (map (mapRow f)) e)
+
+-- An assignment that carries the query into an obeying database gives forced entries the same value
+pub forced-value : {ds : List Dependency} {x y : Entry} (assign : ℕ → ℕ) (q : Query) (D : Database) (t : List ℕ) → Forced ds (q .rows) x y
+    → Obeys ds D → Carries itself assign q D t → valueOf itself assign x ≡ valueOf itself assign y
+forced-value {ds} {x} {y} assign q D t f obeys c =
+    let value = valueOf itself assign in
+    let at-column : (r : Row Entry) (k : ℕ) → column 0 (mapRow value r) k ≡ value (column (constant 0) r k) = λ r k. List·getD-map value (r .values) k (constant 0) in
+    let d = f .dependency in
+    let equal = obeys
+        d
+        (f .held)
+        (mapRow value (f .first))
+        (mapRow value (f .second))
+        (c .to-rows (f .first) (f .first-there))
+        (c .to-rows (f .second) (f .second-there))
+        (f .first-relation)
+        (f .second-relation)
+        (λ k at. at-column (f .first) k ∙ ap value (f .agree-left k at) ∙ sym (at-column (f .second) k)) in
+    ap value (sym (f .first-entry)) ∙ sym (at-column (f .first) (d .right)) ∙ equal ∙ at-column (f .second) (d .right) ∙ ap value (f .second-entry)
+
+-- A replacement of a forced variable keeps the answers
+pub replace-answers : {ds : List Dependency} {e : Entry} {v : ℕ} (q : Query) (D : Database) (t : List ℕ) → Forced ds (q .rows) (variable v) e
+    → Obeys ds D → Answer D q t ↔ Answer D (mapQuery (substitute v e) q) t
+replace-answers {e} {v} q D t f obeys = (?there, ?back)
+
+-- After a clash there are none
+pub clash-answers : {ds : List Dependency} {m n : ℕ} (q : Query) (D : Database) (t : List ℕ) → Forced ds (q .rows) (constant m) (constant n) → m ≢ n
+    → Obeys ds D → Answer D q t → ⊥
+clash-answers q D t f other obeys a = other (forced-value (a .0) q D t f obeys (a .1))
