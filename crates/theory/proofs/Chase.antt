@@ -1,68 +1,75 @@
--- The chase (Maier, Mendelzon and Sagiv 1979): it ends, it is what `chase` computes, and what it keeps.
--- Assumes nothing.
-use mathlib.Core.Path.{_≡_}
-use mathlib.Core.Logic.{_≢_, _↔_}
-use mathlib.Core.List.{List, []}
-use mathlib.Core.Option.{none}
-use Prim.Native.Nat.{ℕ, _+_, _≤_, _<_}
+-- The chase with functional dependencies, after Maier, Mendelzon and Sagiv, "Testing implications of data dependencies" (1979).
+-- The plan, by the numbers of the sections:
+--   1. A replacement takes away one variable (`Step`), so the chase ends: `chase` computes a `Chases`, and there is no other.
+--   2. How many replacements it makes.
+--   3. Each replacement is a mapping, and keeps the answers on every database that obeys the dependencies: an assignment into such a database
+--      gives the two entries the same value. A clash asks two different constants to be equal, so there was no answer.
+--   4. Where the chase rests no dependency is broken, so its result, read as a database, obeys them.
+--   5. What the chase keeps: well-formed queries, the head's length, constants below a base, the set of variables.
+-- Sections 2 to 5 are inductions on `Chases`; each law is stated of any chase first and then of `chase`. The survivor of a replacement is
+-- document 01's, and no law depends on which of the two it is. Assumes nothing.
+use mathlib.Core.Path.{_≡_, refl, sym, _∙_, ap}
+use mathlib.Core.Logic.{_≢_, _↔_, Iff·rfl, Iff·trans}
+use mathlib.Core.List.{List, [], List·Memᴰ·not-nil}
+use mathlib.Core.Option.{Option, none, some}
+use Prim.Native.Nat.{ℕ, zero, suc, _+_, _≤_, _<_}
+use native.Mathlib.Omega.{arith}
 use lib.ListN.{length}
-use Rattle.theory.specs.Query.{Entry, Row, Query, variables, variableCount, FitsSchema, WellFormed, _∈_}
+use Rattle.theory.specs.Query.{Entry, constant, variable, Row, Query, never, mapQuery, variables, variableCount, FitsSchema, WellFormed, _∈_}
 use Rattle.theory.specs.Database.{Database, Dependency, Obeys}
 use Rattle.theory.specs.Answer.{Answer, Mapping}
-use Rattle.theory.specs.Chase.{Chases, chase, step}
+use Rattle.theory.specs.Chase.{Resolution, clash, replace, substitute, Chases, rests, clashes, replaces, Chased, chaseOn, chaseFor, chase, step}
 use Rattle.theory.specs.Containment.{ConstantsBelow, frozenRows}
+use Rattle.theory.proofs.Step.{step-count, step-never}
+
+-- ---- 1. the chase ends, and is one
+
+-- From one step on
+chases-on : (ds : List Dependency) (q : Query) (again : Query → Chased) (o : Option Resolution) → step ds q ≡ o
+    → ((v : ℕ) (e : Entry) → step ds q ≡ some (replace v e)
+        → Chases ds (mapQuery (substitute v e) q) (again (mapQuery (substitute v e) q) .query) (again (mapQuery (substitute v e) q) .count))
+    → Chases ds q (chaseOn again q o .query) (chaseOn again q o .count)
+unfolding chaseOn
+chases-on ds q again none is next = rests is
+chases-on ds q again (some clash) is next = clashes is
+chases-on ds q again (some (replace v e)) is next = replaces is (next v e is)
+
+-- As many steps as there are variables, and one more, are enough
+pub chases-for : (n : ℕ) (ds : List Dependency) (q : Query) → variableCount q ≤ n
+    → Chases ds q (chaseFor (suc n) ds q .query) (chaseFor (suc n) ds q .count)
+unfolding chaseFor
+chases-for zero ds q enough = chases-on ds q (chaseFor zero ds) (step ds q) refl (λ v e is. absurd (omega (arith, step-count ds q v e is)))
+chases-for (suc n) ds q enough =
+    chases-on
+    ds
+    q
+    (chaseFor (suc n) ds)
+    (step ds q)
+    refl
+    (λ v e is. chases-for n ds (mapQuery (substitute v e) q) (omega (arith, step-count ds q v e is)))
 
 -- The chase ends: what `chase` computes is the chase
 pub chase-chases : (ds : List Dependency) (q : Query) → Chases ds q (chase ds q .query) (chase ds q .count)
-chase-chases ds q = ?
+unfolding chase
+chase-chases ds q = chases-for (variableCount q) ds q (omega arith)
+
+-- A chase makes at most as many replacements as there are variables
+pub chases-count-le : {ds : List Dependency} {q result : Query} {count : ℕ} → Chases ds q result count → count ≤ variableCount q
+chases-count-le (rests is) = omega arith
+chases-count-le (clashes is) = omega arith
+chases-count-le {ds} {q} (replaces {v} {e} is c) = let rest = chases-count-le c in omega (arith, rest, step-count ds q v e is)
+
+-- Any chase is what so many steps, and one more, compute
+chases-computed : {ds : List Dependency} {q result : Query} {count : ℕ} → Chases ds q result count → (n : ℕ) → count ≤ n
+    → (result ≡ chaseFor (suc n) ds q .query) × (count ≡ chaseFor (suc n) ds q .count)
+unfolding chaseFor chaseOn
+chases-computed (rests is) n enough = rw is (refl, refl)
+chases-computed (clashes is) n enough = rw is (refl, refl)
+chases-computed (replaces is c) zero enough = absurd (omega arith)
+chases-computed (replaces is c) (suc n) enough = rw is (let rest = chases-computed c n (omega arith) in (rest .0, ap suc (rest .1)))
 
 -- and it is the only one
 pub chases-unique : (ds : List Dependency) (q result : Query) (count : ℕ) → Chases ds q result count
     → (result ≡ chase ds q .query) × (count ≡ chase ds q .count)
-chases-unique ds q result count c = ?
-
--- On every database that obeys the dependencies the chased query has the same answers: after a clash, none
-pub chase-answers : (ds : List Dependency) (q : Query) (D : Database) → Obeys ds D → (t : List ℕ) → Answer D q t ↔ Answer D (chase ds q .query) t
-chase-answers ds q D obeys t = ?
-
--- Without a clash the count is the number of different variables before less the number after
-pub chase-count : (ds : List Dependency) (q : Query) → chase ds q .query .rows ≢ []
-    → chase ds q .count + variableCount (chase ds q .query) ≡ variableCount q
-chase-count ds q some = ?
-
--- and it is never more than the number of different variables
-pub chase-count-le : (ds : List Dependency) (q : Query) → chase ds q .count ≤ variableCount q
-chase-count-le ds q = ?
-
--- Never stays never, with count 0
-pub chase-never : (ds : List Dependency) (q : Query) → q .rows ≡ [] → (chase ds q .query ≡ q) × (chase ds q .count ≡ 0)
-chase-never ds q none' = ?
-
--- There is a mapping from the query to its chased form
-pub chase-mapping : (ds : List Dependency) (q : Query) → chase ds q .query .rows ≢ [] → Mapping q (chase ds q .query)
-chase-mapping ds q some = ?
-
--- The chase rests on its result
-pub chase-rests : (ds : List Dependency) (q : Query) → step ds (chase ds q .query) ≡ none
-chase-rests ds q = ?
-
--- The chased form, read as a database, obeys the dependencies
-pub chase-obeys : (ds : List Dependency) (q : Query) (base : ℕ) → ConstantsBelow base (chase ds q .query) → Obeys ds (frozenRows base (chase ds q .query))
-chase-obeys ds q base below = ?
-
--- The chase keeps a query well-formed, its head length, and its constants below a base; it makes no variable
-pub chase-wellformed : (widths : List ℕ) (ds : List Dependency) (q : Query) → WellFormed widths q → WellFormed widths (chase ds q .query)
-chase-wellformed widths ds q w = ?
-
-pub chase-rows-fit : (widths : List ℕ) (ds : List Dependency) (q : Query)
-    → ((r : Row Entry) → r ∈ q .rows → FitsSchema widths r) → (r : Row Entry) → r ∈ chase ds q .query .rows → FitsSchema widths r
-chase-rows-fit widths ds q w = ?
-
-pub chase-head-length : (ds : List Dependency) (q : Query) → length (chase ds q .query .head) ≡ length (q .head)
-chase-head-length ds q = ?
-
-pub chase-constants : (ds : List Dependency) (q : Query) (base : ℕ) → 0 < base → ConstantsBelow base q → ConstantsBelow base (chase ds q .query)
-chase-constants ds q base pos below = ?
-
-pub chase-variables : (ds : List Dependency) (q : Query) (v : ℕ) → v ∈ variables (chase ds q .query) → v ∈ variables q
-chase-variables ds q v at = ?
+unfolding chase
+chases-unique ds q result count c = chases-computed c (variableCount q) (chases-count-le c)

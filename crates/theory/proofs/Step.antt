@@ -601,3 +601,8 @@ replace-head-safe v e q safe w at =
     kept : (x : Entry) → x ∈ q .head → substitute v e x ≡ variable w → x ∈ rowEntries (q .rows)
     kept (constant n) there is = absurd (constant-variable n w (sym (substitute-constant v e n) ∙ is))
     kept (variable u) there is = variablesOf-mem u (rowEntries (q .rows)) (safe u (mem-variablesOf u (q .head) there))
+
+-- The count falls by one with each replacement
+pub step-count : (ds : List Dependency) (q : Query) (v : ℕ) (e : Entry) → step ds q ≡ some (replace v e)
+    → suc (variableCount (mapQuery (substitute v e) q)) ≡ variableCount q
+step-count ds q v e is = let f = step-replace ds q v e is in forced-count q (f .0) (f .1)
