@@ -144,35 +144,36 @@ substitute-count v e es there other known =
     let after = map (substitute v e) es in
     nodup-length
     (v ∷ distinct (variablesOf after))
-    (distinct (variablesOf es))
-    (λ at.
-        ⊎-elim
-        (λ c. other (sym (c .0)))
-        (λ c. c .0 refl)
-        (substitute-mem v e (variable v) es (variablesOf-mem v after (distinct-mem v (variablesOf after) at))),
-      distinct-nodup (variablesOf after))
+    (distinct (variablesOf es)) (
+      λ at.
+          ⊎-elim
+          (λ c. other (sym (c .0)))
+          (λ c. c .0 refl)
+          (substitute-mem v e (variable v) es (variablesOf-mem v after (distinct-mem v (variablesOf after) at))),
+      distinct-nodup (variablesOf after),
+    )
     (distinct-nodup (variablesOf es))
     (λ w at.
-        mem-distinct
-        w
-        (variablesOf es)
-        (mem-variablesOf
-            w
-            es
-            (mem-cases
-                at
-                (λ here. Memᴰ·cast (ap variable here) there)
-                (λ later.
-                    ⊎-elim
-                    (λ c. known w (sym (c .0)))
-                    (λ c. c .1)
-                    (substitute-mem v e (variable w) es (variablesOf-mem w after (distinct-mem w (variablesOf after) later)))))))
+    mem-distinct
+    w
+    (variablesOf es)
+    (mem-variablesOf
+    w
+    es
+    (mem-cases
+    at
+    (λ here. Memᴰ·cast (ap variable here) there)
+    (λ later.
+    ⊎-elim
+    (λ c. known w (sym (c .0)))
+    (λ c. c .1)
+    (substitute-mem v e (variable w) es (variablesOf-mem w after (distinct-mem w (variablesOf after) later)))))))
     (λ w at.
-        let was = variablesOf-mem w es (distinct-mem w (variablesOf es) at) in
-        ⊎-elim
-        (λ same. List·Memᴰ·head (variable-same same))
-        (λ differs. List·Memᴰ·tail (mem-distinct w (variablesOf after) (mem-variablesOf w after (mem-substitute v e (variable w) es was differs))))
-        (entry-dec (variable w) (variable v)))
+    let was = variablesOf-mem w es (distinct-mem w (variablesOf es) at) in
+    ⊎-elim
+    (λ same. List·Memᴰ·head (variable-same same))
+    (λ differs. List·Memᴰ·tail (mem-distinct w (variablesOf after) (mem-variablesOf w after (mem-substitute v e (variable w) es was differs))))
+    (entry-dec (variable w) (variable v)))
 
 -- and so in a query
 pub replace-count : (v : ℕ) (e : Entry) (q : Query) → v ∈ variables q → e ≢ variable v → ((w : ℕ) → e ≡ variable w → w ∈ variables q)
@@ -180,4 +181,4 @@ pub replace-count : (v : ℕ) (e : Entry) (q : Query) → v ∈ variables q → 
 replace-count v e q there other known =
     let es = q .head ++ rowEntries (q .rows) in
     ap (λ l. suc (length (distinct (variablesOf l)))) (entries-map (substitute v e) q)
-        ∙ substitute-count v e es (variablesOf-mem v es there) other (λ w same. variablesOf-mem w es (known w same))
+    ∙ substitute-count v e es (variablesOf-mem v es there) other (λ w same. variablesOf-mem w es (known w same))

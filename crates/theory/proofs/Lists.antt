@@ -9,7 +9,7 @@ use Prim.Native.Nat.{ℕ, zero, suc, _≤_, zero-le}
 use native.Mathlib.Omega.{arith}
 use borrow.Author.Tests.{eqb-true, eqb-false, eq-eqb, ne-eqb}
 use lib.Dec.{eqb}
-use lib.ListN.{length, getD}
+use lib.ListN.{length, getD, replicate}
 use Rattle.theory.specs.Query.{member, distinct, _∈_}
 use Rattle.theory.specs.Reduction.{without}
 
@@ -64,6 +64,11 @@ getD-mem [] n z = inl refl
 getD-mem (x ∷ xs) zero z = inr (List·Memᴰ·head refl)
 getD-mem (x ∷ xs) (suc n) z = ⊎-elim inl (λ at. inr (List·Memᴰ·tail at)) (getD-mem xs n z)
 
+-- Copies of one element are that element
+pub replicate-mem : {A : Type 0} (n : ℕ) (x y : A) → y ∈ replicate n x → y ≡ x
+replicate-mem zero x y at = absurd (List·Memᴰ·not-nil at)
+replicate-mem (suc n) x y at = mem-cases at (λ here. here) (λ later. replicate-mem n x y later)
+
 -- ---- lists without repeats
 
 -- No element stands twice
@@ -90,10 +95,10 @@ nodup-length-le [] ys once among = zero-le
 nodup-length-le (x ∷ xs) ys once among =
     let at : x ∈ ys = among x (List·Memᴰ·head refl) in
     let rest = nodup-length-le
-        xs
-        (without ys at)
-        (once .1)
-        (λ y there. without-keeps ys at (among y (List·Memᴰ·tail there)) (λ e. once .0 (Memᴰ·cast (sym e) there))) in
+    xs
+    (without ys at)
+    (once .1)
+    (λ y there. without-keeps ys at (among y (List·Memᴰ·tail there)) (λ e. once .0 (Memᴰ·cast (sym e) there))) in
     omega (arith, rest, without-length ys at)
 
 -- Two lists without repeats and with the same elements are equally long

@@ -135,10 +135,10 @@ firstPair-found test p (x ∷ xs) e =
     option-cases
     (firstPassing (test x) xs)
     (λ y f. let at = firstPassing-found (test x) y xs f in
-        let same : p ≡ (x, y) = some-same (sym e ∙ firstPair-some test x y xs f) in
-        (List·Memᴰ·head (ap (λ q. q .0) same), List·Memᴰ·tail (Memᴰ·cast (ap (λ q. q .1) same) (at .0)), ap (λ q. test (q .0) (q .1)) same ∙ at .1))
+    let same : p ≡ (x, y) = some-same (sym e ∙ firstPair-some test x y xs f) in
+    (List·Memᴰ·head (ap (λ q. q .0) same), List·Memᴰ·tail (Memᴰ·cast (ap (λ q. q .1) same) (at .0)), ap (λ q. test (q .0) (q .1)) same ∙ at .1))
     (λ f. let later = firstPair-found test p xs (sym (firstPair-none test x xs f) ∙ e) in
-        (List·Memᴰ·tail (later .0), List·Memᴰ·tail (later .1), later .2))
+    (List·Memᴰ·tail (later .0), List·Memᴰ·tail (later .1), later .2))
 
 -- Of two different positions one comes first, and the pair in that order fails the test
 pub firstPair-nothing : {A : Type 0} (test : A → A → Bool) (xs : List A) → firstPair test xs ≡ none
@@ -149,14 +149,14 @@ firstPair-nothing test (z ∷ xs) e x y at at' =
     (firstPassing (test z) xs)
     (λ w f. absurd (none-some (z, w) (sym e ∙ firstPair-some test z w xs f)))
     (λ f. let passed = firstPassing-nothing (test z) xs f in
-        mem-cases
-        at
-        (λ here. mem-cases at' (λ here'. inl (here ∙ sym here')) (λ later'. inr (inl (rw here (passed y later')))))
-        (λ later.
-            mem-cases
-            at'
-            (λ here'. inr (inr (rw here' (passed x later))))
-            (λ later'. firstPair-nothing test xs (sym (firstPair-none test z xs f) ∙ e) x y later later')))
+    mem-cases
+    at
+    (λ here. mem-cases at' (λ here'. inl (here ∙ sym here')) (λ later'. inr (inl (rw here (passed y later')))))
+    (λ later.
+    mem-cases
+    at'
+    (λ here'. inr (inr (rw here' (passed x later))))
+    (λ later'. firstPair-nothing test xs (sym (firstPair-none test z xs f) ∙ e) x y later later')))
 
 pub firstFound-found : {D A : Type 0} (find : D → Option A) (found : D × A) (ds : List D) → firstFound find ds ≡ some found
     → (found .0 ∈ ds) × (find (found .0) ≡ some (found .1))
@@ -165,7 +165,7 @@ firstFound-found {A} find found (d ∷ ds) e =
     option-cases
     (find d)
     (λ x f. let same : found ≡ (d, x) = some-same (sym e ∙ firstFound-some find d x ds f) in
-        (List·Memᴰ·head (ap (λ q. q .0) same), ap (λ q. find (q .0)) same ∙ f ∙ ap {B = Option A} (λ q. some (q .1)) (sym same)))
+    (List·Memᴰ·head (ap (λ q. q .0) same), ap (λ q. find (q .0)) same ∙ f ∙ ap {B = Option A} (λ q. some (q .1)) (sym same)))
     (λ f. let later = firstFound-found find found ds (sym (firstFound-none find d ds f) ∙ e) in (List·Memᴰ·tail (later .0), later .1))
 
 pub firstFound-nothing : {D A : Type 0} (find : D → Option A) (ds : List D) → firstFound find ds ≡ none → (d : D) → d ∈ ds → find d ≡ none
@@ -234,17 +234,18 @@ breaks-broken d r s e =
       differ-right = sameEntry-ne
           (column (constant 0) r (d .right))
           (column (constant 0) s (d .right))
-          (not-true (sameColumn (d .right) r s) (and-right (first && second && left) right e))
+          (not-true (sameColumn (d .right) r s) (and-right (first && second && left) right e));
     }
 
 pub broken-breaks : (d : Dependency) (r s : Row Entry) → Broken d r s → breaks d r s ≡ true
 unfolding breaks
 broken-breaks d r s b =
-    rw
-    (eq-eqb (r .relation) (d .relation) (b .first-relation),
+    rw (
+      eq-eqb (r .relation) (d .relation) (b .first-relation),
       eq-eqb (s .relation) (d .relation) (b .second-relation),
       all-agree (d .left) r s (b .agree-left),
-      ne-sameEntry (column (constant 0) r (d .right)) (column (constant 0) s (d .right)) (b .differ-right))
+      ne-sameEntry (column (constant 0) r (d .right)) (column (constant 0) s (d .right)) (b .differ-right),
+    )
 
 -- What is found breaks a dependency of the list, and both rows are there
 pub firstBroken-found : (ds : List Dependency) (rows : List (Row Entry)) (found : Dependency × (Row Entry × Row Entry)) → firstBroken ds rows ≡ some found
@@ -267,30 +268,30 @@ firstBroken-nothing ds rows e d held r s at at' relation relation' same =
     ⊎-elim
     (λ equal. equal)
     (λ differ.
-        ⊎-elim
-        (λ equal. ap (λ t. column (constant 0) t (d .right)) equal)
-        (⊎-elim
-            (λ passed.
-                absurd
-                (true≢false
-                    (sym (broken-breaks d r s (record { first-relation = relation; second-relation = relation'; agree-left = same; differ-right = differ }))
-                        ∙ passed)))
-            (λ passed.
-                absurd
-                (true≢false
-                    (sym
-                        (broken-breaks
-                            d
-                            s
-                            r
-                            (record {
-                              first-relation = relation';
-                              second-relation = relation;
-                              agree-left = λ c left. sym (same c left);
-                              differ-right = λ equal. differ (sym equal)
-                            }))
-                        ∙ passed))))
-        (firstPair-nothing (breaks d) rows none' r s at at'))
+    ⊎-elim
+    (λ equal. ap (λ t. column (constant 0) t (d .right)) equal)
+    (⊎-elim
+    (λ passed.
+    absurd
+    (true≢false
+    (sym (broken-breaks d r s (record { first-relation = relation; second-relation = relation'; agree-left = same; differ-right = differ }))
+    ∙ passed)))
+    (λ passed.
+    absurd
+    (true≢false
+    (sym
+    (broken-breaks
+    d
+    s
+    r
+    (record {
+      first-relation = relation';
+      second-relation = relation;
+      agree-left = λ c left. sym (same c left);
+      differ-right = λ equal. differ (sym equal);
+    }))
+    ∙ passed))))
+    (firstPair-nothing (breaks d) rows none' r s at at'))
     (entry-dec x y)
 
 -- No rows, nothing broken
@@ -328,7 +329,7 @@ forced-swap f =
       second-relation = f .first-relation;
       agree-left = λ c at. sym (f .agree-left c at);
       first-entry = f .second-entry;
-      second-entry = f .first-entry
+      second-entry = f .first-entry;
     }
 
 -- A forced entry stands in the rows, or is the constant 0 that stands in for a missing column
@@ -407,8 +408,8 @@ pub found-forced : (ds : List Dependency) (rows : List (Row Entry)) (found : Dep
     → column (constant 0) (found .1 .0) (found .0 .right) ≡ x → column (constant 0) (found .1 .1) (found .0 .right) ≡ y → Forced ds rows x y × (x ≢ y)
 found-forced ds rows found x y e first second =
     let what = firstBroken-found ds rows found e in
-    let broken = what .3 in
-    (record {
+    let broken = what .3 in (
+      record {
         dependency = found .0;
         first = found .1 .0;
         second = found .1 .1;
@@ -419,9 +420,10 @@ found-forced ds rows found x y e first second =
         second-relation = broken .second-relation;
         agree-left = broken .agree-left;
         first-entry = first;
-        second-entry = second
+        second-entry = second;
       },
-      λ same. broken .differ-right (first ∙ same ∙ sym second))
+      λ same. broken .differ-right (first ∙ same ∙ sym second),
+    )
 
 -- A replacement is of a variable that is forced to be the entry, and is another
 pub step-replace : (ds : List Dependency) (q : Query) (v : ℕ) (e : Entry) → step ds q ≡ some (replace v e)
@@ -458,7 +460,7 @@ replace-carries v e q some' =
     record {
       not-never = some';
       to-head = ap (λ f. map f (q .head)) same;
-      to-rows = λ r at. Memᴰ·cast (ap (λ f. mapRow f r) same) (Memᴰ·map (mapRow (substitute v e)) at)
+      to-rows = λ r at. Memᴰ·cast (ap (λ f. mapRow f r) same) (Memᴰ·map (mapRow (substitute v e)) at);
     }
 
 -- The rows of a mapped query are none exactly when those of the query are
@@ -476,15 +478,15 @@ forced-value {ds} {x} {y} assign q D t f obeys c =
     let at-column : (r : Row Entry) (k : ℕ) → column 0 (mapRow value r) k ≡ value (column (constant 0) r k) = λ r k. List·getD-map value (r .values) k (constant 0) in
     let d = f .dependency in
     let equal = obeys
-        d
-        (f .held)
-        (mapRow value (f .first))
-        (mapRow value (f .second))
-        (c .to-rows (f .first) (f .first-there))
-        (c .to-rows (f .second) (f .second-there))
-        (f .first-relation)
-        (f .second-relation)
-        (λ k at. at-column (f .first) k ∙ ap value (f .agree-left k at) ∙ sym (at-column (f .second) k)) in
+    d
+    (f .held)
+    (mapRow value (f .first))
+    (mapRow value (f .second))
+    (c .to-rows (f .first) (f .first-there))
+    (c .to-rows (f .second) (f .second-there))
+    (f .first-relation)
+    (f .second-relation)
+    (λ k at. at-column (f .first) k ∙ ap value (f .agree-left k at) ∙ sym (at-column (f .second) k)) in
     ap value (sym (f .first-entry)) ∙ sym (at-column (f .first) (d .right)) ∙ equal ∙ at-column (f .second) (d .right) ∙ ap value (f .second-entry)
 
 -- An assignment to which a change of entries makes no difference carries the changed query too
@@ -500,38 +502,41 @@ carries-changed fixed assign f q rows image same c =
           let from = Memᴰ·of-map (mapRow f) (q .rows) at in
           let r₀ = from .0 in
           let equal : mapRow value r ≡ mapRow value r₀ = ap (mapRow value) (sym (from .2)) ∙ (λ i. record { relation = r₀ .relation; values = through (r₀ .values) i }) in
-          Memᴰ·cast equal (c .to-rows r₀ (from .1))
+          Memᴰ·cast equal (c .to-rows r₀ (from .1));
     }
 
 -- A replacement of a forced variable keeps the answers
 pub replace-answers : {ds : List Dependency} {e : Entry} {v : ℕ} (q : Query) (D : Database) (t : List ℕ) → Forced ds (q .rows) (variable v) e
     → Obeys ds D → Answer D q t ↔ Answer D (mapQuery (substitute v e) q) t
-replace-answers {e} {v} q D t f obeys =
-    (λ a.
-        let value = valueOf itself (a .0) in
-        let equal = forced-value (a .0) q D t f obeys (a .1) in
-        (a .0,
-          carries-changed
-              itself
-              (a .0)
-              (substitute v e)
-              q
-              D
-              t
-              (λ x. ⊎-elim (λ c. ap value (c .1) ∙ sym equal ∙ ap value (sym (c .0))) (λ c. ap value (c .1)) (substitute-cases v e x))
-              (a .1)),
-      λ a.
-        (λ w. valueOf itself (a .0) (substitute v e (variable w)),
-          carries-compose
-              itself
-              (a .0)
-              (λ w. substitute v e (variable w))
-              q
-              (mapQuery (substitute v e) q)
-              D
-              t
-              (replace-carries v e q (some-mapQuery (substitute v e) q (a .1 .not-never)))
-              (a .1)))
+replace-answers {e} {v} q D t f obeys = (
+  λ a.
+      let value = valueOf itself (a .0) in
+      let equal = forced-value (a .0) q D t f obeys (a .1) in (
+        a .0,
+        carries-changed
+            itself
+            (a .0)
+            (substitute v e)
+            q
+            D
+            t
+            (λ x. ⊎-elim (λ c. ap value (c .1) ∙ sym equal ∙ ap value (sym (c .0))) (λ c. ap value (c .1)) (substitute-cases v e x))
+            (a .1),
+      ),
+  λ a. (
+    λ w. valueOf itself (a .0) (substitute v e (variable w)),
+    carries-compose
+        itself
+        (a .0)
+        (λ w. substitute v e (variable w))
+        q
+        (mapQuery (substitute v e) q)
+        D
+        t
+        (replace-carries v e q (some-mapQuery (substitute v e) q (a .1 .not-never)))
+        (a .1),
+  ),
+)
 
 -- After a clash there are none
 pub clash-answers : {ds : List Dependency} {m n : ℕ} (q : Query) (D : Database) (t : List ℕ) → Forced ds (q .rows) (constant m) (constant n) → m ≢ n
@@ -567,17 +572,17 @@ pub forced-constants : {ds : List Dependency} {e : Entry} {v : ℕ} (q : Query) 
     → ConstantsBelow base q → ConstantsBelow base (mapQuery (substitute v e) q)
 forced-constants {e} {v} q base pos f below =
     let survivor : (n : ℕ) → constant n ≡ e → n < base = λ n is.
-        ⊎-elim
-        (λ zero'. let none' : n ≡ 0 = constant-same (is ∙ zero') in omega arith)
-        (λ there. below .of-rows n (Memᴰ·cast is there))
-        (forced-entry (forced-swap f)) in
+    ⊎-elim
+    (λ zero'. let none' : n ≡ 0 = constant-same (is ∙ zero') in omega arith)
+    (λ there. below .of-rows n (Memᴰ·cast is there))
+    (forced-entry (forced-swap f)) in
     record {
       of-head = λ n at. ⊎-elim (λ c. survivor n (c .0)) (λ c. below .of-head n (c .1)) (substitute-mem v e (constant n) (q .head) at);
       of-rows = λ n at.
           ⊎-elim
           (λ c. survivor n (c .0))
           (λ c. below .of-rows n (c .1))
-          (substitute-mem v e (constant n) (rowEntries (q .rows)) (rw (rowEntries-map (substitute v e) (q .rows)) at at))
+          (substitute-mem v e (constant n) (rowEntries (q .rows)) (rw (rowEntries-map (substitute v e) (q .rows)) at at));
     }
 
 -- A change of entries keeps the rows' relations and widths
