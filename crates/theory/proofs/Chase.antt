@@ -18,11 +18,12 @@ use lib.ListN.{length, length-map, length-replicate, List·getD-map}
 use Rattle.theory.specs.Query.{Entry, constant, variable, Row, Query, never, column, mapRow, mapQuery, rowEntries, variables, variableCount, FitsSchema, WellFormed, _∈_}
 use Rattle.theory.specs.Database.{Database, Dependency, Obeys}
 use Rattle.theory.specs.Answer.{Answer, Mapping}
-use Rattle.theory.specs.Chase.{Resolution, clash, replace, substitute, Chases, rests, clashes, replaces, Chased, chaseOn, chaseFor, chase, step}
+use Rattle.theory.specs.Chase.{Resolution, clash, replace, substitute, Chases, rests, clashes, replaces, Chased, oneMore, chaseOn, chaseFor, chase, step}
 use Rattle.theory.specs.Containment.{ConstantsBelow, freeze, frozenRows}
 use Rattle.theory.proofs.Lists.{replicate-mem}
 use Rattle.theory.proofs.Entries.{constant-same, constant-variable, variablesOf-mem, mem-variablesOf, column-rowEntries}
-use Rattle.theory.proofs.Step.{step-count, step-never, step-clash, step-replace, step-nothing, firstBroken-nothing, replace-carries, some-mapQuery, replace-answers, clash-answers, mapQuery-rows-fit, replace-head-safe, forced-constants, forced-variables}
+use Rattle.theory.proofs.Step.{step-never, step-clash, step-replace, step-nothing, firstBroken-nothing}
+use Rattle.theory.proofs.Replacement.{step-count, replace-carries, some-mapQuery, replace-answers, clash-answers, mapQuery-rows-fit, replace-head-safe, forced-constants, forced-variables}
 use Rattle.theory.proofs.Carry.{mapping-of, mapping-compose, mapping-self}
 
 -- ---- 1. the chase ends, and is one
@@ -77,18 +78,35 @@ pub chases-unique : (ds : List Dependency) (q result : Query) (count : ℕ) → 
 unfolding chase
 chases-unique ds q result count c = chases-computed c (variableCount q) (chases-count-le c)
 
+chased-by : {ds : List Dependency} {q result : Query} {count : ℕ} → Chases ds q result count → chase ds q ≡ record { query = result; count = count }
+chased-by {ds} {q} {result} {count} c =
+    let same = chases-unique ds q result count c in
+    λ i. record { query = sym (same .0) i; count = sym (same .1) i }
+
+-- The chase by its step, for a loop that chases what is left
+pub chase-at-rest : (ds : List Dependency) (q : Query) → step ds q ≡ none → chase ds q ≡ record { query = q; count = zero }
+chase-at-rest ds q is = chased-by (rests is)
+
+pub chase-at-clash : (ds : List Dependency) (q : Query) → step ds q ≡ some clash
+    → chase ds q ≡ record { query = never (length (q .head)); count = zero }
+chase-at-clash ds q is = chased-by (clashes is)
+
+pub chase-at-replace : (ds : List Dependency) (q : Query) (v : ℕ) (e : Entry) → step ds q ≡ some (replace v e)
+    → chase ds q ≡ oneMore (chase ds (mapQuery (substitute v e) q))
+chase-at-replace ds q v e is = chased-by (replaces is (chase-chases ds (mapQuery (substitute v e) q)))
+
 -- ---- 2. the count
 
 -- Without a clash the count is the number of different variables before less the number after
 pub chases-count : {ds : List Dependency} {q result : Query} {count : ℕ} → Chases ds q result count → result .rows ≢ []
     → count + variableCount result ≡ variableCount q
-chases-count (rests is) some' = omega arith
-chases-count (clashes is) some' = absurd (some' refl)
-chases-count {ds} {q} (replaces {v} {e} is c) some' = let rest = chases-count c some' in omega (arith, rest, step-count ds q v e is)
+chases-count (rests is) nonempty = omega arith
+chases-count (clashes is) nonempty = absurd (nonempty refl)
+chases-count {ds} {q} (replaces {v} {e} is c) nonempty = let rest = chases-count c nonempty in omega (arith, rest, step-count ds q v e is)
 
 pub chase-count : (ds : List Dependency) (q : Query) → chase ds q .query .rows ≢ []
     → chase ds q .count + variableCount (chase ds q .query) ≡ variableCount q
-chase-count ds q some' = chases-count (chase-chases ds q) some'
+chase-count ds q nonempty = chases-count (chase-chases ds q) nonempty
 
 -- and it is never more than the number of different variables
 pub chase-count-le : (ds : List Dependency) (q : Query) → chase ds q .count ≤ variableCount q
@@ -96,7 +114,7 @@ chase-count-le ds q = chases-count-le (chase-chases ds q)
 
 -- Never stays never, with count 0
 pub chase-never : (ds : List Dependency) (q : Query) → q .rows ≡ [] → (chase ds q .query ≡ q) × (chase ds q .count ≡ 0)
-chase-never ds q none' = let c = chases-unique ds q q zero (rests (step-never ds q none')) in (sym (c .0), sym (c .1))
+chase-never ds q empty = let c = chases-unique ds q q zero (rests (step-never ds q empty)) in (sym (c .0), sym (c .1))
 
 -- ---- 3. answers and mappings
 
@@ -115,16 +133,16 @@ chase-answers ds q D obeys t = chases-answers (chase-chases ds q) D obeys t
 
 -- There is a mapping from the query to its chased form
 pub chases-mapping : {ds : List Dependency} {q result : Query} {count : ℕ} → Chases ds q result count → result .rows ≢ [] → Mapping q result
-chases-mapping {q} (rests is) some' = mapping-self q some'
-chases-mapping (clashes is) some' = absurd (some' refl)
-chases-mapping {q} {result} (replaces {v} {e} is c) some' =
-    let rest = chases-mapping c some' in
+chases-mapping {q} (rests is) nonempty = mapping-self q nonempty
+chases-mapping (clashes is) nonempty = absurd (nonempty refl)
+chases-mapping {q} {result} (replaces {v} {e} is c) nonempty =
+    let rest = chases-mapping c nonempty in
     let after = mapQuery (substitute v e) q in
     let there = some-mapQuery (substitute v e) q (rest .1 .carries .not-never) in
     mapping-compose q after result (mapping-of q after (λ w. substitute v e (variable w)) (replace-carries v e q there)) rest
 
 pub chase-mapping : (ds : List Dependency) (q : Query) → chase ds q .query .rows ≢ [] → Mapping q (chase ds q .query)
-chase-mapping ds q some' = chases-mapping (chase-chases ds q) some'
+chase-mapping ds q nonempty = chases-mapping (chase-chases ds q) nonempty
 
 -- ---- 4. the result obeys the dependencies
 
@@ -150,13 +168,13 @@ column-below : (q : Query) (base : ℕ) → 0 < base → ConstantsBelow base q �
     → (n : ℕ) → column (constant 0) r k ≡ constant n → n < base
 column-below q base pos below r k at n is =
     ⊎-elim
-    (λ zero'. let none' : n ≡ 0 = constant-same (sym is ∙ zero') in omega arith)
+    (λ default. let is-zero : n ≡ 0 = constant-same (sym is ∙ default) in omega arith)
     (λ there. below .of-rows n (Memᴰ·cast (sym is) there))
     (column-rowEntries (q .rows) r k at)
 
 -- A query on which the chase rests, read as a database, obeys the dependencies
 pub rests-obeys : (ds : List Dependency) (q : Query) (base : ℕ) → step ds q ≡ none → 0 < base → ConstantsBelow base q → Obeys ds (frozenRows base q)
-rests-obeys ds q base rests' pos below d held r s at at' relation relation' same =
+rests-obeys ds q base resting pos below d held r s at at' relation relation' same =
     let from = Memᴰ·of-map (mapRow (freeze base)) (q .rows) at in
     let from' = Memᴰ·of-map (mapRow (freeze base)) (q .rows) at' in
     let r₀ = from .0 in
@@ -168,7 +186,7 @@ rests-obeys ds q base rests' pos below d held r s at at' relation relation' same
     let equal = firstBroken-nothing
     ds
     (q .rows)
-    (step-nothing ds q rests')
+    (step-nothing ds q resting)
     d
     held
     r₀
@@ -204,11 +222,11 @@ never-variables n v at = constant-variable 0 v (sym (never-entry n (variable v) 
 
 never-constants : (n base : ℕ) → 0 < base → ConstantsBelow base (never n)
 never-constants n base pos =
-    let zero' : (m : ℕ) → constant m ∈ never n .head ++ rowEntries (never n .rows) → m < base =
+    let below : (m : ℕ) → constant m ∈ never n .head ++ rowEntries (never n .rows) → m < base =
     λ m at. let is : m ≡ 0 = constant-same (never-entry n (constant m) at) in omega arith in
     record {
-      of-head = λ m at. zero' m (Memᴰ·append-left (rowEntries (never n .rows)) at);
-      of-rows = λ m at. zero' m (Memᴰ·append-right (never n .head) at);
+      of-head = λ m at. below m (Memᴰ·append-left (rowEntries (never n .rows)) at);
+      of-rows = λ m at. below m (Memᴰ·append-right (never n .head) at);
     }
 
 -- Relations and widths of rows

@@ -1,19 +1,20 @@
--- Laws of lists that any proof may cite: truth values; membership in a list, its map and its columns; lists without repeats and how long they are;
+-- Laws of lists that any proof may cite: truth values and options; membership in a list, its map and its columns; lists without repeats and how long they are;
 -- `member` and `distinct` of numbers. A membership is a position.
 -- Laws of `length`, `take`, `drop` and `getD` alone are the library's (`lib.Seq`). Assumes nothing.
 use mathlib.Core.Path.{_≡_, refl, sym, _∙_, ap, ap₂}
-use mathlib.Core.Logic.{_≢_, _⊎_, inl, inr, ⊎-elim}
-use mathlib.Core.Bool.{Bool, true, false, cond, _&&_, true≢false, false≢true}
+use mathlib.Core.Logic.{_⊎_, inl, inr, ⊎-elim}
+use mathlib.Core.Bool.{Bool, true, false, _&&_, true≢false, false≢true}
+use mathlib.Core.Option.{Option, none, some}
 use mathlib.Core.List.{List, [], _∷_, _++_, map, cons≢nil, List·Memᴰ·head, List·Memᴰ·tail, List·Memᴰ·not-nil, List·Memᴰ·cases-cons, Memᴰ·cast}
 use Prim.Native.Nat.{ℕ, zero, suc, _≤_, zero-le}
 use native.Mathlib.Omega.{arith}
-use borrow.Author.Tests.{eqb-true, eqb-false, eq-eqb, ne-eqb}
+use borrow.Author.Tests.{eqb-true, eqb-false}
 use lib.Dec.{eqb}
 use lib.ListN.{length, getD, replicate}
 use Rattle.theory.specs.Query.{member, distinct, _∈_}
 use Rattle.theory.specs.Reduction.{without}
 
--- ---- truth values
+-- ---- truth values and options
 
 -- By the two values of a test
 pub bool-cases : {C : Type 0} (b : Bool) → (b ≡ true → C) → (b ≡ false → C) → C
@@ -28,6 +29,17 @@ and-left false b e = e
 pub and-right : (a b : Bool) → (a && b) ≡ true → b ≡ true
 and-right true b e = e
 and-right false b e = absurd (false≢true e)
+
+-- By whether something is found
+pub option-cases : {A C : Type 0} (o : Option A) → ((x : A) → o ≡ some x → C) → (o ≡ none → C) → C
+option-cases none there missing = missing refl
+option-cases (some x) there missing = there x refl
+
+pub none-some : {A : Type 0} (x : A) → _≡_ {A = Option A} none (some x) → ⊥
+none-some x e = let z : _≡_ {A = ℕ} 0 1 = cc in omega arith
+
+pub some-same : {A : Type 0} {x y : A} → _≡_ {A = Option A} (some x) (some y) → x ≡ y
+some-same e = cc
 
 -- ---- membership
 

@@ -1,24 +1,20 @@
 -- One step of the chase. In this order: the search, as equations at the head of a list (for loops that go by what is left);
--- what the search tells, whether it finds something or not; what a step found says of the query; what a replacement keeps.
--- Substitution by itself is in `Entries`. Assumes nothing.
-use mathlib.Core.Path.{_≡_, refl, sym, _∙_, ap, ap₂}
-use mathlib.Core.Logic.{_≢_, _↔_, _⊎_, inl, inr, ⊎-elim}
-use mathlib.Core.Bool.{Bool, true, false, cond, not, _&&_, true≢false, false≢true}
+-- what the search tells, whether it finds something or not; what a step found says of the query.
+-- What a replacement keeps is in `Replacement`. Assumes nothing.
+use mathlib.Core.Path.{_≡_, refl, sym, _∙_, ap}
+use mathlib.Core.Logic.{_≢_, _⊎_, inl, inr, ⊎-elim}
+use mathlib.Core.Bool.{Bool, true, false, not, _&&_, true≢false}
 use mathlib.Core.Option.{Option, none, some}
-use mathlib.Core.List.{List, [], _∷_, _++_, map, List·Memᴰ·head, List·Memᴰ·tail, List·Memᴰ·not-nil, Memᴰ·cast, Memᴰ·map, Memᴰ·of-map, Memᴰ·append-left, Memᴰ·append-right, List·Memᴰ·append-cases}
-use Prim.Native.Nat.{ℕ, zero, suc, _+_, _≤_, _<_}
+use mathlib.Core.List.{List, [], _∷_, List·Memᴰ·head, List·Memᴰ·tail, List·Memᴰ·not-nil, Memᴰ·cast}
+use Prim.Native.Nat.{ℕ}
 use native.Mathlib.Omega.{arith}
-use borrow.Author.Tests.{eqb-true, eqb-false, eq-eqb, ne-eqb, not-true}
+use borrow.Author.Tests.{eqb-true, eq-eqb, not-true}
 use lib.Dec.{eqb}
-use lib.ListN.{length, getD, List·getD-map, length-map}
-use Rattle.theory.specs.Query.{Entry, constant, variable, Row, Query, sameEntry, column, mapRow, mapQuery, rowEntries, variablesOf, variables, variableCount, FitsSchema, _∈_}
-use Rattle.theory.specs.Database.{Database, Dependency, Agree, Obeys}
-use Rattle.theory.specs.Chase.{orElse, mapFound, firstPassing, firstPair, firstFound, agree, breaks, firstBroken, Resolution, clash, replace, survives, resolve, inHead, substitute, resolvePair, step}
-use Rattle.theory.specs.Answer.{valueOf, itself, Carries, Answer}
-use Rattle.theory.specs.Containment.{ConstantsBelow}
-use Rattle.theory.proofs.Lists.{map-empty, map-agree, map-compose, bool-cases, and-left, and-right, mem-cases}
-use Rattle.theory.proofs.Entries.{sameEntry-eq, eq-sameEntry, sameEntry-ne, ne-sameEntry, entry-dec, constant-variable, column-rowEntries, substitute-valueOf, substitute-cases, substitute-mem, constant-same, mem-variablesOf, variablesOf-mem, entries-map, rowEntries-map, replace-count, substitute-constant}
-use Rattle.theory.proofs.Carry.{carries-compose}
+use Rattle.theory.specs.Query.{Entry, constant, variable, Row, Query, sameEntry, column, rowEntries, _∈_}
+use Rattle.theory.specs.Database.{Dependency, Agree}
+use Rattle.theory.specs.Chase.{orElse, mapFound, firstPassing, firstPair, firstFound, agree, breaks, firstBroken, Resolution, clash, replace, survives, resolve, inHead, resolvePair, step}
+use Rattle.theory.proofs.Lists.{bool-cases, and-left, and-right, mem-cases, option-cases, none-some, some-same}
+use Rattle.theory.proofs.Entries.{sameEntry-eq, eq-sameEntry, sameEntry-ne, ne-sameEntry, entry-dec, constant-variable, column-rowEntries}
 
 -- ---- the search, at the head of a list
 
@@ -97,18 +93,50 @@ pub found-later : {A B : Type 0} (f : A → B) (later : Option B) → orElse (ma
 unfolding mapFound orElse
 found-later f later = refl
 
+-- The search of `firstBroken` under way, for three nested loops by what is left of each.
+-- For dependency d the pairs of the rows rs are left; then come the dependencies ds with all rows
+unfoldable pub brokenFor : Dependency → List (Row Entry) → List Dependency → List (Row Entry) → Option (Dependency × (Row Entry × Row Entry))
+brokenFor d rs ds rows = orElse (mapFound (λ p. (d, p)) (firstPair (breaks d) rs)) (firstBroken ds rows)
+
+-- For dependency d the pairs of row r with the rows ss are left, and those of the rows rs; then come the dependencies ds with all rows
+unfoldable pub brokenWith : Dependency → Row Entry → List (Row Entry) → List (Row Entry) → List Dependency → List (Row Entry)
+    → Option (Dependency × (Row Entry × Row Entry))
+brokenWith d r ss rs ds rows =
+    orElse (mapFound (λ p. (d, p)) (orElse (mapFound (λ s. (r, s)) (firstPassing (breaks d r) ss)) (firstPair (breaks d) rs))) (firstBroken ds rows)
+
+pub firstBroken-nil : (rows : List (Row Entry)) → firstBroken [] rows ≡ none
+unfolding firstBroken firstFound
+firstBroken-nil rows = refl
+
+pub firstBroken-cons : (d : Dependency) (ds : List Dependency) (rows : List (Row Entry)) → firstBroken (d ∷ ds) rows ≡ brokenFor d rows ds rows
+unfolding firstBroken firstFound brokenFor
+firstBroken-cons d ds rows = refl
+
+pub brokenFor-nil : (d : Dependency) (ds : List Dependency) (rows : List (Row Entry)) → brokenFor d [] ds rows ≡ firstBroken ds rows
+unfolding brokenFor firstPair mapFound orElse
+brokenFor-nil d ds rows = refl
+
+pub brokenFor-cons : (d : Dependency) (r : Row Entry) (rs : List (Row Entry)) (ds : List Dependency) (rows : List (Row Entry))
+    → brokenFor d (r ∷ rs) ds rows ≡ brokenWith d r rs rs ds rows
+unfolding brokenFor brokenWith firstPair
+brokenFor-cons d r rs ds rows = refl
+
+pub brokenWith-nil : (d : Dependency) (r : Row Entry) (rs : List (Row Entry)) (ds : List Dependency) (rows : List (Row Entry))
+    → brokenWith d r [] rs ds rows ≡ brokenFor d rs ds rows
+unfolding brokenFor brokenWith firstPassing mapFound orElse
+brokenWith-nil d r rs ds rows = refl
+
+pub brokenWith-true : (d : Dependency) (r s : Row Entry) (ss rs : List (Row Entry)) (ds : List Dependency) (rows : List (Row Entry))
+    → breaks d r s ≡ true → brokenWith d r (s ∷ ss) rs ds rows ≡ some (d, (r, s))
+unfolding brokenWith firstPassing mapFound orElse
+brokenWith-true d r s ss rs ds rows e = rw e
+
+pub brokenWith-false : (d : Dependency) (r s : Row Entry) (ss rs : List (Row Entry)) (ds : List Dependency) (rows : List (Row Entry))
+    → breaks d r s ≡ false → brokenWith d r (s ∷ ss) rs ds rows ≡ brokenWith d r ss rs ds rows
+unfolding brokenWith firstPassing
+brokenWith-false d r s ss rs ds rows e = rw e
+
 -- ---- what the search tells
-
--- By whether something is found
-pub option-cases : {A C : Type 0} (o : Option A) → ((x : A) → o ≡ some x → C) → (o ≡ none → C) → C
-option-cases none there missing = missing refl
-option-cases (some x) there missing = there x refl
-
-pub none-some : {A : Type 0} (x : A) → _≡_ {A = Option A} none (some x) → ⊥
-none-some x e = let z : _≡_ {A = ℕ} 0 1 = cc in omega arith
-
-pub some-same : {A : Type 0} {x y : A} → _≡_ {A = Option A} (some x) (some y) → x ≡ y
-some-same e = cc
 
 pub firstPassing-found : {A : Type 0} (test : A → Bool) (x : A) (xs : List A) → firstPassing test xs ≡ some x → (x ∈ xs) × (test x ≡ true)
 unfolding firstPassing
@@ -247,6 +275,9 @@ broken-breaks d r s b =
       ne-sameEntry (column (constant 0) r (d .right)) (column (constant 0) s (d .right)) (b .differ-right),
     )
 
+pub passes-unbroken : (d : Dependency) (r s : Row Entry) → breaks d r s ≡ false → Broken d r s → ⊥
+passes-unbroken d r s e b = true≢false (sym (broken-breaks d r s b) ∙ e)
+
 -- What is found breaks a dependency of the list, and both rows are there
 pub firstBroken-found : (ds : List Dependency) (rows : List (Row Entry)) (found : Dependency × (Row Entry × Row Entry)) → firstBroken ds rows ≡ some found
     → (found .0 ∈ ds) × (found .1 .0 ∈ rows) × (found .1 .1 ∈ rows) × Broken (found .0) (found .1 .0) (found .1 .1)
@@ -262,9 +293,6 @@ pub firstBroken-nothing : (ds : List Dependency) (rows : List (Row Entry)) → f
     → Agree (constant 0) (d .left) r s → column (constant 0) r (d .right) ≡ column (constant 0) s (d .right)
 unfolding firstBroken
 firstBroken-nothing ds rows e d held r s at at' relation relation' same =
-    let x = column (constant 0) r (d .right) in
-    let y = column (constant 0) s (d .right) in
-    let none' = firstFound-nothing (λ d'. firstPair (breaks d') rows) ds e d held in
     ⊎-elim
     (λ equal. equal)
     (λ differ.
@@ -273,26 +301,27 @@ firstBroken-nothing ds rows e d held r s at at' relation relation' same =
     (⊎-elim
     (λ passed.
     absurd
-    (true≢false
-    (sym (broken-breaks d r s (record { first-relation = relation; second-relation = relation'; agree-left = same; differ-right = differ }))
-    ∙ passed)))
+    (passes-unbroken
+    d
+    r
+    s
+    passed
+    (record { first-relation = relation; second-relation = relation'; agree-left = same; differ-right = differ })))
     (λ passed.
     absurd
-    (true≢false
-    (sym
-    (broken-breaks
+    (passes-unbroken
     d
     s
     r
+    passed
     (record {
       first-relation = relation';
       second-relation = relation;
       agree-left = λ c left. sym (same c left);
       differ-right = λ equal. differ (sym equal);
-    }))
-    ∙ passed))))
-    (firstPair-nothing (breaks d) rows none' r s at at'))
-    (entry-dec x y)
+    }))))
+    (firstPair-nothing (breaks d) rows (firstFound-nothing (λ d'. firstPair (breaks d') rows) ds e d held) r s at at'))
+    (entry-dec (column (constant 0) r (d .right)) (column (constant 0) s (d .right)))
 
 -- No rows, nothing broken
 pub firstBroken-empty : (ds : List Dependency) → firstBroken ds [] ≡ none
@@ -336,13 +365,13 @@ forced-swap f =
 pub forced-entry : {ds : List Dependency} {rows : List (Row Entry)} {x y : Entry} → Forced ds rows x y → (x ≡ constant 0) ⊎ (x ∈ rowEntries rows)
 forced-entry {rows} f =
     ⊎-elim
-    (λ zero'. inl (sym (f .first-entry) ∙ zero'))
+    (λ default. inl (sym (f .first-entry) ∙ default))
     (λ there. inr (Memᴰ·cast (sym (f .first-entry)) there))
     (column-rowEntries rows (f .first) (f .dependency .right) (f .first-there))
 
 -- so a forced variable does
 pub forced-variable : {ds : List Dependency} {rows : List (Row Entry)} {y : Entry} {v : ℕ} → Forced ds rows (variable v) y → variable v ∈ rowEntries rows
-forced-variable {v} f = ⊎-elim (λ zero'. absurd (constant-variable 0 v (sym zero'))) (λ there. there) (forced-entry f)
+forced-variable {v} f = ⊎-elim (λ default. absurd (constant-variable 0 v (sym default))) (λ there. there) (forced-entry f)
 
 pub clash-replace : (v : ℕ) (e : Entry) → clash ≡ replace v e → ⊥
 clash-replace v e is = let z : _≡_ {A = ℕ} 0 1 = cc in omega arith
@@ -354,27 +383,27 @@ pub replace-entry : {v w : ℕ} {x y : Entry} → replace v x ≡ replace w y �
 replace-entry e = cc
 
 -- A clash is of two constants
-pub resolve-clash : (inHead' : ℕ → Bool) (x y : Entry) → resolve inHead' x y ≡ clash → (m : ℕ) × (n : ℕ) × (x ≡ constant m) × (y ≡ constant n)
+pub resolve-clash : (shown : ℕ → Bool) (x y : Entry) → resolve shown x y ≡ clash → (m : ℕ) × (n : ℕ) × (x ≡ constant m) × (y ≡ constant n)
 unfolding resolve
-resolve-clash inHead' (constant m) (constant n) e = (m, n, refl, refl)
-resolve-clash inHead' (constant m) (variable w) e = let z : _≡_ {A = ℕ} 0 1 = cc in absurd (omega arith)
-resolve-clash inHead' (variable v) (constant n) e = let z : _≡_ {A = ℕ} 0 1 = cc in absurd (omega arith)
-resolve-clash inHead' (variable v) (variable w) e =
+resolve-clash shown (constant m) (constant n) e = (m, n, refl, refl)
+resolve-clash shown (constant m) (variable w) e = let z : _≡_ {A = ℕ} 0 1 = cc in absurd (omega arith)
+resolve-clash shown (variable v) (constant n) e = let z : _≡_ {A = ℕ} 0 1 = cc in absurd (omega arith)
+resolve-clash shown (variable v) (variable w) e =
     bool-cases
-    (survives inHead' v w)
+    (survives shown v w)
     (λ p. absurd (clash-replace w (variable v) (sym (rw p at e))))
     (λ p. absurd (clash-replace v (variable w) (sym (rw p at e))))
 
 -- A replacement is of one of the two entries by the other
-pub resolve-replace : (inHead' : ℕ → Bool) (x y : Entry) (v : ℕ) (e : Entry) → resolve inHead' x y ≡ replace v e
+pub resolve-replace : (shown : ℕ → Bool) (x y : Entry) (v : ℕ) (e : Entry) → resolve shown x y ≡ replace v e
     → ((x ≡ variable v) × (y ≡ e)) ⊎ ((x ≡ e) × (y ≡ variable v))
 unfolding resolve
-resolve-replace inHead' (constant m) (constant n) u e is = absurd (clash-replace u e is)
-resolve-replace inHead' (constant m) (variable w) u e is = inr (replace-entry is, ap variable (replace-number is))
-resolve-replace inHead' (variable v) (constant n) u e is = inl (ap variable (replace-number is), replace-entry is)
-resolve-replace inHead' (variable v) (variable w) u e is =
+resolve-replace shown (constant m) (constant n) u e is = absurd (clash-replace u e is)
+resolve-replace shown (constant m) (variable w) u e is = inr (replace-entry is, ap variable (replace-number is))
+resolve-replace shown (variable v) (constant n) u e is = inl (ap variable (replace-number is), replace-entry is)
+resolve-replace shown (variable v) (variable w) u e is =
     bool-cases
-    (survives inHead' v w)
+    (survives shown v w)
     (λ p. let is' = rw p at is in inr (replace-entry is', ap variable (replace-number is')))
     (λ p. let is' = rw p at is in inl (ap variable (replace-number is'), replace-entry is'))
 
@@ -449,165 +478,3 @@ step-clash ds q is =
     let c = resolve-clash (inHead q) x y (what .2) in
     let f = found-forced ds (q .rows) found (constant (c .0)) (constant (c .1)) (what .1) (c .2) (c .3) in
     (c .0, c .1, f .0, λ same. f .1 (ap constant same))
-
--- ---- what a replacement keeps
-
--- A replacement is a mapping from the query to what it becomes
-pub replace-carries : (v : ℕ) (e : Entry) (q : Query) → q .rows ≢ []
-    → Carries constant (λ w. substitute v e (variable w)) q (mapQuery (substitute v e) q .rows) (mapQuery (substitute v e) q .head)
-replace-carries v e q some' =
-    let same = substitute-valueOf v e in
-    record {
-      not-never = some';
-      to-head = ap (λ f. map f (q .head)) same;
-      to-rows = λ r at. Memᴰ·cast (ap (λ f. mapRow f r) same) (Memᴰ·map (mapRow (substitute v e)) at);
-    }
-
--- The rows of a mapped query are none exactly when those of the query are
-pub mapQuery-some : (f : Entry → Entry) (q : Query) → q .rows ≢ [] → mapQuery f q .rows ≢ []
-mapQuery-some f q some' e = some' (map-empty (mapRow f) (q .rows) e)
-
-pub some-mapQuery : (f : Entry → Entry) (q : Query) → mapQuery f q .rows ≢ [] → q .rows ≢ []
-some-mapQuery f q some' e = some' (ap (map (mapRow f)) e)
-
--- An assignment that carries the query into an obeying database gives forced entries the same value
-pub forced-value : {ds : List Dependency} {x y : Entry} (assign : ℕ → ℕ) (q : Query) (D : Database) (t : List ℕ) → Forced ds (q .rows) x y
-    → Obeys ds D → Carries itself assign q D t → valueOf itself assign x ≡ valueOf itself assign y
-forced-value {ds} {x} {y} assign q D t f obeys c =
-    let value = valueOf itself assign in
-    let at-column : (r : Row Entry) (k : ℕ) → column 0 (mapRow value r) k ≡ value (column (constant 0) r k) = λ r k. List·getD-map value (r .values) k (constant 0) in
-    let d = f .dependency in
-    let equal = obeys
-    d
-    (f .held)
-    (mapRow value (f .first))
-    (mapRow value (f .second))
-    (c .to-rows (f .first) (f .first-there))
-    (c .to-rows (f .second) (f .second-there))
-    (f .first-relation)
-    (f .second-relation)
-    (λ k at. at-column (f .first) k ∙ ap value (f .agree-left k at) ∙ sym (at-column (f .second) k)) in
-    ap value (sym (f .first-entry)) ∙ sym (at-column (f .first) (d .right)) ∙ equal ∙ at-column (f .second) (d .right) ∙ ap value (f .second-entry)
-
--- An assignment to which a change of entries makes no difference carries the changed query too
-pub carries-changed : {A : Type 0} (fixed assign : ℕ → A) (f : Entry → Entry) (q : Query) (rows : List (Row A)) (image : List A)
-    → ((x : Entry) → valueOf fixed assign (f x) ≡ valueOf fixed assign x) → Carries fixed assign q rows image → Carries fixed assign (mapQuery f q) rows image
-carries-changed fixed assign f q rows image same c =
-    let value = valueOf fixed assign in
-    let through : (es : List Entry) → map value (map f es) ≡ map value es = λ es. map-compose f value es ∙ map-agree (λ x. value (f x)) value es (λ x at. same x) in
-    record {
-      not-never = mapQuery-some f q (c .not-never);
-      to-head = through (q .head) ∙ c .to-head;
-      to-rows = λ r at.
-          let from = Memᴰ·of-map (mapRow f) (q .rows) at in
-          let r₀ = from .0 in
-          let equal : mapRow value r ≡ mapRow value r₀ = ap (mapRow value) (sym (from .2)) ∙ (λ i. record { relation = r₀ .relation; values = through (r₀ .values) i }) in
-          Memᴰ·cast equal (c .to-rows r₀ (from .1));
-    }
-
--- A replacement of a forced variable keeps the answers
-pub replace-answers : {ds : List Dependency} {e : Entry} {v : ℕ} (q : Query) (D : Database) (t : List ℕ) → Forced ds (q .rows) (variable v) e
-    → Obeys ds D → Answer D q t ↔ Answer D (mapQuery (substitute v e) q) t
-replace-answers {e} {v} q D t f obeys = (
-  λ a.
-      let value = valueOf itself (a .0) in
-      let equal = forced-value (a .0) q D t f obeys (a .1) in (
-        a .0,
-        carries-changed
-            itself
-            (a .0)
-            (substitute v e)
-            q
-            D
-            t
-            (λ x. ⊎-elim (λ c. ap value (c .1) ∙ sym equal ∙ ap value (sym (c .0))) (λ c. ap value (c .1)) (substitute-cases v e x))
-            (a .1),
-      ),
-  λ a. (
-    λ w. valueOf itself (a .0) (substitute v e (variable w)),
-    carries-compose
-        itself
-        (a .0)
-        (λ w. substitute v e (variable w))
-        q
-        (mapQuery (substitute v e) q)
-        D
-        t
-        (replace-carries v e q (some-mapQuery (substitute v e) q (a .1 .not-never)))
-        (a .1),
-  ),
-)
-
--- After a clash there are none
-pub clash-answers : {ds : List Dependency} {m n : ℕ} (q : Query) (D : Database) (t : List ℕ) → Forced ds (q .rows) (constant m) (constant n) → m ≢ n
-    → Obeys ds D → Answer D q t → ⊥
-clash-answers q D t f other obeys a = other (forced-value (a .0) q D t f obeys (a .1))
-
--- A variable that is forced and the entry that is forced on it are the query's
-pub forced-known : {ds : List Dependency} {v : ℕ} {y : Entry} (q : Query) → Forced ds (q .rows) (variable v) y → v ∈ variables q
-forced-known {v} q f =
-    mem-variablesOf v (q .head ++ rowEntries (q .rows)) (Memᴰ·append-right (q .head) (forced-variable f))
-
-pub forced-known-second : {ds : List Dependency} {x e : Entry} (q : Query) → Forced ds (q .rows) x e → (w : ℕ) → e ≡ variable w → w ∈ variables q
-forced-known-second q f w is = forced-known q (rw is at (forced-swap f))
-
--- A replacement takes away exactly one variable
-pub forced-count : {ds : List Dependency} {e : Entry} {v : ℕ} (q : Query) → Forced ds (q .rows) (variable v) e → e ≢ variable v
-    → suc (variableCount (mapQuery (substitute v e) q)) ≡ variableCount q
-forced-count {e} {v} q f other = replace-count v e q (forced-known q f) other (forced-known-second q f)
-
--- and brings none
-pub forced-variables : {ds : List Dependency} {e : Entry} {v : ℕ} (q : Query) → Forced ds (q .rows) (variable v) e
-    → (w : ℕ) → w ∈ variables (mapQuery (substitute v e) q) → w ∈ variables q
-forced-variables {e} {v} q f w at =
-    let es = q .head ++ rowEntries (q .rows) in
-    let after = mapQuery (substitute v e) q .head ++ rowEntries (mapQuery (substitute v e) q .rows) in
-    ⊎-elim
-    (λ c. forced-known-second q f w (sym (c .0)))
-    (λ c. mem-variablesOf w es (c .1))
-    (substitute-mem v e (variable w) es (rw (entries-map (substitute v e) q) at (variablesOf-mem w after at)))
-
--- A replacement keeps the constants below a base
-pub forced-constants : {ds : List Dependency} {e : Entry} {v : ℕ} (q : Query) (base : ℕ) → 0 < base → Forced ds (q .rows) (variable v) e
-    → ConstantsBelow base q → ConstantsBelow base (mapQuery (substitute v e) q)
-forced-constants {e} {v} q base pos f below =
-    let survivor : (n : ℕ) → constant n ≡ e → n < base = λ n is.
-    ⊎-elim
-    (λ zero'. let none' : n ≡ 0 = constant-same (is ∙ zero') in omega arith)
-    (λ there. below .of-rows n (Memᴰ·cast is there))
-    (forced-entry (forced-swap f)) in
-    record {
-      of-head = λ n at. ⊎-elim (λ c. survivor n (c .0)) (λ c. below .of-head n (c .1)) (substitute-mem v e (constant n) (q .head) at);
-      of-rows = λ n at.
-          ⊎-elim
-          (λ c. survivor n (c .0))
-          (λ c. below .of-rows n (c .1))
-          (substitute-mem v e (constant n) (rowEntries (q .rows)) (rw (rowEntries-map (substitute v e) (q .rows)) at at));
-    }
-
--- A change of entries keeps the rows' relations and widths
-pub mapQuery-rows-fit : (widths : List ℕ) (f : Entry → Entry) (q : Query) → ((r : Row Entry) → r ∈ q .rows → FitsSchema widths r)
-    → (r : Row Entry) → r ∈ mapQuery f q .rows → FitsSchema widths r
-mapQuery-rows-fit widths f q fit r at =
-    let from = Memᴰ·of-map (mapRow f) (q .rows) at in
-    let fits = fit (from .0) (from .1) in
-    rw (← from .2) (fits .0, length-map (from .0 .values) f ∙ fits .1)
-
--- A replacement keeps each head variable in a row
-pub replace-head-safe : (v : ℕ) (e : Entry) (q : Query) → ((w : ℕ) → w ∈ variablesOf (q .head) → w ∈ variablesOf (rowEntries (q .rows)))
-    → (w : ℕ) → w ∈ variablesOf (mapQuery (substitute v e) q .head) → w ∈ variablesOf (rowEntries (mapQuery (substitute v e) q .rows))
-replace-head-safe v e q safe w at =
-    let s = substitute v e in
-    let from = Memᴰ·of-map s (q .head) (variablesOf-mem w (map s (q .head)) at) in
-    rw
-    (rowEntries-map s (q .rows))
-    (mem-variablesOf w (map s (rowEntries (q .rows))) (Memᴰ·cast (sym (from .2)) (Memᴰ·map s (kept (from .0) (from .1) (from .2)))))
-  where
-    kept : (x : Entry) → x ∈ q .head → substitute v e x ≡ variable w → x ∈ rowEntries (q .rows)
-    kept (constant n) there is = absurd (constant-variable n w (sym (substitute-constant v e n) ∙ is))
-    kept (variable u) there is = variablesOf-mem u (rowEntries (q .rows)) (safe u (mem-variablesOf u (q .head) there))
-
--- The count falls by one with each replacement
-pub step-count : (ds : List Dependency) (q : Query) (v : ℕ) (e : Entry) → step ds q ≡ some (replace v e)
-    → suc (variableCount (mapQuery (substitute v e) q)) ≡ variableCount q
-step-count ds q v e is = let f = step-replace ds q v e is in forced-count q (f .0) (f .1)
