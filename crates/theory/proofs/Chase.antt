@@ -1,6 +1,6 @@
 -- The chase with functional dependencies, after Maier, Mendelzon and Sagiv, "Testing implications of data dependencies" (1979).
 -- The plan, by the numbers of the sections:
---   1. A replacement takes away one variable (`Step`), so the chase ends: `chase` computes a `Chases`, and there is no other.
+--   1. A replacement takes away one variable (`Replacement`), so the chase ends: `chase` computes a `Chases`, and there is no other.
 --   2. How many replacements it makes.
 --   3. Each replacement is a mapping, and keeps the answers on every database that obeys the dependencies: an assignment into such a database
 --      gives the two entries the same value. A clash asks two different constants to be equal, so there was no answer.
@@ -205,6 +205,7 @@ rests-obeys ds q base resting pos below d held r s at at' relation relation' sam
     (sym (read k) ∙ same k left ∙ read' k)) in
     read (d .right) ∙ ap (freeze base) equal ∙ sym (read' (d .right))
 
+-- The base is above 0, for constant 0 stands in for a missing column and must be read apart from variable 0
 pub chase-obeys : (ds : List Dependency) (q : Query) (base : ℕ) → 0 < base → ConstantsBelow base (chase ds q .query)
     → Obeys ds (frozenRows base (chase ds q .query))
 chase-obeys ds q base pos below = rests-obeys ds (chase ds q .query) base (chase-rests ds q) pos below
