@@ -1,0 +1,2 @@
+-- Containment (Chandra and Merlin 1977; with functional dependencies, Maier, Mendelzon and Sagiv 1979).
+-- Assumes nothing.

@@ -1,0 +1,9 @@
+-- The theorems about the definitions of specs/, and the laws on the way to them. Each file's header says what is in it.
+pub mod Lists
+pub mod Entries
+pub mod Carry
+pub mod Step
+pub mod Replacement
+pub mod Chase
+pub mod Containment
+pub mod Reduction

@@ -1,0 +1,173 @@
+-- Laws of lists that any proof may cite: truth values and options; membership in a list, its map and its columns; lists without repeats and how long they are;
+-- `member` and `distinct` of numbers. A membership is a position.
+-- Laws of `length`, `take`, `drop` and `getD` alone are the library's (`lib.Seq`). Assumes nothing.
+use mathlib.Core.Path.{_≡_, refl, sym, _∙_, ap, ap₂}
+use mathlib.Core.Logic.{_⊎_, inl, inr, ⊎-elim}
+use mathlib.Core.Bool.{Bool, true, false, _&&_, true≢false, false≢true}
+use mathlib.Core.Option.{Option, none, some}
+use mathlib.Core.List.{List, [], _∷_, _++_, map, cons≢nil, List·Memᴰ·head, List·Memᴰ·tail, List·Memᴰ·not-nil, List·Memᴰ·cases-cons, Memᴰ·cast}
+use Prim.Native.Nat.{ℕ, zero, suc, _≤_, zero-le}
+use native.Mathlib.Omega.{arith}
+use borrow.Author.Tests.{eqb-true, eqb-false}
+use lib.Dec.{eqb}
+use lib.ListN.{length, getD, replicate}
+use Rattle.theory.specs.Query.{member, distinct, _∈_}
+use Rattle.theory.specs.Reduction.{without}
+
+-- ---- truth values and options
+
+-- By the two values of a test
+pub bool-cases : {C : Type 0} (b : Bool) → (b ≡ true → C) → (b ≡ false → C) → C
+bool-cases true t f = t refl
+bool-cases false t f = f refl
+
+-- A conjunction that is true is true on both sides
+pub and-left : (a b : Bool) → (a && b) ≡ true → a ≡ true
+and-left true b e = refl
+and-left false b e = e
+
+pub and-right : (a b : Bool) → (a && b) ≡ true → b ≡ true
+and-right true b e = e
+and-right false b e = absurd (false≢true e)
+
+-- By whether something is found
+pub option-cases : {A C : Type 0} (o : Option A) → ((x : A) → o ≡ some x → C) → (o ≡ none → C) → C
+option-cases none there missing = missing refl
+option-cases (some x) there missing = there x refl
+
+pub none-some : {A : Type 0} (x : A) → _≡_ {A = Option A} none (some x) → ⊥
+none-some x e = let z : _≡_ {A = ℕ} 0 1 = cc in omega arith
+
+pub some-same : {A : Type 0} {x y : A} → _≡_ {A = Option A} (some x) (some y) → x ≡ y
+some-same e = cc
+
+-- ---- membership
+
+-- A position after the first one
+pub mem-cases : {A C : Type 0} {x y : A} {xs : List A} → x ∈ (y ∷ xs) → (x ≡ y → C) → (x ∈ xs → C) → C
+mem-cases at here later = ⊎-elim here later (List·Memᴰ·cases-cons at)
+
+-- Functions that agree on a list map it alike
+pub map-agree : {A B : Type 0} (f g : A → B) (xs : List A) → ((x : A) → x ∈ xs → f x ≡ g x) → map f xs ≡ map g xs
+map-agree f g [] same = refl
+map-agree f g (x ∷ xs) same = ap₂ _∷_ (same x (List·Memᴰ·head refl)) (map-agree f g xs (λ y at. same y (List·Memᴰ·tail at)))
+
+-- The map of a map
+pub map-compose : {A B C : Type 0} (f : A → B) (g : B → C) (xs : List A) → map g (map f xs) ≡ map (λ x. g (f x)) xs
+map-compose f g [] = refl
+map-compose f g (x ∷ xs) = ap (λ l. g (f x) ∷ l) (map-compose f g xs)
+
+-- The map of two lists joined
+pub map-append : {A B : Type 0} (f : A → B) (xs ys : List A) → map f (xs ++ ys) ≡ map f xs ++ map f ys
+map-append f [] ys = refl
+map-append f (x ∷ xs) ys = ap (λ l. f x ∷ l) (map-append f xs ys)
+
+-- A map is empty exactly when the list is
+pub map-empty : {A B : Type 0} (f : A → B) (xs : List A) → map f xs ≡ [] → xs ≡ []
+map-empty f [] e = refl
+map-empty f (x ∷ xs) e = absurd (cons≢nil e)
+
+pub empty-map : {A B : Type 0} (f : A → B) (xs : List A) → xs ≡ [] → map f xs ≡ []
+empty-map f xs e = ap (map f) e
+
+-- What stands at a place of a list, or the default where it is too short
+pub getD-mem : {A : Type 0} (xs : List A) (n : ℕ) (z : A) → (getD xs n z ≡ z) ⊎ (getD xs n z ∈ xs)
+getD-mem [] n z = inl refl
+getD-mem (x ∷ xs) zero z = inr (List·Memᴰ·head refl)
+getD-mem (x ∷ xs) (suc n) z = ⊎-elim inl (λ at. inr (List·Memᴰ·tail at)) (getD-mem xs n z)
+
+-- Copies of one element are that element
+pub replicate-mem : {A : Type 0} (n : ℕ) (x y : A) → y ∈ replicate n x → y ≡ x
+replicate-mem zero x y at = absurd (List·Memᴰ·not-nil at)
+replicate-mem (suc n) x y at = mem-cases at (λ here. here) (λ later. replicate-mem n x y later)
+
+-- ---- lists without repeats
+
+-- No element stands twice
+abbrev pub Nodup : {A : Type 0} → List A → Type 0
+Nodup [] = Unit {0}
+Nodup (x ∷ xs) = (x ∈ xs → ⊥) × Nodup xs
+
+-- A list without one element is one shorter
+pub without-length : {A : Type 0} {x : A} (xs : List A) (at : x ∈ xs) → suc (length (without xs at)) ≡ length xs
+unfolding without
+without-length (y ∷ xs) (List·Memᴰ·head e) = refl
+without-length (y ∷ xs) (List·Memᴰ·tail at) = ap suc (without-length xs at)
+
+-- and has every other element still
+pub without-keeps : {A : Type 0} {x y : A} (xs : List A) (at : x ∈ xs) → y ∈ xs → (y ≡ x → ⊥) → y ∈ without xs at
+unfolding without
+without-keeps (z ∷ xs) (List·Memᴰ·head e) there other = mem-cases there (λ e'. absurd (other (e' ∙ sym e))) (λ at'. at')
+without-keeps (z ∷ xs) (List·Memᴰ·tail at) there other =
+    mem-cases there (λ e'. List·Memᴰ·head e') (λ at'. List·Memᴰ·tail (without-keeps xs at at' other))
+
+-- Pigeonhole: a list without repeats is not longer than one that has all its elements
+pub nodup-length-le : {A : Type 0} (xs ys : List A) → Nodup xs → ((x : A) → x ∈ xs → x ∈ ys) → length xs ≤ length ys
+nodup-length-le [] ys once among = zero-le
+nodup-length-le (x ∷ xs) ys once among =
+    let at : x ∈ ys = among x (List·Memᴰ·head refl) in
+    let rest = nodup-length-le
+    xs
+    (without ys at)
+    (once .1)
+    (λ y there. without-keeps ys at (among y (List·Memᴰ·tail there)) (λ e. once .0 (Memᴰ·cast (sym e) there))) in
+    omega (arith, rest, without-length ys at)
+
+-- Two lists without repeats and with the same elements are equally long
+pub nodup-length : {A : Type 0} (xs ys : List A) → Nodup xs → Nodup ys → ((x : A) → x ∈ xs → x ∈ ys) → ((x : A) → x ∈ ys → x ∈ xs) → length xs ≡ length ys
+nodup-length xs ys once once' there back = omega (arith, nodup-length-le xs ys once there, nodup-length-le ys xs once' back)
+
+-- ---- `member` and `distinct`
+
+-- The test is membership
+pub member-mem : (n : ℕ) (ns : List ℕ) → member n ns ≡ true → n ∈ ns
+unfolding member
+member-mem n [] e = absurd (false≢true e)
+member-mem n (m ∷ ms) e =
+    bool-cases (eqb n m) (λ p. List·Memᴰ·head (eqb-true n m p)) (λ p. List·Memᴰ·tail (member-mem n ms (rw p at e)))
+
+pub mem-member : (n : ℕ) (ns : List ℕ) → n ∈ ns → member n ns ≡ true
+unfolding member
+mem-member n [] at = absurd (List·Memᴰ·not-nil at)
+mem-member n (m ∷ ms) at =
+    bool-cases (eqb n m) (λ p. rw p refl) (λ p. rw p (mem-cases at (λ e. absurd (eqb-false n m p e)) (λ at'. mem-member n ms at')))
+
+pub member-not-mem : (n : ℕ) (ns : List ℕ) → member n ns ≡ false → n ∈ ns → ⊥
+member-not-mem n ns e at = true≢false (sym (mem-member n ns at) ∙ e)
+
+pub not-mem-member : (n : ℕ) (ns : List ℕ) → (n ∈ ns → ⊥) → member n ns ≡ false
+not-mem-member n ns out = bool-cases (member n ns) (λ p. absurd (out (member-mem n ns p))) (λ p. p)
+
+-- A number is in a list or not
+pub mem-dec : (n : ℕ) (ns : List ℕ) → (n ∈ ns) ⊎ (n ∈ ns → ⊥)
+mem-dec n ns = bool-cases (member n ns) (λ p. inl (member-mem n ns p)) (λ p. inr (member-not-mem n ns p))
+
+-- `distinct` keeps every number
+pub mem-distinct : (n : ℕ) (ns : List ℕ) → n ∈ ns → n ∈ distinct ns
+unfolding distinct
+mem-distinct n [] at = at
+mem-distinct n (m ∷ ms) at =
+    bool-cases
+    (member m ms)
+    (λ p. rw p (mem-distinct n ms (mem-cases at (λ e. Memᴰ·cast e (member-mem m ms p)) (λ at'. at'))))
+    (λ p. rw p (mem-cases at (λ e. List·Memᴰ·head e) (λ at'. List·Memᴰ·tail (mem-distinct n ms at'))))
+
+-- adds none
+pub distinct-mem : (n : ℕ) (ns : List ℕ) → n ∈ distinct ns → n ∈ ns
+unfolding distinct
+distinct-mem n [] at = at
+distinct-mem n (m ∷ ms) at =
+    bool-cases
+    (member m ms)
+    (λ p. List·Memᴰ·tail (distinct-mem n ms (rw p at at)))
+    (λ p. mem-cases (rw p at at) (λ e. List·Memᴰ·head e) (λ at'. List·Memᴰ·tail (distinct-mem n ms at')))
+
+-- and leaves no repeats
+pub distinct-nodup : (ns : List ℕ) → Nodup (distinct ns)
+unfolding distinct
+distinct-nodup [] = tt
+distinct-nodup (m ∷ ms) =
+    bool-cases
+    (member m ms)
+    (λ p. rw p (distinct-nodup ms))
+    (λ p. rw p (λ at. member-not-mem m ms p (distinct-mem m ms at), distinct-nodup ms))

@@ -1,0 +1,2 @@
+-- Reduction: equal answers, minimality, and one pass over the rows.
+-- Assumes nothing.
