@@ -1,4 +1,6 @@
 -- The theorems about the definitions of specs/, and the laws on the way to them. Each file's header says what is in it.
+pub mod Members
+pub mod Without
 pub mod Carry
 pub mod Chase
 pub mod Containment
