@@ -10,6 +10,20 @@ use lib.Dec.{eqb}
 use borrow.Author.Tests.{eqb-true, eq-eqb}
 use Rattle.theory.specs.Query.{Entry, constant, variable, Row, Query, mapRow, rowEntries, variablesOf, variables, member, _∈_}
 
+infix 25 _⊆_
+-- Each element of one list stands in another
+abbrev pub _⊆_ : {A : Type 0} → List A → List A → Type 0
+_⊆_ {A} xs ys = (x : A) → x ∈ xs → x ∈ ys
+
+pub cons-part : {A : Type 0} (w : A) {xs ys : List A} → xs ⊆ ys → w ∷ xs ⊆ w ∷ ys
+cons-part w part x (List·Memᴰ·head same) = List·Memᴰ·head same
+cons-part w part x (List·Memᴰ·tail there) = List·Memᴰ·tail (part x there)
+
+-- A list that is not empty has an element
+pub member-of-some : {A : Type 0} (xs : List A) → xs ≢ [] → (x : A) × x ∈ xs
+member-of-some [] some = absurd (some refl)
+member-of-some (x ∷ xs) some = (x, List·Memᴰ·head refl)
+
 -- A list with an element is not empty
 pub some-of-member : {A : Type 0} {x : A} (xs : List A) → x ∈ xs → xs ≢ []
 some-of-member {x = x} xs at none = List·Memᴰ·not-nil (subst (λ ys. x ∈ ys) none at)
