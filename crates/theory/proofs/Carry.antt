@@ -7,7 +7,7 @@ use mathlib.Core.List.{List, [], _++_, map, map-map, map-id, Memᴰ·cast, Mem�
 use Prim.Native.Nat.{ℕ}
 use Rattle.theory.specs.Query.{Entry, constant, variable, Row, Query, mapRow, rowEntries, variables, member, _∈_}
 use Rattle.theory.specs.Answer.{valueOf, Carries, IsMapping, Mapping}
-use Rattle.theory.proofs.Members.{map-agree, entry-of-rows, variable-of, member-true, member-false}
+use Rattle.theory.proofs.Members.{_⊆_, some-of-member, member-of-some, map-agree, entry-of-rows, variable-of, member-true, member-false}
 
 -- The value of an entry's image is the entry's value under the composed assignment
 pub valueOf-compose : {A : Type 0} (fixed g : ℕ → A) (f : ℕ → Entry) (e : Entry)
@@ -133,3 +133,22 @@ mapping-self q some = mapping-of q q variable (record {
   to-head = map-agree (valueOf constant variable) (λ e. e) (q .head) (λ e at. valueOf-variable e) ∙ map-id (q .head);
   to-rows = λ r at. Memᴰ·cast (mapRow-id (valueOf constant variable) r (λ e there. valueOf-variable e)) at;
 })
+
+-- A mapping stays one for fewer rows before it, but some, and for more rows behind it
+pub mapping-part : (S S' T T' : Query) → S' .head ≡ S .head → S' .rows ≢ [] → S' .rows ⊆ S .rows → T' .head ≡ T .head → T .rows ⊆ T' .rows
+    → Mapping S T → Mapping S' T'
+mapping-part S S' T T' sameS some fewer sameT more f = mapping-of S' T' (f .0) (record {
+  not-never = some;
+  to-head = ap (map (valueOf constant (f .0))) sameS ∙ f .1 .carries .to-head ∙ sym sameT;
+  to-rows = λ r at. more (mapRow (valueOf constant (f .0)) r) (f .1 .carries .to-rows r (fewer r at));
+})
+
+-- A query with the same head and some of the rows maps to the whole
+pub mapping-inclusion : (S T : Query) → S .rows ≢ [] → T .head ≡ S .head → S .rows ⊆ T .rows → Mapping S T
+mapping-inclusion S T some same part = mapping-part S S S T refl some (λ r at. at) same part (mapping-self S some)
+
+-- A query that receives a mapping is not never
+pub mapping-target : (S T : Query) → Mapping S T → T .rows ≢ []
+mapping-target S T f =
+    let first = member-of-some (S .rows) (f .1 .carries .not-never) in
+    some-of-member (T .rows) (f .1 .carries .to-rows (first .0) (first .1))

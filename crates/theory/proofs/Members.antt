@@ -2,7 +2,7 @@
 -- Assumes nothing.
 use mathlib.Core.Path.{_≡_, refl, sym, _∙_, ap, ap₂, subst}
 use mathlib.Core.Logic.{_≢_, _⊎_, inl, inr}
-use mathlib.Core.List.{List, [], _∷_, _++_, map, List·Memᴰ·head, List·Memᴰ·tail, List·Memᴰ·not-nil, List·Memᴰ·cases-cons, List·Memᴰ·append-cases, Memᴰ·append-left, Memᴰ·append-right}
+use mathlib.Core.List.{List, [], _∷_, _++_, map, List·Memᴰ·head, List·Memᴰ·tail, List·Memᴰ·not-nil, List·Memᴰ·cases-cons, List·Memᴰ·append-cases, Memᴰ·cast, Memᴰ·map, Memᴰ·of-map, Memᴰ·append-left, Memᴰ·append-right}
 use mathlib.Core.Bool.{Bool, true, false, cond, false≢true}
 use Prim.Native.Nat.{ℕ}
 use native.Mathlib.Omega.{arith}
@@ -18,6 +18,16 @@ _⊆_ {A} xs ys = (x : A) → x ∈ xs → x ∈ ys
 pub cons-part : {A : Type 0} (w : A) {xs ys : List A} → xs ⊆ ys → w ∷ xs ⊆ w ∷ ys
 cons-part w part x (List·Memᴰ·head same) = List·Memᴰ·head same
 cons-part w part x (List·Memᴰ·tail there) = List·Memᴰ·tail (part x there)
+
+pub append-part : {A : Type 0} (ws : List A) {xs ys : List A} → xs ⊆ ys → ws ++ xs ⊆ ws ++ ys
+append-part [] part = part
+append-part (w ∷ ws) part = cons-part w (append-part ws part)
+
+pub insert-part : {A : Type 0} (ws : List A) (x : A) (xs : List A) → ws ++ xs ⊆ ws ++ x ∷ xs
+insert-part ws x xs = append-part ws (λ y at. List·Memᴰ·tail at)
+
+pub map-part : {A B : Type 0} (f : A → B) {xs ys : List A} → xs ⊆ ys → map f xs ⊆ map f ys
+map-part f {xs} part y at = let found = Memᴰ·of-map f xs at in Memᴰ·cast (sym (found .2)) (Memᴰ·map f (part (found .0) (found .1)))
 
 -- A list that is not empty has an element
 pub member-of-some : {A : Type 0} (xs : List A) → xs ≢ [] → (x : A) × x ∈ xs

@@ -2,7 +2,7 @@
 -- Assumes nothing.
 use mathlib.Core.Path.{_≡_, refl, sym, _∙_, ap}
 use mathlib.Core.Logic.{_⊎_, inl, inr}
-use mathlib.Core.List.{List, [], _∷_, List·Memᴰ·head, List·Memᴰ·tail, List·Memᴰ·cases-cons, List·Memᴰ·not-nil, Memᴰ·cast}
+use mathlib.Core.List.{List, [], _∷_, _++_, List·Memᴰ·head, List·Memᴰ·tail, List·Memᴰ·cases-cons, List·Memᴰ·not-nil, Memᴰ·cast}
 use Prim.Native.Nat.{ℕ, suc, _≤_, _<_}
 use native.Mathlib.Omega.{arith}
 use lib.ListN.{length}
@@ -44,6 +44,25 @@ without-swap (w ∷ ws) (List·Memᴰ·tail here) (List·Memᴰ·head e) = (List
 without-swap {A} (w ∷ ws) (List·Memᴰ·tail here) (List·Memᴰ·tail at) =
     let found = without-swap ws here at in
     (List·Memᴰ·tail (found .0), List·Memᴰ·tail (found .1), cons-part w (found .2))
+
+-- A position of two lists in a row is one of the first or one of the second
+pub without-append : {A : Type 0} {x : A} (xs ys : List A) (at : x ∈ xs ++ ys)
+    → ((here : x ∈ xs) × (without (xs ++ ys) at ≡ without xs here ++ ys)) ⊎ ((there : x ∈ ys) × (without (xs ++ ys) at ≡ xs ++ without ys there))
+unfolding without
+without-append [] ys at = inr (at, refl)
+without-append (z ∷ xs) ys (List·Memᴰ·head same) = inl (List·Memᴰ·head same, refl)
+without-append {A} {x} (z ∷ xs) ys (List·Memᴰ·tail at) = go (without-append xs ys at)
+  where
+    go : ((here : x ∈ xs) × (without (xs ++ ys) at ≡ without xs here ++ ys)) ⊎ ((there : x ∈ ys) × (without (xs ++ ys) at ≡ xs ++ without ys there))
+        → ((here : x ∈ z ∷ xs) × (z ∷ without (xs ++ ys) at ≡ without (z ∷ xs) here ++ ys))
+        ⊎ ((there : x ∈ ys) × (z ∷ without (xs ++ ys) at ≡ z ∷ xs ++ without ys there))
+    go (inl found) = inl (List·Memᴰ·tail (found .0), ap (λ l. z ∷ l) (found .1))
+    go (inr found) = inr (found .0, ap (λ l. z ∷ l) (found .1))
+
+pub without-singleton : {A : Type 0} {x y : A} (at : x ∈ y ∷ []) → without (y ∷ []) at ≡ []
+unfolding without
+without-singleton (List·Memᴰ·head same) = refl
+without-singleton (List·Memᴰ·tail at) = absurd (List·Memᴰ·not-nil at)
 
 -- ---- pigeonholes
 
@@ -115,22 +134,37 @@ pigeonhole {A} ys xs part longer =
 abbrev pub NoRepeats : {A : Type 0} → List A → Type 0
 NoRepeats {A} xs = (x : A) (at : x ∈ xs) → x ∈ without xs at → ⊥
 
+-- The rest of a list without repeats stands without the place of its first element
+no-repeats-tail : {A : Type 0} (x : A) (xs ys : List A) → NoRepeats (x ∷ xs) → (part : x ∷ xs ⊆ ys) → xs ⊆ without ys (part x (List·Memᴰ·head refl))
+unfolding without
+no-repeats-tail x xs ys once part z at = left (without-cases ys (part x (List·Memᴰ·head refl)) (part z (List·Memᴰ·tail at)))
+  where
+    left : (z ≡ x) ⊎ (z ∈ without ys (part x (List·Memᴰ·head refl))) → z ∈ without ys (part x (List·Memᴰ·head refl))
+    left (inl same) = absurd (once x (List·Memᴰ·head refl) (Memᴰ·cast (sym same) at))
+    left (inr rest) = rest
+
+no-repeats-rest : {A : Type 0} (x : A) (xs : List A) → NoRepeats (x ∷ xs) → NoRepeats xs
+unfolding without
+no-repeats-rest x xs once z at again = once z (List·Memᴰ·tail at) (List·Memᴰ·tail again)
+
+-- A list without repeats is no longer than one in which it stands
+pub no-repeats-length : {A : Type 0} (xs ys : List A) → NoRepeats xs → xs ⊆ ys → length xs ≤ length ys
+no-repeats-length [] ys once part = omega arith
+no-repeats-length (x ∷ xs) ys once part =
+    let here = part x (List·Memᴰ·head refl) in
+    let later = no-repeats-length xs (without ys here) (no-repeats-rest x xs once) (no-repeats-tail x xs ys once part) in
+    omega (arith, without-length ys here)
+
 -- A list without repeats that stands in one no longer than itself fills it
 pub no-repeats-fill : {A : Type 0} (xs ys : List A) → NoRepeats xs → xs ⊆ ys → length ys ≤ length xs → ys ⊆ xs
-unfolding without
 no-repeats-fill [] [] once part short y there = there
 no-repeats-fill [] (z ∷ ys) once part short y there = absurd (omega arith)
-no-repeats-fill {A} (x ∷ xs) ys once part short y there =
-    go (no-repeats-fill xs (without ys here) (λ z at again. once z (List·Memᴰ·tail at) (List·Memᴰ·tail again))
-    (λ z at. left z at (without-cases ys here (part z (List·Memᴰ·tail at)))) (omega (arith, without-length ys here)))
+no-repeats-fill (x ∷ xs) ys once part short y there =
+    go (no-repeats-fill xs (without ys here) (no-repeats-rest x xs once) (no-repeats-tail x xs ys once part) (omega (arith, without-length ys here)))
     (without-cases ys here there)
   where
     here : x ∈ ys
     here = part x (List·Memᴰ·head refl)
-
-    left : (z : A) → z ∈ xs → (z ≡ x) ⊎ (z ∈ without ys here) → z ∈ without ys here
-    left z at (inl same) = absurd (once x (List·Memᴰ·head refl) (Memᴰ·cast (sym same) at))
-    left z at (inr rest) = rest
 
     go : without ys here ⊆ xs → (y ≡ x) ⊎ (y ∈ without ys here) → y ∈ x ∷ xs
     go filled (inl same) = List·Memᴰ·head same
