@@ -6,7 +6,7 @@ use mathlib.Core.Bool.{cond}
 use mathlib.Core.List.{List, [], _++_, map, map-map, map-id, Memᴰ·cast, Memᴰ·map, Memᴰ·append-left, Memᴰ·append-right}
 use Prim.Native.Nat.{ℕ}
 use Rattle.theory.specs.Query.{Entry, constant, variable, Row, Query, mapRow, rowEntries, variables, member, _∈_}
-use Rattle.theory.specs.Answer.{valueOf, Carries, IsMapping, Mapping}
+use Rattle.theory.specs.Answer.{valueOf, Carries, Mapping}
 use Rattle.theory.proofs.Members.{_⊆_, some-of-member, member-of-some, map-agree, entry-of-rows, variable-of, member-true, member-false}
 
 -- The value of an entry's image is the entry's value under the composed assignment

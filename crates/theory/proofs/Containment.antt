@@ -13,7 +13,7 @@ use mathlib.Core.List.{List, [], _∷_, _++_, map, map-map, map-id, cons-ne-nil,
 use Prim.Native.Nat.{ℕ, _+_, _-_, _<_}
 use native.Mathlib.Omega.{arith}
 use lib.Dec.{ltb}
-use lib.ListN.{length, length-map}
+use lib.ListN.{length-map}
 use borrow.Author.Tests.{lt-ltb, le-ltb}
 use Rattle.theory.specs.Query.{Entry, constant, variable, Row, Query, mapRow, rowEntries, FitsSchema, _∈_}
 use Rattle.theory.specs.Database.{Database, Dependency, Obeys, Sound}
@@ -133,7 +133,7 @@ module _ (widths : List ℕ) (ds : List Dependency) (p q : Query) (base : ℕ) (
 
   -- obeys,
   pub chased-obeys : Obeys ds (frozenRows base (chase ds p .query))
-  chased-obeys = chase-obeys ds p base below-chased
+  chased-obeys = chase-obeys ds p base positive below-chased
 
   -- and has its head as an answer of p
   pub chased-answer : chase ds p .query .rows ≢ [] → Answer (frozenRows base (chase ds p .query)) p (frozenHead base (chase ds p .query))

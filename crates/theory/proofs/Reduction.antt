@@ -11,7 +11,7 @@
 -- Assumes nothing.
 use mathlib.Core.Path.{_≡_, refl, sym, _∙_, ap, subst, subst₂}
 use mathlib.Core.Logic.{_≢_, _↔_, Iff·symm, Iff·trans, _⊎_, inl, inr}
-use mathlib.Core.List.{List, [], _∷_, _++_, map, append-nil, cons-ne-nil, List·Memᴰ·head, List·Memᴰ·tail, List·Memᴰ·not-nil, List·Memᴰ·cases-cons, List·Memᴰ·append-cases, Memᴰ·append-left, Memᴰ·append-right, Memᴰ·map, Memᴰ·of-map, Memᴰ·cast}
+use mathlib.Core.List.{List, [], _∷_, _++_, map, append-nil, cons-ne-nil, List·Memᴰ·head, List·Memᴰ·tail, List·Memᴰ·not-nil, List·Memᴰ·append-cases, Memᴰ·append-left, Memᴰ·append-right, Memᴰ·map, Memᴰ·of-map, Memᴰ·cast}
 use Prim.Native.Nat.{ℕ, zero, suc, _+_, _≤_, _<_}
 use native.Mathlib.Omega.{arith}
 use native.Mathlib.Decide.{decLe}
@@ -22,10 +22,10 @@ use Rattle.theory.specs.Database.{Database, Dependency, Obeys, Sound}
 use Rattle.theory.specs.Answer.{valueOf, itself, Carries, Answer, Mapping}
 use Rattle.theory.specs.Chase.{chase}
 use Rattle.theory.specs.Containment.{Equivalent, freeze, frozenRows, frozenHead, ConstantsBelow}
-use Rattle.theory.specs.Reduction.{without, dropRow, Core, Reduction, Shrinks, stays, loses, Rival, Minimal}
+use Rattle.theory.specs.Reduction.{without, dropRow, Core, Reduction, Shrinks, stays, loses, Minimal}
 use Rattle.theory.proofs.Members.{_⊆_, insert-part, append-part, map-part, some-of-member, member-of-some, constant-is-not-variable, variable-of, of-variable, entry-of-rows, row-of-entry}
 use Rattle.theory.proofs.Without.{NoRepeats, without-length, without-part, without-cases, without-append, without-singleton, pigeonhole, no-repeats-fill, no-repeats-length}
-use Rattle.theory.proofs.Carry.{carries-compose, carries-fewer, mapping-of, mapping-compose, mapping-self, mapping-part, mapping-inclusion, mapping-target}
+use Rattle.theory.proofs.Carry.{carries-fewer, mapping-of, mapping-compose, mapping-self, mapping-part, mapping-inclusion, mapping-target}
 use Rattle.theory.proofs.Chase.{chase-answers, chase-mapping, chase-obeys, chase-rows-fit, chase-wellformed, chase-head-length}
 use Rattle.theory.proofs.Containment.{answer-along, frozen-answer, frozen-sound, thaw, thaw-rows, thaw-head, thaw-carries}
 
@@ -146,9 +146,9 @@ reduction-same-size ds S T U t u = let a = small T U t u in let b = small U T u 
 
 -- ---- 3. Minimality
 
--- A number above each constant among some entries
+-- A number above 0 and above each constant among some entries
 above : List Entry → ℕ
-above [] = zero
+above [] = suc zero
 above (constant n ∷ es) = suc n + above es
 above (variable v ∷ es) = above es
 
@@ -159,15 +159,21 @@ above-constant (constant m ∷ es) n (List·Memᴰ·tail at) = let later = above
 above-constant (variable v ∷ es) n (List·Memᴰ·head same) = absurd (constant-is-not-variable (sym same))
 above-constant (variable v ∷ es) n (List·Memᴰ·tail at) = above-constant es n at
 
--- Some base is above the constants of a query
-pub some-base : (q : Query) → (base : ℕ) × ConstantsBelow base q
-some-base q = (
-  above (q .head ++ rowEntries (q .rows)),
-  record {
-    of-head = λ n at. above-constant (q .head ++ rowEntries (q .rows)) n (Memᴰ·append-left (rowEntries (q .rows)) at);
-    of-rows = λ n at. above-constant (q .head ++ rowEntries (q .rows)) n (Memᴰ·append-right (q .head) at);
-  },
-)
+above-positive : (es : List Entry) → 0 < above es
+unfolding above
+above-positive [] = omega arith
+above-positive (constant n ∷ es) = omega arith
+above-positive (variable v ∷ es) = above-positive es
+
+-- Some base is above 0 and above the constants of a query
+pub some-base : (q : Query) → (base : ℕ) × 0 < base × ConstantsBelow base q
+some-base q =
+    let entries = q .head ++ rowEntries (q .rows) in
+    let below : ConstantsBelow (above entries) q = record {
+      of-head = λ n at. above-constant entries n (Memᴰ·append-left (rowEntries (q .rows)) at);
+      of-rows = λ n at. above-constant entries n (Memᴰ·append-right (q .head) at);
+    } in
+    (above entries, above-positive entries, below)
 
 -- A part of a database is sound, and obeys, where the whole does
 pub sound-part : (widths : List ℕ) (D E : Database) → E ⊆ D → Sound widths D → Sound widths E
@@ -231,7 +237,7 @@ reduction-minimal widths ds S T fit result R rival = go (T .rows) refl
     base = some-base (chase ds S .query) .0
 
     below : ConstantsBelow base (chase ds S .query)
-    below = some-base (chase ds S .query) .1
+    below = some-base (chase ds S .query) .2
 
     frozen-part : frozenRows base T ⊆ frozenRows base (chase ds S .query)
     frozen-part = map-part (mapRow (freeze base)) (result .rows)
@@ -245,7 +251,7 @@ reduction-minimal widths ds S T fit result R rival = go (T .rows) refl
     go (r ∷ rows) rest =
         core-minimal widths ds T R base (below-part base (chase ds S .query) T (result .head) (result .rows) below) (result .core)
         (frozen-sound widths base T (λ s at. chase-rows-fit widths ds S fit s (result .rows s at)))
-        (obeys-part ds (frozenRows base (chase ds S .query)) (frozenRows base T) frozen-part (chase-obeys ds S base below))
+        (obeys-part ds (frozenRows base (chase ds S .query)) (frozenRows base T) frozen-part (chase-obeys ds S base (some-base (chase ds S .query) .1) below))
         same (λ none. cons-ne-nil r rows (sym rest ∙ none))
 
 -- ---- 4. Well-formedness
@@ -306,6 +312,27 @@ pass-drop q kept r rest pass f = record {
       refl (f .1 .carries .not-never) (λ t there. there) refl (insert-part (without kept at) r rest)
       (mapping-compose (withRows q (kept ++ r ∷ rest)) (withRows q (kept ++ rest)) (withRows q (without kept at ++ rest)) f g));
 }
+
+-- A row that stands there once more goes
+pub pass-repeat : (q : Query) (kept : List (Row Entry)) (r : Row Entry) (rest : List (Row Entry)) → OnePass q kept (r ∷ rest) → r ∈ kept ++ rest → OnePass q kept rest
+pass-repeat q kept r rest pass again =
+    pass-drop q kept r rest pass
+    (mapping-inclusion (withRows q (kept ++ r ∷ rest)) (withRows q (kept ++ rest)) (some-of-member (kept ++ r ∷ rest) (Memᴰ·append-right kept (List·Memᴰ·head refl))) refl
+    (λ s at. left s (List·Memᴰ·append-cases kept at)))
+  where
+    left : (s : Row Entry) → (s ∈ kept) ⊎ (s ∈ r ∷ rest) → s ∈ kept ++ rest
+    left s (inl at) = Memᴰ·append-left rest at
+    left s (inr (List·Memᴰ·head same)) = Memᴰ·cast same again
+    left s (inr (List·Memᴰ·tail at)) = Memᴰ·append-right kept at
+
+-- What the rows of the pass map to is what q maps to: a search for the mapping may start from either
+pub pass-source : (q : Query) (kept rest : List (Row Entry)) → OnePass q kept rest → q .rows ≢ [] → (U : Query)
+    → Mapping q U ↔ Mapping (withRows q (kept ++ rest)) U
+pass-source q kept rest pass some U =
+    let f : Mapping q (withRows q (kept ++ rest)) = pass .receives some in (
+      mapping-part q (withRows q (kept ++ rest)) U U refl (mapping-target q (withRows q (kept ++ rest)) f) (pass .rows) refl (λ r at. at),
+      mapping-compose q (withRows q (kept ++ rest)) U f,
+    )
 
 -- Any other row is kept
 pub pass-keep : (q : Query) (kept : List (Row Entry)) (r : Row Entry) (rest : List (Row Entry)) → OnePass q kept (r ∷ rest)
