@@ -2,9 +2,10 @@
 -- with functional dependencies Maier, Mendelzon and Sagiv, "Testing implications of data dependencies", 1979).
 --   1. Cores. A core mapped into some of its own rows needs as many of them as it has: otherwise, by the pigeonhole principle, one of its rows could go.
 --   2. Answers. A result has the answers of the chased query, since each maps to the other; so those of the source. A mapping leads from the source to it.
+--      Two results map to each other, so by 1 they have equally many rows.
 --   3. Minimality. Freeze the result T. Its head is an answer of T there, so of a rival R, by some α. The α-images of R's rows are a part of the frozen T, so they obey the
 --      dependencies; the head is an answer of R on them alone, so of T, by some β. Thawed, β maps T into as many of its rows as R has. By 1, R has no fewer rows than T.
---      Neither R is chased, nor are its constants looked at.
+--      R is not chased, and its constants may be any.
 --   4. Well-formedness. A mapping that fixes the head keeps each head variable in a row.
 --   5. One pass. Once a row cannot go, it cannot go later either: so trying each row once gives a core.
 --   6. Losing rows one at a time leads to every result, up to the order of rows.
