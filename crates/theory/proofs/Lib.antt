@@ -1,6 +1,8 @@
 -- The theorems about the definitions of specs/, and the laws on the way to them. Each file's header says what is in it.
 pub mod Lists
 pub mod Entries
+pub mod Members
+pub mod Without
 pub mod Carry
 pub mod Step
 pub mod Replacement

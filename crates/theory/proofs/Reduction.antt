@@ -1,2 +1,458 @@
--- Reduction: equal answers, minimality, and one pass over the rows.
+-- Reduction: equal answers, minimality, and one pass over the rows (Chandra and Merlin, "Optimal implementation of conjunctive queries in relational data bases", 1977;
+-- with functional dependencies Maier, Mendelzon and Sagiv, "Testing implications of data dependencies", 1979).
+--   1. Cores. A core mapped into some of its own rows needs as many of them as it has: otherwise, by the pigeonhole principle, one of its rows could go.
+--   2. Answers. A result has the answers of the chased query, since each maps to the other; so those of the source. A mapping leads from the source to it.
+--      Two results map to each other, so by 1 they have equally many rows.
+--   3. Minimality. Freeze the result T. Its head is an answer of T there, so of a rival R, by some α. The α-images of R's rows are a part of the frozen T, so they obey the
+--      dependencies; the head is an answer of R on them alone, so of T, by some β. Thawed, β maps T into as many of its rows as R has. By 1, R has no fewer rows than T.
+--      R is not chased, and its constants may be any.
+--   4. Well-formedness. A mapping that fixes the head keeps each head variable in a row.
+--   5. One pass. Once a row cannot go, it cannot go later either: so trying each row once gives a core.
+--   6. Losing rows one at a time leads to every result, up to the order of rows.
 -- Assumes nothing.
+use mathlib.Core.Path.{_≡_, refl, sym, _∙_, ap, subst, subst₂}
+use mathlib.Core.Logic.{_≢_, _↔_, Iff·symm, Iff·trans, _⊎_, inl, inr}
+use mathlib.Core.List.{List, [], _∷_, _++_, map, append-nil, cons-ne-nil, List·Memᴰ·head, List·Memᴰ·tail, List·Memᴰ·not-nil, List·Memᴰ·append-cases, Memᴰ·append-left, Memᴰ·append-right, Memᴰ·map, Memᴰ·of-map, Memᴰ·cast}
+use Prim.Native.Nat.{ℕ, zero, suc, _+_, _≤_, _<_}
+use native.Mathlib.Omega.{arith}
+use native.Mathlib.Decide.{decLe}
+use lib.ListN.{length, length-map}
+use lib.Seq.{append-snoc}
+use Rattle.theory.specs.Query.{Entry, constant, variable, Row, Query, mapRow, rowEntries, variablesOf, FitsSchema, WellFormed, _∈_}
+use Rattle.theory.specs.Database.{Database, Dependency, Obeys, Sound}
+use Rattle.theory.specs.Answer.{valueOf, itself, Carries, Answer, Mapping}
+use Rattle.theory.specs.Chase.{chase}
+use Rattle.theory.specs.Containment.{Equivalent, freeze, frozenRows, frozenHead, ConstantsBelow}
+use Rattle.theory.specs.Reduction.{without, dropRow, Core, Reduction, Shrinks, stays, loses, Minimal}
+use Rattle.theory.proofs.Members.{_⊆_, insert-part, append-part, map-part, some-of-member, member-of-some, constant-is-not-variable, variable-of, of-variable, entry-of-rows, row-of-entry}
+use Rattle.theory.proofs.Without.{NoRepeats, without-length, without-part, without-cases, without-append, without-singleton, pigeonhole, no-repeats-fill, no-repeats-length}
+use Rattle.theory.proofs.Carry.{carries-fewer, mapping-of, mapping-compose, mapping-self, mapping-part, mapping-inclusion, mapping-target}
+use Rattle.theory.proofs.Chase.{chase-answers, chase-mapping, chase-obeys, chase-rows-fit, chase-wellformed, chase-head-length}
+use Rattle.theory.proofs.Containment.{answer-along, frozen-answer, frozen-sound, thaw, thaw-rows, thaw-head, thaw-carries}
+
+-- ---- 1. Cores
+
+-- A core has no repeated row: the identity would map it into itself without one of the two
+pub core-no-repeats : (T : Query) → Core T → NoRepeats (T .rows)
+core-no-repeats T core r at again =
+    core r at (mapping-inclusion T (dropRow T at) (some-of-member (T .rows) at) refl (λ s there. left s (without-cases (T .rows) at there)))
+  where
+    left : (s : Row Entry) → (s ≡ r) ⊎ (s ∈ without (T .rows) at) → s ∈ without (T .rows) at
+    left s (inl same) = Memᴰ·cast same again
+    left s (inr rest) = rest
+
+-- A core that maps to a query with its head and some of its rows has no more rows than that
+pub core-least : (T P : Query) → Core T → P .head ≡ T .head → P .rows ⊆ T .rows → Mapping T P → length (T .rows) ≤ length (P .rows)
+core-least T P core same part f = go (decLe (length (T .rows)) (length (P .rows)))
+  where
+    go : Dec (length (T .rows) ≤ length (P .rows)) → length (T .rows) ≤ length (P .rows)
+    go (yes small) = small
+    go (no large) =
+        let found = pigeonhole (P .rows) (T .rows) part (omega arith) in
+        absurd (core (found .0) (found .1)
+        (mapping-part T T P (dropRow T (found .1)) refl (f .1 .carries .not-never) (λ r at. at) (sym same) (found .2) f))
+
+-- A core that maps to U and back has no more rows than U
+pub core-both-ways : (T U : Query) → Core T → Mapping T U → Mapping U T → length (T .rows) ≤ length (U .rows)
+core-both-ways T U core f g =
+    let P : Query = record { head = T .head; rows = map (mapRow (valueOf constant (g .0))) (U .rows) } in
+    let onto : Mapping U P = mapping-of U P (g .0) (record
+    { not-never = g .1 .carries .not-never; to-head = g .1 .carries .to-head; to-rows = λ r at. Memᴰ·map (mapRow (valueOf constant (g .0))) at }) in
+    let part : P .rows ⊆ T .rows = λ s at.
+    let found = Memᴰ·of-map (mapRow (valueOf constant (g .0))) (U .rows) at in Memᴰ·cast (sym (found .2)) (g .1 .carries .to-rows (found .0) (found .1)) in
+    let small : length (T .rows) ≤ length (P .rows) = core-least T P core refl part (mapping-compose T U P f onto) in
+    omega (arith, small, length-map (U .rows) (mapRow (valueOf constant (g .0))))
+
+-- U is T with its rows in another order
+pub record Reordered (T U : Query) : Type 0 where
+  pub head : U .head ≡ T .head
+  pub into : T .rows ⊆ U .rows
+  pub back : U .rows ⊆ T .rows
+  pub size : length (U .rows) ≡ length (T .rows)
+
+-- The order of rows does not matter to a core
+pub core-reordered : (T U : Query) → Reordered T U → Core T → Core U
+core-reordered T U order core r at f =
+    let inclusion : Mapping T U = mapping-inclusion T U (some-of-member (T .rows) (order .back r at)) (order .head) (order .into) in
+    let small : length (T .rows) ≤ length (without (U .rows) at) =
+    core-least T (dropRow U at) core (order .head) (λ s there. order .back s (without-part (U .rows) at s there)) (mapping-compose T U (dropRow U at) inclusion f) in
+    omega (arith, small, without-length (U .rows) at, order .size)
+
+-- ---- 2. Answers
+
+module _ (ds : List Dependency) (S T : Query) (result : Reduction ds S T) where
+  -- A result has rows where the chased query has,
+  pub reduction-some : chase ds S .query .rows ≢ [] → T .rows ≢ []
+  reduction-some some = mapping-target (chase ds S .query) T (result .receives some)
+
+  -- and only there
+  pub reduction-some-chased : T .rows ≢ [] → chase ds S .query .rows ≢ []
+  reduction-some-chased some =
+      let first = member-of-some (T .rows) some in
+      some-of-member (chase ds S .query .rows) (result .rows (first .0) (first .1))
+
+  -- On every database that obeys, sound or not, a result has exactly the answers of the source query
+  pub reduction-answers : (D : Database) → Obeys ds D → (t : List ℕ) → Answer D S t ↔ Answer D T t
+  reduction-answers D obeys t = (λ answer. to (chase-answers ds S D obeys t .0 answer), λ answer. chase-answers ds S D obeys t .1 (from answer))
+    where
+      to : Answer D (chase ds S .query) t → Answer D T t
+      to answer =
+          (answer .0, carries-fewer itself (answer .0) (chase ds S .query) T D t (result .head) (reduction-some (answer .1 .not-never)) (result .rows) (answer .1))
+
+      from : Answer D T t → Answer D (chase ds S .query) t
+      from answer = answer-along D (chase ds S .query) T (result .receives (reduction-some-chased (answer .1 .not-never))) t answer
+
+  -- Unless the result is never, there is a mapping from the source query to it
+  pub reduction-mapping : T .rows ≢ [] → Mapping S T
+  reduction-mapping some =
+      let chased = reduction-some-chased some in
+      mapping-compose S (chase ds S .query) T (chase-mapping ds S chased) (result .receives chased)
+
+  -- A result has no rows exactly when the chased query has none, and then it is the chased query
+  pub reduction-never : ((T .rows ≡ []) ↔ (chase ds S .query .rows ≡ [])) × (T .rows ≡ [] → T ≡ chase ds S .query)
+  reduction-never =
+      ((chased-none, result-none), λ none. λ i. record { head = result .head i; rows = (none ∙ sym (chased-none none)) i })
+    where
+      empty : (xs : List (Row Entry)) → (xs ≢ [] → ⊥) → xs ≡ []
+      empty [] no-some = refl
+      empty (r ∷ rs) no-some = absurd (no-some (cons-ne-nil r rs))
+
+      chased-none : T .rows ≡ [] → chase ds S .query .rows ≡ []
+      chased-none none = empty (chase ds S .query .rows) (λ some. reduction-some some none)
+
+      result-none : chase ds S .query .rows ≡ [] → T .rows ≡ []
+      result-none none = empty (T .rows) (λ some. reduction-some-chased some none)
+
+  -- A result has the head length of its source
+  pub reduction-head-length : length (T .head) ≡ length (S .head)
+  reduction-head-length = ap length (result .head) ∙ chase-head-length ds S
+
+-- Two results of one query have equally many rows
+pub reduction-same-size : (ds : List Dependency) (S T U : Query) → Reduction ds S T → Reduction ds S U → length (T .rows) ≡ length (U .rows)
+reduction-same-size ds S T U t u = let a = small T U t u in let b = small U T u t in omega arith
+  where
+    across : (T U : Query) → Reduction ds S T → Reduction ds S U → T .rows ≢ [] → Mapping T U
+    across T U t u some =
+        mapping-part (chase ds S .query) T U U (t .head) some (t .rows) refl (λ r at. at) (u .receives (reduction-some-chased ds S T t some))
+
+    small : (T U : Query) → Reduction ds S T → Reduction ds S U → length (T .rows) ≤ length (U .rows)
+    small T U t u = go (T .rows) refl
+      where
+        go : (rows : List (Row Entry)) → T .rows ≡ rows → length (T .rows) ≤ length (U .rows)
+        go [] none = omega (arith, ap length none)
+        go (r ∷ rows) same =
+            let some : T .rows ≢ [] = λ none. cons-ne-nil r rows (sym same ∙ none) in
+            core-both-ways T U (t .core) (across T U t u some)
+            (across U T u t (reduction-some ds S U u (reduction-some-chased ds S T t some)))
+
+-- ---- 3. Minimality
+
+-- A number above 0 and above each constant among some entries
+above : List Entry → ℕ
+above [] = suc zero
+above (constant n ∷ es) = suc n + above es
+above (variable v ∷ es) = above es
+
+above-constant : (es : List Entry) (n : ℕ) → constant n ∈ es → n < above es
+unfolding above
+above-constant (constant m ∷ es) n (List·Memᴰ·head same) = let equal : n ≡ m = cc in omega arith
+above-constant (constant m ∷ es) n (List·Memᴰ·tail at) = let later = above-constant es n at in omega arith
+above-constant (variable v ∷ es) n (List·Memᴰ·head same) = absurd (constant-is-not-variable (sym same))
+above-constant (variable v ∷ es) n (List·Memᴰ·tail at) = above-constant es n at
+
+above-positive : (es : List Entry) → 0 < above es
+unfolding above
+above-positive [] = omega arith
+above-positive (constant n ∷ es) = omega arith
+above-positive (variable v ∷ es) = above-positive es
+
+-- Some base is above 0 and above the constants of a query
+pub some-base : (q : Query) → (base : ℕ) × 0 < base × ConstantsBelow base q
+some-base q =
+    let entries = q .head ++ rowEntries (q .rows) in
+    let below : ConstantsBelow (above entries) q = record {
+      of-head = λ n at. above-constant entries n (Memᴰ·append-left (rowEntries (q .rows)) at);
+      of-rows = λ n at. above-constant entries n (Memᴰ·append-right (q .head) at);
+    } in
+    (above entries, above-positive entries, below)
+
+-- A part of a database is sound, and obeys, where the whole does
+pub sound-part : (widths : List ℕ) (D E : Database) → E ⊆ D → Sound widths D → Sound widths E
+sound-part widths D E part sound r at = sound r (part r at)
+
+pub obeys-part : (ds : List Dependency) (D E : Database) → E ⊆ D → Obeys ds D → Obeys ds E
+obeys-part ds D E part obeys d held r s atR atS = obeys d held r s (part r atR) (part s atS)
+
+-- The same head and fewer rows have no new constants
+below-part : (base : ℕ) (q q' : Query) → q' .head ≡ q .head → q' .rows ⊆ q .rows → ConstantsBelow base q → ConstantsBelow base q'
+below-part base q q' same part below = record {
+  of-head = λ n at. below .of-head n (subst (λ es. constant n ∈ es) same at);
+  of-rows = λ n at. let found = row-of-entry (q' .rows) at in below .of-rows n (entry-of-rows (q .rows) (part (found .0) (found .1)) (found .2));
+}
+
+-- If on every sound database that obeys, R has exactly the answers of T, and T is a core of which the frozen rows are sound and obey, then R has at least as many rows as T
+core-minimal : (widths : List ℕ) (ds : List Dependency) (T R : Query) (base : ℕ) → ConstantsBelow base T → Core T
+    → Sound widths (frozenRows base T) → Obeys ds (frozenRows base T) → Equivalent widths ds T R → T .rows ≢ [] → length (T .rows) ≤ length (R .rows)
+core-minimal widths ds T R base below core sound obeys same some =
+    let small : length (T .rows) ≤ length (P .rows) = core-least T P core refl P-part P-mapping in
+    omega (arith, small, length-map E (mapRow (thaw base)), length-map (R .rows) (mapRow (valueOf itself (rival .0))))
+  where
+    -- the rival's assignment α on the frozen T
+    rival : Answer (frozenRows base T) R (frozenHead base T)
+    rival = same (frozenRows base T) sound obeys (frozenHead base T) .0 (frozen-answer base T some)
+
+    -- the α-images of its rows
+    E : Database
+    E = map (mapRow (valueOf itself (rival .0))) (R .rows)
+
+    E-part : E ⊆ frozenRows base T
+    E-part r at =
+        let found = Memᴰ·of-map (mapRow (valueOf itself (rival .0))) (R .rows) at in
+        Memᴰ·cast (sym (found .2)) (rival .1 .to-rows (found .0) (found .1))
+
+    -- the core's assignment β on them
+    again : Answer E T (frozenHead base T)
+    again =
+        same E (sound-part widths (frozenRows base T) E E-part sound) (obeys-part ds (frozenRows base T) E E-part obeys) (frozenHead base T) .1
+        (rival .0, record { not-never = rival .1 .not-never; to-head = rival .1 .to-head; to-rows = λ r at. Memᴰ·map (mapRow (valueOf itself (rival .0))) at })
+
+    -- and what β maps the core to, thawed
+    P : Query
+    P = record { head = T .head; rows = map (mapRow (thaw base)) E }
+
+    P-part : P .rows ⊆ T .rows
+    P-part s at = subst (λ rows. s ∈ rows) (thaw-rows base T below) (map-part (mapRow (thaw base)) E-part s at)
+
+    P-mapping : Mapping T P
+    P-mapping =
+        mapping-of T P (λ v. thaw base (again .0 v))
+        (subst (λ head. Carries constant (λ v. thaw base (again .0 v)) T (P .rows) head) (thaw-head base T below)
+        (thaw-carries base T below (again .0) E (frozenHead base T) (again .1)))
+
+-- Every query with the source's answers on all sound databases that obey has at least as many rows as a result, whatever its variables and constants
+pub reduction-minimal : (widths : List ℕ) (ds : List Dependency) (S T : Query) → ((r : Row Entry) → r ∈ S .rows → FitsSchema widths r)
+    → Reduction ds S T → Minimal widths ds S T
+reduction-minimal widths ds S T fit result R rival = go (T .rows) refl
+  where
+    base : ℕ
+    base = some-base (chase ds S .query) .0
+
+    below : ConstantsBelow base (chase ds S .query)
+    below = some-base (chase ds S .query) .2
+
+    frozen-part : frozenRows base T ⊆ frozenRows base (chase ds S .query)
+    frozen-part = map-part (mapRow (freeze base)) (result .rows)
+
+    same : Equivalent widths ds T R
+    same D sound obeys t =
+        Iff·trans (Iff·symm (reduction-answers ds S T result D obeys t)) (rival .same D sound obeys t)
+
+    go : (rows : List (Row Entry)) → T .rows ≡ rows → length (T .rows) ≤ length (R .rows)
+    go [] none = omega (arith, ap length none)
+    go (r ∷ rows) rest =
+        core-minimal widths ds T R base (below-part base (chase ds S .query) T (result .head) (result .rows) below) (result .core)
+        (frozen-sound widths base T (λ s at. chase-rows-fit widths ds S fit s (result .rows s at)))
+        (obeys-part ds (frozenRows base (chase ds S .query)) (frozenRows base T) frozen-part (chase-obeys ds S base (some-base (chase ds S .query) .1) below))
+        same (λ none. cons-ne-nil r rows (sym rest ∙ none))
+
+-- ---- 4. Well-formedness
+
+-- A map that keeps a list keeps each of its elements
+map-fixes : {A : Type 0} (f : A → A) (xs : List A) → map f xs ≡ xs → (x : A) → x ∈ xs → f x ≡ x
+map-fixes f (y ∷ xs) same x (List·Memᴰ·head e) = let first : f y ≡ y = cc in cc
+map-fixes f (y ∷ xs) same x (List·Memᴰ·tail at) = let later : map f xs ≡ xs = cc in map-fixes f xs later x at
+
+-- A result of a well-formed query is well-formed
+pub reduction-wellformed : (widths : List ℕ) (ds : List Dependency) (S T : Query) → WellFormed widths S → Reduction ds S T → WellFormed widths T
+reduction-wellformed widths ds S T well result = record { rows-fit = λ r at. chased .rows-fit r (result .rows r at); head-safe = safe }
+  where
+    chased : WellFormed widths (chase ds S .query)
+    chased = chase-wellformed widths ds S well
+
+    safe : (v : ℕ) → v ∈ variablesOf (T .head) → v ∈ variablesOf (rowEntries (T .rows))
+    safe v at =
+        let inHead : variable v ∈ chase ds S .query .head = subst (λ es. variable v ∈ es) (result .head) (of-variable (T .head) at) in
+        let found = row-of-entry (chase ds S .query .rows) (of-variable (rowEntries (chase ds S .query .rows)) (chased .head-safe v (variable-of (chase ds S .query .head) inHead))) in
+        let f = result .receives (some-of-member (chase ds S .query .rows) (found .1)) in
+        let fixed : valueOf constant (f .0) (variable v) ≡ variable v =
+        map-fixes (valueOf constant (f .0)) (chase ds S .query .head) (f .1 .carries .to-head ∙ result .head) (variable v) inHead in
+        variable-of (rowEntries (T .rows))
+        (entry-of-rows (T .rows) (f .1 .carries .to-rows (found .0) (found .1)) (Memᴰ·cast (sym fixed) (Memᴰ·map (valueOf constant (f .0)) (found .2))))
+
+-- ---- 5. One pass
+
+-- The query with other rows
+abbrev pub withRows : Query → List (Row Entry) → Query
+withRows q rows = record { head = q .head; rows = rows }
+
+-- If T maps to T', which has its head and some of its rows, and T cannot be mapped into itself without a row that T' still has, then neither can T'
+pub core-once : {r : Row Entry} (T T' : Query) → T' .head ≡ T .head → Mapping T T' → (at : r ∈ T .rows) (at' : r ∈ T' .rows)
+    → without (T' .rows) at' ⊆ without (T .rows) at → (Mapping T (dropRow T at) → ⊥) → Mapping T' (dropRow T' at') → ⊥
+core-once T T' same f at at' part needed g =
+    needed (mapping-part T T (dropRow T' at') (dropRow T at) refl (f .1 .carries .not-never) (λ r there. there) (sym same) part
+    (mapping-compose T T' (dropRow T' at') f g))
+
+-- The state of one pass over the rows of q: the kept rows, then those that are still to be tried. They are rows of q, q maps to them, and no kept row can go
+pub record OnePass (q : Query) (kept rest : List (Row Entry)) : Type 0 where
+  pub rows : kept ++ rest ⊆ q .rows
+  pub receives : q .rows ≢ [] → Mapping q (withRows q (kept ++ rest))
+  pub needed : (r : Row Entry) (at : r ∈ kept) → Mapping (withRows q (kept ++ rest)) (withRows q (without kept at ++ rest)) → ⊥
+
+-- At the start none is kept
+pub pass-start : (q : Query) → OnePass q [] (q .rows)
+pass-start q = record { rows = λ r at. at; receives = mapping-self q; needed = λ r at. absurd (List·Memᴰ·not-nil at) }
+
+-- A row without which the query can be mapped into itself goes
+pub pass-drop : (q : Query) (kept : List (Row Entry)) (r : Row Entry) (rest : List (Row Entry)) → OnePass q kept (r ∷ rest)
+    → Mapping (withRows q (kept ++ r ∷ rest)) (withRows q (kept ++ rest)) → OnePass q kept rest
+pass-drop q kept r rest pass f = record {
+  rows = λ s at. pass .rows s (insert-part kept r rest s at);
+  receives = λ some. mapping-compose q (withRows q (kept ++ r ∷ rest)) (withRows q (kept ++ rest)) (pass .receives some) f;
+  needed = λ s at g. pass .needed s at
+      (mapping-part (withRows q (kept ++ r ∷ rest)) (withRows q (kept ++ r ∷ rest)) (withRows q (without kept at ++ rest)) (withRows q (without kept at ++ r ∷ rest))
+      refl (f .1 .carries .not-never) (λ t there. there) refl (insert-part (without kept at) r rest)
+      (mapping-compose (withRows q (kept ++ r ∷ rest)) (withRows q (kept ++ rest)) (withRows q (without kept at ++ rest)) f g));
+}
+
+-- A row that stands there once more goes
+pub pass-repeat : (q : Query) (kept : List (Row Entry)) (r : Row Entry) (rest : List (Row Entry)) → OnePass q kept (r ∷ rest) → r ∈ kept ++ rest → OnePass q kept rest
+pass-repeat q kept r rest pass again =
+    pass-drop q kept r rest pass
+    (mapping-inclusion (withRows q (kept ++ r ∷ rest)) (withRows q (kept ++ rest)) (some-of-member (kept ++ r ∷ rest) (Memᴰ·append-right kept (List·Memᴰ·head refl))) refl
+    (λ s at. left s (List·Memᴰ·append-cases kept at)))
+  where
+    left : (s : Row Entry) → (s ∈ kept) ⊎ (s ∈ r ∷ rest) → s ∈ kept ++ rest
+    left s (inl at) = Memᴰ·append-left rest at
+    left s (inr (List·Memᴰ·head same)) = Memᴰ·cast same again
+    left s (inr (List·Memᴰ·tail at)) = Memᴰ·append-right kept at
+
+-- What the rows of the pass map to is what q maps to: a search for the mapping may start from either
+pub pass-source : (q : Query) (kept rest : List (Row Entry)) → OnePass q kept rest → q .rows ≢ [] → (U : Query)
+    → Mapping q U ↔ Mapping (withRows q (kept ++ rest)) U
+pass-source q kept rest pass some U =
+    let f : Mapping q (withRows q (kept ++ rest)) = pass .receives some in (
+      mapping-part q (withRows q (kept ++ rest)) U U refl (mapping-target q (withRows q (kept ++ rest)) f) (pass .rows) refl (λ r at. at),
+      mapping-compose q (withRows q (kept ++ rest)) U f,
+    )
+
+-- Any other row is kept
+pub pass-keep : (q : Query) (kept : List (Row Entry)) (r : Row Entry) (rest : List (Row Entry)) → OnePass q kept (r ∷ rest)
+    → (Mapping (withRows q (kept ++ r ∷ rest)) (withRows q (kept ++ rest)) → ⊥) → OnePass q (kept ++ (r ∷ [])) rest
+pass-keep q kept r rest pass none = record {
+  rows = subst (λ rows. rows ⊆ q .rows) (sym (append-snoc kept r rest)) (pass .rows);
+  receives = λ some. subst (λ rows. Mapping q (withRows q rows)) (sym (append-snoc kept r rest)) (pass .receives some);
+  needed = λ s at f. cases s (without-append kept (r ∷ []) at)
+      (subst (λ rows. Mapping (withRows q rows) (withRows q (without (kept ++ (r ∷ [])) at ++ rest))) (append-snoc kept r rest) f);
+}
+  where
+    cases : (s : Row Entry) → {rows : List (Row Entry)}
+        → ((at : s ∈ kept) × (rows ≡ without kept at ++ (r ∷ []))) ⊎ ((at : s ∈ r ∷ []) × (rows ≡ kept ++ without (r ∷ []) at))
+        → Mapping (withRows q (kept ++ r ∷ rest)) (withRows q (rows ++ rest)) → ⊥
+    cases s (inl found) f =
+        pass .needed s (found .0)
+        (subst (λ rows. Mapping (withRows q (kept ++ r ∷ rest)) (withRows q rows)) (ap (λ rows. rows ++ rest) (found .1) ∙ append-snoc (without kept (found .0)) r rest) f)
+    cases s (inr found) f =
+        none (subst (λ rows. Mapping (withRows q (kept ++ r ∷ rest)) (withRows q (rows ++ rest)))
+        (found .1 ∙ ap (λ rows. kept ++ rows) (without-singleton (found .0)) ∙ append-nil kept) f)
+
+-- The rows still to be tried may change places, and repeats may go
+pub pass-reorder : (q : Query) (kept rest rest' : List (Row Entry)) → rest ⊆ rest' → rest' ⊆ rest → OnePass q kept rest → OnePass q kept rest'
+pass-reorder q kept rest rest' into back pass = record {
+  rows = λ s at. pass .rows s (append-part kept back s at);
+  receives = λ some. mapping-part q q (withRows q (kept ++ rest)) (withRows q (kept ++ rest')) refl some (λ s at. at) refl (append-part kept into) (pass .receives some);
+  needed = λ s at f. pass .needed s at
+      (mapping-part (withRows q (kept ++ rest')) (withRows q (kept ++ rest)) (withRows q (without kept at ++ rest')) (withRows q (without kept at ++ rest))
+      refl (some-of-member (kept ++ rest) (Memᴰ·append-left rest at)) (append-part kept into) refl (append-part (without kept at) back) f);
+}
+
+-- When none is left to be tried, the kept rows are a core
+pub pass-core : (q : Query) (kept : List (Row Entry)) → OnePass q kept [] → Core (withRows q kept)
+pass-core q kept pass r at f =
+    pass .needed r at
+    (subst₂ (λ all less. Mapping (withRows q all) (withRows q less)) (sym (append-nil kept)) (sym (append-nil (without kept at))) f)
+
+-- One pass over the rows of the chased query gives a result of reduction
+pub pass-reduction : (ds : List Dependency) (S : Query) (kept : List (Row Entry)) → OnePass (chase ds S .query) kept []
+    → Reduction ds S (withRows (chase ds S .query) kept)
+pass-reduction ds S kept pass = record {
+  head = refl;
+  rows = subst (λ rows. rows ⊆ chase ds S .query .rows) (append-nil kept) (pass .rows);
+  receives = λ some. subst (λ rows. Mapping (chase ds S .query) (withRows (chase ds S .query) rows)) (append-nil kept) (pass .receives some);
+  core = pass-core (chase ds S .query) kept pass;
+}
+
+-- ---- 6. Losing rows one at a time
+
+-- The order of rows does not matter to a result
+pub reduction-reordered : (ds : List Dependency) (S T U : Query) → Reordered T U → Reduction ds S T → Reduction ds S U
+reduction-reordered ds S T U order result = record {
+  head = order .head ∙ result .head;
+  rows = λ r at. result .rows r (order .back r at);
+  receives = λ some. mapping-part (chase ds S .query) (chase ds S .query) T U refl some (λ r at. at) (order .head) (order .into) (result .receives some);
+  core = core-reordered T U order (result .core);
+}
+
+-- What a query comes to by losing rows has its head and some of its rows, receives a mapping from it and is a core
+pub shrinks-head : {q T : Query} → Shrinks q T → T .head ≡ q .head
+shrinks-head (stays core) = refl
+shrinks-head (loses at f later) = shrinks-head later
+
+pub shrinks-rows : {q T : Query} → Shrinks q T → T .rows ⊆ q .rows
+shrinks-rows (stays core) = λ r at. at
+shrinks-rows (loses {q = q} at f later) = λ r there. without-part (q .rows) at r (shrinks-rows later r there)
+
+pub shrinks-mapping : {q T : Query} → Shrinks q T → q .rows ≢ [] → Mapping q T
+shrinks-mapping (stays {q = q} core) some = mapping-self q some
+shrinks-mapping (loses {q = q} {T = T} at f later) some = mapping-compose q (dropRow q at) T f (shrinks-mapping later (mapping-target q (dropRow q at) f))
+
+pub shrinks-core : {q T : Query} → Shrinks q T → Core T
+shrinks-core (stays core) = core
+shrinks-core (loses at f later) = shrinks-core later
+
+-- So it is a result of reduction, where the query is chased
+pub shrinks-reduction : (ds : List Dependency) (S T : Query) → Shrinks (chase ds S .query) T → Reduction ds S T
+shrinks-reduction ds S T shrinks = record
+    { head = shrinks-head shrinks; rows = shrinks-rows shrinks; receives = shrinks-mapping shrinks; core = shrinks-core shrinks }
+
+-- T' is what U comes to, up to the order of rows T
+abbrev ShrinksTo : Query → Query → Type 0
+ShrinksTo U T = (T' : Query) × Shrinks U T' × Reordered T T'
+
+-- A query with no more rows than the core that it includes is that core
+shrinks-end : (T U : Query) → Core T → T .head ≡ U .head → T .rows ⊆ U .rows → length (U .rows) ≤ length (T .rows) → ShrinksTo U T
+shrinks-end T U core same part short = (U, stays (core-reordered T U order core), order)
+  where
+    once : NoRepeats (T .rows)
+    once = core-no-repeats T core
+
+    order : Reordered T U
+    order = record {
+      head = sym same;
+      into = part;
+      back = no-repeats-fill (T .rows) (U .rows) once part short;
+      size = let long = no-repeats-length (T .rows) (U .rows) once part in omega arith;
+    }
+
+-- A query that includes a core and maps to it comes to that core
+shrinks-to : (n : ℕ) (T U : Query) → Core T → T .head ≡ U .head → T .rows ⊆ U .rows → (U .rows ≢ [] → Mapping U T) → length (U .rows) ≤ n + length (T .rows)
+    → ShrinksTo U T
+shrinks-to zero T U core same part f short = shrinks-end T U core same part (omega arith)
+shrinks-to (suc n) T U core same part f short = go (decLe (length (U .rows)) (length (T .rows))) (λ U'. shrinks-to n T U' core)
+  where
+    go : Dec (length (U .rows) ≤ length (T .rows))
+        → ((U' : Query) → T .head ≡ U' .head → T .rows ⊆ U' .rows → (U' .rows ≢ [] → Mapping U' T) → length (U' .rows) ≤ n + length (T .rows) → ShrinksTo U' T)
+        → ShrinksTo U T
+    go (yes small) later = shrinks-end T U core same part small
+    go (no large) later =
+        let some : U .rows ≢ [] = λ none. let length-none = ap length none in omega arith in
+        let found = pigeonhole (T .rows) (U .rows) part (omega arith) in
+        let U' : Query = dropRow U (found .1) in
+        let rest = later U' same (found .2)
+        (λ some'. mapping-part U U' T T refl some' (without-part (U .rows) (found .1)) refl (λ r at. at) (f some))
+        (omega (arith, without-length (U .rows) (found .1))) in
+        (rest .0, loses (found .1) (mapping-part U U T U' refl some (λ r at. at) (sym same) (found .2) (f some)) (rest .1), rest .2)
+
+-- Every result is what the chased query comes to by losing rows, up to the order of rows
+pub reduction-shrinks : (ds : List Dependency) (S T : Query) → Reduction ds S T → (T' : Query) × Shrinks (chase ds S .query) T' × Reordered T T'
+reduction-shrinks ds S T result =
+    shrinks-to (length (chase ds S .query .rows)) T (chase ds S .query) (result .core) (result .head) (result .rows) (result .receives) (omega arith)
