@@ -7,7 +7,9 @@ use mathlib.Core.List.{List, [], _++_, map, map-map, map-id, Memᴰ·cast, Mem�
 use Prim.Native.Nat.{ℕ}
 use Rattle.theory.specs.Query.{Entry, constant, variable, Row, Query, mapRow, rowEntries, variables, member, _∈_}
 use Rattle.theory.specs.Answer.{valueOf, Carries, Mapping}
-use Rattle.theory.proofs.Members.{_⊆_, some-of-member, member-of-some, map-agree, entry-of-rows, variable-of, member-true, member-false}
+use Rattle.theory.proofs.Lists.{map-agree, mem-member, not-mem-member}
+use Rattle.theory.proofs.Entries.{mem-variablesOf, row-rowEntries}
+use Rattle.theory.proofs.Members.{_⊆_, some-of-member, member-of-some}
 
 -- The value of an entry's image is the entry's value under the composed assignment
 pub valueOf-compose : {A : Type 0} (fixed g : ℕ → A) (f : ℕ → Entry) (e : Entry)
@@ -36,7 +38,7 @@ pub carries-onto : {A B : Type 0} (fixedA assignA : ℕ → A) (fixedB assignB :
 carries-onto fixedA assignA fixedB assignB h q rowsA rowsB imageA imageB agree to-rowsB to-imageB c =
     let onRow : (r : Row Entry) → r ∈ q .rows → mapRow (valueOf fixedB assignB) r ≡ mapRow h (mapRow (valueOf fixedA assignA) r) =
     λ r at. mapRow-agree (valueOf fixedB assignB) (λ e. h (valueOf fixedA assignA e)) r
-    (λ e there. agree e (Memᴰ·append-right (q .head) (entry-of-rows (q .rows) at there)))
+    (λ e there. agree e (Memᴰ·append-right (q .head) (row-rowEntries (q .rows) r e at there)))
     ∙ sym (mapRow-compose h (valueOf fixedA assignA) r) in
     record {
       not-never = c .not-never;
@@ -94,7 +96,7 @@ carries-agree fixed assign assign' q rows image same c =
   where
     onEntry : (e : Entry) → e ∈ q .head ++ rowEntries (q .rows) → valueOf fixed assign' e ≡ valueOf fixed assign e
     onEntry (constant n) at = refl
-    onEntry (variable v) at = sym (same v (variable-of (q .head ++ rowEntries (q .rows)) at))
+    onEntry (variable v) at = sym (same v (mem-variablesOf v (q .head ++ rowEntries (q .rows)) at))
 
 -- f on the variables of S, and constant 0 elsewhere
 onVariables : Query → (ℕ → Entry) → ℕ → Entry
@@ -102,11 +104,11 @@ onVariables S f v = cond (member v (variables S)) (f v) (constant 0)
 
 onVariables-on : (S : Query) (f : ℕ → Entry) (v : ℕ) → v ∈ variables S → onVariables S f v ≡ f v
 unfolding onVariables
-onVariables-on S f v at = ap (λ b. cond b (f v) (constant 0)) (member-true v (variables S) at)
+onVariables-on S f v at = ap (λ b. cond b (f v) (constant 0)) (mem-member v (variables S) at)
 
 onVariables-off : (S : Query) (f : ℕ → Entry) (v : ℕ) → (v ∈ variables S → ⊥) → onVariables S f v ≡ constant 0
 unfolding onVariables
-onVariables-off S f v off = ap (λ b. cond b (f v) (constant 0)) (member-false v (variables S) off)
+onVariables-off S f v off = ap (λ b. cond b (f v) (constant 0)) (not-mem-member v (variables S) off)
 
 -- Each variable sent to itself sends each entry to itself
 pub valueOf-variable : (e : Entry) → valueOf constant variable e ≡ e

@@ -20,7 +20,8 @@ use Rattle.theory.specs.Database.{Database, Dependency, Obeys, Sound}
 use Rattle.theory.specs.Answer.{valueOf, itself, Carries, Answer, Mapping}
 use Rattle.theory.specs.Chase.{chase}
 use Rattle.theory.specs.Containment.{Contained, freeze, frozenRows, frozenHead, ConstantsBelow}
-use Rattle.theory.proofs.Members.{map-agree, entry-of-rows}
+use Rattle.theory.proofs.Lists.{map-agree}
+use Rattle.theory.proofs.Entries.{row-rowEntries}
 use Rattle.theory.proofs.Carry.{carries-onto, carries-compose, mapping-of, mapRow-id, mapRow-compose}
 use Rattle.theory.proofs.Chase.{chase-answers, chase-obeys, chase-rows-fit, chase-constants}
 
@@ -62,7 +63,7 @@ module _ (base : ℕ) (q : Query) (below : ConstantsBelow base q) where
   thaw-freeze-row r at =
       mapRow-compose (thaw base) (freeze base) r
       ∙ mapRow-id (λ e. thaw base (freeze base e)) r
-      (λ e there. thaw-freeze base e (λ n same. below .of-rows n (Memᴰ·cast (sym same) (entry-of-rows (q .rows) at there))))
+      (λ e there. thaw-freeze base e (λ n same. below .of-rows n (Memᴰ·cast (sym same) (row-rowEntries (q .rows) r e at there))))
 
   -- The thawed frozen rows are the rows
   pub thaw-rows : map (mapRow (thaw base)) (frozenRows base q) ≡ q .rows

@@ -24,8 +24,10 @@ use Rattle.theory.specs.Answer.{valueOf, itself, Carries, Answer, Mappin
 use Rattle.theory.specs.Chase.{chase}
 use Rattle.theory.specs.Containment.{Equivalent, freeze, frozenRows, frozenHead, ConstantsBelow}
 use Rattle.theory.specs.Reduction.{without, dropRow, Core, Reduction, Shrinks, stays, loses, Minimal}
-use Rattle.theory.proofs.Members.{_⊆_, insert-part, append-part, map-part, some-of-member, member-of-some, constant-is-not-variable, variable-of, of-variable, entry-of-rows, row-of-entry}
-use Rattle.theory.proofs.Without.{NoRepeats, without-length, without-part, without-cases, without-append, without-singleton, pigeonhole, no-repeats-fill, no-repeats-length}
+use Rattle.theory.proofs.Lists.{Nodup, without-length, nodup-length-le}
+use Rattle.theory.proofs.Entries.{constant-variable, variablesOf-mem, mem-variablesOf, row-rowEntries}
+use Rattle.theory.proofs.Members.{_⊆_, insert-part, append-part, map-part, some-of-member, member-of-some, row-of-entry}
+use Rattle.theory.proofs.Without.{without-part, without-cases, without-append, without-singleton, pigeonhole, nodup-of, nodup-fills}
 use Rattle.theory.proofs.Carry.{carries-fewer, mapping-of, mapping-compose, mapping-self, mapping-part, mapping-inclusion, mapping-target}
 use Rattle.theory.proofs.Chase.{chase-answers, chase-mapping, chase-obeys, chase-rows-fit, chase-wellformed, chase-head-length}
 use Rattle.theory.proofs.Containment.{answer-along, frozen-answer, frozen-sound, thaw, thaw-rows, thaw-head, thaw-carries}
@@ -33,13 +35,16 @@ use Rattle.theory.proofs.Containment.{answer-along, frozen-answer, froz
 -- ---- 1. Cores
 
 -- A core has no repeated row: the identity would map it into itself without one of the two
-pub core-no-repeats : (T : Query) → Core T → NoRepeats (T .rows)
-core-no-repeats T core r at again =
-    core r at (mapping-inclusion T (dropRow T at) (some-of-member (T .rows) at) refl (λ s there. left s (without-cases (T .rows) at there)))
+pub core-nodup : (T : Query) → Core T → Nodup (T .rows)
+core-nodup T core = nodup-of (T .rows) once
   where
-    left : (s : Row Entry) → (s ≡ r) ⊎ (s ∈ without (T .rows) at) → s ∈ without (T .rows) at
-    left s (inl same) = Memᴰ·cast same again
-    left s (inr rest) = rest
+    left : (r s : Row Entry) (at : r ∈ T .rows) → r ∈ without (T .rows) at → (s ≡ r) ⊎ (s ∈ without (T .rows) at) → s ∈ without (T .rows) at
+    left r s at again (inl same) = Memᴰ·cast same again
+    left r s at again (inr rest) = rest
+
+    once : (r : Row Entry) (at : r ∈ T .rows) → r ∈ without (T .rows) at → ⊥
+    once r at again =
+        core r at (mapping-inclusion T (dropRow T at) (some-of-member (T .rows) at) refl (λ s there. left r s at again (without-cases (T .rows) at there)))
 
 -- A core that maps to a query with its head and some of its rows has no more rows than that
 pub core-least : (T P : Query) → Core T → P .head ≡ T .head → P .rows ⊆ T .rows → Mapping T P → length (T .rows) ≤ length (P .rows)
@@ -157,7 +162,7 @@ above-constant : (es : List Entry) (n : ℕ) → constant n ∈ es → n < above
 unfolding above
 above-constant (constant m ∷ es) n (List·Memᴰ·head same) = let equal : n ≡ m = cc in omega arith
 above-constant (constant m ∷ es) n (List·Memᴰ·tail at) = let later = above-constant es n at in omega arith
-above-constant (variable v ∷ es) n (List·Memᴰ·head same) = absurd (constant-is-not-variable (sym same))
+above-constant (variable v ∷ es) n (List·Memᴰ·head same) = absurd (constant-variable n v same)
 above-constant (variable v ∷ es) n (List·Memᴰ·tail at) = above-constant es n at
 
 above-positive : (es : List Entry) → 0 < above es
@@ -187,7 +192,7 @@ obeys-part ds D E part obeys d held r s atR atS = obeys d held r s (part r atR) 
 below-part : (base : ℕ) (q q' : Query) → q' .head ≡ q .head → q' .rows ⊆ q .rows → ConstantsBelow base q → ConstantsBelow base q'
 below-part base q q' same part below = record {
   of-head = λ n at. below .of-head n (subst (λ es. constant n ∈ es) same at);
-  of-rows = λ n at. let found = row-of-entry (q' .rows) at in below .of-rows n (entry-of-rows (q .rows) (part (found .0) (found .1)) (found .2));
+  of-rows = λ n at. let found = row-of-entry (q' .rows) at in below .of-rows n (row-rowEntries (q .rows) (found .0) (constant n) (part (found .0) (found .1)) (found .2));
 }
 
 -- If on every sound database that obeys, R has exactly the answers of T, and T is a core of which the frozen rows are sound and obey, then R has at least as many rows as T
@@ -271,13 +276,13 @@ reduction-wellformed widths ds S T well result = record { rows-fit = λ r at. ch
 
     safe : (v : ℕ) → v ∈ variablesOf (T .head) → v ∈ variablesOf (rowEntries (T .rows))
     safe v at =
-        let inHead : variable v ∈ chase ds S .query .head = subst (λ es. variable v ∈ es) (result .head) (of-variable (T .head) at) in
-        let found = row-of-entry (chase ds S .query .rows) (of-variable (rowEntries (chase ds S .query .rows)) (chased .head-safe v (variable-of (chase ds S .query .head) inHead))) in
+        let inHead : variable v ∈ chase ds S .query .head = subst (λ es. variable v ∈ es) (result .head) (variablesOf-mem v (T .head) at) in
+        let found = row-of-entry (chase ds S .query .rows) (variablesOf-mem v (rowEntries (chase ds S .query .rows)) (chased .head-safe v (mem-variablesOf v (chase ds S .query .head) inHead))) in
         let f = result .receives (some-of-member (chase ds S .query .rows) (found .1)) in
         let fixed : valueOf constant (f .0) (variable v) ≡ variable v =
         map-fixes (valueOf constant (f .0)) (chase ds S .query .head) (f .1 .carries .to-head ∙ result .head) (variable v) inHead in
-        variable-of (rowEntries (T .rows))
-        (entry-of-rows (T .rows) (f .1 .carries .to-rows (found .0) (found .1)) (Memᴰ·cast (sym fixed) (Memᴰ·map (valueOf constant (f .0)) (found .2))))
+        mem-variablesOf v (rowEntries (T .rows))
+        (row-rowEntries (T .rows) (mapRow (valueOf constant (f .0)) (found .0)) (variable v) (f .1 .carries .to-rows (found .0) (found .1)) (Memᴰ·cast (sym fixed) (Memᴰ·map (valueOf constant (f .0)) (found .2))))
 
 -- ---- 5. One pass
 
@@ -422,15 +427,15 @@ ShrinksTo U T = (T' : Query) × Shrinks U T' × Reordered T T'
 shrinks-end : (T U : Query) → Core T → T .head ≡ U .head → T .rows ⊆ U .rows → length (U .rows) ≤ length (T .rows) → ShrinksTo U T
 shrinks-end T U core same part short = (U, stays (core-reordered T U order core), order)
   where
-    once : NoRepeats (T .rows)
-    once = core-no-repeats T core
+    once : Nodup (T .rows)
+    once = core-nodup T core
 
     order : Reordered T U
     order = record {
       head = sym same;
       into = part;
-      back = no-repeats-fill (T .rows) (U .rows) once part short;
-      size = let long = no-repeats-length (T .rows) (U .rows) once part in omega arith;
+      back = nodup-fills (T .rows) (U .rows) once part short;
+      size = let long = nodup-length-le (T .rows) (U .rows) once part in omega arith;
     }
 
 -- A query that includes a core and maps to it comes to that core

@@ -3,19 +3,15 @@
 use mathlib.Core.Path.{_≡_, refl, sym, _∙_, ap}
 use mathlib.Core.Logic.{_⊎_, inl, inr}
 use mathlib.Core.List.{List, [], _∷_, _++_, List·Memᴰ·head, List·Memᴰ·tail, List·Memᴰ·not-nil, Memᴰ·cast}
-use Prim.Native.Nat.{suc, _≤_, _<_}
+use Prim.Native.Nat.{_≤_, _<_}
 use native.Mathlib.Omega.{arith}
 use lib.ListN.{length}
 use Rattle.theory.specs.Query.{_∈_}
 use Rattle.theory.specs.Reduction.{without}
+use Rattle.theory.proofs.Lists.{Nodup, without-length, without-keeps}
 use Rattle.theory.proofs.Members.{_⊆_, cons-part}
 
 -- ---- one element less
-
-pub without-length : {A : Type 0} {x : A} (xs : List A) (at : x ∈ xs) → length xs ≡ suc (length (without xs at))
-unfolding without
-without-length (y ∷ xs) (List·Memᴰ·head e) = refl
-without-length (y ∷ xs) (List·Memᴰ·tail at) = ap suc (without-length xs at)
 
 -- What is left stood there before
 pub without-part : {A : Type 0} {x : A} (xs : List A) (at : x ∈ xs) → without xs at ⊆ xs
@@ -130,37 +126,19 @@ pigeonhole {A} ys xs part longer =
 
 -- ---- lists without repeats
 
--- No element stands in the list without one of its positions
-abbrev pub NoRepeats : {A : Type 0} → List A → Type 0
-NoRepeats {A} xs = (x : A) (at : x ∈ xs) → x ∈ without xs at → ⊥
-
--- The rest of a list without repeats stands without the place of its first element
-no-repeats-tail : {A : Type 0} (x : A) (xs ys : List A) → NoRepeats (x ∷ xs) → (part : x ∷ xs ⊆ ys) → xs ⊆ without ys (part x (List·Memᴰ·head refl))
+-- If no element stands in a list without one of its positions, the list has no repeats
+pub nodup-of : {A : Type 0} (xs : List A) → ((x : A) (at : x ∈ xs) → x ∈ without xs at → ⊥) → Nodup xs
 unfolding without
-no-repeats-tail x xs ys once part z at = left (without-cases ys (part x (List·Memᴰ·head refl)) (part z (List·Memᴰ·tail at)))
-  where
-    left : (z ≡ x) ⊎ (z ∈ without ys (part x (List·Memᴰ·head refl))) → z ∈ without ys (part x (List·Memᴰ·head refl))
-    left (inl same) = absurd (once x (List·Memᴰ·head refl) (Memᴰ·cast (sym same) at))
-    left (inr rest) = rest
-
-no-repeats-rest : {A : Type 0} (x : A) (xs : List A) → NoRepeats (x ∷ xs) → NoRepeats xs
-unfolding without
-no-repeats-rest x xs once z at again = once z (List·Memᴰ·tail at) (List·Memᴰ·tail again)
-
--- A list without repeats is no longer than one in which it stands
-pub no-repeats-length : {A : Type 0} (xs ys : List A) → NoRepeats xs → xs ⊆ ys → length xs ≤ length ys
-no-repeats-length [] ys once part = omega arith
-no-repeats-length (x ∷ xs) ys once part =
-    let here = part x (List·Memᴰ·head refl) in
-    let later = no-repeats-length xs (without ys here) (no-repeats-rest x xs once) (no-repeats-tail x xs ys once part) in
-    omega (arith, without-length ys here)
+nodup-of [] once = tt
+nodup-of (x ∷ xs) once = (once x (List·Memᴰ·head refl), nodup-of xs (λ z at again. once z (List·Memᴰ·tail at) (List·Memᴰ·tail again)))
 
 -- A list without repeats that stands in one no longer than itself fills it
-pub no-repeats-fill : {A : Type 0} (xs ys : List A) → NoRepeats xs → xs ⊆ ys → length ys ≤ length xs → ys ⊆ xs
-no-repeats-fill [] [] once part short y there = there
-no-repeats-fill [] (z ∷ ys) once part short y there = absurd (omega arith)
-no-repeats-fill (x ∷ xs) ys once part short y there =
-    go (no-repeats-fill xs (without ys here) (no-repeats-rest x xs once) (no-repeats-tail x xs ys once part) (omega (arith, without-length ys here)))
+pub nodup-fills : {A : Type 0} (xs ys : List A) → Nodup xs → xs ⊆ ys → length ys ≤ length xs → ys ⊆ xs
+nodup-fills [] [] once part short y there = there
+nodup-fills [] (z ∷ ys) once part short y there = absurd (omega arith)
+nodup-fills (x ∷ xs) ys once part short y there =
+    go (nodup-fills xs (without ys here) (once .1)
+    (λ z at. without-keeps ys here (part z (List·Memᴰ·tail at)) (λ same. once .0 (Memᴰ·cast (sym same) at))) (omega (arith, without-length ys here)))
     (without-cases ys here there)
   where
     here : x ∈ ys
