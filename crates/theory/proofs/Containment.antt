@@ -19,7 +19,7 @@ use Rattle.theory.specs.Query.{Entry, constant, variable, Row, Query, ma
 use Rattle.theory.specs.Database.{Database, Dependency, Obeys, Sound}
 use Rattle.theory.specs.Answer.{valueOf, itself, Carries, Answer, Mapping}
 use Rattle.theory.specs.Chase.{chase}
-use Rattle.theory.specs.Containment.{Contained, freeze, frozenRows, frozenHead, ConstantsBelow}
+use Rattle.theory.specs.Containment.{Contained, freeze, frozenRows, frozenHead, ConstantsBelow, Counterexample}
 use Rattle.theory.proofs.Lists.{map-agree}
 use Rattle.theory.proofs.Entries.{row-rowEntries}
 use Rattle.theory.proofs.Carry.{carries-onto, carries-compose, mapping-of, mapRow-id, mapRow-compose}
@@ -115,13 +115,6 @@ contained-of-mapping ds p q (inl none) D obeys t answer = absurd (chase-answers 
 contained-of-mapping ds p q (inr f) D obeys t answer = answer-along D q (chase ds p .query) f t (chase-answers ds p D obeys t .0 answer)
 
 -- ---- 4. and 5. From containment to a mapping, and the counterexample
-
--- The database D and the answer t show that p is not contained in q
-pub record Counterexample (widths : List ℕ) (ds : List Dependency) (p q : Query) (D : Database) (t : List ℕ) : Type 0 where
-  pub sound : Sound widths D
-  pub obeys : Obeys ds D
-  pub answer : Answer D p t
-  pub no-answer : Answer D q t → ⊥
 
 module _ (widths : List ℕ) (ds : List Dependency) (p q : Query) (base : ℕ) (fit : (r : Row Entry) → r ∈ p .rows → FitsSchema widths r)
     (belowP : ConstantsBelow base p) (belowQ : ConstantsBelow base q) (positive : 0 < base) where
