@@ -3,3 +3,4 @@ pub mod Carry
 pub mod Chase
 pub mod Containment
 pub mod Reduction
+pub mod Determined
