@@ -6,3 +6,4 @@ pub mod Chase
 pub mod Containment
 pub mod Reduction
 pub mod Determined
+pub mod Search
