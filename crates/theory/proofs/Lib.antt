@@ -5,3 +5,4 @@ pub mod Containment
 pub mod Reduction
 pub mod Determined
 pub mod Search
+pub mod Reduce

@@ -14,8 +14,9 @@ use lib.Dec.{eqb}
 use borrow.Author.Tests.{eqb-true, eqb-false, eq-eqb}
 use Rattle.theory.specs.Query.{Entry, constant, variable, Row, Query, mapRow, sameEntry, _∈_}
 use Rattle.theory.specs.Answer.{valueOf, Carries, IsMapping, Mapping}
-use Rattle.theory.specs.Chase.{orElse}
-use Rattle.theory.specs.Search.{Partial, lookup, andThen, assignTo, matchEntry, matchEntries, matchRow, tryRows, placeRows, placeQuery, assignment, found, mappable}
+use Rattle.theory.specs.Database.{Dependency}
+use Rattle.theory.specs.Chase.{orElse, chase}
+use Rattle.theory.specs.Search.{Partial, lookup, andThen, assignTo, matchEntry, matchEntries, matchRow, tryRows, placeRows, placeQuery, assignment, found, mappable, containedOn, contained}
 use Rattle.theory.proofs.Carry.{mapping-of}
 
 -- Two entries pass `sameEntry` exactly when they are equal
@@ -298,3 +299,16 @@ mapping-dec S T = go (mappable S T) refl
     go : (b : Bool) → mappable S T ≡ b → Dec (Mapping S T)
     go true e = yes (mappable-exact S T .0 e)
     go false e = no (mappable-false S T e)
+
+-- `contained` passes exactly where p chases to never or q maps to the chased p
+pub contained-mapping : (ds : List Dependency) (p q : Query) → (contained ds p q ≡ true) ↔ ((chase ds p .query .rows ≡ []) ⊎ Mapping q (chase ds p .query))
+unfolding contained containedOn
+contained-mapping ds p q = go (chase ds p .query .rows)
+  where
+    go : (rows : List (Row Entry)) → (containedOn rows (chase ds p .query) q ≡ true) ↔ ((rows ≡ []) ⊎ Mapping q (chase ds p .query))
+    go [] = ((λ e. inl refl), λ either. refl)
+    go (r ∷ rs) = ((λ e. inr (mappable-exact q (chase ds p .query) .0 e)), either)
+      where
+        either : ((r ∷ rs ≡ []) ⊎ Mapping q (chase ds p .query)) → mappable q (chase ds p .query) ≡ true
+        either (inl e) = absurd (nil-cons (sym e))
+        either (inr m) = mappable-exact q (chase ds p .query) .1 m

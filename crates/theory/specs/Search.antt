@@ -2,7 +2,7 @@
 -- `proofs/Search` shows that it finds a mapping exactly where there is one. The engine's own search is another, with the same meaning.
 use mathlib.Core.Path.{_≡_}
 use mathlib.Core.Bool.{Bool, true, false, cond}
-use mathlib.Core.List.{List, [], _∷_}
+use mathlib.Core.List.{List, [], _∷_, _++_}
 use mathlib.Core.Option.{Option, none, some, Option·getD}
 use Prim.Native.Nat.{ℕ}
 use lib.Dec.{eqb}
@@ -81,3 +81,15 @@ containedOn (r ∷ rs) chased q = mappable q chased
 -- Whether p is contained in q under the dependencies
 unfoldable pub contained : List Dependency → Query → Query → Bool
 contained ds p q = containedOn (chase ds p .query .rows) (chase ds p .query) q
+
+-- The rows that stay of `rest` beside the kept ones, after one pass: a row goes if the query can be mapped into itself without it
+unfoldable pub prune : List Entry → List (Row Entry) → List (Row Entry) → List (Row Entry)
+prune head kept [] = []
+prune head kept (r ∷ rest) =
+    let shorter = prune head kept rest in
+    let longer = r ∷ prune head (r ∷ kept) rest in
+    cond (mappable (record { head = head; rows = kept ++ r ∷ rest }) (record { head = head; rows = kept ++ rest })) shorter longer
+
+-- A result of reduction: the chased query, pruned
+unfoldable pub reduce : List Dependency → Query → Query
+reduce ds q = record { head = chase ds q .query .head; rows = prune (chase ds q .query .head) [] (chase ds q .query .rows) }
