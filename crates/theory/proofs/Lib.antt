@@ -6,3 +6,4 @@ pub mod Reduction
 pub mod Determined
 pub mod Search
 pub mod Reduce
+pub mod Examples

@@ -7,3 +7,4 @@ pub mod Containment
 pub mod Reduction
 pub mod Determined
 pub mod Search
+pub mod Examples
