@@ -28,21 +28,19 @@ sameEntries [] (e ∷ es) = false
 sameEntries (d ∷ ds) [] = false
 sameEntries (d ∷ ds) (e ∷ es) = sameEntry d e && sameEntries ds es
 
--- Whether each number of a list is below a bound
-unfoldable pub allBelow : ℕ → List ℕ → Bool
-allBelow bound [] = true
-allBelow bound (n ∷ ns) = ltb n bound && allBelow bound ns
+-- Whether all elements of a list pass a test
+unfoldable pub allPass : {A : Type 0} → (A → Bool) → List A → Bool
+allPass test [] = true
+allPass test (x ∷ xs) = test x && allPass test xs
 
--- Whether each dependency fits a schema
-unfoldable pub allFit : List ℕ → List Dependency → Bool
-allFit widths [] = true
-allFit widths (d ∷ ds) =
-    (ltb (d .relation) (length widths) && allBelow (getD widths (d .relation) 0) (d .left) && ltb (d .right) (getD widths (d .relation) 0)) && allFit widths ds
+-- Whether a dependency fits a schema
+unfoldable pub fitsColumns : List ℕ → Dependency → Bool
+fitsColumns widths d =
+    ltb (d .relation) (length widths) && allPass (λ c. ltb c (getD widths (d .relation) 0)) (d .left) && ltb (d .right) (getD widths (d .relation) 0)
 
--- Whether each row fits a schema
-unfoldable pub rowsFit : List ℕ → List (Row Entry) → Bool
-rowsFit widths [] = true
-rowsFit widths (r ∷ rs) = (ltb (r .relation) (length widths) && eqb (length (r .values)) (getD widths (r .relation) 0)) && rowsFit widths rs
+-- Whether a row fits a schema
+unfoldable pub fitsSchema : List ℕ → Row Entry → Bool
+fitsSchema widths r = ltb (r .relation) (length widths) && eqb (length (r .values)) (getD widths (r .relation) 0)
 
 -- The relations of the examples: R has columns a and b, S has a, b and c, B has a and b
 abbrev pub schema : List ℕ
@@ -51,15 +49,10 @@ schema = 2 ∷ 3 ∷ 2 ∷ []
 -- Whether an example is as the definitions compute it, over the schema
 unfoldable pub holds : Example → Bool
 holds (reduces ds q head rows count) =
-    rowsFit schema (q .rows) && sameEntries (reduce ds q .head) head && eqb (length (reduce ds q .rows)) rows && eqb (chase ds q .count) count
-holds (compares ds p q answer) = rowsFit schema (p .rows) && Bool·beq (contained ds p q) answer
+    allPass (fitsSchema schema) (q .rows) && sameEntries (reduce ds q .head) head && eqb (length (reduce ds q .rows)) rows && eqb (chase ds q .count) count
+holds (compares ds p q answer) = allPass (fitsSchema schema) (p .rows) && Bool·beq (contained ds p q) answer
 holds (determines ds relation left columns) =
-    ltb relation (length schema) && allFit schema ds && eqb (length (determined ds relation (getD schema relation 0) left)) columns
-
--- Whether all examples of a table hold
-unfoldable pub allHold : List Example → Bool
-allHold [] = true
-allHold (x ∷ xs) = holds x && allHold xs
+    ltb relation (length schema) && allPass (fitsColumns schema) ds && eqb (length (determined ds relation (getD schema relation 0) left)) columns
 
 -- ---- how the table is written
 
@@ -141,7 +134,7 @@ worked =
 abbrev pub further : List Example
 further =
     reduces (from 1 0 1 ∷ []) (query (v 0 ∷ v 1 ∷ v 2 ∷ []) (S (v 0) (v 1) (v 2) ∷ S (v 0) (k 7) (v 3) ∷ [])) (v 0 ∷ k 7 ∷ v 2 ∷ []) 1 1
-    ∷ reduces R·a→b (query (v 0 ∷ v 1 ∷ v 2 ∷ []) (B (v 0) (v 1) ∷ R (v 0) (v 2) ∷ [])) (v 0 ∷ v 1 ∷ v 2 ∷ []) 2 0
+    ∷ reduces R·a→b (query (v 0 ∷ v 1 ∷ v 2 ∷ v 3 ∷ []) (B (v 0) (v 1) ∷ R (v 0) (v 2) ∷ B (v 0) (v 3) ∷ [])) (v 0 ∷ v 1 ∷ v 2 ∷ v 3 ∷ []) 3 0
     ∷ reduces (from 1 1 2 ∷ from 1 0 1 ∷ []) (query (v 0 ∷ []) (S (v 0) (v 1) (k 3) ∷ S (v 0) (v 2) (k 4) ∷ [])) (k 0 ∷ []) 0 1
     ∷ compares R·a→b (query (v 0 ∷ []) (R (v 0) (v 1) ∷ R (v 0) (v 2) ∷ B (v 1) (v 2) ∷ [])) (query (v 0 ∷ []) (R (v 0) (v 1) ∷ B (v 1) (v 1) ∷ [])) true
     ∷ compares [] (query (v 0 ∷ []) (R (v 0) (v 1) ∷ R (v 0) (v 2) ∷ B (v 1) (v 2) ∷ [])) (query (v 0 ∷ []) (R (v 0) (v 1) ∷ B (v 1) (v 1) ∷ [])) false
