@@ -154,7 +154,7 @@ pub closure-sound : (widths : List ℕ) (ds : List Dependency) (relation : ℕ) 
     → Determines widths ds relation left c
 unfolding closure
 closure-sound widths ds relation left c at D sound obeys r s r-in s-in r-of s-of agree =
-    agree-grown ds relation D obeys r s r-in s-in r-of s-of (length ds) left agree c at
+    agree-grown ds relation D obeys r s r-in s-in r-of s-of _ left agree c at
 
 -- ---- 3. closed
 
@@ -235,15 +235,18 @@ grown-closed (suc n) ds relation known few = go (firstPassing (adds relation kno
         let lower = missing-less ds known d (firstPassing-in (adds relation known) ds d e) (adds-new relation known d (firstPassing-passes (adds relation known) ds d e)) in
         rest (d .right ∷ known) (omega arith)
 
--- The closure is closed: a dependency of the relation whose left columns it has has its right column in it
+-- The closure is closed, since each dependency adds at most once
+closure-ends : (ds : List Dependency) (relation : ℕ) (left : List ℕ) → Closed ds relation (closure ds relation left)
+unfolding closure
+closure-ends ds relation left = grown-closed _ ds relation left (missing-le ds left)
+
+-- A dependency of the relation whose left columns the closure has has its right column in it
 pub closure-closed : (ds : List Dependency) (relation : ℕ) (left : List ℕ) (d : Dependency) → d ∈ ds → d .relation ≡ relation
     → ((c : ℕ) → c ∈ d .left → c ∈ closure ds relation left) → d .right ∈ closure ds relation left
-unfolding closure
 closure-closed ds relation left d at of inside =
-    member-true (d .right) (growFor (length ds) ds relation left)
-    (adds-not relation (growFor (length ds) ds relation left) d
-    (firstPassing-none (adds relation (growFor (length ds) ds relation left)) ds (grown-closed (length ds) ds relation left (missing-le ds left)) d at) of
-    (subset-of (d .left) (growFor (length ds) ds relation left) inside))
+    let known = closure ds relation left in
+    member-true (d .right) known
+    (adds-not relation known d (firstPassing-none (adds relation known) ds (closure-ends ds relation left) d at) of (subset-of (d .left) known inside))
 
 -- and it has the columns it starts from
 grown-more : (n : ℕ) (ds : List Dependency) (relation : ℕ) (known : List ℕ) (c : ℕ) → c ∈ known → c ∈ growFor n ds relation known
@@ -258,7 +261,7 @@ grown-more (suc n) ds relation known c at = go (firstPassing (adds relation know
 
 pub closure-more : (ds : List Dependency) (relation : ℕ) (left : List ℕ) (c : ℕ) → c ∈ left → c ∈ closure ds relation left
 unfolding closure
-closure-more ds relation left c at = grown-more (length ds) ds relation left c at
+closure-more ds relation left c at = grown-more _ ds relation left c at
 
 -- ---- 4. complete
 
