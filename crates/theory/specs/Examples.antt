@@ -1,9 +1,8 @@
 -- The reference examples that document 01 marks P1 to P11, the worked examples of source document 000, and a few that single out a rule: one table.
 -- `holds` computes an example; that all of them hold, and what that means, is in `proofs/Examples`.
-use mathlib.Core.Path.{_≡_}
 use mathlib.Core.Bool.{Bool, true, false, _&&_, Bool·beq}
 use mathlib.Core.List.{List, [], _∷_, _++_}
-use Prim.Native.Nat.{ℕ, _<_}
+use Prim.Native.Nat.{ℕ}
 use lib.Dec.{eqb, ltb}
 use lib.ListN.{length, getD}
 use Rattle.theory.specs.Query.{Entry, constant, variable, Row, Query, sameEntry}
@@ -91,16 +90,27 @@ triangle = R (v 0) (v 1) ∷ R (v 1) (v 2) ∷ R (v 2) (v 0) ∷ []
 -- P1 to P11 of document 01, in order. P11 has two parts
 abbrev pub reference : List Example
 reference =
+    -- P1
     reduces [] (query (v 0 ∷ []) (R (v 0) (v 1) ∷ R (v 0) (v 2) ∷ [])) (v 0 ∷ []) 1 0
+    -- P2
     ∷ reduces [] (query (v 0 ∷ v 1 ∷ v 2 ∷ []) (R (v 0) (v 1) ∷ R (v 0) (v 2) ∷ [])) (v 0 ∷ v 1 ∷ v 2 ∷ []) 2 0
+    -- P3
     ∷ reduces R·a→b (query (v 0 ∷ v 1 ∷ v 2 ∷ []) (R (v 0) (v 1) ∷ R (v 0) (v 2) ∷ [])) (v 0 ∷ v 1 ∷ v 1 ∷ []) 1 1
+    -- P4
     ∷ reduces R·a→b (query (v 0 ∷ []) (R (v 0) (k 3) ∷ R (v 0) (k 4) ∷ [])) (k 0 ∷ []) 0 0
+    -- P5
     ∷ reduces [] (query (v 0 ∷ []) (R (v 0) (k 3) ∷ R (v 0) (k 4) ∷ [])) (v 0 ∷ []) 2 0
+    -- P6
     ∷ reduces (from 1 1 2 ∷ from 1 0 1 ∷ []) (query (v 0 ∷ []) (S (v 0) (v 1) (v 2) ∷ S (v 0) (v 3) (v 4) ∷ [])) (v 0 ∷ []) 1 2
+    -- P7
     ∷ reduces [] (query [] triangle) [] 3 0
+    -- P8
     ∷ reduces [] (query [] (triangle ++ R (v 3) (v 3) ∷ [])) [] 1 0
+    -- P9
     ∷ compares [] (query [] (R (v 0) (v 0) ∷ [])) (query [] (R (v 0) (v 1) ∷ [])) true
+    -- P10
     ∷ compares [] (query [] (R (v 0) (v 1) ∷ [])) (query [] (R (v 0) (v 0) ∷ [])) false
+    -- P11
     ∷ determines (from 1 0 1 ∷ from 1 1 2 ∷ []) 1 (0 ∷ []) 3
     ∷ determines (from 1 0 1 ∷ from 1 1 2 ∷ []) 1 (2 ∷ []) 1
     ∷ []
