@@ -9,3 +9,7 @@ pub mod Replacement
 pub mod Chase
 pub mod Containment
 pub mod Reduction
+pub mod Determined
+pub mod Search
+pub mod Reduce
+pub mod Examples

@@ -6,3 +6,5 @@ pub mod Chase
 pub mod Containment
 pub mod Reduction
 pub mod Determined
+pub mod Search
+pub mod Examples

@@ -1,0 +1,455 @@
+-- Determined columns: the closure of a set of columns is exact (Armstrong 1974; the two-row database is the standard one).
+-- Plan. 1. Tests on lists of numbers, and what a search for the first that passes finds. 2. Sound: rows that agree on the known columns agree on each added one.
+-- 3. The additions end: each one lowers the number of dependencies whose right column is not known, so the closure is closed.
+-- 4. Complete: a row of zeros and a row with zero at the closure's columns and one elsewhere obey the dependencies. 5. `determined` lists the set, ascending.
+-- No law asks that a left set is nonempty. Assumes nothing.
+use mathlib.Core.Path.{_≡_, refl, sym, _∙_, ap}
+use mathlib.Core.Logic.{_↔_, _⊎_, inl, inr}
+use mathlib.Core.Bool.{Bool, true, false, cond, not, _&&_, true≢false}
+use mathlib.Core.List.{List, [], _∷_, List·Memᴰ·head, List·Memᴰ·tail, Memᴰ·cast}
+use mathlib.Core.Option.{Option, none, some, Option·none-ne-some, Option·some-ne-none}
+use Prim.Native.Nat.{ℕ, zero, suc, _+_, _≤_, _<_}
+use native.Mathlib.Omega.{arith}
+use lib.Dec.{eqb}
+use lib.ListN.{length, getD, replicate, length-replicate, getD-replicate, List·getD-eq-default}
+use native.Mathlib.Decide.{decLt, ℕ-discrete}
+use borrow.Author.Tests.{eqb-true, eq-eqb, not-true}
+use Rattle.theory.specs.Query.{Row, column, member, FitsSchema, _∈_}
+use Rattle.theory.specs.Database.{Database, Dependency, Agree, Obeys, Sound}
+use Rattle.theory.specs.Chase.{firstPassing}
+use Rattle.theory.specs.Determined.{Determines, FitsColumns, subset, adds, growOn, growFor, closure, columnsIn, determined}
+
+-- ---- 1. tests
+
+-- True is not false
+true-false : {b : Bool} → b ≡ true → b ≡ false → ⊥
+true-false t f = true≢false (sym t ∙ f)
+
+-- Both parts of a passed conjunction pass
+pub and-left : (a b : Bool) → (a && b) ≡ true → a ≡ true
+and-left true b e = refl
+and-left false b e = e
+
+pub and-right : (a b : Bool) → (a && b) ≡ true → b ≡ true
+and-right true b e = e
+and-right false b e = absurd (true-false e refl)
+
+pub and-both : (a b : Bool) → a ≡ true → b ≡ true → (a && b) ≡ true
+and-both a b p q = rw (p, q) refl
+
+-- A number that passes `member` stands in the list, and one that stands in it passes
+pub member-true : (n : ℕ) (ns : List ℕ) → member n ns ≡ true → n ∈ ns
+unfolding member
+member-true n [] e = absurd (true-false e refl)
+member-true n (m ∷ ms) e = go (eqb n m) refl (member-true n ms) e
+  where
+    go : (b : Bool) → eqb n m ≡ b → (member n ms ≡ true → n ∈ ms) → cond b true (member n ms) ≡ true → n ∈ (m ∷ ms)
+    go true same rest passed = List·Memᴰ·head (eqb-true n m same)
+    go false other rest passed = List·Memᴰ·tail (rest passed)
+
+pub member-of : (n : ℕ) (ns : List ℕ) → n ∈ ns → member n ns ≡ true
+unfolding member
+member-of n (m ∷ ms) (List·Memᴰ·head e) = rw (eq-eqb n m e) refl
+member-of n (m ∷ ms) (List·Memᴰ·tail at) = go (eqb n m) (member-of n ms at)
+  where
+    go : (b : Bool) → member n ms ≡ true → cond b true (member n ms) ≡ true
+    go true rest = refl
+    go false rest = rest
+
+-- A list that passes `subset` is a part of the other, and a part of it passes
+pub subset-true : (ms ns : List ℕ) → subset ms ns ≡ true → (n : ℕ) → n ∈ ms → n ∈ ns
+unfolding subset
+subset-true (m ∷ ms) ns e n (List·Memᴰ·head same) = Memᴰ·cast same (member-true m ns (and-left (member m ns) (subset ms ns) e))
+subset-true (m ∷ ms) ns e n (List·Memᴰ·tail at) = subset-true ms ns (and-right (member m ns) (subset ms ns) e) n at
+
+pub subset-of : (ms ns : List ℕ) → ((n : ℕ) → n ∈ ms → n ∈ ns) → subset ms ns ≡ true
+unfolding subset
+subset-of [] ns part = refl
+subset-of (m ∷ ms) ns part =
+    and-both (member m ns) (subset ms ns) (member-of m ns (part m (List·Memᴰ·head refl))) (subset-of ms ns (λ n at. part n (List·Memᴰ·tail at)))
+
+-- What `firstPassing` finds stands in the list and passes; where it finds nothing, nothing passes
+pub firstPassing-in : {A : Type 0} (test : A → Bool) (xs : List A) (x : A) → firstPassing test xs ≡ some x → x ∈ xs
+unfolding firstPassing
+firstPassing-in test [] x e = absurd (Option·none-ne-some x e)
+firstPassing-in {A} test (y ∷ ys) x e = go (test y) (firstPassing-in test ys x) e
+  where
+    go : (b : Bool) → (firstPassing test ys ≡ some x → x ∈ ys) → cond b (some y) (firstPassing test ys) ≡ some x → x ∈ (y ∷ ys)
+    go true rest found = List·Memᴰ·head (let same : x ≡ y = cc in same)
+    go false rest found = List·Memᴰ·tail (rest found)
+
+pub firstPassing-passes : {A : Type 0} (test : A → Bool) (xs : List A) (x : A) → firstPassing test xs ≡ some x → test x ≡ true
+unfolding firstPassing
+firstPassing-passes test [] x e = absurd (Option·none-ne-some x e)
+firstPassing-passes {A} test (y ∷ ys) x e = go (test y) refl (firstPassing-passes test ys x) e
+  where
+    go : (b : Bool) → test y ≡ b → (firstPassing test ys ≡ some x → test x ≡ true) → cond b (some y) (firstPassing test ys) ≡ some x → test x ≡ true
+    go true passed rest found = let same : x ≡ y = cc in cc
+    go false failed rest found = rest found
+
+pub firstPassing-none : {A : Type 0} (test : A → Bool) (xs : List A) → firstPassing test xs ≡ none → (x : A) → x ∈ xs → test x ≡ false
+unfolding firstPassing
+firstPassing-none {A} test (y ∷ ys) e x at = go (test y) refl (firstPassing-none test ys) e at
+  where
+    go : (b : Bool) → test y ≡ b → (firstPassing test ys ≡ none → (x : A) → x ∈ ys → test x ≡ false)
+        → cond b (some y) (firstPassing test ys) ≡ none → x ∈ (y ∷ ys) → test x ≡ false
+    go true passed rest found at = absurd (Option·some-ne-none y found)
+    go false failed rest found (List·Memᴰ·head same) = cc
+    go false failed rest found (List·Memᴰ·tail at) = rest found x at
+
+-- ---- 2. sound
+
+-- A dependency that adds is of the relation, its left columns are known and its right one is not
+adds-relation : (relation : ℕ) (known : List ℕ) (d : Dependency) → adds relation known d ≡ true → d .relation ≡ relation
+unfolding adds
+adds-relation relation known d e =
+    eqb-true (d .relation) relation
+    (and-left (eqb (d .relation) relation) (subset (d .left) known) (and-left (eqb (d .relation) relation && subset (d .left) known) (not (member (d .right) known)) e))
+
+adds-left : (relation : ℕ) (known : List ℕ) (d : Dependency) → adds relation known d ≡ true → subset (d .left) known ≡ true
+unfolding adds
+adds-left relation known d e =
+    and-right (eqb (d .relation) relation) (subset (d .left) known) (and-left (eqb (d .relation) relation && subset (d .left) known) (not (member (d .right) known)) e)
+
+adds-new : (relation : ℕ) (known : List ℕ) (d : Dependency) → adds relation known d ≡ true → member (d .right) known ≡ false
+unfolding adds
+adds-new relation known d e =
+    not-true (member (d .right) known) (and-right (eqb (d .relation) relation && subset (d .left) known) (not (member (d .right) known)) e)
+
+-- One of the relation that does not add, though its left columns are known, has its right one known
+adds-not : (relation : ℕ) (known : List ℕ) (d : Dependency) → adds relation known d ≡ false → d .relation ≡ relation → subset (d .left) known ≡ true
+    → member (d .right) known ≡ true
+unfolding adds
+adds-not relation known d e of inside =
+    go (eqb (d .relation) relation) (subset (d .left) known) (member (d .right) known) e (eq-eqb (d .relation) relation of) inside
+  where
+    go : (a b c : Bool) → (a && b && not c) ≡ false → a ≡ true → b ≡ true → c ≡ true
+    go a b true e p q = refl
+    go a b false e p q = absurd (true-false (and-both (a && b) true (and-both a b p q) refl) e)
+
+-- In a database that obeys the dependencies, two rows of the relation that agree on the known columns agree on all that are added
+module _ (ds : List Dependency) (relation : ℕ) (D : Database) (obeys : Obeys ds D) (r s : Row ℕ) (r-in : r ∈ D) (s-in : s ∈ D)
+    (r-of : r .relation ≡ relation) (s-of : s .relation ≡ relation) where
+  agree-added : (known : List ℕ) (d : Dependency) → d ∈ ds → adds relation known d ≡ true → Agree 0 known r s → Agree 0 (d .right ∷ known) r s
+  agree-added known d at e agree c (List·Memᴰ·head same) =
+      rw same
+      (obeys d at r s r-in s-in (r-of ∙ sym (adds-relation relation known d e)) (s-of ∙ sym (adds-relation relation known d e))
+      (λ b in-left. agree b (subset-true (d .left) known (adds-left relation known d e) b in-left)))
+  agree-added known d at e agree c (List·Memᴰ·tail old) = agree c old
+
+  agree-grown : (n : ℕ) (known : List ℕ) → Agree 0 known r s → Agree 0 (growFor n ds relation known) r s
+  unfolding growFor growOn
+  agree-grown zero known agree = agree
+  agree-grown (suc n) known agree = go (firstPassing (adds relation known) ds) refl (agree-grown n)
+    where
+      go : (found : Option Dependency) → firstPassing (adds relation known) ds ≡ found
+          → ((known : List ℕ) → Agree 0 known r s → Agree 0 (growFor n ds relation known) r s) → Agree 0 (growOn (growFor n ds relation) known found) r s
+      go none e rest = agree
+      go (some d) e rest =
+          rest (d .right ∷ known)
+          (agree-added known d (firstPassing-in (adds relation known) ds d e) (firstPassing-passes (adds relation known) ds d e) agree)
+
+-- Each column of the closure is determined: no hypothesis on the dependencies
+pub closure-sound : (widths : List ℕ) (ds : List Dependency) (relation : ℕ) (left : List ℕ) (c : ℕ) → c ∈ closure ds relation left
+    → Determines widths ds relation left c
+unfolding closure
+closure-sound widths ds relation left c at D sound obeys r s r-in s-in r-of s-of agree =
+    agree-grown ds relation D obeys r s r-in s-in r-of s-of _ left agree c at
+
+-- ---- 3. closed
+
+-- How many dependencies have a right column that is not known
+missing : List Dependency → List ℕ → ℕ
+missing [] known = 0
+missing (d ∷ ds) known = cond (member (d .right) known) (missing ds known) (suc (missing ds known))
+
+missing-le : (ds : List Dependency) (known : List ℕ) → missing ds known ≤ length ds
+unfolding missing
+missing-le [] known = omega arith
+missing-le (d ∷ ds) known = go (member (d .right) known) (missing-le ds known)
+  where
+    go : (b : Bool) → missing ds known ≤ length ds → cond b (missing ds known) (suc (missing ds known)) ≤ suc (length ds)
+    go true rest = omega arith
+    go false rest = omega arith
+
+member-more : (n c : ℕ) (known : List ℕ) → member n known ≡ true → member n (c ∷ known) ≡ true
+member-more n c known e = member-of n (c ∷ known) (List·Memᴰ·tail (member-true n known e))
+
+missing-more : (ds : List Dependency) (known : List ℕ) (c : ℕ) → missing ds (c ∷ known) ≤ missing ds known
+unfolding missing
+missing-more [] known c = omega arith
+missing-more (d ∷ ds) known c = go (member (d .right) known) refl (member (d .right) (c ∷ known)) refl (missing-more ds known c)
+  where
+    go : (old : Bool) → member (d .right) known ≡ old → (new : Bool) → member (d .right) (c ∷ known) ≡ new → missing ds (c ∷ known) ≤ missing ds known
+        → cond new (missing ds (c ∷ known)) (suc (missing ds (c ∷ known))) ≤ cond old (missing ds known) (suc (missing ds known))
+    go true was true is rest = rest
+    go true was false is rest = absurd (true-false (member-more (d .right) c known was) is)
+    go false was true is rest = omega arith
+    go false was false is rest = omega arith
+
+-- An addition lowers the number
+missing-less : (ds : List Dependency) (known : List ℕ) (d : Dependency) → d ∈ ds → member (d .right) known ≡ false
+    → missing ds (d .right ∷ known) < missing ds known
+unfolding missing
+missing-less (b ∷ ds) known d (List·Memᴰ·head same) new =
+    go (member (b .right) known) (rw (← same) new) (member (b .right) (d .right ∷ known)) is (missing-more ds known (d .right))
+  where
+    is : member (b .right) (d .right ∷ known) ≡ true
+    is = member-of (b .right) (d .right ∷ known) (List·Memᴰ·head (ap (λ (x : Dependency). x .right) (sym same)))
+
+    go : (old : Bool) → old ≡ false → (now : Bool) → now ≡ true → missing ds (d .right ∷ known) ≤ missing ds known
+        → cond now (missing ds (d .right ∷ known)) (suc (missing ds (d .right ∷ known))) < cond old (missing ds known) (suc (missing ds known))
+    go old e now e' rest = rw (e, e') (omega arith)
+missing-less (b ∷ ds) known d (List·Memᴰ·tail at) new =
+    go (member (b .right) known) refl (member (b .right) (d .right ∷ known)) refl (missing-less ds known d at new)
+  where
+    go : (old : Bool) → member (b .right) known ≡ old → (now : Bool) → member (b .right) (d .right ∷ known) ≡ now
+        → missing ds (d .right ∷ known) < missing ds known
+        → cond now (missing ds (d .right ∷ known)) (suc (missing ds (d .right ∷ known))) < cond old (missing ds known) (suc (missing ds known))
+    go true was true now rest = rest
+    go true was false now rest = absurd (true-false (member-more (b .right) (d .right) known was) now)
+    go false was true now rest = omega arith
+    go false was false now rest = omega arith
+
+-- Nothing is added any more
+abbrev Closed : List Dependency → ℕ → List ℕ → Type 0
+Closed ds relation known = firstPassing (adds relation known) ds ≡ none
+
+-- With a step for each missing right column the additions come to their end
+grown-closed : (n : ℕ) (ds : List Dependency) (relation : ℕ) (known : List ℕ) → missing ds known ≤ n → Closed ds relation (growFor n ds relation known)
+unfolding growFor growOn
+grown-closed zero ds relation known few = go (firstPassing (adds relation known) ds) refl
+  where
+    go : (found : Option Dependency) → firstPassing (adds relation known) ds ≡ found → firstPassing (adds relation known) ds ≡ none
+    go none e = e
+    go (some d) e =
+        let lower = missing-less ds known d (firstPassing-in (adds relation known) ds d e) (adds-new relation known d (firstPassing-passes (adds relation known) ds d e)) in
+        absurd (omega arith)
+grown-closed (suc n) ds relation known few = go (firstPassing (adds relation known) ds) refl (grown-closed n ds relation)
+  where
+    go : (found : Option Dependency) → firstPassing (adds relation known) ds ≡ found
+        → ((known : List ℕ) → missing ds known ≤ n → Closed ds relation (growFor n ds relation known))
+        → Closed ds relation (growOn (growFor n ds relation) known found)
+    go none e rest = e
+    go (some d) e rest =
+        let lower = missing-less ds known d (firstPassing-in (adds relation known) ds d e) (adds-new relation known d (firstPassing-passes (adds relation known) ds d e)) in
+        rest (d .right ∷ known) (omega arith)
+
+-- The closure is closed, since each dependency adds at most once
+closure-ends : (ds : List Dependency) (relation : ℕ) (left : List ℕ) → Closed ds relation (closure ds relation left)
+unfolding closure
+closure-ends ds relation left = grown-closed _ ds relation left (missing-le ds left)
+
+-- A dependency of the relation whose left columns the closure has has its right column in it
+pub closure-closed : (ds : List Dependency) (relation : ℕ) (left : List ℕ) (d : Dependency) → d ∈ ds → d .relation ≡ relation
+    → ((c : ℕ) → c ∈ d .left → c ∈ closure ds relation left) → d .right ∈ closure ds relation left
+closure-closed ds relation left d at of inside =
+    let known = closure ds relation left in
+    member-true (d .right) known
+    (adds-not relation known d (firstPassing-none (adds relation known) ds (closure-ends ds relation left) d at) of (subset-of (d .left) known inside))
+
+-- and it has the columns it starts from
+grown-more : (n : ℕ) (ds : List Dependency) (relation : ℕ) (known : List ℕ) (c : ℕ) → c ∈ known → c ∈ growFor n ds relation known
+unfolding growFor growOn
+grown-more zero ds relation known c at = at
+grown-more (suc n) ds relation known c at = go (firstPassing (adds relation known) ds) (grown-more n ds relation)
+  where
+    go : (found : Option Dependency) → ((known : List ℕ) (c : ℕ) → c ∈ known → c ∈ growFor n ds relation known)
+        → c ∈ growOn (growFor n ds relation) known found
+    go none rest = at
+    go (some d) rest = rest (d .right ∷ known) c (List·Memᴰ·tail at)
+
+pub closure-more : (ds : List Dependency) (relation : ℕ) (left : List ℕ) (c : ℕ) → c ∈ left → c ∈ closure ds relation left
+unfolding closure
+closure-more ds relation left c at = grown-more _ ds relation left c at
+
+-- ---- 4. complete
+
+-- Zero at the known columns from `start` on, one elsewhere
+indicator : List ℕ → ℕ → ℕ → List ℕ
+indicator known start zero = []
+indicator known start (suc n) = cond (member start known) 0 1 ∷ indicator known (suc start) n
+
+indicator-length : (known : List ℕ) (start n : ℕ) → length (indicator known start n) ≡ n
+unfolding indicator
+indicator-length known start zero = refl
+indicator-length known start (suc n) = ap suc (indicator-length known (suc start) n)
+
+indicator-at : (known : List ℕ) (start n i : ℕ) → i < n → getD (indicator known start n) i 0 ≡ cond (member (start + i) known) 0 1
+unfolding indicator
+indicator-at known start zero i less = absurd (omega arith)
+indicator-at known start (suc n) zero less = let same : start + 0 ≡ start = omega arith in rw same refl
+indicator-at known start (suc n) (suc i) less =
+    let same : start + suc i ≡ suc start + i = omega arith in rw same (indicator-at known (suc start) n i (omega arith))
+
+-- The two rows: all zero, and zero at the known columns only
+zeros : ℕ → ℕ → Row ℕ
+zeros relation width = record { relation = relation; values = replicate width 0 }
+
+marks : ℕ → ℕ → List ℕ → Row ℕ
+marks relation width known = record { relation = relation; values = indicator known 0 width }
+
+marks-at : (relation width : ℕ) (known : List ℕ) (c : ℕ) → c < width → column 0 (marks relation width known) c ≡ cond (member c known) 0 1
+unfolding marks
+marks-at relation width known c less =
+    let same : 0 + c ≡ c = omega arith in
+    rw same at (indicator-at known 0 width c less)
+
+marks-known : (relation width : ℕ) (known : List ℕ) (c : ℕ) → c < width → c ∈ known → column 0 (zeros relation width) c ≡ column 0 (marks relation width known) c
+unfolding zeros
+marks-known relation width known c less at =
+    getD-replicate width c 0 0 less ∙ sym (marks-at relation width known c less ∙ rw (member-of c known at) refl)
+
+known-marks : (relation width : ℕ) (known : List ℕ) (c : ℕ) → c < width → column 0 (zeros relation width) c ≡ column 0 (marks relation width known) c → c ∈ known
+unfolding zeros
+known-marks relation width known c less e =
+    member-true c known (go (member c known) (sym (getD-replicate width c 0 0 less) ∙ e ∙ marks-at relation width known c less))
+  where
+    go : (b : Bool) → _≡_ {A = ℕ} 0 (cond b 0 1) → b ≡ true
+    go true e = refl
+    go false e = absurd (omega arith)
+
+-- The database of the two rows
+two : ℕ → ℕ → List ℕ → Database
+two relation width known = zeros relation width ∷ marks relation width known ∷ []
+
+two-sound : (widths : List ℕ) (relation : ℕ) (known : List ℕ) → relation < length widths → Sound widths (two relation (getD widths relation 0) known)
+unfolding two zeros marks
+two-sound widths relation known less r (List·Memᴰ·head e) = rw e (less, length-replicate (getD widths relation 0) 0)
+two-sound widths relation known less r (List·Memᴰ·tail (List·Memᴰ·head e)) = rw e (less, indicator-length known 0 (getD widths relation 0))
+
+-- A row of the database is one of the two, and is of the relation
+two-rows : (relation width : ℕ) (known : List ℕ) (r : Row ℕ) → r ∈ two relation width known → (r ≡ zeros relation width) ⊎ (r ≡ marks relation width known)
+unfolding two
+two-rows relation width known r (List·Memᴰ·head e) = inl e
+two-rows relation width known r (List·Memᴰ·tail (List·Memᴰ·head e)) = inr e
+
+two-relation : (relation width : ℕ) (known : List ℕ) (r : Row ℕ) → r ∈ two relation width known → r .relation ≡ relation
+unfolding zeros marks
+two-relation relation width known r at = go (two-rows relation width known r at)
+  where
+    go : (r ≡ zeros relation width) ⊎ (r ≡ marks relation width known) → r .relation ≡ relation
+    go (inl e) = rw e refl
+    go (inr e) = rw e refl
+
+-- A dependency holds of the two rows as soon as it holds of the first against the second
+two-obeys-one : (relation width : ℕ) (known : List ℕ) (d : Dependency)
+    → (Agree 0 (d .left) (zeros relation width) (marks relation width known)
+    → column 0 (zeros relation width) (d .right) ≡ column 0 (marks relation width known) (d .right))
+    → (r s : Row ℕ) → r ∈ two relation width known → s ∈ two relation width known → Agree 0 (d .left) r s → column 0 r (d .right) ≡ column 0 s (d .right)
+two-obeys-one relation width known d holds r s r-in s-in agree = go (two-rows relation width known r r-in) (two-rows relation width known s s-in)
+  where
+    go : (r ≡ zeros relation width) ⊎ (r ≡ marks relation width known) → (s ≡ zeros relation width) ⊎ (s ≡ marks relation width known)
+        → column 0 r (d .right) ≡ column 0 s (d .right)
+    go (inl a) (inl b) = rw (a, b) refl
+    go (inl a) (inr b) = rw (a, b) (holds (rw (a, b) at agree))
+    go (inr a) (inl b) = rw (a, b) (sym (holds (λ c at. sym ((rw (a, b) at agree) c at))))
+    go (inr a) (inr b) = rw (a, b) refl
+
+-- With the closure as the known columns the two rows obey dependencies that fit the schema
+two-obeys : (widths : List ℕ) (ds : List Dependency) → ((d : Dependency) → d ∈ ds → FitsColumns widths d) → (relation : ℕ) (left : List ℕ)
+    → Obeys ds (two relation (getD widths relation 0) (closure ds relation left))
+two-obeys widths ds fits relation left d at r s r-in s-in r-of s-of = two-obeys-one relation width known d holds r s r-in s-in
+  where
+    width : ℕ
+    width = getD widths relation 0
+
+    known : List ℕ
+    known = closure ds relation left
+
+    of : d .relation ≡ relation
+    of = sym r-of ∙ two-relation relation width known r r-in
+
+    below : (c : ℕ) → c < getD widths (d .relation) 0 → c < width
+    below c less = rw of at less
+
+    holds : Agree 0 (d .left) (zeros relation width) (marks relation width known)
+        → column 0 (zeros relation width) (d .right) ≡ column 0 (marks relation width known) (d .right)
+    holds agree =
+        marks-known relation width known (d .right) (below (d .right) (fits d at .right))
+        (closure-closed ds relation left d at of
+        (λ c in-left. known-marks relation width known c (below c (fits d at .left c in-left)) (agree c in-left)))
+
+-- The two rows agree on every known column; past the width both have the value 0
+two-agree : (relation width : ℕ) (known : List ℕ) (c : ℕ) → c ∈ known → column 0 (zeros relation width) c ≡ column 0 (marks relation width known) c
+unfolding zeros marks
+two-agree relation width known c at = go (decLt c width)
+  where
+    go : Dec (c < width) → getD (replicate width 0) c 0 ≡ getD (indicator known 0 width) c 0
+    go (yes less) = marks-known relation width known c less at
+    go (no past) =
+        List·getD-eq-default (replicate width 0) 0 (rw (length-replicate {A = ℕ} width 0) (omega arith))
+        ∙ sym (List·getD-eq-default (indicator known 0 width) 0 (rw (indicator-length known 0 width) (omega arith)))
+
+-- Each column that the left set determines is in the closure
+closure-complete : (widths : List ℕ) (ds : List Dependency) → ((d : Dependency) → d ∈ ds → FitsColumns widths d) → (relation : ℕ) → relation < length widths
+    → (left : List ℕ) (c : ℕ) → c < getD widths relation 0 → Determines widths ds relation left c → c ∈ closure ds relation left
+unfolding two zeros marks
+closure-complete widths ds fits relation held left c less determines =
+    known-marks relation (getD widths relation 0) (closure ds relation left) c less
+    (determines (two relation (getD widths relation 0) (closure ds relation left)) (two-sound widths relation (closure ds relation left) held)
+    (two-obeys widths ds fits relation left) (zeros relation (getD widths relation 0))
+    (marks relation (getD widths relation 0) (closure ds relation left)) (List·Memᴰ·head refl) (List·Memᴰ·tail (List·Memᴰ·head refl)) refl refl
+    (λ b at. two-agree relation (getD widths relation 0) (closure ds relation left) b (closure-more ds relation left b at)))
+
+-- The closure is exact: it has just the columns that the left set determines
+pub closure-exact : (widths : List ℕ) (ds : List Dependency) → ((d : Dependency) → d ∈ ds → FitsColumns widths d) → (relation : ℕ) → relation < length widths
+    → (left : List ℕ) (c : ℕ) → c < getD widths relation 0 → Determines widths ds relation left c ↔ (c ∈ closure ds relation left)
+closure-exact widths ds fits relation held left c less =
+    (closure-complete widths ds fits relation held left c less, closure-sound widths ds relation left c)
+
+-- ---- 5. the determined columns
+
+-- Each number is less than all that follow it
+abbrev pub Ascending : List ℕ → Type 0
+Ascending [] = Unit {0}
+Ascending (n ∷ ns) = ((m : ℕ) → m ∈ ns → n < m) × Ascending ns
+
+-- `columnsIn` has the numbers of the list in its range
+columnsIn-from : (known : List ℕ) (start n c : ℕ) → c ∈ columnsIn known start n → (start ≤ c) × (c < start + n) × (c ∈ known)
+unfolding columnsIn
+columnsIn-from known start (suc n) c at = go (member start known) refl (columnsIn-from known (suc start) n c) at
+  where
+    go : (b : Bool) → member start known ≡ b → (c ∈ columnsIn known (suc start) n → (suc start ≤ c) × (c < suc start + n) × (c ∈ known))
+        → c ∈ cond b (start ∷ columnsIn known (suc start) n) (columnsIn known (suc start) n) → (start ≤ c) × (c < start + suc n) × (c ∈ known)
+    go true e rest (List·Memᴰ·head same) = (omega arith, omega arith, Memᴰ·cast same (member-true start known e))
+    go true e rest (List·Memᴰ·tail at) = let r = rest at in (omega arith, omega arith, r .2)
+    go false e rest at = let r = rest at in (omega arith, omega arith, r .2)
+
+columnsIn-of : (known : List ℕ) (start n c : ℕ) → start ≤ c → c < start + n → c ∈ known → c ∈ columnsIn known start n
+unfolding columnsIn
+columnsIn-of known start zero c low high at = absurd (omega arith)
+columnsIn-of known start (suc n) c low high at = go (member start known) refl (ℕ-discrete c start) (columnsIn-of known (suc start) n c)
+  where
+    go : (b : Bool) → member start known ≡ b → Dec (c ≡ start) → (suc start ≤ c → c < suc start + n → c ∈ known → c ∈ columnsIn known (suc start) n)
+        → c ∈ cond b (start ∷ columnsIn known (suc start) n) (columnsIn known (suc start) n)
+    go true e (yes same) rest = List·Memᴰ·head same
+    go true e (no other) rest = List·Memᴰ·tail (rest (omega arith) (omega arith) at)
+    go false e (yes same) rest = absurd (true-false (member-of start known (Memᴰ·cast (sym same) at)) e)
+    go false e (no other) rest = rest (omega arith) (omega arith) at
+
+columnsIn-ascending : (known : List ℕ) (start n : ℕ) → Ascending (columnsIn known start n)
+unfolding columnsIn
+columnsIn-ascending known start zero = tt
+columnsIn-ascending known start (suc n) = go (member start known) (columnsIn-ascending known (suc start) n)
+  where
+    go : (b : Bool) → Ascending (columnsIn known (suc start) n)
+        → Ascending (cond b (start ∷ columnsIn known (suc start) n) (columnsIn known (suc start) n))
+    go true rest = ((λ m at. columnsIn-from known (suc start) n m at .0), rest)
+    go false rest = rest
+
+-- The determined columns are those of the relation that the left set determines
+pub determined-exact : (widths : List ℕ) (ds : List Dependency) → ((d : Dependency) → d ∈ ds → FitsColumns widths d) → (relation : ℕ) → relation < length widths
+    → (left : List ℕ) (width : ℕ) → width ≡ getD widths relation 0 → (c : ℕ)
+    → (c ∈ determined ds relation width left) ↔ ((c < width) × Determines widths ds relation left c)
+unfolding determined
+determined-exact widths ds fits relation held left width same c = (
+  (λ at. let r = columnsIn-from (closure ds relation left) 0 width c at in (omega arith, closure-sound widths ds relation left c (r .2))),
+  λ p. columnsIn-of (closure ds relation left) 0 width c (omega arith) (omega arith)
+      (closure-complete widths ds fits relation held left c (omega arith) (p .1)),
+)
+
+-- each once and in ascending order, so their number is the length of the list
+pub determined-ascending : (ds : List Dependency) (relation width : ℕ) (left : List ℕ) → Ascending (determined ds relation width left)
+unfolding determined
+determined-ascending ds relation width left = columnsIn-ascending (closure ds relation left) 0 width

@@ -1,0 +1,314 @@
+-- The search for a mapping is exact: it succeeds where, and only where, there is one (Chandra and Merlin 1977: guess a mapping, check it).
+-- Plan. 1. An assignment fits a partial one if it sends each chosen variable where the partial one does. 2. A match extends the partial assignment by just what it asks:
+-- what fits after it is what fitted before and meets the match; where it fails, nothing that fits meets it. 3. Over the rows: a result is sound, and a failure excludes each placing.
+-- 4. So `mappable` decides mappings.
+-- Assumes nothing.
+use mathlib.Core.Path.{_≡_, refl, sym, _∙_, ap}
+use mathlib.Core.Logic.{_↔_, _⊎_, inl, inr}
+use mathlib.Core.Bool.{Bool, true, false, cond, true≢false}
+use mathlib.Core.List.{List, [], _∷_, map, List·Memᴰ·head, List·Memᴰ·tail, Memᴰ·cast, List·Memᴰ·not-nil}
+use mathlib.Core.Option.{Option, none, some, Option·getD, Option·none-ne-some, Option·some-ne-none, Option·some-injective}
+use Prim.Native.Nat.{ℕ}
+use native.Mathlib.Omega.{arith}
+use lib.Dec.{eqb}
+use borrow.Author.Tests.{eqb-true, eqb-false, eq-eqb}
+use Rattle.theory.specs.Query.{Entry, constant, variable, Row, Query, mapRow, sameEntry, _∈_}
+use Rattle.theory.specs.Answer.{valueOf, Carries, IsMapping, Mapping}
+use Rattle.theory.specs.Database.{Dependency}
+use Rattle.theory.specs.Chase.{orElse, chase}
+use Rattle.theory.specs.Search.{Partial, lookup, andThen, assignTo, matchEntry, matchEntries, matchRow, tryRows, placeRows, placeQuery, assignment, found, mappable, containedOn, contained}
+use Rattle.theory.proofs.Carry.{mapping-of}
+
+-- Two entries pass `sameEntry` exactly when they are equal
+pub sameEntry-true : (d e : Entry) → sameEntry d e ≡ true → d ≡ e
+unfolding sameEntry
+sameEntry-true (constant m) (constant n) e = ap constant (eqb-true m n e)
+sameEntry-true (constant m) (variable w) e = absurd (true≢false (sym e))
+sameEntry-true (variable v) (constant n) e = absurd (true≢false (sym e))
+sameEntry-true (variable v) (variable w) e = ap variable (eqb-true v w e)
+
+pub sameEntry-self : (e : Entry) → sameEntry e e ≡ true
+unfolding sameEntry
+sameEntry-self (constant m) = eq-eqb m m refl
+sameEntry-self (variable v) = eq-eqb v v refl
+
+sameEntry-false : (d e : Entry) → sameEntry d e ≡ false → d ≡ e → ⊥
+sameEntry-false d e other same = let is : sameEntry d e ≡ true = rw same (sameEntry-self e) in true≢false (sym is ∙ other)
+
+nil-cons : {A : Type 0} {x : A} {xs : List A} → [] ≡ x ∷ xs → ⊥
+nil-cons e = let z : _≡_ {A = ℕ} 0 1 = cc in omega arith
+
+-- Rows are equal when their relations and values are
+row-same : (r s : Row Entry) → r .relation ≡ s .relation → r .values ≡ s .values → r ≡ s
+row-same r s p q = λ i. record { relation = p i; values = q i }
+
+-- ---- 1. assignments that fit
+
+-- An assignment fits a partial one: it sends each chosen variable where the partial one does
+abbrev Fits : (ℕ → Entry) → Partial → Type 0
+Fits h bs = (v : ℕ) (e : Entry) → lookup v bs ≡ some e → h v ≡ e
+
+-- A partial assignment's own assignment fits it
+fits-own : (bs : Partial) → Fits (assignment bs) bs
+fits-own bs v e chosen = rw chosen refl
+
+-- Every assignment fits the empty one
+fits-empty : (h : ℕ → Entry) → Fits h []
+unfolding lookup
+fits-empty h v e chosen = absurd (Option·none-ne-some e chosen)
+
+-- What fits after one more choice fitted before, and makes that choice; and the other way round
+fits-cons : (h : ℕ → Entry) (v : ℕ) (e : Entry) (bs : Partial) → Fits h bs → h v ≡ e → Fits h ((v, e) ∷ bs)
+unfolding lookup
+fits-cons h v e bs fits makes w d chosen = go (eqb w v) refl chosen
+  where
+    go : (b : Bool) → eqb w v ≡ b → cond b (some e) (lookup w bs) ≡ some d → h w ≡ d
+    go true same chosen = ap h (eqb-true w v same) ∙ makes ∙ Option·some-injective e d chosen
+    go false other chosen = fits w d chosen
+
+cons-chosen : (h : ℕ → Entry) (v : ℕ) (e : Entry) (bs : Partial) → Fits h ((v, e) ∷ bs) → h v ≡ e
+unfolding lookup
+cons-chosen h v e bs fits = fits v e (rw (eq-eqb v v refl) refl)
+
+cons-fits : (h : ℕ → Entry) (v : ℕ) (e : Entry) (bs : Partial) → lookup v bs ≡ none → Fits h ((v, e) ∷ bs) → Fits h bs
+unfolding lookup
+cons-fits h v e bs free fits w d chosen = fits w d (go (eqb w v) refl)
+  where
+    go : (b : Bool) → eqb w v ≡ b → cond b (some e) (lookup w bs) ≡ some d
+    go true same = absurd (Option·none-ne-some d (sym (rw (eqb-true w v same) free) ∙ chosen))
+    go false other = chosen
+
+-- ---- 2. matches
+
+-- A match that asks P of an assignment: after it fits what fitted before and has P; where it fails, nothing that fits has P
+abbrev Exact : (ℕ → Entry) → Partial → Type 0 → Option Partial → Type 0
+Exact h bs P none = Fits h bs → P → ⊥
+Exact h bs P (some after) = Fits h after ↔ (Fits h bs × P)
+
+-- Two matches one after the other ask both
+exact-both : (h : ℕ → Entry) (bs : Partial) (P Q : Type 0) (first : Option Partial) (next : Partial → Option Partial)
+    → Exact h bs P first → ((after : Partial) → Exact h after Q (next after)) → Exact h bs (P × Q) (andThen first next)
+unfolding andThen
+exact-both h bs P Q none next p q = λ fits both. p fits (both .0)
+exact-both h bs P Q (some after) next p q = go (next after) (q after)
+  where
+    go : (second : Option Partial) → Exact h after Q second → Exact h bs (P × Q) second
+    go none q = λ fits both. q (p .1 (fits, both .0)) (both .1)
+    go (some last) q = (
+      (λ fits. let mid = q .0 fits in let start = p .0 (mid .0) in (start .0, (start .1, mid .1))),
+      λ start. q .1 (p .1 (start .0, start .1 .0), start .1 .1),
+    )
+
+-- The same, where it is known what the match gave
+exact-some : (h : ℕ → Entry) (bs : Partial) (P : Type 0) (o : Option Partial) → Exact h bs P o → (after : Partial) → o ≡ some after
+    → Fits h after ↔ (Fits h bs × P)
+exact-some h bs P o exact after e = rw e at exact
+
+-- What a match asks may be put in other words
+exact-same : (h : ℕ → Entry) (bs : Partial) (P Q : Type 0) (o : Option Partial) → P ↔ Q → Exact h bs P o → Exact h bs Q o
+exact-same h bs P Q none same p = λ fits q. p fits (same .1 q)
+exact-same h bs P Q (some after) same p =
+    ((λ fits. let start = p .0 fits in (start .0, same .0 (start .1))), λ start. p .1 (start .0, same .1 (start .1)))
+
+matchEntry-exact : (h : ℕ → Entry) (d e : Entry) (bs : Partial) → Exact h bs (valueOf constant h d ≡ e) (matchEntry d e bs)
+unfolding matchEntry assignTo
+matchEntry-exact h (constant n) e bs = go (sameEntry (constant n) e) refl
+  where
+    go : (b : Bool) → sameEntry (constant n) e ≡ b → Exact h bs (constant n ≡ e) (cond b (some bs) none)
+    go true same = ((λ fits. (fits, sameEntry-true (constant n) e same)), λ start. start .0)
+    go false other = λ fits same. sameEntry-false (constant n) e other same
+matchEntry-exact h (variable v) e bs = go (lookup v bs) refl
+  where
+    go : (o : Option Entry) → lookup v bs ≡ o → Exact h bs (h v ≡ e) (assignTo v e bs o)
+    go none free = ((λ fits. (cons-fits h v e bs free fits, cons-chosen h v e bs fits)), λ start. fits-cons h v e bs (start .0) (start .1))
+    go (some d) chosen = decide (sameEntry d e) refl
+      where
+        decide : (b : Bool) → sameEntry d e ≡ b → Exact h bs (h v ≡ e) (cond b (some bs) none)
+        decide true same = ((λ fits. (fits, fits v d chosen ∙ sameEntry-true d e same)), λ start. start .0)
+        decide false other = λ fits makes. sameEntry-false d e other (sym (fits v d chosen) ∙ makes)
+
+-- Lists are equal exactly when their first elements and the rests are
+cons-same : {A : Type 0} (x y : A) (xs ys : List A) → ((x ≡ y) × (xs ≡ ys)) ↔ (x ∷ xs ≡ y ∷ ys)
+cons-same x y xs ys = ((λ both. cc (both .0, both .1)), λ e. (cc, cc))
+
+matchEntries-exact : (h : ℕ → Entry) (ds es : List Entry) (bs : Partial) → Exact h bs (map (valueOf constant h) ds ≡ es) (matchEntries ds es bs)
+unfolding matchEntries
+matchEntries-exact h [] [] bs = ((λ fits. (fits, refl)), λ start. start .0)
+matchEntries-exact h [] (e ∷ es) bs = λ fits same. nil-cons same
+matchEntries-exact h (d ∷ ds) [] bs = λ fits same. nil-cons (sym same)
+matchEntries-exact h (d ∷ ds) (e ∷ es) bs =
+    exact-same h bs _ _ (andThen (matchEntry d e bs) (matchEntries ds es)) (cons-same (valueOf constant h d) e (map (valueOf constant h) ds) es)
+    (exact-both h bs (valueOf constant h d ≡ e) (map (valueOf constant h) ds ≡ es) (matchEntry d e bs) (matchEntries ds es)
+    (matchEntry-exact h d e bs) (λ after. matchEntries-exact h ds es after))
+
+matchRow-exact : (h : ℕ → Entry) (r s : Row Entry) (bs : Partial) → Exact h bs (mapRow (valueOf constant h) r ≡ s) (matchRow r s bs)
+unfolding matchRow
+matchRow-exact h r s bs = go (eqb (r .relation) (s .relation)) refl
+  where
+    go : (b : Bool) → eqb (r .relation) (s .relation) ≡ b → Exact h bs (mapRow (valueOf constant h) r ≡ s) (cond b (matchEntries (r .values) (s .values) bs) none)
+    go true same =
+        exact-same h bs _ _ (matchEntries (r .values) (s .values) bs) (
+          (λ (e : map (valueOf constant h) (r .values) ≡ s .values). row-same (mapRow (valueOf constant h) r) s (eqb-true (r .relation) (s .relation) same) e),
+          λ (e : mapRow (valueOf constant h) r ≡ s). ap (λ (q : Row Entry). q .values) e,
+        )
+        (matchEntries-exact h (r .values) (s .values) bs)
+    go false other = λ fits e. eqb-false (r .relation) (s .relation) other (ap (λ (q : Row Entry). q .relation) e)
+
+-- ---- 3. rows
+
+-- Each of the rows goes to one of the candidates
+abbrev Placed : (ℕ → Entry) → List (Row Entry) → List (Row Entry) → Type 0
+Placed h rs candidates = (r : Row Entry) → r ∈ rs → mapRow (valueOf constant h) r ∈ candidates
+
+-- What `orElse` and `andThen` give comes from one of their parts, and they fail only if those do
+orElse-some : {A : Type 0} (o later : Option A) (x : A) → orElse o later ≡ some x → (o ≡ some x) ⊎ (later ≡ some x)
+unfolding orElse
+orElse-some none later x e = inr e
+orElse-some (some y) later x e = inl e
+
+orElse-none : {A : Type 0} (o later : Option A) → orElse o later ≡ none → (o ≡ none) × (later ≡ none)
+unfolding orElse
+orElse-none none later e = (refl, e)
+orElse-none (some y) later e = absurd (Option·some-ne-none y e)
+
+andThen-some : {A B : Type 0} (o : Option A) (f : A → Option B) (y : B) → andThen o f ≡ some y → (x : A) × (o ≡ some x) × (f x ≡ some y)
+unfolding andThen
+andThen-some none f y e = absurd (Option·none-ne-some y e)
+andThen-some (some x) f y e = (x, refl, e)
+
+-- The rest of a search that follows an exact match: sound, and failing only where nothing fits
+module _ (h : ℕ → Entry) (bs : Partial) (P : Type 0) (first : Option Partial) (exact : Exact h bs P first) (Q : Type 0) (next : Partial → Option Partial) where
+  then-sound : ((mid after : Partial) → next mid ≡ some after → Fits h after → Fits h mid × Q)
+      → (after : Partial) → andThen first next ≡ some after → Fits h after → Fits h bs × P × Q
+  then-sound sound after e fits =
+      let t = andThen-some first next after e in
+      let mid = sound (t .0) after (t .2) fits in
+      let start = exact-some h bs P first exact (t .0) (t .1) .0 (mid .0) in
+      (start .0, start .1, mid .1)
+
+  then-complete : ((mid : Partial) → next mid ≡ none → Fits h mid → Q → ⊥) → andThen first next ≡ none → Fits h bs → P → Q → ⊥
+  unfolding andThen
+  then-complete complete e fits p q = go first exact e
+    where
+      go : (o : Option Partial) → Exact h bs P o → andThen o next ≡ none → ⊥
+      go none exact e = exact fits p
+      go (some mid) exact e = complete mid e (exact .1 (fits, p)) q
+
+-- Where the row goes to a candidate and what comes next is sound, the trial is
+tryRows-sound : (h : ℕ → Entry) (Q : Type 0) (next : Partial → Option Partial)
+    → ((mid after : Partial) → next mid ≡ some after → Fits h after → Fits h mid × Q)
+    → (r : Row Entry) (candidates : List (Row Entry)) (bs after : Partial) → tryRows next r candidates bs ≡ some after → Fits h after
+    → Fits h bs × (mapRow (valueOf constant h) r ∈ candidates) × Q
+unfolding tryRows
+tryRows-sound h Q next sound r [] bs after e fits = absurd (Option·none-ne-some after e)
+tryRows-sound h Q next sound r (s ∷ ss) bs after e fits =
+    go (orElse-some (andThen (matchRow r s bs) next) (tryRows next r ss bs) after e) (λ later. tryRows-sound h Q next sound r ss bs after later fits)
+  where
+    go : (andThen (matchRow r s bs) next ≡ some after) ⊎ (tryRows next r ss bs ≡ some after)
+        → (tryRows next r ss bs ≡ some after → Fits h bs × (mapRow (valueOf constant h) r ∈ ss) × Q) → Fits h bs × (mapRow (valueOf constant h) r ∈ (s ∷ ss)) × Q
+    go (inl here) rest =
+        let t = then-sound h bs (mapRow (valueOf constant h) r ≡ s) (matchRow r s bs) (matchRow-exact h r s bs) Q next sound after here fits in
+        (t .0, List·Memᴰ·head (t .1), t .2)
+    go (inr later) rest = let t = rest later in (t .0, List·Memᴰ·tail (t .1), t .2)
+
+-- Where every trial fails, no assignment that fits sends the row to a candidate and meets what comes next
+tryRows-complete : (h : ℕ → Entry) (Q : Type 0) (next : Partial → Option Partial) → ((mid : Partial) → next mid ≡ none → Fits h mid → Q → ⊥)
+    → (r : Row Entry) (candidates : List (Row Entry)) (bs : Partial) → tryRows next r candidates bs ≡ none → Fits h bs
+    → mapRow (valueOf constant h) r ∈ candidates → Q → ⊥
+unfolding tryRows
+tryRows-complete h Q next complete r (s ∷ ss) bs e fits (List·Memᴰ·head same) q =
+    then-complete h bs (mapRow (valueOf constant h) r ≡ s) (matchRow r s bs) (matchRow-exact h r s bs) Q next complete
+    (orElse-none (andThen (matchRow r s bs) next) (tryRows next r ss bs) e .0) fits same q
+tryRows-complete h Q next complete r (s ∷ ss) bs e fits (List·Memᴰ·tail at) q =
+    tryRows-complete h Q next complete r ss bs (orElse-none (andThen (matchRow r s bs) next) (tryRows next r ss bs) e .1) fits at q
+
+placeRows-sound : (h : ℕ → Entry) (rs candidates : List (Row Entry)) (bs after : Partial) → placeRows rs candidates bs ≡ some after → Fits h after
+    → Fits h bs × Placed h rs candidates
+unfolding placeRows
+placeRows-sound h [] candidates bs after e fits = (rw (Option·some-injective bs after e) fits, λ r at. absurd (List·Memᴰ·not-nil at))
+placeRows-sound h (r ∷ rs) candidates bs after e fits =
+    let t = tryRows-sound h (Placed h rs candidates) (placeRows rs candidates) (placeRows-sound h rs candidates) r candidates bs after e fits in
+    (t .0, placed (t .1) (t .2))
+  where
+    placed : mapRow (valueOf constant h) r ∈ candidates → Placed h rs candidates → Placed h (r ∷ rs) candidates
+    placed here rest q (List·Memᴰ·head same) = Memᴰ·cast (ap (mapRow (valueOf constant h)) same) here
+    placed here rest q (List·Memᴰ·tail at) = rest q at
+
+placeRows-complete : (h : ℕ → Entry) (rs candidates : List (Row Entry)) (bs : Partial) → placeRows rs candidates bs ≡ none → Fits h bs → Placed h rs candidates → ⊥
+unfolding placeRows
+placeRows-complete h [] candidates bs e fits placed = Option·some-ne-none bs e
+placeRows-complete h (r ∷ rs) candidates bs e fits placed =
+    tryRows-complete h (Placed h rs candidates) (placeRows rs candidates) (placeRows-complete h rs candidates) r candidates bs e fits
+    (placed r (List·Memᴰ·head refl)) (λ q at. placed q (List·Memᴰ·tail at))
+
+-- ---- 4. mappings
+
+module _ (head : List Entry) (r : Row Entry) (rs : List (Row Entry)) (T : Query) where
+  -- What is found carries the query into T
+  placeQuery-sound : (after : Partial) → placeQuery head (r ∷ rs) T ≡ some after
+      → Carries constant (assignment after) (record { head = head; rows = r ∷ rs }) (T .rows) (T .head)
+  unfolding placeQuery
+  placeQuery-sound after e =
+      let t =
+      then-sound (assignment after) [] (map (valueOf constant (assignment after)) head ≡ T .head) (matchEntries head (T .head) [])
+      (matchEntries-exact (assignment after) head (T .head) []) (Placed (assignment after) (r ∷ rs) (T .rows)) (placeRows (r ∷ rs) (T .rows))
+      (placeRows-sound (assignment after) (r ∷ rs) (T .rows)) after e (fits-own after) in
+      record { not-never = λ e. nil-cons (sym e); to-head = t .1; to-rows = t .2 }
+
+  -- Where nothing is found, nothing carries it there
+  placeQuery-complete : placeQuery head (r ∷ rs) T ≡ none → (h : ℕ → Entry) → Carries constant h (record { head = head; rows = r ∷ rs }) (T .rows) (T .head) → ⊥
+  unfolding placeQuery
+  placeQuery-complete e h c =
+      then-complete h [] (map (valueOf constant h) head ≡ T .head) (matchEntries head (T .head) []) (matchEntries-exact h head (T .head) [])
+      (Placed h (r ∷ rs) (T .rows)) (placeRows (r ∷ rs) (T .rows)) (placeRows-complete h (r ∷ rs) (T .rows)) e (fits-empty h) (c .to-head) (c .to-rows)
+
+  -- What is found is a mapping, and where there is a mapping something is found
+  placed-mapping : found (placeQuery head (r ∷ rs) T) ≡ true → Mapping (record { head = head; rows = r ∷ rs }) T
+  placed-mapping e = go (placeQuery head (r ∷ rs) T) refl e
+    where
+      go : (o : Option Partial) → placeQuery head (r ∷ rs) T ≡ o → found o ≡ true → Mapping (record { head = head; rows = r ∷ rs }) T
+      go none is e = absurd (true≢false (sym e))
+      go (some after) is e = mapping-of (record { head = head; rows = r ∷ rs }) T (assignment after) (placeQuery-sound after is)
+
+  mapping-placed : Mapping (record { head = head; rows = r ∷ rs }) T → found (placeQuery head (r ∷ rs) T) ≡ true
+  mapping-placed m = go (placeQuery head (r ∷ rs) T) refl
+    where
+      go : (o : Option Partial) → placeQuery head (r ∷ rs) T ≡ o → found o ≡ true
+      go none is = absurd (placeQuery-complete is (m .0) (m .1 .carries))
+      go (some after) is = refl
+
+-- `mappable` passes exactly where there is a mapping
+placed-exact : (head : List Entry) (rows : List (Row Entry)) (T : Query)
+    → (found (placeQuery head rows T) ≡ true) ↔ Mapping (record { head = head; rows = rows }) T
+unfolding placeQuery
+placed-exact head [] T = ((λ e. absurd (true≢false (sym e))), λ m. absurd (m .1 .carries .not-never refl))
+placed-exact head (r ∷ rs) T = (placed-mapping head r rs T, mapping-placed head r rs T)
+
+pub mappable-exact : (S T : Query) → (mappable S T ≡ true) ↔ Mapping S T
+unfolding mappable
+mappable-exact S T = placed-exact (S .head) (S .rows) T
+
+-- Where it fails there is none
+pub mappable-false : (S T : Query) → mappable S T ≡ false → Mapping S T → ⊥
+mappable-false S T e m = true≢false (sym (mappable-exact S T .1 m) ∙ e)
+
+-- Whether there is a mapping is decidable
+pub mapping-dec : (S T : Query) → Dec (Mapping S T)
+mapping-dec S T = go (mappable S T) refl
+  where
+    go : (b : Bool) → mappable S T ≡ b → Dec (Mapping S T)
+    go true e = yes (mappable-exact S T .0 e)
+    go false e = no (mappable-false S T e)
+
+-- `contained` passes exactly where p chases to never or q maps to the chased p
+pub contained-mapping : (ds : List Dependency) (p q : Query) → (contained ds p q ≡ true) ↔ ((chase ds p .query .rows ≡ []) ⊎ Mapping q (chase ds p .query))
+unfolding contained containedOn
+contained-mapping ds p q = go (chase ds p .query .rows)
+  where
+    go : (rows : List (Row Entry)) → (containedOn rows (chase ds p .query) q ≡ true) ↔ ((rows ≡ []) ⊎ Mapping q (chase ds p .query))
+    go [] = ((λ e. inl refl), λ either. refl)
+    go (r ∷ rs) = ((λ e. inr (mappable-exact q (chase ds p .query) .0 e)), either)
+      where
+        either : ((r ∷ rs ≡ []) ⊎ Mapping q (chase ds p .query)) → mappable q (chase ds p .query) ≡ true
+        either (inl e) = absurd (nil-cons (sym e))
+        either (inr m) = mappable-exact q (chase ds p .query) .1 m
