@@ -1,5 +1,5 @@
 -- Determined columns: the closure of a set of columns is exact (Armstrong 1974; the two-row database is the standard one).
--- Plan. 1. Tests on lists of numbers, and what a search for the first that passes finds. 2. Sound: rows that agree on the known columns agree on each added one.
+-- Plan. 1. The test of inclusion. 2. Sound: rows that agree on the known columns agree on each added one.
 -- 3. The additions end: each one lowers the number of dependencies whose right column is not known, so the closure is closed.
 -- 4. Complete: a row of zeros and a row with zero at the closure's columns and one elsewhere obey the dependencies. 5. `determined` lists the set, ascending.
 -- No law asks that a left set is nonempty. Assumes nothing.
@@ -7,95 +7,36 @@ use mathlib.Core.Path.{_≡_, refl, sym, _∙_, ap}
 use mathlib.Core.Logic.{_↔_, _⊎_, inl, inr}
 use mathlib.Core.Bool.{Bool, true, false, cond, not, _&&_, true≢false}
 use mathlib.Core.List.{List, [], _∷_, List·Memᴰ·head, List·Memᴰ·tail, Memᴰ·cast}
-use mathlib.Core.Option.{Option, none, some, Option·none-ne-some, Option·some-ne-none}
+use mathlib.Core.Option.{Option, none, some}
 use Prim.Native.Nat.{ℕ, zero, suc, _+_, _≤_, _<_}
 use native.Mathlib.Omega.{arith}
 use lib.Dec.{eqb}
 use lib.ListN.{length, getD, replicate, length-replicate, getD-replicate, List·getD-eq-default}
 use native.Mathlib.Decide.{decLt, ℕ-discrete}
 use borrow.Author.Tests.{eqb-true, eq-eqb, not-true}
-use Rattle.theory.specs.Query.{Row, column, member, FitsSchema, _∈_}
+use Rattle.theory.specs.Query.{Row, column, member, _∈_}
 use Rattle.theory.specs.Database.{Database, Dependency, Agree, Obeys, Sound}
 use Rattle.theory.specs.Chase.{firstPassing}
 use Rattle.theory.specs.Determined.{Determines, FitsColumns, subset, adds, growOn, growFor, closure, columnsIn, determined}
+use Rattle.theory.proofs.Lists.{and-left, and-right, member-mem, mem-member, member-not-mem}
+use Rattle.theory.proofs.Step.{firstPassing-found, firstPassing-nothing}
 
 -- ---- 1. tests
 
--- True is not false
-true-false : {b : Bool} → b ≡ true → b ≡ false → ⊥
-true-false t f = true≢false (sym t ∙ f)
-
--- Both parts of a passed conjunction pass
-pub and-left : (a b : Bool) → (a && b) ≡ true → a ≡ true
-and-left true b e = refl
-and-left false b e = e
-
-pub and-right : (a b : Bool) → (a && b) ≡ true → b ≡ true
-and-right true b e = e
-and-right false b e = absurd (true-false e refl)
-
-pub and-both : (a b : Bool) → a ≡ true → b ≡ true → (a && b) ≡ true
+and-both : (a b : Bool) → a ≡ true → b ≡ true → (a && b) ≡ true
 and-both a b p q = rw (p, q) refl
-
--- A number that passes `member` stands in the list, and one that stands in it passes
-pub member-true : (n : ℕ) (ns : List ℕ) → member n ns ≡ true → n ∈ ns
-unfolding member
-member-true n [] e = absurd (true-false e refl)
-member-true n (m ∷ ms) e = go (eqb n m) refl (member-true n ms) e
-  where
-    go : (b : Bool) → eqb n m ≡ b → (member n ms ≡ true → n ∈ ms) → cond b true (member n ms) ≡ true → n ∈ (m ∷ ms)
-    go true same rest passed = List·Memᴰ·head (eqb-true n m same)
-    go false other rest passed = List·Memᴰ·tail (rest passed)
-
-pub member-of : (n : ℕ) (ns : List ℕ) → n ∈ ns → member n ns ≡ true
-unfolding member
-member-of n (m ∷ ms) (List·Memᴰ·head e) = rw (eq-eqb n m e) refl
-member-of n (m ∷ ms) (List·Memᴰ·tail at) = go (eqb n m) (member-of n ms at)
-  where
-    go : (b : Bool) → member n ms ≡ true → cond b true (member n ms) ≡ true
-    go true rest = refl
-    go false rest = rest
 
 -- A list that passes `subset` is a part of the other, and a part of it passes
 pub subset-true : (ms ns : List ℕ) → subset ms ns ≡ true → (n : ℕ) → n ∈ ms → n ∈ ns
 unfolding subset
-subset-true (m ∷ ms) ns e n (List·Memᴰ·head same) = Memᴰ·cast same (member-true m ns (and-left (member m ns) (subset ms ns) e))
+subset-true (m ∷ ms) ns e n (List·Memᴰ·head same) = Memᴰ·cast same (member-mem m ns (and-left (member m ns) (subset ms ns) e))
 subset-true (m ∷ ms) ns e n (List·Memᴰ·tail at) = subset-true ms ns (and-right (member m ns) (subset ms ns) e) n at
 
 pub subset-of : (ms ns : List ℕ) → ((n : ℕ) → n ∈ ms → n ∈ ns) → subset ms ns ≡ true
 unfolding subset
 subset-of [] ns part = refl
 subset-of (m ∷ ms) ns part =
-    and-both (member m ns) (subset ms ns) (member-of m ns (part m (List·Memᴰ·head refl))) (subset-of ms ns (λ n at. part n (List·Memᴰ·tail at)))
-
--- What `firstPassing` finds stands in the list and passes; where it finds nothing, nothing passes
-pub firstPassing-in : {A : Type 0} (test : A → Bool) (xs : List A) (x : A) → firstPassing test xs ≡ some x → x ∈ xs
-unfolding firstPassing
-firstPassing-in test [] x e = absurd (Option·none-ne-some x e)
-firstPassing-in {A} test (y ∷ ys) x e = go (test y) (firstPassing-in test ys x) e
-  where
-    go : (b : Bool) → (firstPassing test ys ≡ some x → x ∈ ys) → cond b (some y) (firstPassing test ys) ≡ some x → x ∈ (y ∷ ys)
-    go true rest found = List·Memᴰ·head (let same : x ≡ y = cc in same)
-    go false rest found = List·Memᴰ·tail (rest found)
-
-pub firstPassing-passes : {A : Type 0} (test : A → Bool) (xs : List A) (x : A) → firstPassing test xs ≡ some x → test x ≡ true
-unfolding firstPassing
-firstPassing-passes test [] x e = absurd (Option·none-ne-some x e)
-firstPassing-passes {A} test (y ∷ ys) x e = go (test y) refl (firstPassing-passes test ys x) e
-  where
-    go : (b : Bool) → test y ≡ b → (firstPassing test ys ≡ some x → test x ≡ true) → cond b (some y) (firstPassing test ys) ≡ some x → test x ≡ true
-    go true passed rest found = let same : x ≡ y = cc in cc
-    go false failed rest found = rest found
-
-pub firstPassing-none : {A : Type 0} (test : A → Bool) (xs : List A) → firstPassing test xs ≡ none → (x : A) → x ∈ xs → test x ≡ false
-unfolding firstPassing
-firstPassing-none {A} test (y ∷ ys) e x at = go (test y) refl (firstPassing-none test ys) e at
-  where
-    go : (b : Bool) → test y ≡ b → (firstPassing test ys ≡ none → (x : A) → x ∈ ys → test x ≡ false)
-        → cond b (some y) (firstPassing test ys) ≡ none → x ∈ (y ∷ ys) → test x ≡ false
-    go true passed rest found at = absurd (Option·some-ne-none y found)
-    go false failed rest found (List·Memᴰ·head same) = cc
-    go false failed rest found (List·Memᴰ·tail at) = rest found x at
+    and-both (member m ns) (subset ms ns) (mem-member m ns (part m (List·Memᴰ·head refl))) (subset-of ms ns (λ n at. part n (List·Memᴰ·tail at)))
 
 -- ---- 2. sound
 
@@ -125,7 +66,7 @@ adds-not relation known d e of inside =
   where
     go : (a b c : Bool) → (a && b && not c) ≡ false → a ≡ true → b ≡ true → c ≡ true
     go a b true e p q = refl
-    go a b false e p q = absurd (true-false (and-both (a && b) true (and-both a b p q) refl) e)
+    go a b false e p q = absurd (true≢false (sym (and-both (a && b) true (and-both a b p q) refl) ∙ e))
 
 -- In a database that obeys the dependencies, two rows of the relation that agree on the known columns agree on all that are added
 module _ (ds : List Dependency) (relation : ℕ) (D : Database) (obeys : Obeys ds D) (r s : Row ℕ) (r-in : r ∈ D) (s-in : s ∈ D)
@@ -147,7 +88,7 @@ module _ (ds : List Dependency) (relation : ℕ) (D : Database) (obeys : Obeys d
       go none e rest = agree
       go (some d) e rest =
           rest (d .right ∷ known)
-          (agree-added known d (firstPassing-in (adds relation known) ds d e) (firstPassing-passes (adds relation known) ds d e) agree)
+          (agree-added known d (firstPassing-found (adds relation known) d ds e .0) (firstPassing-found (adds relation known) d ds e .1) agree)
 
 -- Each column of the closure is determined: no hypothesis on the dependencies
 pub closure-sound : (widths : List ℕ) (ds : List Dependency) (relation : ℕ) (left : List ℕ) (c : ℕ) → c ∈ closure ds relation left
@@ -172,9 +113,6 @@ missing-le (d ∷ ds) known = go (member (d .right) known) (missing-le ds known)
     go true rest = omega arith
     go false rest = omega arith
 
-member-more : (n c : ℕ) (known : List ℕ) → member n known ≡ true → member n (c ∷ known) ≡ true
-member-more n c known e = member-of n (c ∷ known) (List·Memᴰ·tail (member-true n known e))
-
 missing-more : (ds : List Dependency) (known : List ℕ) (c : ℕ) → missing ds (c ∷ known) ≤ missing ds known
 unfolding missing
 missing-more [] known c = omega arith
@@ -183,7 +121,7 @@ missing-more (d ∷ ds) known c = go (member (d .right) known) refl (member (d .
     go : (old : Bool) → member (d .right) known ≡ old → (new : Bool) → member (d .right) (c ∷ known) ≡ new → missing ds (c ∷ known) ≤ missing ds known
         → cond new (missing ds (c ∷ known)) (suc (missing ds (c ∷ known))) ≤ cond old (missing ds known) (suc (missing ds known))
     go true was true is rest = rest
-    go true was false is rest = absurd (true-false (member-more (d .right) c known was) is)
+    go true was false is rest = absurd (member-not-mem (d .right) (c ∷ known) is (List·Memᴰ·tail (member-mem (d .right) known was)))
     go false was true is rest = omega arith
     go false was false is rest = omega arith
 
@@ -195,7 +133,7 @@ missing-less (b ∷ ds) known d (List·Memᴰ·head same) new =
     go (member (b .right) known) (rw (← same) new) (member (b .right) (d .right ∷ known)) is (missing-more ds known (d .right))
   where
     is : member (b .right) (d .right ∷ known) ≡ true
-    is = member-of (b .right) (d .right ∷ known) (List·Memᴰ·head (ap (λ (x : Dependency). x .right) (sym same)))
+    is = mem-member (b .right) (d .right ∷ known) (List·Memᴰ·head (ap (λ (x : Dependency). x .right) (sym same)))
 
     go : (old : Bool) → old ≡ false → (now : Bool) → now ≡ true → missing ds (d .right ∷ known) ≤ missing ds known
         → cond now (missing ds (d .right ∷ known)) (suc (missing ds (d .right ∷ known))) < cond old (missing ds known) (suc (missing ds known))
@@ -207,7 +145,7 @@ missing-less (b ∷ ds) known d (List·Memᴰ·tail at) new =
         → missing ds (d .right ∷ known) < missing ds known
         → cond now (missing ds (d .right ∷ known)) (suc (missing ds (d .right ∷ known))) < cond old (missing ds known) (suc (missing ds known))
     go true was true now rest = rest
-    go true was false now rest = absurd (true-false (member-more (b .right) (d .right) known was) now)
+    go true was false now rest = absurd (member-not-mem (b .right) (d .right ∷ known) now (List·Memᴰ·tail (member-mem (b .right) known was)))
     go false was true now rest = omega arith
     go false was false now rest = omega arith
 
@@ -223,7 +161,7 @@ grown-closed zero ds relation known few = go (firstPassing (adds relation known)
     go : (found : Option Dependency) → firstPassing (adds relation known) ds ≡ found → firstPassing (adds relation known) ds ≡ none
     go none e = e
     go (some d) e =
-        let lower = missing-less ds known d (firstPassing-in (adds relation known) ds d e) (adds-new relation known d (firstPassing-passes (adds relation known) ds d e)) in
+        let lower = missing-less ds known d (firstPassing-found (adds relation known) d ds e .0) (adds-new relation known d (firstPassing-found (adds relation known) d ds e .1)) in
         absurd (omega arith)
 grown-closed (suc n) ds relation known few = go (firstPassing (adds relation known) ds) refl (grown-closed n ds relation)
   where
@@ -232,7 +170,7 @@ grown-closed (suc n) ds relation known few = go (firstPassing (adds relation kno
         → Closed ds relation (growOn (growFor n ds relation) known found)
     go none e rest = e
     go (some d) e rest =
-        let lower = missing-less ds known d (firstPassing-in (adds relation known) ds d e) (adds-new relation known d (firstPassing-passes (adds relation known) ds d e)) in
+        let lower = missing-less ds known d (firstPassing-found (adds relation known) d ds e .0) (adds-new relation known d (firstPassing-found (adds relation known) d ds e .1)) in
         rest (d .right ∷ known) (omega arith)
 
 -- The closure is closed, since each dependency adds at most once
@@ -245,8 +183,8 @@ pub closure-closed : (ds : List Dependency) (relation : ℕ) (left : List ℕ) (
     → ((c : ℕ) → c ∈ d .left → c ∈ closure ds relation left) → d .right ∈ closure ds relation left
 closure-closed ds relation left d at of inside =
     let known = closure ds relation left in
-    member-true (d .right) known
-    (adds-not relation known d (firstPassing-none (adds relation known) ds (closure-ends ds relation left) d at) of (subset-of (d .left) known inside))
+    member-mem (d .right) known
+    (adds-not relation known d (firstPassing-nothing (adds relation known) ds (closure-ends ds relation left) d at) of (subset-of (d .left) known inside))
 
 -- and it has the columns it starts from
 grown-more : (n : ℕ) (ds : List Dependency) (relation : ℕ) (known : List ℕ) (c : ℕ) → c ∈ known → c ∈ growFor n ds relation known
@@ -298,12 +236,12 @@ marks-at relation width known c less =
 marks-known : (relation width : ℕ) (known : List ℕ) (c : ℕ) → c < width → c ∈ known → column 0 (zeros relation width) c ≡ column 0 (marks relation width known) c
 unfolding zeros
 marks-known relation width known c less at =
-    getD-replicate width c 0 0 less ∙ sym (marks-at relation width known c less ∙ rw (member-of c known at) refl)
+    getD-replicate width c 0 0 less ∙ sym (marks-at relation width known c less ∙ rw (mem-member c known at) refl)
 
 known-marks : (relation width : ℕ) (known : List ℕ) (c : ℕ) → c < width → column 0 (zeros relation width) c ≡ column 0 (marks relation width known) c → c ∈ known
 unfolding zeros
 known-marks relation width known c less e =
-    member-true c known (go (member c known) (sym (getD-replicate width c 0 0 less) ∙ e ∙ marks-at relation width known c less))
+    member-mem c known (go (member c known) (sym (getD-replicate width c 0 0 less) ∙ e ∙ marks-at relation width known c less))
   where
     go : (b : Bool) → _≡_ {A = ℕ} 0 (cond b 0 1) → b ≡ true
     go true e = refl
@@ -412,7 +350,7 @@ columnsIn-from known start (suc n) c at = go (member start known) refl (columnsI
   where
     go : (b : Bool) → member start known ≡ b → (c ∈ columnsIn known (suc start) n → (suc start ≤ c) × (c < suc start + n) × (c ∈ known))
         → c ∈ cond b (start ∷ columnsIn known (suc start) n) (columnsIn known (suc start) n) → (start ≤ c) × (c < start + suc n) × (c ∈ known)
-    go true e rest (List·Memᴰ·head same) = (omega arith, omega arith, Memᴰ·cast same (member-true start known e))
+    go true e rest (List·Memᴰ·head same) = (omega arith, omega arith, Memᴰ·cast same (member-mem start known e))
     go true e rest (List·Memᴰ·tail at) = let r = rest at in (omega arith, omega arith, r .2)
     go false e rest at = let r = rest at in (omega arith, omega arith, r .2)
 
@@ -425,7 +363,7 @@ columnsIn-of known start (suc n) c low high at = go (member start known) refl (�
         → c ∈ cond b (start ∷ columnsIn known (suc start) n) (columnsIn known (suc start) n)
     go true e (yes same) rest = List·Memᴰ·head same
     go true e (no other) rest = List·Memᴰ·tail (rest (omega arith) (omega arith) at)
-    go false e (yes same) rest = absurd (true-false (member-of start known (Memᴰ·cast (sym same) at)) e)
+    go false e (yes same) rest = absurd (member-not-mem start known e (Memᴰ·cast (sym same) at))
     go false e (no other) rest = rest (omega arith) (omega arith) at
 
 columnsIn-ascending : (known : List ℕ) (start n : ℕ) → Ascending (columnsIn known start n)

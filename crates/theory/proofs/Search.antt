@@ -1,42 +1,27 @@
 -- The search for a mapping is exact: it succeeds where, and only where, there is one (Chandra and Merlin 1977: guess a mapping, check it).
 -- Plan. 1. An assignment fits a partial one if it sends each chosen variable where the partial one does. 2. A match extends the partial assignment by just what it asks:
 -- what fits after it is what fitted before and meets the match; where it fails, nothing that fits meets it. 3. Over the rows: a result is sound, and a failure excludes each placing.
--- 4. So `mappable` decides mappings.
+-- 4. So `mappable` decides mappings, and `contained` decides containment.
 -- Assumes nothing.
 use mathlib.Core.Path.{_≡_, refl, sym, _∙_, ap}
 use mathlib.Core.Logic.{_↔_, _⊎_, inl, inr}
 use mathlib.Core.Bool.{Bool, true, false, cond, true≢false}
-use mathlib.Core.List.{List, [], _∷_, map, List·Memᴰ·head, List·Memᴰ·tail, Memᴰ·cast, List·Memᴰ·not-nil}
-use mathlib.Core.Option.{Option, none, some, Option·getD, Option·none-ne-some, Option·some-ne-none, Option·some-injective}
-use Prim.Native.Nat.{ℕ}
+use mathlib.Core.List.{List, [], _∷_, map, List·Memᴰ·head, List·Memᴰ·tail, Memᴰ·cast, List·Memᴰ·not-nil, cons≢nil}
+use mathlib.Core.Option.{Option, none, some, Option·none-ne-some, Option·some-ne-none, Option·some-injective}
+use Prim.Native.Nat.{ℕ, _+_, _≤_}
 use native.Mathlib.Omega.{arith}
 use lib.Dec.{eqb}
 use borrow.Author.Tests.{eqb-true, eqb-false, eq-eqb}
-use Rattle.theory.specs.Query.{Entry, constant, variable, Row, Query, mapRow, sameEntry, _∈_}
-use Rattle.theory.specs.Answer.{valueOf, Carries, IsMapping, Mapping}
+use Rattle.theory.specs.Query.{Entry, constant, variable, Row, Query, mapRow, sameEntry, FitsSchema, _∈_}
+use Rattle.theory.specs.Answer.{valueOf, Carries, Mapping}
 use Rattle.theory.specs.Database.{Dependency}
 use Rattle.theory.specs.Chase.{orElse, chase}
+use Rattle.theory.specs.Containment.{Contained, ConstantsBelow}
 use Rattle.theory.specs.Search.{Partial, lookup, andThen, assignTo, matchEntry, matchEntries, matchRow, tryRows, placeRows, placeQuery, assignment, found, mappable, containedOn, contained}
+use Rattle.theory.proofs.Entries.{sameEntry-eq, sameEntry-ne}
 use Rattle.theory.proofs.Carry.{mapping-of}
-
--- Two entries pass `sameEntry` exactly when they are equal
-pub sameEntry-true : (d e : Entry) → sameEntry d e ≡ true → d ≡ e
-unfolding sameEntry
-sameEntry-true (constant m) (constant n) e = ap constant (eqb-true m n e)
-sameEntry-true (constant m) (variable w) e = absurd (true≢false (sym e))
-sameEntry-true (variable v) (constant n) e = absurd (true≢false (sym e))
-sameEntry-true (variable v) (variable w) e = ap variable (eqb-true v w e)
-
-pub sameEntry-self : (e : Entry) → sameEntry e e ≡ true
-unfolding sameEntry
-sameEntry-self (constant m) = eq-eqb m m refl
-sameEntry-self (variable v) = eq-eqb v v refl
-
-sameEntry-false : (d e : Entry) → sameEntry d e ≡ false → d ≡ e → ⊥
-sameEntry-false d e other same = let is : sameEntry d e ≡ true = rw same (sameEntry-self e) in true≢false (sym is ∙ other)
-
-nil-cons : {A : Type 0} {x : A} {xs : List A} → [] ≡ x ∷ xs → ⊥
-nil-cons e = let z : _≡_ {A = ℕ} 0 1 = cc in omega arith
+use Rattle.theory.proofs.Containment.{contained-iff}
+use Rattle.theory.proofs.Reduction.{some-base}
 
 -- Rows are equal when their relations and values are
 row-same : (r s : Row Entry) → r .relation ≡ s .relation → r .values ≡ s .values → r ≡ s
@@ -115,8 +100,8 @@ unfolding matchEntry assignTo
 matchEntry-exact h (constant n) e bs = go (sameEntry (constant n) e) refl
   where
     go : (b : Bool) → sameEntry (constant n) e ≡ b → Exact h bs (constant n ≡ e) (cond b (some bs) none)
-    go true same = ((λ fits. (fits, sameEntry-true (constant n) e same)), λ start. start .0)
-    go false other = λ fits same. sameEntry-false (constant n) e other same
+    go true same = ((λ fits. (fits, sameEntry-eq (constant n) e same)), λ start. start .0)
+    go false other = λ fits same. sameEntry-ne (constant n) e other same
 matchEntry-exact h (variable v) e bs = go (lookup v bs) refl
   where
     go : (o : Option Entry) → lookup v bs ≡ o → Exact h bs (h v ≡ e) (assignTo v e bs o)
@@ -124,8 +109,8 @@ matchEntry-exact h (variable v) e bs = go (lookup v bs) refl
     go (some d) chosen = decide (sameEntry d e) refl
       where
         decide : (b : Bool) → sameEntry d e ≡ b → Exact h bs (h v ≡ e) (cond b (some bs) none)
-        decide true same = ((λ fits. (fits, fits v d chosen ∙ sameEntry-true d e same)), λ start. start .0)
-        decide false other = λ fits makes. sameEntry-false d e other (sym (fits v d chosen) ∙ makes)
+        decide true same = ((λ fits. (fits, fits v d chosen ∙ sameEntry-eq d e same)), λ start. start .0)
+        decide false other = λ fits makes. sameEntry-ne d e other (sym (fits v d chosen) ∙ makes)
 
 -- Lists are equal exactly when their first elements and the rests are
 cons-same : {A : Type 0} (x y : A) (xs ys : List A) → ((x ≡ y) × (xs ≡ ys)) ↔ (x ∷ xs ≡ y ∷ ys)
@@ -134,8 +119,8 @@ cons-same x y xs ys = ((λ both. cc (both .0, both .1)), λ e. (cc, cc))
 matchEntries-exact : (h : ℕ → Entry) (ds es : List Entry) (bs : Partial) → Exact h bs (map (valueOf constant h) ds ≡ es) (matchEntries ds es bs)
 unfolding matchEntries
 matchEntries-exact h [] [] bs = ((λ fits. (fits, refl)), λ start. start .0)
-matchEntries-exact h [] (e ∷ es) bs = λ fits same. nil-cons same
-matchEntries-exact h (d ∷ ds) [] bs = λ fits same. nil-cons (sym same)
+matchEntries-exact h [] (e ∷ es) bs = λ fits same. cons≢nil (sym same)
+matchEntries-exact h (d ∷ ds) [] bs = λ fits same. cons≢nil same
 matchEntries-exact h (d ∷ ds) (e ∷ es) bs =
     exact-same h bs _ _ (andThen (matchEntry d e bs) (matchEntries ds es)) (cons-same (valueOf constant h d) e (map (valueOf constant h) ds) es)
     (exact-both h bs (valueOf constant h d ≡ e) (map (valueOf constant h) ds ≡ es) (matchEntry d e bs) (matchEntries ds es)
@@ -161,27 +146,27 @@ abbrev Placed : (ℕ → Entry) → List (Row Entry) → List (Row Entry) → Ty
 Placed h rs candidates = (r : Row Entry) → r ∈ rs → mapRow (valueOf constant h) r ∈ candidates
 
 -- What `orElse` and `andThen` give comes from one of their parts, and they fail only if those do
-orElse-some : {A : Type 0} (o later : Option A) (x : A) → orElse o later ≡ some x → (o ≡ some x) ⊎ (later ≡ some x)
+orElse-found : {A : Type 0} (o later : Option A) (x : A) → orElse o later ≡ some x → (o ≡ some x) ⊎ (later ≡ some x)
 unfolding orElse
-orElse-some none later x e = inr e
-orElse-some (some y) later x e = inl e
+orElse-found none later x e = inr e
+orElse-found (some y) later x e = inl e
 
-orElse-none : {A : Type 0} (o later : Option A) → orElse o later ≡ none → (o ≡ none) × (later ≡ none)
+orElse-nothing : {A : Type 0} (o later : Option A) → orElse o later ≡ none → (o ≡ none) × (later ≡ none)
 unfolding orElse
-orElse-none none later e = (refl, e)
-orElse-none (some y) later e = absurd (Option·some-ne-none y e)
+orElse-nothing none later e = (refl, e)
+orElse-nothing (some y) later e = absurd (Option·some-ne-none y e)
 
-andThen-some : {A B : Type 0} (o : Option A) (f : A → Option B) (y : B) → andThen o f ≡ some y → (x : A) × (o ≡ some x) × (f x ≡ some y)
+andThen-found : {A B : Type 0} (o : Option A) (f : A → Option B) (y : B) → andThen o f ≡ some y → (x : A) × (o ≡ some x) × (f x ≡ some y)
 unfolding andThen
-andThen-some none f y e = absurd (Option·none-ne-some y e)
-andThen-some (some x) f y e = (x, refl, e)
+andThen-found none f y e = absurd (Option·none-ne-some y e)
+andThen-found (some x) f y e = (x, refl, e)
 
 -- The rest of a search that follows an exact match: sound, and failing only where nothing fits
 module _ (h : ℕ → Entry) (bs : Partial) (P : Type 0) (first : Option Partial) (exact : Exact h bs P first) (Q : Type 0) (next : Partial → Option Partial) where
   then-sound : ((mid after : Partial) → next mid ≡ some after → Fits h after → Fits h mid × Q)
       → (after : Partial) → andThen first next ≡ some after → Fits h after → Fits h bs × P × Q
   then-sound sound after e fits =
-      let t = andThen-some first next after e in
+      let t = andThen-found first next after e in
       let mid = sound (t .0) after (t .2) fits in
       let start = exact-some h bs P first exact (t .0) (t .1) .0 (mid .0) in
       (start .0, start .1, mid .1)
@@ -202,7 +187,7 @@ tryRows-sound : (h : ℕ → Entry) (Q : Type 0) (next : Partial → Option Part
 unfolding tryRows
 tryRows-sound h Q next sound r [] bs after e fits = absurd (Option·none-ne-some after e)
 tryRows-sound h Q next sound r (s ∷ ss) bs after e fits =
-    go (orElse-some (andThen (matchRow r s bs) next) (tryRows next r ss bs) after e) (λ later. tryRows-sound h Q next sound r ss bs after later fits)
+    go (orElse-found (andThen (matchRow r s bs) next) (tryRows next r ss bs) after e) (λ later. tryRows-sound h Q next sound r ss bs after later fits)
   where
     go : (andThen (matchRow r s bs) next ≡ some after) ⊎ (tryRows next r ss bs ≡ some after)
         → (tryRows next r ss bs ≡ some after → Fits h bs × (mapRow (valueOf constant h) r ∈ ss) × Q) → Fits h bs × (mapRow (valueOf constant h) r ∈ (s ∷ ss)) × Q
@@ -218,9 +203,9 @@ tryRows-complete : (h : ℕ → Entry) (Q : Type 0) (next : Partial → Option P
 unfolding tryRows
 tryRows-complete h Q next complete r (s ∷ ss) bs e fits (List·Memᴰ·head same) q =
     then-complete h bs (mapRow (valueOf constant h) r ≡ s) (matchRow r s bs) (matchRow-exact h r s bs) Q next complete
-    (orElse-none (andThen (matchRow r s bs) next) (tryRows next r ss bs) e .0) fits same q
+    (orElse-nothing (andThen (matchRow r s bs) next) (tryRows next r ss bs) e .0) fits same q
 tryRows-complete h Q next complete r (s ∷ ss) bs e fits (List·Memᴰ·tail at) q =
-    tryRows-complete h Q next complete r ss bs (orElse-none (andThen (matchRow r s bs) next) (tryRows next r ss bs) e .1) fits at q
+    tryRows-complete h Q next complete r ss bs (orElse-nothing (andThen (matchRow r s bs) next) (tryRows next r ss bs) e .1) fits at q
 
 placeRows-sound : (h : ℕ → Entry) (rs candidates : List (Row Entry)) (bs after : Partial) → placeRows rs candidates bs ≡ some after → Fits h after
     → Fits h bs × Placed h rs candidates
@@ -241,7 +226,7 @@ placeRows-complete h (r ∷ rs) candidates bs e fits placed =
     tryRows-complete h (Placed h rs candidates) (placeRows rs candidates) (placeRows-complete h rs candidates) r candidates bs e fits
     (placed r (List·Memᴰ·head refl)) (λ q at. placed q (List·Memᴰ·tail at))
 
--- ---- 4. mappings
+-- ---- 4. mappings and containment
 
 module _ (head : List Entry) (r : Row Entry) (rs : List (Row Entry)) (T : Query) where
   -- What is found carries the query into T
@@ -253,7 +238,7 @@ module _ (head : List Entry) (r : Row Entry) (rs : List (Row Entry)) (T : Query)
       then-sound (assignment after) [] (map (valueOf constant (assignment after)) head ≡ T .head) (matchEntries head (T .head) [])
       (matchEntries-exact (assignment after) head (T .head) []) (Placed (assignment after) (r ∷ rs) (T .rows)) (placeRows (r ∷ rs) (T .rows))
       (placeRows-sound (assignment after) (r ∷ rs) (T .rows)) after e (fits-own after) in
-      record { not-never = λ e. nil-cons (sym e); to-head = t .1; to-rows = t .2 }
+      record { not-never = cons≢nil; to-head = t .1; to-rows = t .2 }
 
   -- Where nothing is found, nothing carries it there
   placeQuery-complete : placeQuery head (r ∷ rs) T ≡ none → (h : ℕ → Entry) → Carries constant h (record { head = head; rows = r ∷ rs }) (T .rows) (T .head) → ⊥
@@ -310,5 +295,23 @@ contained-mapping ds p q = go (chase ds p .query .rows)
     go (r ∷ rs) = ((λ e. inr (mappable-exact q (chase ds p .query) .0 e)), either)
       where
         either : ((r ∷ rs ≡ []) ⊎ Mapping q (chase ds p .query)) → mappable q (chase ds p .query) ≡ true
-        either (inl e) = absurd (nil-cons (sym e))
+        either (inl e) = absurd (cons≢nil e)
         either (inr m) = mappable-exact q (chase ds p .query) .1 m
+
+-- What is below a base is below a higher one
+below-more : (base higher : ℕ) (q : Query) → base ≤ higher → ConstantsBelow base q → ConstantsBelow higher q
+below-more base higher q more below = record {
+  of-head = λ n at. let less = below .of-head n at in omega arith;
+  of-rows = λ n at. let less = below .of-rows n at in omega arith;
+}
+
+-- `contained` passes exactly where p is contained in q
+pub contained-exact : (widths : List ℕ) (ds : List Dependency) (p q : Query) → ((r : Row Entry) → r ∈ p .rows → FitsSchema widths r)
+    → (contained ds p q ≡ true) ↔ Contained widths ds p q
+contained-exact widths ds p q fit =
+    let P = some-base p in
+    let Q = some-base q in
+    let theorem =
+    contained-iff widths ds p q (P .0 + Q .0) fit (below-more (P .0) (P .0 + Q .0) p (omega arith) (P .2))
+    (below-more (Q .0) (P .0 + Q .0) q (omega arith) (Q .2)) (omega (arith, P .1)) in
+    ((λ e. theorem .1 (contained-mapping ds p q .0 e)), λ c. contained-mapping ds p q .1 (theorem .0 c))

@@ -1,6 +1,5 @@
 -- A search for a mapping that computes: depth first over the rows of the one query and, for each, over the rows of the other.
 -- `proofs/Search` shows that it finds a mapping exactly where there is one. The engine's own search is another, with the same meaning.
-use mathlib.Core.Path.{_≡_}
 use mathlib.Core.Bool.{Bool, true, false, cond}
 use mathlib.Core.List.{List, [], _∷_, _++_}
 use mathlib.Core.Option.{Option, none, some, Option·getD}
@@ -82,12 +81,12 @@ containedOn (r ∷ rs) chased q = mappable q chased
 unfoldable pub contained : List Dependency → Query → Query → Bool
 contained ds p q = containedOn (chase ds p .query .rows) (chase ds p .query) q
 
--- The rows that stay of `rest` beside the kept ones, after one pass: a row goes if the query can be mapped into itself without it
+-- The rows that stay after one pass: the kept ones, and of the rest each that the query cannot be mapped into itself without
 unfoldable pub prune : List Entry → List (Row Entry) → List (Row Entry) → List (Row Entry)
-prune head kept [] = []
+prune head kept [] = kept
 prune head kept (r ∷ rest) =
     let shorter = prune head kept rest in
-    let longer = r ∷ prune head (r ∷ kept) rest in
+    let longer = prune head (kept ++ (r ∷ [])) rest in
     cond (mappable (record { head = head; rows = kept ++ r ∷ rest }) (record { head = head; rows = kept ++ rest })) shorter longer
 
 -- A result of reduction: the chased query, pruned
