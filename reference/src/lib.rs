@@ -22,3 +22,5 @@ pub mod vectors;
 mod examples;
 #[cfg(test)]
 mod crosscheck;
+#[cfg(test)]
+mod mistakes;

@@ -98,7 +98,7 @@ impl Search {
 }
 
 fn bits(set: u64) -> impl Iterator<Item = usize> {
-    (0..64).filter(move |b| set >> b & 1 == 1)
+    (0..64 - set.leading_zeros() as usize).filter(move |b| set >> b & 1 == 1)
 }
 
 /// A mapping from S to T if there is one.
@@ -113,18 +113,27 @@ pub fn find(s: &Query, t: &Query) -> Option<Mapping> {
     }
     let n = s.rows.len();
     let mut candidates = vec![0u64; n];
+    // ways[i][a]: the images when row i goes to a, if it can.
+    let mut ways: Vec<Vec<Option<Images>>> = vec![];
+    for (i, row) in s.rows.iter().enumerate() {
+        let way = |to: &Row| {
+            let mut images = fixed;
+            bind_row(&mut images, row, to).then_some(images)
+        };
+        ways.push(t.rows.iter().map(way).collect());
+        candidates[i] = (0..t.rows.len()).filter(|&a| ways[i][a].is_some()).map(|a| 1 << a).sum();
+    }
     let mut consistent = vec![vec![vec![0u64; n]; t.rows.len()]; n];
     for i in 0..n {
-        for (a, to) in t.rows.iter().enumerate() {
-            let mut one = fixed;
-            if !bind_row(&mut one, &s.rows[i], to) {
-                continue;
-            }
-            candidates[i] |= 1 << a;
+        for a in bits(candidates[i]) {
+            let images = ways[i][a].as_ref().expect("a candidate");
+            let fits = |x: Entry, y: Entry| match x {
+                Constant(_) => true,
+                Variable(v) => images[v as usize].map_or(true, |z| z == y),
+            };
             for j in 0..n {
-                for (b, other) in t.rows.iter().enumerate() {
-                    let mut two = one;
-                    if bind_row(&mut two, &s.rows[j], other) {
+                for b in bits(candidates[j]) {
+                    if s.rows[j].entries.iter().zip(&t.rows[b].entries).all(|(&x, &y)| fits(x, y)) {
                         consistent[i][a][j] |= 1 << b;
                     }
                 }

@@ -19,10 +19,11 @@ pub fn core(query: &Query) -> Query {
     while k < kept.rows.len() {
         let mut fewer = kept.clone();
         let row = fewer.rows.remove(k);
-        // A row that stands there twice goes without a search.
+        // A repeated row goes without a search.
         if fewer.rows.contains(&row) || find(&kept, &fewer).is_some() {
+            // Rows that had to stay still have to: doing without one now would have been
+            // doing without it before.
             kept = fewer;
-            k = 0;
         } else {
             k += 1;
         }
