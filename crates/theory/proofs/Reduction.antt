@@ -11,10 +11,11 @@
 --   6. Losing rows one at a time leads to every result, up to the order of rows.
 -- Assumes nothing.
 use mathlib.Core.Path.{_≡_, refl, sym, _∙_, ap, subst, subst₂}
-use mathlib.Core.Logic.{_≢_, _↔_, Iff·symm, Iff·trans, _⊎_, inl, inr}
+use mathlib.Core.Logic.{_≢_, _↔_, Iff·symm, Iff·trans, Iff·trunc, ∥∥₁-elim, _⊎_, inl, inr}
 use mathlib.Core.List.{List, [], _∷_, _++_, map, append-nil, cons-ne-nil, List·Memᴰ·head, List·Memᴰ·tail, List·Memᴰ·not-nil, List·Memᴰ·append-cases, Memᴰ·append-left, Memᴰ·append-right, Memᴰ·map, Memᴰ·of-map, Memᴰ·cast}
 use Prim.Native.Nat.{ℕ, zero, suc, _+_, _≤_, _<_}
 use native.Mathlib.Omega.{arith}
+use native.Mathlib.Bridge.{le-prop}
 use native.Mathlib.Decide.{decLe}
 use lib.ListN.{length, length-map}
 use lib.Seq.{append-snoc}
@@ -107,6 +108,10 @@ module _ (ds : List Dependency) (S T : Query) (result : Reduction ds S T) where
       from : Answer D T t → Answer D (chase ds S .query) t
       from answer = answer-along D (chase ds S .query) T (result .receives (reduction-some-chased (answer .1 .not-never))) t answer
 
+  -- so the two have the same answers on every sound database that obeys
+  pub reduction-equivalent : (widths : List ℕ) → Equivalent widths ds S T
+  reduction-equivalent widths D sound obeys t = Iff·trunc (reduction-answers D obeys t)
+
   -- Unless the result is never, there is a mapping from the source query to it
   pub reduction-mapping : T .rows ≢ [] → Mapping S T
   reduction-mapping some =
@@ -195,44 +200,47 @@ below-part base q q' same part below = record {
   of-rows = λ n at. let found = row-of-entry (q' .rows) at in below .of-rows n (row-rowEntries (q .rows) (found .0) (constant n) (part (found .0) (found .1)) (found .2));
 }
 
+-- A core T, a rival R with an assignment α on the frozen T, and an assignment β of T on the α-images of R's rows: then R has at least as many rows as T
+module _ (T R : Query) (base : ℕ) (below : ConstantsBelow base T) (rival : Answer (frozenRows base T) R (frozenHead base T)) where
+  -- the α-images of the rival's rows
+  images : Database
+  images = map (mapRow (valueOf itself (rival .0))) (R .rows)
+
+  -- are a part of the frozen T,
+  images-part : images ⊆ frozenRows base T
+  unfolding images
+  images-part r at =
+      let found = Memᴰ·of-map (mapRow (valueOf itself (rival .0))) (R .rows) at in
+      Memᴰ·cast (sym (found .2)) (rival .1 .to-rows (found .0) (found .1))
+
+  -- and R still has the frozen head as an answer there
+  images-answer : Answer images R (frozenHead base T)
+  unfolding images
+  images-answer =
+      (rival .0, record { not-never = rival .1 .not-never; to-head = rival .1 .to-head; to-rows = λ r at. Memᴰ·map (mapRow (valueOf itself (rival .0))) at })
+
+  -- β, thawed, maps T into as many of its rows as R has
+  images-length : Core T → Answer images T (frozenHead base T) → length (T .rows) ≤ length (R .rows)
+  unfolding images
+  images-length core again =
+      let P : Query = record { head = T .head; rows = map (mapRow (thaw base)) images } in
+      let part : P .rows ⊆ T .rows = λ s at. subst (λ rows. s ∈ rows) (thaw-rows base T below) (map-part (mapRow (thaw base)) images-part s at) in
+      let onto : Mapping T P =
+      mapping-of T P (λ v. thaw base (again .0 v))
+      (subst (λ head. Carries constant (λ v. thaw base (again .0 v)) T (P .rows) head) (thaw-head base T below)
+      (thaw-carries base T below (again .0) images (frozenHead base T) (again .1))) in
+      let small : length (T .rows) ≤ length (P .rows) = core-least T P core refl part onto in
+      omega (arith, small, length-map images (mapRow (thaw base)), length-map (R .rows) (mapRow (valueOf itself (rival .0))))
+
 -- If on every sound database that obeys, R has exactly the answers of T, and T is a core of which the frozen rows are sound and obey, then R has at least as many rows as T
 core-minimal : (widths : List ℕ) (ds : List Dependency) (T R : Query) (base : ℕ) → ConstantsBelow base T → Core T
     → Sound widths (frozenRows base T) → Obeys ds (frozenRows base T) → Equivalent widths ds T R → T .rows ≢ [] → length (T .rows) ≤ length (R .rows)
 core-minimal widths ds T R base below core sound obeys same some =
-    let small : length (T .rows) ≤ length (P .rows) = core-least T P core refl P-part P-mapping in
-    omega (arith, small, length-map E (mapRow (thaw base)), length-map (R .rows) (mapRow (valueOf itself (rival .0))))
-  where
-    -- the rival's assignment α on the frozen T
-    rival : Answer (frozenRows base T) R (frozenHead base T)
-    rival = same (frozenRows base T) sound obeys (frozenHead base T) .0 (frozen-answer base T some)
-
-    -- the α-images of its rows
-    E : Database
-    E = map (mapRow (valueOf itself (rival .0))) (R .rows)
-
-    E-part : E ⊆ frozenRows base T
-    E-part r at =
-        let found = Memᴰ·of-map (mapRow (valueOf itself (rival .0))) (R .rows) at in
-        Memᴰ·cast (sym (found .2)) (rival .1 .to-rows (found .0) (found .1))
-
-    -- the core's assignment β on them
-    again : Answer E T (frozenHead base T)
-    again =
-        same E (sound-part widths (frozenRows base T) E E-part sound) (obeys-part ds (frozenRows base T) E E-part obeys) (frozenHead base T) .1
-        (rival .0, record { not-never = rival .1 .not-never; to-head = rival .1 .to-head; to-rows = λ r at. Memᴰ·map (mapRow (valueOf itself (rival .0))) at })
-
-    -- and what β maps the core to, thawed
-    P : Query
-    P = record { head = T .head; rows = map (mapRow (thaw base)) E }
-
-    P-part : P .rows ⊆ T .rows
-    P-part s at = subst (λ rows. s ∈ rows) (thaw-rows base T below) (map-part (mapRow (thaw base)) E-part s at)
-
-    P-mapping : Mapping T P
-    P-mapping =
-        mapping-of T P (λ v. thaw base (again .0 v))
-        (subst (λ head. Carries constant (λ v. thaw base (again .0 v)) T (P .rows) head) (thaw-head base T below)
-        (thaw-carries base T below (again .0) E (frozenHead base T) (again .1)))
+    ∥∥₁-elim (same (frozenRows base T) sound obeys (frozenHead base T) .0 ∣ frozen-answer base T some ∣₁) le-prop (λ rival.
+    let part : images T R base below rival ⊆ frozenRows base T = images-part T R base below rival in
+    ∥∥₁-elim (same (images T R base below rival) (sound-part widths (frozenRows base T) (images T R base below rival) part sound)
+    (obeys-part ds (frozenRows base T) (images T R base below rival) part obeys) (frozenHead base T) .1 ∣ images-answer T R base below rival ∣₁)
+    le-prop (images-length T R base below rival core))
 
 -- Every query with the source's answers on all sound databases that obey has at least as many rows as a result, whatever its variables and constants
 pub reduction-minimal : (widths : List ℕ) (ds : List Dependency) (S T : Query) → ((r : Row Entry) → r ∈ S .rows → FitsSchema widths r)
@@ -250,7 +258,7 @@ reduction-minimal widths ds S T fit result R rival = go (T .rows) refl
 
     same : Equivalent widths ds T R
     same D sound obeys t =
-        Iff·trans (Iff·symm (reduction-answers ds S T result D obeys t)) (rival .same D sound obeys t)
+        Iff·trans (Iff·symm (reduction-equivalent ds S T result widths D sound obeys t)) (rival .same D sound obeys t)
 
     go : (rows : List (Row Entry)) → T .rows ≡ rows → length (T .rows) ≤ length (R .rows)
     go [] none = omega (arith, ap length none)
