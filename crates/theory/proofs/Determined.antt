@@ -17,7 +17,7 @@ use borrow.Author.Tests.{eqb-true, eq-eqb, not-true}
 use Rattle.theory.specs.Query.{Row, column, member, _∈_}
 use Rattle.theory.specs.Database.{Database, Dependency, Agree, Obeys, Sound}
 use Rattle.theory.specs.Chase.{firstPassing}
-use Rattle.theory.specs.Determined.{Determines, FitsColumns, subset, adds, growOn, growFor, closure, columnsIn, determined}
+use Rattle.theory.specs.Determined.{Determines, FitsColumns, Ascending, subset, adds, growOn, growFor, closure, columnsIn, determined}
 use Rattle.theory.proofs.Lists.{and-left, and-right, member-mem, mem-member, member-not-mem}
 use Rattle.theory.proofs.Step.{firstPassing-found, firstPassing-nothing}
 
@@ -337,11 +337,6 @@ closure-exact widths ds fits relation held left c less =
     (closure-complete widths ds fits relation held left c less, closure-sound widths ds relation left c)
 
 -- ---- 5. the determined columns
-
--- Each number is less than all that follow it
-abbrev pub Ascending : List ℕ → Type 0
-Ascending [] = Unit {0}
-Ascending (n ∷ ns) = ((m : ℕ) → m ∈ ns → n < m) × Ascending ns
 
 -- `columnsIn` has the numbers of the list in its range
 columnsIn-from : (known : List ℕ) (start n c : ℕ) → c ∈ columnsIn known start n → (start ≤ c) × (c < start + n) × (c ∈ known)

@@ -8,19 +8,19 @@ use mathlib.Core.Logic.{_↔_, _⊎_, inl, inr}
 use mathlib.Core.Bool.{Bool, true, false, cond, true≢false}
 use mathlib.Core.List.{List, [], _∷_, map, List·Memᴰ·head, List·Memᴰ·tail, Memᴰ·cast, List·Memᴰ·not-nil, cons≢nil}
 use mathlib.Core.Option.{Option, none, some, Option·none-ne-some, Option·some-ne-none, Option·some-injective}
-use Prim.Native.Nat.{ℕ, _+_, _≤_}
+use Prim.Native.Nat.{ℕ, _+_, _≤_, _<_}
 use native.Mathlib.Omega.{arith}
 use lib.Dec.{eqb}
 use borrow.Author.Tests.{eqb-true, eqb-false, eq-eqb}
 use Rattle.theory.specs.Query.{Entry, constant, variable, Row, Query, mapRow, sameEntry, FitsSchema, _∈_}
 use Rattle.theory.specs.Answer.{valueOf, Carries, Mapping}
-use Rattle.theory.specs.Database.{Dependency}
+use Rattle.theory.specs.Database.{Database, Dependency}
 use Rattle.theory.specs.Chase.{orElse, chase}
-use Rattle.theory.specs.Containment.{Contained, ConstantsBelow}
+use Rattle.theory.specs.Containment.{Contained, Counterexample, frozenRows, frozenHead, ConstantsBelow}
 use Rattle.theory.specs.Search.{Partial, lookup, andThen, assignTo, matchEntry, matchEntries, matchRow, tryRows, placeRows, placeQuery, assignment, found, mappable, containedOn, contained}
 use Rattle.theory.proofs.Entries.{sameEntry-eq, sameEntry-ne}
 use Rattle.theory.proofs.Carry.{mapping-of}
-use Rattle.theory.proofs.Containment.{contained-iff}
+use Rattle.theory.proofs.Containment.{contained-iff, counterexample}
 use Rattle.theory.proofs.Reduction.{some-base}
 
 -- Rows are equal when their relations and values are
@@ -305,13 +305,25 @@ below-more base higher q more below = record {
   of-rows = λ n at. let less = below .of-rows n at in omega arith;
 }
 
--- `contained` passes exactly where p is contained in q
-pub contained-exact : (widths : List ℕ) (ds : List Dependency) (p q : Query) → ((r : Row Entry) → r ∈ p .rows → FitsSchema widths r)
-    → (contained ds p q ≡ true) ↔ Contained widths ds p q
-contained-exact widths ds p q fit =
+-- Some base is above 0 and above the constants of both queries
+both-below : (p q : Query) → (base : ℕ) × 0 < base × ConstantsBelow base p × ConstantsBelow base q
+both-below p q =
     let P = some-base p in
     let Q = some-base q in
-    let theorem =
-    contained-iff widths ds p q (P .0 + Q .0) fit (below-more (P .0) (P .0 + Q .0) p (omega arith) (P .2))
-    (below-more (Q .0) (P .0 + Q .0) q (omega arith) (Q .2)) (omega (arith, P .1)) in
-    ((λ e. theorem .1 (contained-mapping ds p q .0 e)), λ c. contained-mapping ds p q .1 (theorem .0 c))
+    (P .0 + Q .0, omega (arith, P .1), below-more (P .0) (P .0 + Q .0) p (omega arith) (P .2), below-more (Q .0) (P .0 + Q .0) q (omega arith) (Q .2))
+
+module _ (widths : List ℕ) (ds : List Dependency) (p q : Query) (fit : (r : Row Entry) → r ∈ p .rows → FitsSchema widths r) where
+  -- `contained` passes exactly where p is contained in q
+  pub contained-exact : (contained ds p q ≡ true) ↔ Contained widths ds p q
+  contained-exact =
+      let common = both-below p q in
+      let theorem = contained-iff widths ds p q (common .0) fit (common .2) (common .3) (common .1) in
+      ((λ e. theorem .1 (contained-mapping ds p q .0 e)), λ c. contained-mapping ds p q .1 (theorem .0 c))
+
+  -- Where it fails, a database shows that p is not
+  pub contained-false : contained ds p q ≡ false → (D : Database) × (t : List ℕ) × Counterexample widths ds p q D t
+  contained-false e =
+      let common = both-below p q in
+      let neither : ((chase ds p .query .rows ≡ []) ⊎ Mapping q (chase ds p .query)) → ⊥ = λ either. true≢false (sym (contained-mapping ds p q .1 either) ∙ e) in
+      (frozenRows (common .0) (chase ds p .query), frozenHead (common .0) (chase ds p .query),
+      counterexample widths ds p q (common .0) fit (common .2) (common .3) (common .1) (λ none. neither (inl none)) (λ f. neither (inr f)))
