@@ -1,14 +1,14 @@
 -- Which of two entries that must be equal survives, in document 01's words: a constant survives a variable; a variable in the head survives one that is not;
 -- otherwise the lower number survives. Two constants clash. Each holds in whichever order the two are found.
 -- The chase's other laws depend on none of these. Assumes nothing.
-use mathlib.Core.Path.{_≡_, refl, _∙_, sym}
+use mathlib.Core.Path.{_≡_, refl}
 use mathlib.Core.Logic.{_↔_}
-use mathlib.Core.Bool.{Bool, true, false, cond}
+use mathlib.Core.Bool.{true, false}
 use Prim.Native.Nat.{ℕ, _<_}
 use native.Mathlib.Omega.{arith}
 use lib.Dec.{ltb}
 use borrow.Author.Tests.{lt-ltb, le-ltb}
-use Rattle.theory.specs.Query.{Entry, constant, variable, Query, variablesOf, member, _∈_}
+use Rattle.theory.specs.Query.{Entry, constant, variable, Query, variablesOf, _∈_}
 use Rattle.theory.specs.Chase.{clash, replace, survives, resolve, inHead}
 use Rattle.theory.proofs.Lists.{bool-cases, member-mem, mem-member, member-not-mem, not-mem-member}
 

@@ -1,9 +1,8 @@
 -- Containment of queries over all databases that obey the dependencies (demand 2), and a query read as a database.
-use mathlib.Core.Path.{_≡_}
 use mathlib.Core.Logic.{_↔_}
 use mathlib.Core.List.{List, map}
 use Prim.Native.Nat.{ℕ, _+_, _<_}
-use Rattle.theory.specs.Query.{Entry, constant, variable, Row, Query, mapRow, rowEntries, _∈_}
+use Rattle.theory.specs.Query.{Entry, constant, Query, mapRow, rowEntries, _∈_}
 use Rattle.theory.specs.Database.{Database, Dependency, Obeys, Sound}
 use Rattle.theory.specs.Answer.{Answer, valueOf, itself}
 
