@@ -17,13 +17,13 @@ module _ (rows : ℕ) (domain table chosen : List ℕ) (placed r : ℕ) where
 
   -- One more placed row leaves what goes together with its choice, and may be to blame
   pub explained-more : (q : ℕ) (left : Narrowed) (blame : ℕ) → q < rows → r < rows → Has placed q → Adds (left .blame) q blame
-    → Explained rows domain table chosen placed r left
-    → Explained rows domain table chosen placed r (record { mask = bitAnd (left .mask) (goes table q (getD chosen q 0) r); blame = blame })
+      → Explained rows domain table chosen placed r left
+      → Explained rows domain table chosen placed r (record { mask = bitAnd (left .mask) (goes table q (getD chosen q 0) r); blame = blame })
   explained-more q left blame hq hr isPlaced adds e = record {
     keeps = λ choice s a.
-      has-and (left .mask) (goes table q (getD chosen q 0) r) (choice r)
-      (e .keeps choice s (λ p hp k. a p hp (adds p .1 k)))
-      (subst (λ (d : ℕ). Has (goes table q d r) (choice r)) (a q hq (adds q .2 refl)) (s .together q r hq hr));
+        has-and (left .mask) (goes table q (getD chosen q 0) r) (choice r)
+        (e .keeps choice s (λ p hp k. a p hp (adds p .1 k)))
+        (subst (λ (d : ℕ). Has (goes table q d r) (choice r)) (a q hq (adds q .2 refl)) (s .together q r hq hr));
     placed-only = λ i k. from i (adds i .0 k);
   }
     where

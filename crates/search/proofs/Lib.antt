@@ -3,3 +3,4 @@ pub mod Sets
 pub mod Explain
 pub mod Choice
 pub mod Refute
+pub mod Backtrack

@@ -73,7 +73,7 @@ pub record PickedBefore (rows placed n r : ℕ) : Type 0 where
 pub record Verdict (rows : ℕ) (domain table chosen : List ℕ) (placed : ℕ) (o : Outcome) : Type 0 where
   pub solved : o .found ≡ true → Solution rows domain table (choiceOf (o .chosen))
   pub refuted : o .found ≡ false → Refuted rows domain table (o .blame) chosen
-  pub placed-only : Within (o .blame) placed
+  pub placed-only : o .found ≡ false → Within (o .blame) placed
 
 -- What is left to try for row r: a solution that agrees at the rows to blame has one of the candidates of the mask, from d on
 abbrev pub Remains : ℕ → List ℕ → List ℕ → List ℕ → ℕ → ℕ → ℕ → ℕ → Type 0

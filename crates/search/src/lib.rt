@@ -39,7 +39,14 @@ fn with(mask: u16, i: usize) -> u16
 }
 
 // What is left of row r's candidates once row q is looked at: if it is placed, those that go together with what is chosen for it.
-fn narrow(table: &[u16], chosen: [u8; 13], placed: u16, r: usize, q: usize, left: Narrowed) -> Narrowed
+fn narrow(
+    table: &[u16],
+    chosen: [u8; 13],
+    placed: u16,
+    r: usize,
+    q: usize,
+    left: Narrowed,
+) -> Narrowed
     requires { ⌜ (length (now table) ≡ 2028) × (r < 13) × (q < 13) ⌝ }
     ensures { λ n. ⌜ ((rows : ℕ) (domain : List ℕ) → q < rows → r < rows → Explained rows domain (now (table .entry)) chosen placed r left → Explained rows domain (now (table .entry)) chosen placed r n) ⌝ }
 {
@@ -63,7 +70,14 @@ fn narrow(table: &[u16], chosen: [u8; 13], placed: u16, r: usize, q: usize, left
 }
 
 // The candidates of row r that go together with what is chosen for the placed rows.
-fn candidates(rows: usize, domain: &[u16], table: &[u16], chosen: [u8; 13], placed: u16, r: usize) -> Narrowed
+fn candidates(
+    rows: usize,
+    domain: &[u16],
+    table: &[u16],
+    chosen: [u8; 13],
+    placed: u16,
+    r: usize,
+) -> Narrowed
     requires { ⌜ Sized rows (now domain) (now table) × (r < rows) ⌝ }
     ensures { λ n. ⌜ Explained rows (now (domain .entry)) (now (table .entry)) chosen placed r n ⌝ }
 {
@@ -84,7 +98,15 @@ pub struct Next {
 }
 
 // The better of the row found so far, `rows` standing for none, and row r: of two rows that are not placed the one with fewer candidates.
-fn better(rows: usize, domain: &[u16], table: &[u16], chosen: [u8; 13], placed: u16, r: usize, best: Next) -> Next
+fn better(
+    rows: usize,
+    domain: &[u16],
+    table: &[u16],
+    chosen: [u8; 13],
+    placed: u16,
+    r: usize,
+    best: Next,
+) -> Next
     requires { ⌜ Sized rows (now domain) (now table) × (r < rows) ⌝ }
     ensures { λ n. ⌜ (PickedBefore rows placed r (best .row) → PickedBefore rows placed (r + 1) (n .row)) ⌝ }
 {

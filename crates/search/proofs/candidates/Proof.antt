@@ -6,9 +6,6 @@ use Rattle.search.specs.Solution.{Explained}
 use Rattle.search.proofs.Explain.{explained-start}
 use Rattle.search.proofs.candidates.Statement.{statement}
 use Rattle.search.proofs.candidates.Tie as tie
-use Rattle.search.proofs.candidates.Reads as reads
-use Rattle.search.proofs.candidates.Lts as lts
-use Rattle.search.proofs.narrow.Reads as narrow-reads
 
 abbrev Inv-loop : tie.InvT-loop
 Inv-loop rows domain table chosen placed r left₀ q₀ left q = (q ≤ rows) × Explained rows domain table chosen placed r left
@@ -16,35 +13,27 @@ Inv-loop rows domain table chosen placed r left₀ q₀ left q = (q ≤ rows) ×
 abbrev μ-loop : tie.MeasureT-loop
 μ-loop rows domain table chosen placed r left₀ q₀ left q = rows - q
 
--- src/lib.rt:71:15
 mul-t9 : tie.Need-mul-t9 Inv-loop μ-loop
 mul-t9 c = search needs
 
--- src/lib.rt:71:15
 shared-slice-read-t11 : tie.Need-shared-slice-read-t11 Inv-loop μ-loop
 shared-slice-read-t11 c = search needs
 
--- src/lib.rt:74:5
 loop-holds : tie.Need-loop-holds Inv-loop μ-loop
 loop-holds c = (search needs, explained-start _ _ _ _ _ _ (search needs))
 
--- src/lib.rt:75:9
 narrow-requires : tie.Need-narrow-requires Inv-loop μ-loop
 narrow-requires c κs = search needs
 
--- src/lib.rt:74:9
 add-q : tie.Need-add-q Inv-loop μ-loop
 add-q c = search needs
 
--- src/lib.rt:74:5
 loop-less : tie.Need-loop-less Inv-loop μ-loop
 loop-less c = search needs
 
--- src/lib.rt:74:5
 loop-again : tie.Need-loop-again Inv-loop μ-loop
 loop-again c = (search needs, c .narrow .ensures _ _ (search needs) (search needs) (c .before .before .loop .inv .1))
 
--- src/lib.rt:66:1
 returns : tie.Need-returns Inv-loop μ-loop
 returns c = search needs
 

@@ -5,64 +5,46 @@ use borrow.Author.Tests.{not-false}
 use Rattle.search.proofs.Explain.{explained-more}
 use Rattle.search.proofs.narrow.Statement.{statement}
 use Rattle.search.proofs.narrow.Tie as tie
-use Rattle.search.proofs.narrow.Reads as reads
-use Rattle.search.proofs.narrow.Lts as lts
-use Rattle.search.proofs.has.Reads as has-reads
-use Rattle.search.proofs.with.Reads as with-reads
 
--- src/lib.rt:46:13
 array-read-d : tie.Need-array-read-d
 array-read-d c = search needs
 
--- src/lib.rt:46:13
 cast-d : tie.Need-cast-d
 cast-d c = search needs
 
--- src/lib.rt:47:9
 has-requires : tie.Need-has-requires
 has-requires c κs = search needs
 
--- src/lib.rt:48:9
 returns : tie.Need-returns
 returns c = search needs
 
--- src/lib.rt:51:9
 returns-2 : tie.Need-returns-2
 returns-2 c = search needs
 
--- src/lib.rt:55:31
 mul-fewer : tie.Need-mul-fewer
 mul-fewer c = search needs
 
--- src/lib.rt:55:31
 add-fewer : tie.Need-add-fewer
 add-fewer c = search needs
 
--- src/lib.rt:55:30
 mul-fewer-2 : tie.Need-mul-fewer-2
 mul-fewer-2 c = search needs
 
--- src/lib.rt:55:30
 add-fewer-2 : tie.Need-add-fewer-2
 add-fewer-2 c = search needs
 
--- src/lib.rt:55:24
 mul-fewer-3 : tie.Need-mul-fewer-3
 mul-fewer-3 c = search needs
 
--- src/lib.rt:55:24
 shared-slice-read-fewer : tie.Need-shared-slice-read-fewer
 shared-slice-read-fewer c = search needs
 
--- src/lib.rt:57:9
 returns-3 : tie.Need-returns-3
 returns-3 c = search needs
 
--- src/lib.rt:61:16
 with-requires : tie.Need-with-requires
 with-requires c κs = search needs
 
--- src/lib.rt:42:1
 returns-4 : tie.Need-returns-4
 returns-4 c =
     λ rows domain hq hr e.

@@ -7,9 +7,6 @@ use Rattle.search.specs.Solution.{PickedBefore}
 use Rattle.search.proofs.Choice.{picked-none, picked-all}
 use Rattle.search.proofs.pick.Statement.{statement}
 use Rattle.search.proofs.pick.Tie as tie
-use Rattle.search.proofs.pick.Reads as reads
-use Rattle.search.proofs.pick.Lts as lts
-use Rattle.search.proofs.better.Reads as better-reads
 
 abbrev Inv-loop : tie.InvT-loop
 Inv-loop rows domain table chosen placed best₀ r₀ best r = (r ≤ rows) × PickedBefore rows placed r (best .row)
@@ -17,27 +14,21 @@ Inv-loop rows domain table chosen placed best₀ r₀ best r = (r ≤ rows) × P
 abbrev μ-loop : tie.MeasureT-loop
 μ-loop rows domain table chosen placed best₀ r₀ best r = rows - r
 
--- src/lib.rt:118:5
 loop-holds : tie.Need-loop-holds Inv-loop μ-loop
 loop-holds c = (search needs, picked-none _ _)
 
--- src/lib.rt:119:9
 better-requires : tie.Need-better-requires Inv-loop μ-loop
 better-requires c κs = search needs
 
--- src/lib.rt:118:9
 add-r : tie.Need-add-r Inv-loop μ-loop
 add-r c = search needs
 
--- src/lib.rt:118:5
 loop-less : tie.Need-loop-less Inv-loop μ-loop
 loop-less c = search needs
 
--- src/lib.rt:118:5
 loop-again : tie.Need-loop-again Inv-loop μ-loop
 loop-again c = (search needs, c .better .ensures (c .before .before .loop .inv .1))
 
--- src/lib.rt:110:1
 returns : tie.Need-returns Inv-loop μ-loop
 returns c =
     picked-all _ _ _ _ (omega arith) (c .before .loop .inv .1)
