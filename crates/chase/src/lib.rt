@@ -1,0 +1,222 @@
+// The chase of a stored query with functional dependencies, as document 01's "The chase" gives it: the search for the first broken pair of rows,
+// the survivor of its two entries, the replacement, and the whole. The widths of the relations play no part: a column that a row does not have holds
+// constant 0 in every row of its relation.
+
+use record::{Cell, Dependency, Entry, Query};
+
+// What the search for a step finds: the two different entries of the first broken pair, or nothing where the chase rests.
+pub enum Found {
+    Rest,
+    Step(Entry, Entry),
+}
+
+// What two different entries that must be equal lead to: a clash, or the variable that goes and the entry that takes its place.
+pub enum Resolution {
+    Clash,
+    Replace(u8, Entry),
+}
+
+// A chased query and the number of replacements that led to it.
+pub struct Chased {
+    pub query: Query,
+    pub count: u8,
+}
+
+// Whether two entries are the same constant or the same variable.
+pub fn same_entry(a: Entry, b: Entry) -> bool {
+    match a {
+        Entry::Constant(m) => match b {
+            Entry::Constant(n) => m == n,
+            Entry::Variable(_) => false,
+        },
+        Entry::Variable(v) => match b {
+            Entry::Constant(_) => false,
+            Entry::Variable(w) => v == w,
+        },
+    }
+}
+
+// The entry of a cell.
+pub fn entry_at(cells: [Cell; 96], at: usize) -> Entry {
+    let cell = cells[at];
+    let entry = cell.entry;
+    entry
+}
+
+// Whether the rows at i and j have the same entry in each column of the set.
+fn agree(cells: [Cell; 96], left: u8, i: usize, j: usize) -> bool {
+    let mut rest = left;
+    for c in 0..8 {
+        if rest % 2 == 1 {
+            if !same_entry(entry_at(cells, 8 * i + c), entry_at(cells, 8 * j + c)) {
+                return false;
+            }
+        }
+        rest = rest / 2;
+    }
+    true
+}
+
+// Whether the rows at i and j break a dependency: both are of its relation, agree on every left column and differ on the right.
+fn breaks(q: Query, d: Dependency, i: usize, j: usize) -> bool {
+    let relations = q.relations;
+    let cells = q.cells;
+    let right = d.right as usize;
+    if relations[i] != d.relation {
+        return false;
+    }
+    if relations[j] != d.relation {
+        return false;
+    }
+    if !agree(cells, d.left, i, j) {
+        return false;
+    }
+    !same_entry(entry_at(cells, 8 * i + right), entry_at(cells, 8 * j + right))
+}
+
+// The first broken pair: by dependency in held order, then by the rows' positions i < j, by i and then j.
+fn find_step(q: Query, dependencies: [Dependency; 32], held: usize) -> Found {
+    let size = q.size as usize;
+    let cells = q.cells;
+    'search: loop {
+        for d in 0..held {
+            let dependency = dependencies[d];
+            let right = dependency.right as usize;
+            for i in 0..size {
+                for j in i + 1..size {
+                    if breaks(q, dependency, i, j) {
+                        break 'search Found::Step(entry_at(cells, 8 * i + right), entry_at(cells, 8 * j + right));
+                    }
+                }
+            }
+        }
+        break 'search Found::Rest;
+    }
+}
+
+// Whether a variable stands among the first `arity` entries of a head.
+fn stands(head: [Cell; 8], arity: usize, v: u8) -> bool {
+    for k in 0..arity {
+        let cell = head[k];
+        let entry = cell.entry;
+        match entry {
+            Entry::Constant(_) => {}
+            Entry::Variable(w) => {
+                if w == v {
+                    return true;
+                }
+            }
+        }
+    }
+    false
+}
+
+// Whether an entry is a variable that stands in the head.
+fn in_head(q: Query, e: Entry) -> bool {
+    match e {
+        Entry::Constant(_) => false,
+        Entry::Variable(v) => {
+            let head = q.head;
+            stands(head, q.arity as usize, v)
+        }
+    }
+}
+
+// Whether variable v survives variable w: one in the head survives one that is not, otherwise the lower number survives.
+fn survives(v: u8, v_in_head: bool, w: u8, w_in_head: bool) -> bool {
+    if v_in_head {
+        if w_in_head { v < w } else { true }
+    } else {
+        if w_in_head { false } else { v < w }
+    }
+}
+
+// The survivor of two different entries: two constants clash, a constant survives a variable, and of two variables one `survives`.
+fn survivor(a: Entry, a_in_head: bool, b: Entry, b_in_head: bool) -> Resolution {
+    match a {
+        Entry::Constant(_) => match b {
+            Entry::Constant(_) => Resolution::Clash,
+            Entry::Variable(w) => Resolution::Replace(w, a),
+        },
+        Entry::Variable(v) => match b {
+            Entry::Constant(_) => Resolution::Replace(v, b),
+            Entry::Variable(w) => {
+                if survives(v, a_in_head, w, b_in_head) {
+                    Resolution::Replace(w, a)
+                } else {
+                    Resolution::Replace(v, b)
+                }
+            }
+        },
+    }
+}
+
+// A cell with entry e in place of variable v.
+fn substitute(cell: Cell, v: u8, e: Entry) -> Cell {
+    let entry = cell.entry;
+    match entry {
+        Entry::Constant(_) => cell,
+        Entry::Variable(w) => {
+            if w == v {
+                Cell { entry: e }
+            } else {
+                cell
+            }
+        }
+    }
+}
+
+// The same in each cell of a head.
+fn substitute_head(head: [Cell; 8], v: u8, e: Entry) -> [Cell; 8] {
+    let mut out = head;
+    for k in 0..8 {
+        out[k] = substitute(head[k], v, e);
+    }
+    out
+}
+
+// The same in each cell of the rows.
+fn substitute_cells(cells: [Cell; 96], v: u8, e: Entry) -> [Cell; 96] {
+    let mut out = cells;
+    for k in 0..96 {
+        out[k] = substitute(cells[k], v, e);
+    }
+    out
+}
+
+// Entry e in place of variable v, in the head and in all rows. Cells that are not in use hold a constant, which stays.
+fn replace(q: Query, v: u8, e: Entry) -> Query {
+    let relations = q.relations;
+    let head = q.head;
+    let cells = q.cells;
+    let new_head = substitute_head(head, v, e);
+    let new_cells = substitute_cells(cells, v, e);
+    Query { arity: q.arity, size: q.size, head: new_head, relations: relations, cells: new_cells }
+}
+
+// The never query with a head of `arity` entries.
+pub fn never(arity: u8) -> Query {
+    let blank = Cell { entry: Entry::Constant(0) };
+    let head = [blank; 8];
+    let relations = [0u8; 12];
+    let cells = [blank; 96];
+    Query { arity: arity, size: 0, head: head, relations: relations, cells: cells }
+}
+
+// The chase: replacements until a clash, which ends it in never, or until no pair is broken.
+pub fn chase(q: Query, dependencies: [Dependency; 32], held: usize) -> Chased {
+    let mut query = q;
+    let mut count: u8 = 0;
+    loop {
+        let found = find_step(query, dependencies, held);
+        let Found::Step(a, b) = found else {
+            return Chased { query: query, count: count };
+        };
+        let resolution = survivor(a, in_head(query, a), b, in_head(query, b));
+        let Resolution::Replace(v, e) = resolution else {
+            return Chased { query: never(q.arity), count: count };
+        };
+        query = replace(query, v, e);
+        count += 1;
+    }
+}
