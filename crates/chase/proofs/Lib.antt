@@ -1,0 +1,3 @@
+-- The laws on which the proofs of the chase's functions stand.
+pub mod Lists
+pub mod Steps

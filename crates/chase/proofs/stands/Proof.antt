@@ -1,0 +1,67 @@
+use borrow.Author.Needs.{needs}
+use Rattle.chase.proofs.stands.Statement.{statement}
+use Rattle.chase.proofs.stands.Tie as tie
+use Rattle.chase.proofs.stands.Reads as reads
+use Rattle.chase.proofs.stands.Lts as lts
+
+abbrev Inv-loop : tie.InvT-loop
+Inv-loop arity v head k₀ k = ?
+
+abbrev μ-loop : tie.MeasureT-loop
+μ-loop arity v head k₀ k = ?
+
+-- src/lib.rt:132:5
+loop-holds : tie.Need-loop-holds Inv-loop μ-loop
+loop-holds c = search needs
+
+-- src/lib.rt:133:20
+mul-cell : tie.Need-mul-cell Inv-loop μ-loop
+mul-cell c = search needs
+
+-- src/lib.rt:133:20
+array-copy-out-cell : tie.Need-array-copy-out-cell Inv-loop μ-loop
+array-copy-out-cell c = search needs
+
+enum-told : tie.Need-enum-told Inv-loop μ-loop
+enum-told c = search needs
+
+-- src/lib.rt:137:29
+enum-known-entry : tie.Need-enum-known-entry Inv-loop μ-loop
+enum-known-entry c = search needs
+
+-- src/lib.rt:139:21
+returns : tie.Need-returns Inv-loop μ-loop
+returns c = search needs
+
+-- src/lib.rt:132:9
+add-k : tie.Need-add-k Inv-loop μ-loop
+add-k c = search needs
+
+-- src/lib.rt:132:5
+loop-less : tie.Need-loop-less Inv-loop μ-loop
+loop-less c = search needs
+
+-- src/lib.rt:132:5
+loop-again : tie.Need-loop-again Inv-loop μ-loop
+loop-again c = search needs
+
+-- src/lib.rt:128:1
+returns-2 : tie.Need-returns-2 Inv-loop μ-loop
+returns-2 c = search needs
+
+pub stands-spec : {M : Type 1} → statement M
+stands-spec =
+    tie.close
+    (tie.spec
+    Inv-loop
+    μ-loop
+    loop-holds
+    mul-cell
+    array-copy-out-cell
+    enum-told
+    enum-known-entry
+    returns
+    add-k
+    loop-less
+    loop-again
+    returns-2)
