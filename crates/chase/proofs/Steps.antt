@@ -1,15 +1,19 @@
--- Laws of one step of the chase on stored entries: the survivor and the replacement. Assumes nothing.
+-- Laws of one step of the chase on stored entries: the replacement, the survivor, and what stands in a head. Assumes nothing.
 use mathlib.Core.Path.{_≡_, refl, sym, _∙_, ap}
 use mathlib.Core.Bool.{Bool, true, false, cond}
-use Prim.Native.Nat.{ℕ, _<_}
+use mathlib.Core.List.{List, []}
+use Prim.Native.Nat.{ℕ, _+_, _≤_, _<_}
 use lib.Dec.{eqb, ltb}
+use lib.ListN.{length, take, drop, getD}
 use borrow.Author.Tests.{eq-eqb, ne-eqb}
 use Rattle.record.specs.declared.Entry.{Entry}
 use Rattle.record.specs.declared.Entry.the-variants.{Constant, Variable}
 use Rattle.record.specs.declared.Cell.{Cell}
-use Rattle.record.specs.View.{entryOf}
+use Rattle.record.specs.View.{entryOf, entriesOf}
+use Rattle.record.specs.Rule.{noCell}
+use Rattle.chase.proofs.Lists.{left-cons, left-none}
 use Rattle.chase.specs.Wide.{substituteEntry, substituteCell, entryInHead}
-use Rattle.theory.specs.Query.{variable}
+use Rattle.theory.specs.Query.{variable, variablesOf, member}
 use Rattle.theory.specs.Chase.{survives, resolve, clash, replace}
 
 -- A cell with another entry
@@ -64,3 +68,26 @@ module _ (inHead : ℕ → Bool) (a b : Entry) where
       → replace v (variable w) ≡ resolve inHead (entryOf a) (entryOf b)
   unfolding resolve
   resolve-second v w p q s = rw (p, q, s)
+
+-- ---- the head
+
+-- Whether variable v stands in what is left of the first n entries of a head after k
+abbrev pub standsLeft : ℕ → ℕ → ℕ → List Cell → Bool
+standsLeft v n k head = member v (variablesOf (entriesOf (drop k (take n head))))
+
+module _ (v n k : ℕ) (head : List Cell) (h : k < n) (fits : n ≤ length head) where
+  pub stands-constant : (m : ℕ) → getD head k noCell .entry ≡ Constant m → standsLeft v n k head ≡ standsLeft v n (k + 1) head
+  unfolding variablesOf
+  stands-constant m is = rw (left-cons n k head noCell h fits, is)
+
+  pub stands-other : (w : ℕ) → getD head k noCell .entry ≡ Variable w → (v ≡ w → ⊥) → standsLeft v n k head ≡ standsLeft v n (k + 1) head
+  unfolding variablesOf member
+  stands-other w is other = rw (left-cons n k head noCell h fits, is, ne-eqb v w other)
+
+  pub stands-here : (w : ℕ) → getD head k noCell .entry ≡ Variable w → v ≡ w → true ≡ standsLeft v n k head
+  unfolding variablesOf member
+  stands-here w is same = rw (left-cons n k head noCell h fits, is, eq-eqb v w same)
+
+pub stands-end : (v n k : ℕ) (head : List Cell) → n ≤ k → false ≡ standsLeft v n k head
+unfolding variablesOf member
+stands-end v n k head h = rw (left-none n k head h)

@@ -1,18 +1,22 @@
+use mathlib.Core.Path.{_≡_, refl, sym, _∙_}
+use mathlib.Core.Logic.{⊎-elim}
+use Prim.Native.Nat.{_≤_, _-_}
 use borrow.Author.Needs.{needs}
+use Rattle.chase.proofs.Steps.{standsLeft, stands-constant, stands-other, stands-here, stands-end}
 use Rattle.chase.proofs.stands.Statement.{statement}
 use Rattle.chase.proofs.stands.Tie as tie
 use Rattle.chase.proofs.stands.Reads as reads
 use Rattle.chase.proofs.stands.Lts as lts
 
 abbrev Inv-loop : tie.InvT-loop
-Inv-loop arity v head k₀ k = ?
+Inv-loop arity v head k₀ k = (k ≤ arity) × (standsLeft v arity 0 head ≡ standsLeft v arity k head)
 
 abbrev μ-loop : tie.MeasureT-loop
-μ-loop arity v head k₀ k = ?
+μ-loop arity v head k₀ k = arity - k
 
 -- src/lib.rt:132:5
 loop-holds : tie.Need-loop-holds Inv-loop μ-loop
-loop-holds c = search needs
+loop-holds c = (search needs, refl)
 
 -- src/lib.rt:133:20
 mul-cell : tie.Need-mul-cell Inv-loop μ-loop
@@ -31,7 +35,11 @@ enum-known-entry c = search needs
 
 -- src/lib.rt:139:21
 returns : tie.Need-returns Inv-loop μ-loop
-returns c = search needs
+returns c =
+    let a = c .before .before .before .before .before .before .before .args in
+    let k = c .before .before .before .before .before .before .loop .k in
+    stands-here (a .v) (a .arity) k (a .t1) (search needs) (search needs) _ (c .before .before .entry .given .1) (c .if1 .taken)
+    ∙ sym (c .before .before .before .before .before .before .loop .inv .1)
 
 -- src/lib.rt:132:9
 add-k : tie.Need-add-k Inv-loop μ-loop
@@ -43,11 +51,19 @@ loop-less c = search needs
 
 -- src/lib.rt:132:5
 loop-again : tie.Need-loop-again Inv-loop μ-loop
-loop-again c = search needs
+loop-again c =
+    let a = c .before .before .before .before .args in
+    let k = c .before .before .before .loop .k in
+    (search needs,
+    c .before .before .before .loop .inv .1
+    ∙ ⊎-elim
+    (λ w. stands-constant (a .v) (a .arity) k (a .t1) (search needs) (search needs) _ (w .1 .given .1))
+    (λ w. stands-other (a .v) (a .arity) k (a .t1) (search needs) (search needs) _ (w .1 .given .1) (w .3 .left))
+    (c .match .came))
 
 -- src/lib.rt:128:1
 returns-2 : tie.Need-returns-2 Inv-loop μ-loop
-returns-2 c = search needs
+returns-2 c = stands-end _ _ _ _ (c .loop-test .left) ∙ sym (c .before .loop .inv .1)
 
 pub stands-spec : {M : Type 1} → statement M
 stands-spec =

@@ -3,7 +3,7 @@ use Prim.Native.Nat.{_≤_, _-_}
 use borrow.Author.Needs.{needs}
 use lib.ListN.{length, set}
 use Rattle.chase.specs.Wide.{substituteCell}
-use Rattle.chase.proofs.Lists.{mapFirst, mapFirst-none, mapFirst-more, mapFirst-done, length-mapFirst}
+use Rattle.chase.proofs.Lists.{mapFirst, mapFirst-none, mapFirst-more, mapFirst-done}
 use Rattle.chase.proofs.substitute_cells.Statement.{statement}
 use Rattle.chase.proofs.substitute_cells.Tie as tie
 use Rattle.chase.proofs.substitute_cells.Reads as reads
