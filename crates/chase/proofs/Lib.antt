@@ -1,3 +1,4 @@
 -- The laws on which the proofs of the chase's functions stand.
 pub mod Lists
+pub mod Columns
 pub mod Steps

@@ -45,6 +45,9 @@ survives-is inHead v w a b p q = rw (p, q)
 pub variable-in-head : (inHead : ℕ → Bool) (e : Entry) (v : ℕ) (b : Bool) → e ≡ Variable v → entryInHead inHead (entryOf e) ≡ b → inHead v ≡ b
 variable-in-head inHead e v b is p = rw is at p
 
+pub in-head-variable : (inHead : ℕ → Bool) (e : Entry) (v : ℕ) (b : Bool) → e ≡ Variable v → b ≡ inHead v → b ≡ entryInHead inHead (entryOf e)
+in-head-variable inHead e v b is p = rw is p
+
 -- `resolve` of two stored entries, by their cases
 module _ (inHead : ℕ → Bool) (a b : Entry) where
   pub resolve-constants : (m n : ℕ) → a ≡ Constant m → b ≡ Constant n → clash ≡ resolve inHead (entryOf a) (entryOf b)

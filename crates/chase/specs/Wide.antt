@@ -23,9 +23,13 @@ use Rattle.theory.specs.Chase as chasing
 
 -- ---- the wide rows
 
+-- The 8 cells of row i, as a row of the given relation
+abbrev pub rowAt : ℕ → List Cell → ℕ → theory.Row theory.Entry
+rowAt relation cells i = record { relation = relation; values = entriesOf (take 8 (drop (8 * i) cells)) }
+
 -- Row i of a stored query with all its 8 cells
 abbrev pub wideRow : Query → ℕ → theory.Row theory.Entry
-wideRow q i = record { relation = getD (q .relations) i 0; values = entriesOf (take 8 (drop (8 * i) (q .cells))) }
+wideRow q i = rowAt (getD (q .relations) i 0) (q .cells) i
 
 -- n rows of a stored query, from row i on
 unfoldable pub wideRows : Query → ℕ → ℕ → List (theory.Row theory.Entry)

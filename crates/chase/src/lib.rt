@@ -11,7 +11,7 @@ ghost use Prim.Native.Nat.{ℕ, _≤_, _<_};
 ghost use lib.ListN.{take, getD};
 ghost use Rattle.record.specs.View.{entryOf, entriesOf, columnsOf, dependencyOf};
 ghost use Rattle.record.specs.Rule.{noCell, goodCell, goodQuery, neverQuery, every, between};
-ghost use Rattle.chase.specs.Wide.{wideRow, wideQuery, heldOf, firstDiffering, foundOf, goodFound, entryInHead, resolutionOf, substituteCell, mapCells};
+ghost use Rattle.chase.specs.Wide.{rowAt, wideRow, wideQuery, heldOf, firstDiffering, foundOf, goodFound, entryInHead, resolutionOf, substituteCell, mapCells};
 ghost use Rattle.chase.specs.Outcome.{Chasable, IsChased};
 ghost use Rattle.theory.specs.Query as theory;
 ghost use Rattle.theory.specs.Chase as chasing;
@@ -60,12 +60,11 @@ pub fn entry_at(cells: [Cell; 96], at: usize) -> Entry
     entry
 }
 
-// Whether the rows at i and j have the same entry in each column of the set.
-fn agree(q: Query, left: u8, i: usize, j: usize) -> bool
+// Whether the rows at i and j have the same entry in each column of the set, of whichever relations they are.
+fn agree(cells: [Cell; 96], left: u8, i: usize, j: usize) -> bool
     requires { ⌜ (i < 12) × (j < 12) ⌝ }
-    ensures { λ r. ⌜ r ≡ chasing.agree (columnsOf left) (wideRow q i) (wideRow q j) ⌝ }
+    ensures { λ r. ⌜ r ≡ chasing.agree (columnsOf left) (rowAt 0 cells i) (rowAt 0 cells j) ⌝ }
 {
-    let cells = q.cells;
     let mut rest = left;
     for c in 0..8 {
         if rest % 2 == 1 {
@@ -92,7 +91,7 @@ fn breaks(q: Query, d: Dependency, i: usize, j: usize) -> bool
     if relations[j] != d.relation {
         return false;
     }
-    if !agree(q, d.left, i, j) {
+    if !agree(cells, d.left, i, j) {
         return false;
     }
     !same_entry(entry_at(cells, 8 * i + right), entry_at(cells, 8 * j + right))
