@@ -1,4 +1,5 @@
--- Laws of the wide rows: a column is a cell, and agreement on the columns of a mask as a loop over its bits sees it. Assumes nothing.
+-- Laws of the wide rows: a column is a cell, agreement on the columns of a mask as a loop over its bits sees it, and the test of a pair by its parts.
+-- Assumes nothing.
 use mathlib.Core.Path.{_≡_, refl, sym, _∙_, ap}
 use mathlib.Core.Bool.{Bool, true, false, cond, not, _&&_}
 use mathlib.Core.List.{List, [], _∷_, map}
@@ -11,11 +12,13 @@ use lib.ListN.{length, take, drop, getD, List·getD-map}
 use lib.Seq.{getD-take, getD-drop}
 use Rattle.record.specs.declared.Entry as stored
 use Rattle.record.specs.declared.Cell.{Cell}
-use Rattle.record.specs.View.{entryOf, columnsFrom}
+use Rattle.record.specs.declared.Query.{Query}
+use Rattle.record.specs.declared.Dependency.{Dependency}
+use Rattle.record.specs.View.{entryOf, columnsFrom, columnsOf, dependencyOf}
 use Rattle.record.specs.Rule.{noCell}
-use Rattle.chase.specs.Wide.{rowAt}
+use Rattle.chase.specs.Wide.{rowAt, wideRow}
 use Rattle.theory.specs.Query.{Entry, constant, Row, column, sameEntry}
-use Rattle.theory.specs.Chase.{agree}
+use Rattle.theory.specs.Chase.{agree, breaks}
 
 -- Column c of row i is cell 8 i + c
 pub wide-column : (relation : ℕ) (cells : List Cell) (i c : ℕ) → c < 8 → column (constant 0) (rowAt relation cells i) c ≡ entryOf (getD cells (8 * i + c) noCell .entry)
@@ -59,3 +62,23 @@ pub agree-relations : (m n : ℕ) (cells : List Cell) (i j : ℕ) (columns : Lis
 unfolding agree
 agree-relations m n cells i j [] = refl
 agree-relations m n cells i j (c ∷ cs) = rw (agree-relations m n cells i j cs)
+
+-- ---- the test of a pair
+
+module _ (q : Query) (d : Dependency) (i j : ℕ) where
+  pub breaks-other-first : (getD (q .relations) i 0 ≡ d .relation → ⊥) → false ≡ breaks (dependencyOf d) (wideRow q i) (wideRow q j)
+  unfolding breaks
+  breaks-other-first other = rw (ne-eqb _ _ other)
+
+  pub breaks-other-second : getD (q .relations) i 0 ≡ d .relation → (getD (q .relations) j 0 ≡ d .relation → ⊥)
+      → false ≡ breaks (dependencyOf d) (wideRow q i) (wideRow q j)
+  unfolding breaks
+  breaks-other-second first other = rw (eq-eqb _ _ first, ne-eqb _ _ other)
+
+  pub breaks-by : (agreed differ : Bool) → getD (q .relations) i 0 ≡ d .relation → getD (q .relations) j 0 ≡ d .relation
+      → agreed ≡ agree (columnsOf (d .left)) (rowAt 0 (q .cells) i) (rowAt 0 (q .cells) j)
+      → sameEntry (column (constant 0) (wideRow q i) (d .right)) (column (constant 0) (wideRow q j) (d .right)) ≡ differ
+      → agreed && not differ ≡ breaks (dependencyOf d) (wideRow q i) (wideRow q j)
+  unfolding breaks
+  breaks-by agreed differ first second agreed-is differ-is =
+      rw (eq-eqb _ _ first, eq-eqb _ _ second, ← agree-relations (getD (q .relations) i 0) (getD (q .relations) j 0) (q .cells) i j (columnsOf (d .left)), differ-is, agreed-is)
