@@ -2,3 +2,4 @@
 pub mod Lists
 pub mod Columns
 pub mod Steps
+pub mod Search

@@ -2,6 +2,7 @@ use mathlib.Core.Path.{refl, sym, _∙_}
 use mathlib.Core.Bool.{true, false}
 use borrow.Author.Needs.{needs}
 use borrow.Author.Tests.{not-true, not-false}
+use lib.ListN.{getD}
 use Rattle.chase.proofs.Columns.{wide-same, breaks-other-first, breaks-other-second, breaks-by}
 use Rattle.chase.proofs.breaks.Statement.{statement}
 use Rattle.chase.proofs.breaks.Tie as tie
@@ -81,7 +82,7 @@ returns-4 c =
     let a = at .before .before .before .before .before .before .before .before .args in
     breaks-by (a .q) (a .d) (a .i) (a .j) true (c .same-entry .result) (at .before .before .before .if1 .left) (at .before .if2 .left)
     (sym (not-false _ (c .before .before .before .if3 .left)) ∙ at .agree .ensures)
-    (wide-same _ _ (a .q .cells) (a .i) (a .j) (a .d .right) _ _ _ (search needs) (c .before .before .entry-at .ensures) (c .before .entry-at2 .ensures)
+    (wide-same (getD (a .q .relations) (a .i) 0) (getD (a .q .relations) (a .j) 0) (a .q .cells) (a .i) (a .j) (a .d .right) _ _ _ (search needs) (c .before .before .entry-at .ensures) (c .before .entry-at2 .ensures)
     (c .same-entry .ensures))
 
 pub breaks-spec : {M : Type 1} → statement M
