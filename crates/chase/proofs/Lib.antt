@@ -3,3 +3,4 @@ pub mod Lists
 pub mod Columns
 pub mod Steps
 pub mod Search
+pub mod Good
