@@ -1,17 +1,17 @@
--- The search for a broken pair as nested loops see it: what the whole search finds is what is still to be searched finds, at each dependency, row and
--- second row. First for any lists, then at the positions of a stored query. Assumes nothing.
-use mathlib.Core.Path.{_≡_, refl, sym, _∙_, ap, ap₂}
-use mathlib.Core.Bool.{Bool, true, false, cond}
+-- The search for a broken pair as three nested loops over a stored query see it: what the whole search finds is what the part still to be searched
+-- finds, at each dependency, row and second row. The laws for any lists are the theory's (`Step`). Assumes nothing.
+use mathlib.Core.Path.{_≡_, refl, sym, _∙_, ap}
+use mathlib.Core.Bool.{true, false}
 use mathlib.Core.List.{List, [], _∷_, map}
 use mathlib.Core.Option.{Option, none, some}
-use Prim.Native.Nat.{ℕ, zero, suc, _+_, _*_, _-_, _≤_, _<_}
-use native.Mathlib.Numerals.{add-one}
+use Prim.Native.Nat.{ℕ, suc, _+_, _*_, _-_, _≤_, _<_}
 use native.Mathlib.Nat.{sub-zero}
+use native.Mathlib.Numerals.{add-one}
 use native.Mathlib.Omega.{arith}
 use lib.ListN.{length, take, drop, getD}
-use Rattle.record.specs.declared.Dependency as stored
-use Rattle.record.specs.declared.Query as stored'
-use Rattle.record.specs.declared.Entry as stored''
+use Rattle.record.specs.declared.Entry as stored-entry
+use Rattle.record.specs.declared.Dependency as stored-dependency
+use Rattle.record.specs.declared.Query.{Query}
 use Rattle.record.specs.View.{entryOf, dependencyOf}
 use Rattle.record.specs.Rule.{noCell}
 use Rattle.chase.specs.Wide.{wideRow, wideRows, differing, firstDiffering}
@@ -20,77 +20,10 @@ use Rattle.chase.proofs.Lists.{left-cons, left-none}
 use Rattle.chase.proofs.Columns.{wide-column}
 use Rattle.theory.specs.Query.{Entry, Row}
 use Rattle.theory.specs.Database.{Dependency}
-use Rattle.theory.specs.Chase.{orElse, mapFound, firstPassing, firstPair, firstFound, firstBroken, breaks}
+use Rattle.theory.specs.Chase.{mapFound, firstBroken, breaks}
+use Rattle.theory.proofs.Step.{brokenFor, brokenWith, firstBroken-nil, firstBroken-cons, brokenFor-nil, brokenFor-cons, brokenWith-nil, brokenWith-true, brokenWith-false}
 
--- ---- what is found, and what is found later
-
-mapFound-orElse : {A B : Type 0} (f : A → B) (a b : Option A) → mapFound f (orElse a b) ≡ orElse (mapFound f a) (mapFound f b)
-unfolding mapFound orElse
-mapFound-orElse f none b = refl
-mapFound-orElse f (some x) b = refl
-
-mapFound-mapFound : {A B C : Type 0} (f : B → C) (g : A → B) (a : Option A) → mapFound f (mapFound g a) ≡ mapFound (λ x. f (g x)) a
-unfolding mapFound
-mapFound-mapFound f g none = refl
-mapFound-mapFound f g (some x) = refl
-
-orElse-assoc : {A : Type 0} (a b c : Option A) → orElse (orElse a b) c ≡ orElse a (orElse b c)
-unfolding orElse
-orElse-assoc none b c = refl
-orElse-assoc (some x) b c = refl
-
--- ---- the loops over any lists
-
--- What is found for d among the pairs of `tail`, then for the later dependencies
-abbrev fromRow : Dependency → List Dependency → List (Row Entry) → List (Row Entry) → Option (Entry × Entry)
-fromRow d ds rows tail = orElse (mapFound (λ p. differing (d, p)) (firstPair (breaks d) tail)) (firstDiffering ds rows)
-
--- What is found for d and r among `seconds`, then for the pairs of `tail`, then for the later dependencies
-abbrev fromPair : Dependency → List Dependency → List (Row Entry) → Row Entry → List (Row Entry) → List (Row Entry) → Option (Entry × Entry)
-fromPair d ds rows r seconds tail = orElse (mapFound (λ s. differing (d, (r, s))) (firstPassing (breaks d r) seconds)) (fromRow d ds rows tail)
-
-module _ (d : Dependency) (ds : List Dependency) (rows : List (Row Entry)) where
-  next-dependency : firstDiffering (d ∷ ds) rows ≡ fromRow d ds rows rows
-  unfolding firstDiffering firstBroken firstFound
-  next-dependency =
-      mapFound-orElse differing (mapFound (λ x. (d, x)) (firstPair (breaks d) rows)) (firstFound (λ d. firstPair (breaks d) rows) ds)
-      ∙ ap
-      (λ o. orElse o (mapFound differing (firstFound (λ d. firstPair (breaks d) rows) ds)))
-      (mapFound-mapFound differing (λ x. (d, x)) (firstPair (breaks d) rows))
-
-  last-row : fromRow d ds rows [] ≡ firstDiffering ds rows
-  unfolding firstPair mapFound orElse
-  last-row = refl
-
-  next-row : (r : Row Entry) (tail : List (Row Entry)) → fromRow d ds rows (r ∷ tail) ≡ fromPair d ds rows r tail tail
-  unfolding firstPair
-  next-row r tail =
-      ap
-      (λ o. orElse o (firstDiffering ds rows))
-      (mapFound-orElse (λ p. differing (d, p)) (mapFound (λ y. (r, y)) (firstPassing (breaks d r) tail)) (firstPair (breaks d) tail)
-      ∙ ap
-      (λ o. orElse o (mapFound (λ p. differing (d, p)) (firstPair (breaks d) tail)))
-      (mapFound-mapFound (λ p. differing (d, p)) (λ y. (r, y)) (firstPassing (breaks d r) tail)))
-      ∙ orElse-assoc
-      (mapFound (λ s. differing (d, (r, s))) (firstPassing (breaks d r) tail))
-      (mapFound (λ p. differing (d, p)) (firstPair (breaks d) tail))
-      (firstDiffering ds rows)
-
-  last-pair : (r : Row Entry) (tail : List (Row Entry)) → fromPair d ds rows r [] tail ≡ fromRow d ds rows tail
-  unfolding firstPassing mapFound orElse
-  last-pair r tail = refl
-
-  next-pair : (r s : Row Entry) (seconds tail : List (Row Entry)) → breaks d r s ≡ false → fromPair d ds rows r (s ∷ seconds) tail ≡ fromPair d ds rows r seconds tail
-  unfolding firstPassing
-  next-pair r s seconds tail whole = rw whole
-
-  this-pair : (r s : Row Entry) (seconds tail : List (Row Entry)) → breaks d r s ≡ true → fromPair d ds rows r (s ∷ seconds) tail ≡ some (differing (d, (r, s)))
-  unfolding firstPassing mapFound orElse
-  this-pair r s seconds tail broken = rw broken
-
--- ---- the loops at the positions of a stored query
-
-module _ (q : stored'.Query) where
+module _ (q : Query) where
   -- The rows that are left of n after the first i
   abbrev rowsLeft : ℕ → ℕ → List (Row Entry)
   rowsLeft n i = wideRows q i (n - i)
@@ -105,61 +38,65 @@ module _ (q : stored'.Query) where
   unfolding wideRows
   rows-none n i h = let nothing : n - i ≡ 0 = omega arith in rw nothing
 
-module _ (q : stored'.Query) (dependencies : List stored.Dependency) (held : ℕ) where
+module _ (q : Query) (dependencies : List stored-dependency.Dependency) (held : ℕ) where
   -- The dependencies that are left after the first d
   abbrev dependenciesLeft : ℕ → List Dependency
   dependenciesLeft d = map dependencyOf (drop d (take held dependencies))
 
+  -- Dependency d
+  abbrev dependencyAt : ℕ → Dependency
+  dependencyAt d = dependencyOf (getD dependencies d noDependency)
+
+  -- All rows
+  abbrev rowsAll : List (Row Entry)
+  rowsAll = wideRows q 0 (q .size)
+
   -- What is found from dependency d on
-  abbrev pub foundFrom : ℕ → Option (Entry × Entry)
-  foundFrom d = firstDiffering (dependenciesLeft d) (wideRows q 0 (q .size))
+  abbrev pub brokenFrom : ℕ → Option (Dependency × (Row Entry × Row Entry))
+  brokenFrom d = firstBroken (dependenciesLeft d) rowsAll
 
   -- What is found from dependency d and first row i on
-  abbrev pub foundFromRow : ℕ → ℕ → Option (Entry × Entry)
-  foundFromRow d i =
-      fromRow (dependencyOf (getD dependencies d noDependency)) (dependenciesLeft (d + 1)) (wideRows q 0 (q .size)) (rowsLeft q (q .size) i)
+  abbrev pub brokenFromRow : ℕ → ℕ → Option (Dependency × (Row Entry × Row Entry))
+  brokenFromRow d i = brokenFor (dependencyAt d) (rowsLeft q (q .size) i) (dependenciesLeft (d + 1)) rowsAll
 
   -- What is found from dependency d, first row i and second row j on
-  abbrev pub foundFromPair : ℕ → ℕ → ℕ → Option (Entry × Entry)
-  foundFromPair d i j =
-      fromPair
-      (dependencyOf (getD dependencies d noDependency))
-      (dependenciesLeft (d + 1))
-      (wideRows q 0 (q .size))
-      (wideRow q i)
-      (rowsLeft q (q .size) j)
-      (rowsLeft q (q .size) (i + 1))
+  abbrev pub brokenFromPair : ℕ → ℕ → ℕ → Option (Dependency × (Row Entry × Row Entry))
+  brokenFromPair d i j =
+      brokenWith (dependencyAt d) (wideRow q i) (rowsLeft q (q .size) j) (rowsLeft q (q .size) (i + 1)) (dependenciesLeft (d + 1)) rowsAll
 
-  pub dependency-next : (d : ℕ) → d < held → held ≤ length dependencies → foundFrom d ≡ foundFromRow d 0
-  dependency-next d h fits = rw (left-cons held d dependencies noDependency h fits, next-dependency, sub-zero)
+  pub dependency-next : (d : ℕ) → d < held → held ≤ length dependencies → brokenFrom d ≡ brokenFromRow d 0
+  dependency-next d h fits = rw (left-cons held d dependencies noDependency h fits, firstBroken-cons, sub-zero)
 
-  pub dependency-last : (d : ℕ) → held ≤ d → foundFrom d ≡ none
-  unfolding firstDiffering firstBroken firstFound mapFound
-  dependency-last d h = rw (left-none held d dependencies h)
+  pub dependency-last : (d : ℕ) → held ≤ d → brokenFrom d ≡ none
+  dependency-last d h = rw (left-none held d dependencies h) (firstBroken-nil rowsAll)
 
-  pub row-next : (d i : ℕ) → i < q .size → foundFromRow d i ≡ foundFromPair d i (i + 1)
-  row-next d i h = rw (rows-cons q (q .size) i h, next-row)
+  pub row-next : (d i : ℕ) → i < q .size → brokenFromRow d i ≡ brokenFromPair d i (i + 1)
+  row-next d i h = rw (rows-cons q (q .size) i h, brokenFor-cons)
 
-  pub row-last : (d i : ℕ) → q .size ≤ i → foundFromRow d i ≡ foundFrom (d + 1)
-  row-last d i h = rw (rows-none q (q .size) i h, last-row)
+  pub row-last : (d i : ℕ) → q .size ≤ i → brokenFromRow d i ≡ brokenFrom (d + 1)
+  row-last d i h = rw (rows-none q (q .size) i h, brokenFor-nil)
 
-  pub pair-next : (d i j : ℕ) → j < q .size → breaks (dependencyOf (getD dependencies d noDependency)) (wideRow q i) (wideRow q j) ≡ false
-      → foundFromPair d i j ≡ foundFromPair d i (j + 1)
-  pair-next d i j h whole = rw (rows-cons q (q .size) j h) (next-pair _ _ _ _ _ _ _ whole)
+  pub pair-next : (d i j : ℕ) → j < q .size → breaks (dependencyAt d) (wideRow q i) (wideRow q j) ≡ false
+      → brokenFromPair d i j ≡ brokenFromPair d i (j + 1)
+  pair-next d i j h whole = rw (rows-cons q (q .size) j h) (brokenWith-false _ _ _ _ _ _ _ whole)
 
-  pub pair-this : (d i j : ℕ) → j < q .size → breaks (dependencyOf (getD dependencies d noDependency)) (wideRow q i) (wideRow q j) ≡ true
-      → foundFromPair d i j ≡ some (differing (dependencyOf (getD dependencies d noDependency), (wideRow q i, wideRow q j)))
-  pair-this d i j h broken = rw (rows-cons q (q .size) j h) (this-pair _ _ _ _ _ _ _ broken)
+  pub pair-last : (d i j : ℕ) → q .size ≤ j → brokenFromPair d i j ≡ brokenFromRow d (i + 1)
+  pair-last d i j h = rw (rows-none q (q .size) j h) (brokenWith-nil _ _ _ _ _)
 
-  pub pair-last : (d i j : ℕ) → q .size ≤ j → foundFromPair d i j ≡ foundFromRow d (i + 1)
-  pair-last d i j h = rw (rows-none q (q .size) j h) (last-pair _ _ _ (wideRow q i) _)
+  -- Where the search ends with nothing
+  pub nothing-found : brokenFrom 0 ≡ none → none ≡ firstDiffering (dependenciesLeft 0) rowsAll
+  unfolding mapFound
+  nothing-found e = rw e
 
   -- The entries that the code hands out for a broken pair
-  pub pair-found : (d i j : ℕ) (a b : stored''.Entry) → j < q .size → getD dependencies d noDependency .right < 8
-      → true ≡ breaks (dependencyOf (getD dependencies d noDependency)) (wideRow q i) (wideRow q j)
+  pub pair-found : (d i j : ℕ) (a b : stored-entry.Entry) → j < q .size → getD dependencies d noDependency .right < 8
+      → true ≡ breaks (dependencyAt d) (wideRow q i) (wideRow q j)
       → a ≡ getD (q .cells) (8 * i + getD dependencies d noDependency .right) noCell .entry
       → b ≡ getD (q .cells) (8 * j + getD dependencies d noDependency .right) noCell .entry
-      → foundFrom 0 ≡ foundFromPair d i j → some (entryOf a, entryOf b) ≡ foundFrom 0
+      → brokenFrom 0 ≡ brokenFromPair d i j → some (entryOf a, entryOf b) ≡ firstDiffering (dependenciesLeft 0) rowsAll
+  unfolding mapFound
   pair-found d i j a b h fits broken a-is b-is before =
-      rw (before, pair-this d i j h (sym broken), wide-column (getD (q .relations) i 0) (q .cells) i (getD dependencies d noDependency .right) fits,
-          wide-column (getD (q .relations) j 0) (q .cells) j (getD dependencies d noDependency .right) fits, a-is, b-is)
+      let right = getD dependencies d noDependency .right in
+      rw
+      (before, rows-cons q (q .size) j h, brokenWith-true (dependencyAt d) (wideRow q i) (wideRow q j) _ _ _ _ (sym broken),
+        wide-column (getD (q .relations) i 0) (q .cells) i right fits, wide-column (getD (q .relations) j 0) (q .cells) j right fits, a-is, b-is)

@@ -52,7 +52,7 @@ differing found =
     (theory.column (theory.constant 0) (found .1 .0) (found .0 .right), theory.column (theory.constant 0) (found .1 .1) (found .0 .right))
 
 -- What the search should find
-unfoldable pub firstDiffering : List database.Dependency → List (theory.Row theory.Entry) → Option (theory.Entry × theory.Entry)
+abbrev pub firstDiffering : List database.Dependency → List (theory.Row theory.Entry) → Option (theory.Entry × theory.Entry)
 firstDiffering ds rows = chasing.mapFound differing (chasing.firstBroken ds rows)
 
 -- What the answer of the search stands for

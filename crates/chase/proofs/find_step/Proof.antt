@@ -3,7 +3,7 @@ use Prim.Native.Nat.{_≤_, _<_, _+_, _*_, _-_}
 use native.Mathlib.Omega.{arith}
 use lib.ListN.{getD}
 use borrow.Author.Needs.{needs}
-use Rattle.chase.proofs.Search.{foundFrom, foundFromRow, foundFromPair, dependency-next, dependency-last, row-next, row-last, pair-next, pair-found, pair-last}
+use Rattle.chase.proofs.Search.{brokenFrom, brokenFromRow, brokenFromPair, dependency-next, dependency-last, row-next, row-last, pair-next, pair-last, nothing-found, pair-found}
 use Rattle.chase.proofs.Good.{and-both, good-read}
 use Rattle.chase.specs.Outcome.{noDependency}
 use Rattle.chase.proofs.find_step.Statement.{statement}
@@ -14,19 +14,19 @@ use Rattle.chase.proofs.breaks.Reads as breaks-reads
 use Rattle.chase.proofs.entry_at.Reads as entry-at-reads
 
 abbrev Inv-loop3 : tie.InvT-loop3
-Inv-loop3 q held dependencies size cells d dependency right i j₀ j = (i < j) × (j ≤ size) × (foundFrom q dependencies held 0 ≡ foundFromPair q dependencies held d i j)
+Inv-loop3 q held dependencies size cells d dependency right i j₀ j = (i < j) × (j ≤ size) × (brokenFrom q dependencies held 0 ≡ brokenFromPair q dependencies held d i j)
 
 abbrev μ-loop3 : tie.MeasureT-loop3
 μ-loop3 q held dependencies size cells d dependency right i j₀ j = size - j
 
 abbrev Inv-loop2 : tie.InvT-loop2
-Inv-loop2 q held dependencies size cells d dependency right i₀ i = (i ≤ size) × (foundFrom q dependencies held 0 ≡ foundFromRow q dependencies held d i)
+Inv-loop2 q held dependencies size cells d dependency right i₀ i = (i ≤ size) × (brokenFrom q dependencies held 0 ≡ brokenFromRow q dependencies held d i)
 
 abbrev μ-loop2 : tie.MeasureT-loop2
 μ-loop2 q held dependencies size cells d dependency right i₀ i = size - i
 
 abbrev Inv-loop : tie.InvT-loop
-Inv-loop q held dependencies size cells d₀ d = (d ≤ held) × (foundFrom q dependencies held 0 ≡ foundFrom q dependencies held d)
+Inv-loop q held dependencies size cells d₀ d = (d ≤ held) × (brokenFrom q dependencies held 0 ≡ brokenFrom q dependencies held d)
 
 abbrev μ-loop : tie.MeasureT-loop
 μ-loop q held dependencies size cells d₀ d = held - d
@@ -244,7 +244,7 @@ returns-2 :
 returns-2 c =
     let a = c .before .before .before .before .before .args in
     let l = c .before .loop in
-    (sym (l .inv .1 ∙ dependency-last (a .q) (a .t2) (a .held) (l .d) (search needs)), λ good. refl)
+    (nothing-found (a .q) (a .t2) (a .held) (l .inv .1 ∙ dependency-last (a .q) (a .t2) (a .held) (l .d) (search needs)), λ good. refl)
 
 pub find-step-spec : {M : Type 1} → statement M
 find-step-spec =
