@@ -1,6 +1,8 @@
 -- The laws on which the proofs of the chase's functions stand.
 pub mod Lists
+pub mod View
 pub mod Columns
 pub mod Steps
 pub mod Search
 pub mod Good
+pub mod Narrow
