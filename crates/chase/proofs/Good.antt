@@ -1,11 +1,11 @@
 -- What a replacement keeps of document 01's rule for a query, and what the rule says of the cells: each is good, and those that a row does not use are
 -- constant 0. Assumes nothing.
-use mathlib.Core.Path.{_≡_, refl, sym, _∙_, ap}
-use mathlib.Core.Bool.{Bool, true, false, cond, _&&_, false≢true}
+use mathlib.Core.Path.{_≡_, refl, ap}
+use mathlib.Core.Bool.{Bool, true, false, _&&_, false≢true}
 use mathlib.Core.List.{List, [], _∷_, map}
 use Prim.Native.Nat.{ℕ, zero, suc, _+_, _*_, _≤_}
 use native.Mathlib.Omega.{arith}
-use borrow.Author.Tests.{eqb-true, leb-true, le-leb}
+use borrow.Author.Tests.{eqb-true, le-leb}
 use lib.Dec.{eqb, leb, ltb}
 use lib.ListN.{length, take, drop, getD}
 use lib.Seq.{drop-drop, length-take-le}
@@ -13,7 +13,7 @@ use Rattle.record.specs.declared.Entry.{Entry}
 use Rattle.record.specs.declared.Entry.the-variants.{Constant, Variable}
 use Rattle.record.specs.declared.Cell.{Cell}
 use Rattle.record.specs.declared.Query.{Query}
-use Rattle.record.specs.View.{entryOf, entriesOf}
+use Rattle.record.specs.View.{entryOf}
 use Rattle.record.specs.Rule.{every, inUse, isZero, blankEntry, blankCell, goodEntry, goodCell, goodRow, goodRows, headInUse, goodQuery, noCell, neverQuery}
 use Rattle.chase.specs.Wide.{substituteEntry, substituteCell, mapCells}
 use Rattle.chase.proofs.Lists.{take-map, drop-map}
@@ -118,13 +118,13 @@ pub good-parts : (schema : List ℕ) (q : Query) → goodQuery schema q ≡ true
 unfolding goodQuery
 good-parts schema q good =
     let p = and-six
-        (leb (q .arity) 8)
-        (leb (q .size) 12)
-        (inUse (headInUse q) goodCell blankCell (q .head))
-        (goodRows schema (take (q .size) (q .relations)) (q .cells))
-        (every isZero (drop (q .size) (q .relations)))
-        (every blankCell (drop (8 * q .size) (q .cells)))
-        good in
+    (leb (q .arity) 8)
+    (leb (q .size) 12)
+    (inUse (headInUse q) goodCell blankCell (q .head))
+    (goodRows schema (take (q .size) (q .relations)) (q .cells))
+    (every isZero (drop (q .size) (q .relations)))
+    (every blankCell (drop (8 * q .size) (q .cells)))
+    good in
     record { arity-fits = p .0; size-fits = p .1; head-good = p .2; rows-good = p .3; relations-blank = p .4; cells-blank = p .5 }
 
 pub parts-good : (schema : List ℕ) (q : Query) → Parts schema q → goodQuery schema q ≡ true
@@ -143,11 +143,12 @@ good-row schema relation relations cells p =
     let row = and-left (goodRow schema relation (take 8 cells)) (goodRows schema relations (drop 8 cells)) p in
     let known = ltb relation (length schema) in
     let used = every goodCell (take (getD schema relation 0) (take 8 cells)) in
-    let unused = every blankCell (drop (getD schema relation 0) (take 8 cells)) in
-    (and-left known (used && unused) row,
-    and-left used unused (and-right known (used && unused) row),
-    and-right used unused (and-right known (used && unused) row),
-    and-right (goodRow schema relation (take 8 cells)) (goodRows schema relations (drop 8 cells)) p)
+    let unused = every blankCell (drop (getD schema relation 0) (take 8 cells)) in (
+      and-left known (used && unused) row,
+      and-left used unused (and-right known (used && unused) row),
+      and-right used unused (and-right known (used && unused) row),
+      and-right (goodRow schema relation (take 8 cells)) (goodRows schema relations (drop 8 cells)) p,
+    )
 
 module _ (v : ℕ) (e : Entry) (good : goodEntry e ≡ true) where
   used-kept : (n : ℕ) (cells : List Cell) → every goodCell (take n cells) ≡ true → every goodCell (take n (map (substituteCell v e) cells)) ≡ true
@@ -162,9 +163,13 @@ module _ (v : ℕ) (e : Entry) (good : goodEntry e ≡ true) where
   rows-kept schema (relation ∷ relations) cells p =
       let parts = good-row schema relation relations cells p in
       let w = getD schema relation 0 in
-      rw
-      (take-map (substituteCell v e) 8 cells, drop-map (substituteCell v e) 8 cells, parts .0, used-kept w (take 8 cells) (parts .1),
-        unused-kept w (take 8 cells) (parts .2))
+      rw (
+        take-map (substituteCell v e) 8 cells,
+        drop-map (substituteCell v e) 8 cells,
+        parts .0,
+        used-kept w (take 8 cells) (parts .1),
+        unused-kept w (take 8 cells) (parts .2),
+      )
       (rows-kept schema relations (drop 8 cells) (parts .3))
 
   -- A replacement by a good entry keeps a query good

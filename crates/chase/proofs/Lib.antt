@@ -1,4 +1,5 @@
--- The laws on which the proofs of the chase's functions stand. `View`, `Good` and `Narrow` are of use to any code over stored queries.
+-- The laws on which the proofs of the chase's functions stand. `View` and `Good` are of use to any code over stored queries,
+-- `Callers` to whoever calls the chase.
 pub mod Lists
 pub mod View
 pub mod Columns
@@ -6,4 +7,5 @@ pub mod Steps
 pub mod Search
 pub mod Good
 pub mod Narrow
+pub mod Callers
 pub mod Rounds

@@ -2,22 +2,21 @@
 -- In order: rows that narrowing changes in no column; the search and the step do not tell them from the narrow ones; so neither does the chase; the
 -- wide rows of a good query are such rows, and narrowing gives the view. Assumes nothing.
 use mathlib.Core.Path.{_≡_, refl, sym, _∙_, ap, ap₂, subst}
-use mathlib.Core.Bool.{Bool, true, false, cond, not, _&&_}
+use mathlib.Core.Bool.{true}
 use mathlib.Core.List.{List, [], _∷_, map}
 use mathlib.Core.Option.{Option, none, some}
 use Prim.Native.Nat.{ℕ, zero, suc, _+_, _*_, _≤_, _<_}
 use native.Mathlib.Omega.{arith}
-use lib.Dec.{eqb}
 use lib.ListN.{length, take, drop, getD, List·getD-map}
 use lib.Seq.{drop-cons, drop-drop, take-take}
 use Rattle.record.specs.declared.Cell.{Cell}
 use Rattle.record.specs.declared.Query as stored
 use Rattle.record.specs.View.{entryOf, entriesOf, rowsOf, queryOf}
 use Rattle.record.specs.Rule.{every, blankCell, goodRows, goodQuery}
-use Rattle.chase.specs.Wide.{wideRow, wideRows, wideQuery, differing, firstDiffering}
+use Rattle.chase.specs.Wide.{wideRows, wideQuery, differing, firstDiffering}
 use Rattle.chase.proofs.Lists.{take-map, map-square}
 use Rattle.chase.proofs.Good.{blank-entry, good-row, good-parts}
-use Rattle.theory.specs.Query.{Entry, constant, Row, Query, column, sameEntry, mapRow, mapQuery}
+use Rattle.theory.specs.Query.{Entry, constant, Row, Query, column, mapRow, mapQuery}
 use Rattle.theory.specs.Database.{Dependency}
 use Rattle.theory.specs.Chase.{orElse, mapFound, firstPassing, firstPair, firstFound, firstBroken, agree, breaks, resolve, inHead, step, substitute, Chases, rests, clashes, replaces}
 use Rattle.theory.proofs.Lists.{bool-cases, and-left, and-right}
@@ -143,13 +142,14 @@ module _ (schema : List ℕ) where
   unfolding substitute
   substitute-padded v e [] ps = tt
   substitute-padded v e (r ∷ rs) ps =
-      let w = getD schema (r .relation) 0 in
-      (λ c.
-      ap (λ l. getD l c (constant 0)) (take-map (substitute v e) w (r .values))
-      ∙ List·getD-map (substitute v e) (take w (r .values)) c (constant 0)
-      ∙ ap (substitute v e) (ps .0 c)
-      ∙ sym (List·getD-map (substitute v e) (r .values) c (constant 0)),
-      substitute-padded v e rs (ps .1))
+      let w = getD schema (r .relation) 0 in (
+        λ c.
+            ap (λ l. getD l c (constant 0)) (take-map (substitute v e) w (r .values))
+            ∙ List·getD-map (substitute v e) (take w (r .values)) c (constant 0)
+            ∙ ap (substitute v e) (ps .0 c)
+            ∙ sym (List·getD-map (substitute v e) (r .values) c (constant 0)),
+        substitute-padded v e rs (ps .1),
+      )
 
   -- The chase of the rows goes as the chase of the padded rows
   pub chases-narrow : {ds : List Dependency} {q result : Query} {count : ℕ} → AllPadded schema (q .rows) → Chases ds q result count
@@ -187,9 +187,10 @@ module _ (schema : List ℕ) (q : stored.Query) where
       let on : 8 * i + 8 ≡ 8 * suc i = omega arith in
       let here = drop-cons (q .relations) i 0 inside in
       let relation = getD (q .relations) i 0 in
-      let parts = good-row schema relation (take n (drop (suc i) (q .relations))) (drop (8 * i) (q .cells)) (rw here at good) in
-      (λ c. cut-column (getD schema relation 0) (take 8 (drop (8 * i) (q .cells))) c (parts .2),
-      rows-split (suc i) n (omega arith) (rw (drop-drop, on) at (parts .3)))
+      let parts = good-row schema relation (take n (drop (suc i) (q .relations))) (drop (8 * i) (q .cells)) (rw here at good) in (
+        λ c. cut-column (getD schema relation 0) (take 8 (drop (8 * i) (q .cells))) c (parts .2),
+        rows-split (suc i) n (omega arith) (rw (drop-drop, on) at (parts .3)),
+      )
 
   pub wide-padded : goodQuery schema q ≡ true → q .size ≤ length (q .relations) → AllPadded schema (wideQuery q .rows)
   wide-padded good fits = rows-split 0 (q .size) (omega arith) (good-parts schema q good .rows-good)

@@ -1,17 +1,15 @@
 -- The rounds of the chase on a stored query: what holds before each round, that a replacement keeps it and makes the rest of the chase shorter by one, and
 -- what the end gives. Assumes nothing.
-use mathlib.Core.Path.{_≡_, refl, sym, _∙_, ap, ap₂, subst}
+use mathlib.Core.Path.{_≡_, refl, sym, _∙_, ap, ap₂}
 use mathlib.Core.Logic.{⊎-elim}
 use mathlib.Core.Bool.{Bool, true}
 use mathlib.Core.List.{List, [], _∷_, _++_, map}
-use mathlib.Core.Option.{Option, none, some}
-use Prim.Native.Nat.{ℕ, zero, suc, _+_, _*_, _≤_, _<_, zero-le}
+use mathlib.Core.Option.{none, some}
+use Prim.Native.Nat.{ℕ, zero, suc, _+_, _*_, _≤_, zero-le}
 use native.Mathlib.Nat.{zero-add, add-zero}
-use native.Mathlib.Numerals.{add-one}
 use native.Mathlib.Omega.{arith}
-use borrow.Author.Tests.{leb-true}
-use lib.Dec.{eqb, leb}
-use lib.ListN.{length, take, drop, getD, replicate, length-append, length-take, length-map}
+use lib.Dec.{eqb}
+use lib.ListN.{length, take, drop, getD, length-append, length-take, length-map}
 use lib.Seq.{length-take-le}
 use Rattle.record.specs.declared.Entry as stored-entry
 use Rattle.record.specs.declared.Entry.the-variants.{Constant, Variable}
@@ -20,7 +18,6 @@ use Rattle.record.specs.declared.Dependency as stored-dependency
 use Rattle.record.specs.declared.Query as stored
 use Rattle.record.specs.View.{entryOf, entriesOf, queryOf}
 use Rattle.record.specs.Rule.{every, between, goodEntry, goodCell, goodQuery, neverQuery, noCell}
-use Rattle.chase.specs.declared.Found.{Found}
 use Rattle.chase.specs.declared.Found.the-variants.{Rest, Step}
 use Rattle.chase.specs.declared.Resolution.{Resolution}
 use Rattle.chase.specs.declared.Resolution.the-variants.{Clash, Replace}
@@ -29,11 +26,12 @@ use Rattle.chase.specs.Wide.{wideRow, wideRows, wideQuery, heldOf, first
 use Rattle.chase.specs.Outcome.{IsChased}
 use Rattle.chase.proofs.Lists.{drop-map, take-replicate, map-replicate}
 use Rattle.chase.proofs.View.{StandsFor, entriesOf-take}
-use Rattle.chase.proofs.Good.{every-getD, every-weaken, good-kept, good-cells, never-good}
-use Rattle.chase.proofs.Narrow.{narrowQuery, step-differing, chases-narrow, wide-padded, narrow-wide}
-use Rattle.theory.specs.Query.{Entry, constant, variable, Row, Query, never, mapRow, mapQuery, rowEntries, variablesOf, member, distinct, variables, variableCount}
+use Rattle.chase.proofs.Good.{good-kept, good-cells, never-good}
+use Rattle.chase.proofs.Callers.{width-le}
+use Rattle.chase.proofs.Narrow.{step-differing, chases-narrow, wide-padded, narrow-wide}
+use Rattle.theory.specs.Query.{Entry, constant, variable, Query, never, mapRow, mapQuery, rowEntries, variablesOf, member, distinct, variableCount}
 use Rattle.theory.specs.Database.{Dependency}
-use Rattle.theory.specs.Chase.{mapFound, resolve, inHead, survives, substitute, step, clash, replace, Chased, oneMore, Chases, chase}
+use Rattle.theory.specs.Chase.{mapFound, resolve, inHead, substitute, step, Chased, oneMore, Chases, chase}
 use Rattle.theory.proofs.Lists.{bool-cases, and-left, and-right}
 use Rattle.theory.proofs.Entries.{constant-same, variable-same, constant-variable}
 use Rattle.theory.proofs.Step.{resolve-replace}
@@ -96,13 +94,14 @@ pub variables-fit : (q : stored.Query) → q .arity ≤ 8 → q .size ≤ 12 →
 variables-fit q arity size =
     let head = entriesOf (take (q .arity) (q .head)) in
     let rows = rowEntries (wideRows q 0 (q .size)) in
-    omega
-    (arith,
-    distinct-length (variablesOf (head ++ rows)),
-    variablesOf-length (head ++ rows),
-    length-append head rows,
-    entries-length (q .arity) (q .head),
-    wide-length q 0 (q .size))
+    omega (
+      arith,
+      distinct-length (variablesOf (head ++ rows)),
+      variablesOf-length (head ++ rows),
+      length-append head rows,
+      entries-length (q .arity) (q .head),
+      wide-length q 0 (q .size),
+    )
 
 -- ---- the rounds
 
@@ -158,47 +157,47 @@ resolve-good shown a b v e good-a good-b is =
 
 -- A replacement keeps it, and the rest of the chase is shorter by one
 module _
-  (q : stored.Query)
-  (ds : List Dependency)
-  (query : stored.Query)
-  (a b : stored-entry.Entry)
-  (v : ℕ)
-  (e : stored-entry.Entry)
-  (found : foundOf (Step a b) ≡ firstDiffering ds (wideQuery query .rows))
-  (resolved : resolutionOf (Replace v e) ≡ resolve (inHead (wideQuery query)) (entryOf a) (entryOf b))
+    (q : stored.Query)
+    (ds : List Dependency)
+    (query : stored.Query)
+    (a b : stored-entry.Entry)
+    (v : ℕ)
+    (e : stored-entry.Entry)
+    (found : foundOf (Step a b) ≡ firstDiffering ds (wideQuery query .rows))
+    (resolved : resolutionOf (Replace v e) ≡ resolve (inHead (wideQuery query)) (entryOf a) (entryOf b))
   where
-  one-replaced : chase ds (wideQuery query) ≡ oneMore (chase ds (wideQuery (mapCells (substituteCell v e) query)))
-  one-replaced =
-      chase-at-replace ds (wideQuery query) v (entryOf e) (step-some ds query a b (Replace v e) found resolved)
-      ∙ ap (λ x. oneMore (chase ds x)) (sym (wideQuery-map (substituteCell v e) (substitute v (entryOf e)) (substitute-stands v e) query))
+    one-replaced : chase ds (wideQuery query) ≡ oneMore (chase ds (wideQuery (mapCells (substituteCell v e) query)))
+    one-replaced =
+        chase-at-replace ds (wideQuery query) v (entryOf e) (step-some ds query a b (Replace v e) found resolved)
+        ∙ ap (λ x. oneMore (chase ds x)) (sym (wideQuery-map (substituteCell v e) (substitute v (entryOf e)) (substitute-stands v e) query))
 
-  pub replaced-count : chase ds (wideQuery query) .count ≡ suc (chase ds (wideQuery (mapCells (substituteCell v e) query)) .count)
-  replaced-count = ap (λ c. c .count) one-replaced
+    pub replaced-count : chase ds (wideQuery query) .count ≡ suc (chase ds (wideQuery (mapCells (substituteCell v e) query)) .count)
+    replaced-count = ap (λ c. c .count) one-replaced
 
-  pub under-replace : (count : ℕ) → Under q ds query count → q .size ≤ length (q .relations)
-      → (every goodCell (query .cells) ≡ true → goodFound (Step a b) ≡ true) → Under q ds (mapCells (substituteCell v e) query) (count + 1)
-  under-replace count under fits good =
-      let after = chase ds (wideQuery (mapCells (substituteCell v e) query)) in
-      let one : count + suc (after .count) ≡ count + 1 + after .count = omega arith in
-      record {
-        same-arity = under .same-arity;
-        same-size = under .same-size;
-        same-relations = under .same-relations;
-        head-length = length-map (query .head) (substituteCell v e) ∙ under .head-length;
-        keeps-good =
-            λ schema good-q.
-            let good-query = under .keeps-good schema good-q in
-            let inside : query .size ≤ length (query .relations) = rw (under .same-size, under .same-relations) fits in
-            let both = good (good-cells schema query good-query inside) in
-            good-kept
-            v
-            e
-            (resolve-good (inHead (wideQuery query)) a b v e (and-left (goodEntry a) (goodEntry b) both) (and-right (goodEntry a) (goodEntry b) both) resolved)
-            schema
-            query
-            good-query;
-        chase-is = under .chase-is ∙ ap (later count) one-replaced ∙ ap (λ n. record { query = after .query; count = n }) one;
-      }
+    pub under-replace : (count : ℕ) → Under q ds query count → q .size ≤ length (q .relations)
+        → (every goodCell (query .cells) ≡ true → goodFound (Step a b) ≡ true) → Under q ds (mapCells (substituteCell v e) query) (count + 1)
+    under-replace count under fits good =
+        let after = chase ds (wideQuery (mapCells (substituteCell v e) query)) in
+        let one : count + suc (after .count) ≡ count + 1 + after .count = omega arith in
+        record {
+          same-arity = under .same-arity;
+          same-size = under .same-size;
+          same-relations = under .same-relations;
+          head-length = length-map (query .head) (substituteCell v e) ∙ under .head-length;
+          keeps-good =
+              λ schema good-q.
+              let good-query = under .keeps-good schema good-q in
+              let inside : query .size ≤ length (query .relations) = rw (under .same-size, under .same-relations) fits in
+              let both = good (good-cells schema query good-query inside) in
+              good-kept
+              v
+              e
+              (resolve-good (inHead (wideQuery query)) a b v e (and-left (goodEntry a) (goodEntry b) both) (and-right (goodEntry a) (goodEntry b) both) resolved)
+              schema
+              query
+              good-query;
+          chase-is = under .chase-is ∙ ap (later count) one-replaced ∙ ap (λ n. record { query = after .query; count = n }) one;
+        }
 
 -- The count stays small
 pub under-count : (q : stored.Query) (ds : List Dependency) (query : stored.Query) (count : ℕ) → Under q ds query count → q .arity ≤ 8 → q .size ≤ 12
@@ -216,15 +215,10 @@ chased-by : (schema : List ℕ) (dependencies : List stored-dependency.Dependenc
     → goodQuery schema (r .query) ≡ true → r .query .arity ≡ q .arity → IsChased schema dependencies held q r
 chased-by schema dependencies held q r good widths fits fits' chased good' arity =
     let ds = heldOf dependencies held in
-    let narrow : (k : ℕ) → getD schema k 0 ≤ 8
-        = λ k.
-        leb-true
-        (getD schema k 0)
-        8
-        (every-getD (λ n. leb n 8) schema k 0 (every-weaken (between 1 8) (λ n. leb n 8) (λ n p. and-right (leb 1 n) (leb n 8) p) schema widths) refl) in
+    let narrow = width-le schema widths in
     let wide : Chases ds (wideQuery q) (wideQuery (r .query)) (r .count) = rw chased at (chase-chases ds (wideQuery q)) in
     let view : Chases ds (queryOf schema q) (queryOf schema (r .query)) (r .count)
-        = rw (narrow-wide schema q narrow fits, narrow-wide schema (r .query) narrow fits') at (chases-narrow schema (wide-padded schema q good fits) wide) in
+    = rw (narrow-wide schema q narrow fits, narrow-wide schema (r .query) narrow fits') at (chases-narrow schema (wide-padded schema q good fits) wide) in
     let same = chases-unique ds (queryOf schema q) (queryOf schema (r .query)) (r .count) view in
     record { query-is = same .0; count-is = same .1; good = good'; same-arity = arity }
 
@@ -234,59 +228,59 @@ unfolding wideRows
 wide-never arity fits = ap (λ l. record { head = l; rows = [] }) (ap entriesOf (take-replicate arity 8 noCell fits) ∙ map-replicate (λ c. entryOf (c .entry)) arity noCell)
 
 module _
-  (dependencies : List stored-dependency.Dependency)
-  (held : ℕ)
-  (q query : stored.Query)
-  (count : ℕ)
-  (under : Under q (heldOf dependencies held) query count)
-  (fits : q .size ≤ length (q .relations))
-  (schema : List ℕ)
-  (good : goodQuery schema q ≡ true)
-  (widths : every (between 1 8) schema ≡ true)
+    (dependencies : List stored-dependency.Dependency)
+    (held : ℕ)
+    (q query : stored.Query)
+    (count : ℕ)
+    (under : Under q (heldOf dependencies held) query count)
+    (fits : q .size ≤ length (q .relations))
+    (schema : List ℕ)
+    (good : goodQuery schema q ≡ true)
+    (widths : every (between 1 8) schema ≡ true)
   where
-  -- Where the chase rests
-  pub under-rest : foundOf Rest ≡ firstDiffering (heldOf dependencies held) (wideQuery query .rows)
-      → IsChased schema dependencies held q (record { query = query; count = count })
-  under-rest found =
-      let ds = heldOf dependencies held in
-      chased-by
-      schema
-      dependencies
-      held
-      q
-      (record { query = query; count = count })
-      good
-      widths
-      fits
-      (rw (under .same-size, under .same-relations) fits)
-      (under .chase-is
-      ∙ ap (later count) (chase-at-rest ds (wideQuery query) (step-none ds query found))
-      ∙ ap (λ n. record { query = wideQuery query; count = n }) (add-zero count))
-      (under .keeps-good schema good)
-      (under .same-arity)
+    -- Where the chase rests
+    pub under-rest : foundOf Rest ≡ firstDiffering (heldOf dependencies held) (wideQuery query .rows)
+        → IsChased schema dependencies held q (record { query = query; count = count })
+    under-rest found =
+        let ds = heldOf dependencies held in
+        chased-by
+        schema
+        dependencies
+        held
+        q
+        (record { query = query; count = count })
+        good
+        widths
+        fits
+        (rw (under .same-size, under .same-relations) fits)
+        (under .chase-is
+        ∙ ap (later count) (chase-at-rest ds (wideQuery query) (step-none ds query found))
+        ∙ ap (λ n. record { query = wideQuery query; count = n }) (add-zero count))
+        (under .keeps-good schema good)
+        (under .same-arity)
 
-  -- Where it clashes
-  pub under-clash : (a b : stored-entry.Entry) → q .arity ≤ 8 → q .arity ≤ length (q .head)
-      → foundOf (Step a b) ≡ firstDiffering (heldOf dependencies held) (wideQuery query .rows)
-      → resolutionOf Clash ≡ resolve (inHead (wideQuery query)) (entryOf a) (entryOf b)
-      → IsChased schema dependencies held q (record { query = neverQuery (q .arity); count = count })
-  under-clash a b arity head found resolved =
-      let ds = heldOf dependencies held in
-      let inside : query .arity ≤ length (query .head) = rw (under .same-arity, under .head-length) head in
-      let shown : length (wideQuery query .head) ≡ q .arity
-          = length-map (take (query .arity) (query .head)) (λ c. entryOf (c .entry)) ∙ length-take-le (query .arity) (query .head) inside ∙ under .same-arity in
-      chased-by
-      schema
-      dependencies
-      held
-      q
-      (record { query = neverQuery (q .arity); count = count })
-      good
-      widths
-      fits
-      zero-le
-      (under .chase-is
-      ∙ ap (later count) (chase-at-clash ds (wideQuery query) (step-some ds query a b Clash found resolved))
-      ∙ ap₂ (λ x n. record { query = x; count = n }) (ap never shown ∙ sym (wide-never (q .arity) arity)) (add-zero count))
-      (never-good schema (q .arity) arity)
-      refl
+    -- Where it clashes
+    pub under-clash : (a b : stored-entry.Entry) → q .arity ≤ 8 → q .arity ≤ length (q .head)
+        → foundOf (Step a b) ≡ firstDiffering (heldOf dependencies held) (wideQuery query .rows)
+        → resolutionOf Clash ≡ resolve (inHead (wideQuery query)) (entryOf a) (entryOf b)
+        → IsChased schema dependencies held q (record { query = neverQuery (q .arity); count = count })
+    under-clash a b arity head found resolved =
+        let ds = heldOf dependencies held in
+        let inside : query .arity ≤ length (query .head) = rw (under .same-arity, under .head-length) head in
+        let shown : length (wideQuery query .head) ≡ q .arity
+        = length-map (take (query .arity) (query .head)) (λ c. entryOf (c .entry)) ∙ length-take-le (query .arity) (query .head) inside ∙ under .same-arity in
+        chased-by
+        schema
+        dependencies
+        held
+        q
+        (record { query = neverQuery (q .arity); count = count })
+        good
+        widths
+        fits
+        zero-le
+        (under .chase-is
+        ∙ ap (later count) (chase-at-clash ds (wideQuery query) (step-some ds query a b Clash found resolved))
+        ∙ ap₂ (λ x n. record { query = x; count = n }) (ap never shown ∙ sym (wide-never (q .arity) arity)) (add-zero count))
+        (never-good schema (q .arity) arity)
+        refl

@@ -1,6 +1,6 @@
 -- The search for a broken pair as three nested loops over a stored query see it: what the whole search finds is what the part still to be searched
 -- finds, at each dependency, row and second row. The laws for any lists are the theory's (`Step`). Assumes nothing.
-use mathlib.Core.Path.{_≡_, refl, sym, _∙_, ap}
+use mathlib.Core.Path.{_≡_, sym}
 use mathlib.Core.Bool.{true, false}
 use mathlib.Core.List.{List, [], _∷_, map}
 use mathlib.Core.Option.{Option, none, some}
@@ -14,7 +14,7 @@ use Rattle.record.specs.declared.Dependency as stored-dependency
 use Rattle.record.specs.declared.Query.{Query}
 use Rattle.record.specs.View.{entryOf, dependencyOf}
 use Rattle.record.specs.Rule.{noCell}
-use Rattle.chase.specs.Wide.{wideRow, wideRows, differing, firstDiffering}
+use Rattle.chase.specs.Wide.{wideRow, wideRows, firstDiffering}
 use Rattle.chase.specs.Outcome.{noDependency}
 use Rattle.chase.proofs.Lists.{left-cons, left-none}
 use Rattle.chase.proofs.Columns.{wide-column}
@@ -97,6 +97,12 @@ module _ (q : Query) (dependencies : List stored-dependency.Dependency) (held : 
   unfolding mapFound
   pair-found d i j a b h fits broken a-is b-is before =
       let right = getD dependencies d noDependency .right in
-      rw
-      (before, rows-cons q (q .size) j h, brokenWith-true (dependencyAt d) (wideRow q i) (wideRow q j) _ _ _ _ (sym broken),
-        wide-column (getD (q .relations) i 0) (q .cells) i right fits, wide-column (getD (q .relations) j 0) (q .cells) j right fits, a-is, b-is)
+      rw (
+        before,
+        rows-cons q (q .size) j h,
+        brokenWith-true (dependencyAt d) (wideRow q i) (wideRow q j) _ _ _ _ (sym broken),
+        wide-column (getD (q .relations) i 0) (q .cells) i right fits,
+        wide-column (getD (q .relations) j 0) (q .cells) j right fits,
+        a-is,
+        b-is,
+      )

@@ -12,7 +12,7 @@ use Rattle.record.specs.declared.Cell.{Cell}
 use Rattle.record.specs.declared.Query.{Query}
 use Rattle.record.specs.declared.Dependency.{Dependency}
 use Rattle.record.specs.View.{entryOf, entriesOf, dependencyOf}
-use Rattle.record.specs.Rule.{noCell, goodEntry}
+use Rattle.record.specs.Rule.{goodEntry}
 use Rattle.chase.specs.declared.Found.{Found}
 use Rattle.chase.specs.declared.Found.the-variants.{Rest, Step}
 use Rattle.chase.specs.declared.Resolution.{Resolution}

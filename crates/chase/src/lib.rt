@@ -2,8 +2,10 @@
 // the survivor of its two entries, the replacement, and the whole. The widths of the relations play no part: where a row has no column its cell holds
 // constant 0, as in every row of its relation.
 
-use record::{Cell, Dependency, Entry, Query};
-
+use record::Cell;
+use record::Dependency;
+use record::Entry;
+use record::Query;
 ghost use mathlib.Core.Path.{_≡_};
 ghost use mathlib.Core.Bool.{Bool, true, not};
 ghost use mathlib.Core.List.{List, map};
@@ -94,7 +96,10 @@ fn breaks(q: Query, d: Dependency, i: usize, j: usize) -> bool
     if !agree(cells, d.left, i, j) {
         return false;
     }
-    !same_entry(entry_at(cells, 8 * i + right), entry_at(cells, 8 * j + right))
+    !same_entry(
+        entry_at(cells, 8 * i + right),
+        entry_at(cells, 8 * j + right),
+    )
 }
 
 // The first broken pair: by dependency in held order, then by the rows' positions i < j, by i and then j.
@@ -202,13 +207,7 @@ fn substitute(cell: Cell, v: u8, e: Entry) -> Cell
     let entry = cell.entry;
     match entry {
         Entry::Constant(_) => cell,
-        Entry::Variable(w) => {
-            if w == v {
-                Cell { entry: e }
-            } else {
-                cell
-            }
-        }
+        Entry::Variable(w) => { if w == v { Cell { entry: e } } else { cell } }
     }
 }
 

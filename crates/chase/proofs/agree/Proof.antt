@@ -1,3 +1,5 @@
+-- `chase::agree` meets its contract. The loop's invariant: the agreement on all columns of the mask is the agreement on the columns from c on of what is
+-- left of the mask. The measure is what is left of the 8 columns. Assumes nothing.
 use mathlib.Core.Path.{_≡_, refl, sym, _∙_}
 use mathlib.Core.Logic.{⊎-elim}
 use Prim.Native.Nat.{_≤_, _-_}
@@ -7,10 +9,6 @@ use Rattle.chase.specs.Wide.{rowAt}
 use Rattle.chase.proofs.Columns.{agreeLeft, wide-same, agree-skip, agree-same, agree-differ, agree-end}
 use Rattle.chase.proofs.agree.Statement.{statement}
 use Rattle.chase.proofs.agree.Tie as tie
-use Rattle.chase.proofs.agree.Reads as reads
-use Rattle.chase.proofs.agree.Lts as lts
-use Rattle.chase.proofs.entry_at.Reads as entry-at-reads
-use Rattle.chase.proofs.same_entry.Reads as same-entry-reads
 
 abbrev Inv-loop : tie.InvT-loop
 Inv-loop cells left i j rest₀ c₀ rest c = (c ≤ 8) × (agreeLeft 0 left (rowAt 0 cells i) (rowAt 0 cells j) ≡ agreeLeft c rest (rowAt 0 cells i) (rowAt 0 cells j))
@@ -18,39 +16,30 @@ Inv-loop cells left i j rest₀ c₀ rest c = (c ≤ 8) × (agreeLeft 0 left (ro
 abbrev μ-loop : tie.MeasureT-loop
 μ-loop cells left i j rest₀ c₀ rest c = 8 - c
 
--- src/lib.rt:69:5
 loop-holds : tie.Need-loop-holds Inv-loop μ-loop
 loop-holds c = (search needs, refl)
 
--- src/lib.rt:71:44
 mul-entry-at : tie.Need-mul-entry-at Inv-loop μ-loop
 mul-entry-at c = search needs
 
--- src/lib.rt:71:44
 add-entry-at : tie.Need-add-entry-at Inv-loop μ-loop
 add-entry-at c = search needs
 
--- src/lib.rt:71:28
 entry-at-requires : tie.Need-entry-at-requires Inv-loop μ-loop
 entry-at-requires c κs = search needs
 
--- src/lib.rt:71:72
 mul-entry-at-2 : tie.Need-mul-entry-at-2 Inv-loop μ-loop
 mul-entry-at-2 c = search needs
 
--- src/lib.rt:71:72
 add-entry-at-2 : tie.Need-add-entry-at-2 Inv-loop μ-loop
 add-entry-at-2 c = search needs
 
--- src/lib.rt:71:56
 entry-at-requires-2 : tie.Need-entry-at-requires-2 Inv-loop μ-loop
 entry-at-requires-2 c κs = search needs
 
--- src/lib.rt:71:17
 same-entry-requires : tie.Need-same-entry-requires Inv-loop μ-loop
 same-entry-requires c κs = search needs
 
--- src/lib.rt:72:17
 returns : tie.Need-returns Inv-loop μ-loop
 returns c =
     let a = c .before .before .before .before .before .before .before .args in
@@ -60,28 +49,25 @@ returns c =
     (c .before .before .entry-at2 .ensures) (c .before .same-entry .ensures) ∙ not-true _ (c .if2 .taken))
     ∙ sym (l .inv .1)
 
--- src/lib.rt:69:9
 add-c : tie.Need-add-c Inv-loop μ-loop
 add-c c = search needs
 
--- src/lib.rt:69:5
 loop-less : tie.Need-loop-less Inv-loop μ-loop
 loop-less c = search needs
 
--- src/lib.rt:69:5
 loop-again : tie.Need-loop-again Inv-loop μ-loop
 loop-again c =
     let a = c .before .before .before .args in
-    let l = c .before .before .loop in
-    (search needs,
-    l .inv .1
-    ∙ ⊎-elim
-    (λ w. agree-same (l .c) (l .rest) (rowAt 0 (a .cells) (a .i)) (rowAt 0 (a .cells) (a .j)) (search needs) (w .0 .taken)
-    (wide-same 0 0 (a .cells) (a .i) (a .j) (l .c) _ _ _ (search needs) (w .1 .ensures) (w .2 .ensures) (w .3 .ensures) ∙ not-false _ (w .4 .left)))
-    (λ w. agree-skip (l .c) (l .rest) (rowAt 0 (a .cells) (a .i)) (rowAt 0 (a .cells) (a .j)) (search needs) (w .left))
-    (c .if1 .came))
+    let l = c .before .before .loop in (
+      search needs,
+      l .inv .1
+          ∙ ⊎-elim
+          (λ w. agree-same (l .c) (l .rest) (rowAt 0 (a .cells) (a .i)) (rowAt 0 (a .cells) (a .j)) (search needs) (w .0 .taken)
+          (wide-same 0 0 (a .cells) (a .i) (a .j) (l .c) _ _ _ (search needs) (w .1 .ensures) (w .2 .ensures) (w .3 .ensures) ∙ not-false _ (w .4 .left)))
+          (λ w. agree-skip (l .c) (l .rest) (rowAt 0 (a .cells) (a .i)) (rowAt 0 (a .cells) (a .j)) (search needs) (w .left))
+          (c .if1 .came),
+    )
 
--- src/lib.rt:64:1
 returns-2 : tie.Need-returns-2 Inv-loop μ-loop
 returns-2 c = agree-end _ _ _ _ (c .loop-test .left) ∙ sym (c .before .loop .inv .1)
 

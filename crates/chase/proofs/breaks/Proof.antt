@@ -1,3 +1,4 @@
+-- `chase::breaks` meets its contract: the theory's test by its parts, in the order of the code. Assumes nothing.
 use mathlib.Core.Path.{refl, sym, _∙_}
 use mathlib.Core.Bool.{true, false}
 use borrow.Author.Needs.{needs}
@@ -6,76 +7,56 @@ use lib.ListN.{getD}
 use Rattle.chase.proofs.Columns.{wide-same, breaks-other-first, breaks-other-second, breaks-by}
 use Rattle.chase.proofs.breaks.Statement.{statement}
 use Rattle.chase.proofs.breaks.Tie as tie
-use Rattle.chase.proofs.breaks.Reads as reads
-use Rattle.chase.proofs.breaks.Lts as lts
-use Rattle.chase.proofs.agree.Reads as agree-reads
-use Rattle.chase.proofs.entry_at.Reads as entry-at-reads
-use Rattle.chase.proofs.same_entry.Reads as same-entry-reads
 
--- src/lib.rt:87:17
 cast-right : tie.Need-cast-right
 cast-right c = search needs
 
--- src/lib.rt:88:8
 array-read-if1 : tie.Need-array-read-if1
 array-read-if1 c = search needs
 
--- src/lib.rt:89:9
 returns : tie.Need-returns
 returns c =
     let a = c .before .before .before .before .before .args in
     breaks-other-first (a .q) (a .d) (a .i) (a .j) (c .if1 .taken)
 
--- src/lib.rt:91:8
 array-read-if2 : tie.Need-array-read-if2
 array-read-if2 c = search needs
 
--- src/lib.rt:92:9
 returns-2 : tie.Need-returns-2
 returns-2 c =
     let a = c .before .before .before .before .before .before .before .args in
     breaks-other-second (a .q) (a .d) (a .i) (a .j) (c .before .before .if1 .left) (c .if2 .taken)
 
--- src/lib.rt:94:9
 agree-requires : tie.Need-agree-requires
 agree-requires c κs = search needs
 
--- src/lib.rt:95:9
 returns-3 : tie.Need-returns-3
 returns-3 c =
     let a = c .before .before .before .before .before .before .before .before .before .args in
     breaks-by (a .q) (a .d) (a .i) (a .j) false _ (c .before .before .before .before .if1 .left) (c .before .before .if2 .left)
     (sym (not-true _ (c .if3 .taken)) ∙ c .before .agree .ensures) refl
 
--- src/lib.rt:97:33
 mul-entry-at : tie.Need-mul-entry-at
 mul-entry-at c = search needs
 
--- src/lib.rt:97:33
 add-entry-at : tie.Need-add-entry-at
 add-entry-at c = search needs
 
--- src/lib.rt:97:17
 entry-at-requires : tie.Need-entry-at-requires
 entry-at-requires c κs = search needs
 
--- src/lib.rt:97:65
 mul-entry-at-2 : tie.Need-mul-entry-at-2
 mul-entry-at-2 c = search needs
 
--- src/lib.rt:97:65
 add-entry-at-2 : tie.Need-add-entry-at-2
 add-entry-at-2 c = search needs
 
--- src/lib.rt:97:49
 entry-at-requires-2 : tie.Need-entry-at-requires-2
 entry-at-requires-2 c κs = search needs
 
--- src/lib.rt:97:6
 same-entry-requires : tie.Need-same-entry-requires
 same-entry-requires c κs = search needs
 
--- src/lib.rt:81:1
 returns-4 : tie.Need-returns-4
 returns-4 c =
     let at = c .before .before .before .before in

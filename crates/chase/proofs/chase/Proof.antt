@@ -1,5 +1,7 @@
-use mathlib.Core.Path.{_≡_, refl, sym, _∙_}
-use Prim.Native.Nat.{_≤_, _<_, _+_}
+-- `chase::chase` meets its contract. The loop's invariant is `Under`: the chase of the query so far gives the whole chase, `count` replacements later. The
+-- measure is the number of replacements that are left. Assumes nothing.
+use mathlib.Core.Path.{_≡_, sym}
+use Prim.Native.Nat.{_<_, _+_}
 use native.Mathlib.Omega.{arith}
 use borrow.Author.Needs.{needs}
 use lib.ListN.{length}
@@ -9,13 +11,6 @@ use Rattle.chase.proofs.Rounds.{Under, under-start, under-replace, repl
 use Rattle.theory.specs.Chase as chasing
 use Rattle.chase.proofs.chase.Statement.{statement}
 use Rattle.chase.proofs.chase.Tie as tie
-use Rattle.chase.proofs.chase.Reads as reads
-use Rattle.chase.proofs.chase.Lts as lts
-use Rattle.chase.proofs.find_step.Reads as find-step-reads
-use Rattle.chase.proofs.in_head.Reads as in-head-reads
-use Rattle.chase.proofs.never.Reads as never-reads
-use Rattle.chase.proofs.replace.Reads as replace-reads
-use Rattle.chase.proofs.survivor.Reads as survivor-reads
 
 abbrev Inv-loop : tie.InvT-loop
 Inv-loop q dependencies held query₀ count₀ query count =
@@ -24,14 +19,12 @@ Inv-loop q dependencies held query₀ count₀ query count =
 abbrev μ-loop : tie.MeasureT-loop
 μ-loop q dependencies held query₀ count₀ query count = chasing.chase (heldOf dependencies held) (wideQuery query) .count
 
--- src/lib.rt:282:5
 loop-holds : tie.Need-loop-holds Inv-loop μ-loop
 loop-holds c =
     let twelve : length (c .args .q .relations) ≡ 12 = search (length-of-map, needs) in
     let eight : length (c .args .q .head) ≡ 8 = search (length-of-map, needs) in
     (twelve, eight, under-start _ _)
 
--- src/lib.rt:283:13
 find-step-requires : tie.Need-find-step-requires Inv-loop μ-loop
 find-step-requires c κs =
     let p = c .before .pre in
@@ -43,15 +36,12 @@ find-step-requires c κs =
       right-fits = p .right-fits;
     }
 
--- src/lib.rt:284:25
 enum-known-found : tie.Need-enum-known-found Inv-loop μ-loop
 enum-known-found c = search needs
 
--- src/lib.rt:285:13
 enum-told : tie.Need-enum-told Inv-loop μ-loop
 enum-told c = search needs
 
--- src/lib.rt:285:13
 returns : tie.Need-returns Inv-loop μ-loop
 returns c =
     let a = c .before .before .before .before .args in
@@ -61,31 +51,24 @@ returns c =
     under-rest (a .dependencies) (a .held) (a .q) (l .query) (l .count) (l .inv .2) (omega (arith, c .before .before .before .before .pre .size-fits)) schema good widths
     (rw (c .enum-told .given .1) at (c .before .before .find-step .ensures .0))
 
--- src/lib.rt:290:38
 in-head-requires : tie.Need-in-head-requires Inv-loop μ-loop
 in-head-requires c κs = rw (c .before .before .before .before .loop .inv .2 .same-arity) (c .before .before .before .before .before .pre .arity-fits)
 
--- src/lib.rt:290:60
 in-head-requires-2 : tie.Need-in-head-requires-2 Inv-loop μ-loop
 in-head-requires-2 c κs = rw (c .before .before .before .before .before .loop .inv .2 .same-arity) (c .before .before .before .before .before .before .pre .arity-fits)
 
--- src/lib.rt:290:13
 survivor-requires : tie.Need-survivor-requires Inv-loop μ-loop
 survivor-requires c κs = search needs
 
--- src/lib.rt:291:33
 enum-known-resolution : tie.Need-enum-known-resolution Inv-loop μ-loop
 enum-known-resolution c = search needs
 
--- src/lib.rt:293:24
 enum-told-2 : tie.Need-enum-told-2 Inv-loop μ-loop
 enum-told-2 c = search needs
 
--- src/lib.rt:293:24
 never-requires : tie.Need-never-requires Inv-loop μ-loop
 never-requires c κs = search needs
 
--- src/lib.rt:292:13
 returns-2 : tie.Need-returns-2 Inv-loop μ-loop
 returns-2 c =
     let a = c .before .before .before .before .before .before .before .before .before .before .before .args in
@@ -94,7 +77,7 @@ returns-2 c =
     let is = c .before .before .before .before .before .before .before .found .given .1 in
     let found = rw is at (c .before .before .before .before .before .before .before .before .before .find-step .ensures .0) in
     let resolved =
-        rw (c .before .enum-told2 .given .1) at (c .before .before .before .survivor .ensures (chasing.inHead (wideQuery (l .query))) (sym (c .before .before .before .before .before .in-head .ensures)) (sym (c .before .before .before .before .in-head2 .ensures))) in
+    rw (c .before .enum-told2 .given .1) at (c .before .before .before .survivor .ensures (chasing.inHead (wideQuery (l .query))) (sym (c .before .before .before .before .before .in-head .ensures)) (sym (c .before .before .before .before .in-head2 .ensures))) in
     let twelve = l .inv .0 in
     let eight = l .inv .1 in
     let p = c .before .before .before .before .before .before .before .before .before .before .before .pre in
@@ -104,11 +87,9 @@ returns-2 c =
     (under-clash (a .dependencies) (a .held) (a .q) (l .query) (l .count) (l .inv .2) (omega (arith, p .size-fits)) schema good widths (x .0) (x .1 .0) (p .arity-fits)
     (omega (arith, p .arity-fits)) found resolved)
 
--- src/lib.rt:297:9
 replace-requires : tie.Need-replace-requires Inv-loop μ-loop
 replace-requires c κs = search needs
 
--- src/lib.rt:298:9
 add-count : tie.Need-add-count Inv-loop μ-loop
 add-count c =
     let a = c .before .before .before .before .before .before .before .before .before .before .before .before .args in
@@ -118,14 +99,13 @@ add-count c =
     let is = c .before .before .before .before .before .before .before .before .found .given .1 in
     let found = rw is at (c .before .before .before .before .before .before .before .before .before .before .find-step .ensures .0) in
     let resolved =
-        rw (c .before .before .resolution .given .1) at (c .before .before .before .before .survivor .ensures (chasing.inHead (wideQuery (l .query))) (sym (c .before .before .before .before .before .before .in-head .ensures)) (sym (c .before .before .before .before .before .in-head2 .ensures))) in
+    rw (c .before .before .resolution .given .1) at (c .before .before .before .before .survivor .ensures (chasing.inHead (wideQuery (l .query))) (sym (c .before .before .before .before .before .before .in-head .ensures)) (sym (c .before .before .before .before .before .in-head2 .ensures))) in
     let p = c .before .before .before .before .before .before .before .before .before .before .before .before .pre in
     let ds = heldOf (a .dependencies) (a .held) in
     let one-less = replaced-count (a .q) ds (l .query) (x .0) (x .1 .0) (y .0) (y .1 .0) found resolved in
     let small : l .count + 1 < 256 = omega (arith, one-less, under-count (a .q) ds (l .query) (l .count) (l .inv .2) (p .arity-fits) (p .size-fits)) in
     record { fits = small }
 
--- src/lib.rt:282:5
 loop-less : tie.Need-loop-less Inv-loop μ-loop
 loop-less c =
     let a = c .before .before .before .before .before .before .before .before .before .before .before .before .args in
@@ -135,11 +115,10 @@ loop-less c =
     let is = c .before .before .before .before .before .before .before .before .found .given .1 in
     let found = rw is at (c .before .before .before .before .before .before .before .before .before .before .find-step .ensures .0) in
     let resolved =
-        rw (c .before .before .resolution .given .1) at (c .before .before .before .before .survivor .ensures (chasing.inHead (wideQuery (l .query))) (sym (c .before .before .before .before .before .before .in-head .ensures)) (sym (c .before .before .before .before .before .in-head2 .ensures))) in
+    rw (c .before .before .resolution .given .1) at (c .before .before .before .before .survivor .ensures (chasing.inHead (wideQuery (l .query))) (sym (c .before .before .before .before .before .before .in-head .ensures)) (sym (c .before .before .before .before .before .in-head2 .ensures))) in
     let one-less = replaced-count (a .q) (heldOf (a .dependencies) (a .held)) (l .query) (x .0) (x .1 .0) (y .0) (y .1 .0) found resolved in
     rw (c .replace .ensures) (omega (arith, one-less))
 
--- src/lib.rt:282:5
 loop-again : tie.Need-loop-again Inv-loop μ-loop
 loop-again c =
     let a = c .before .before .before .before .before .before .before .before .before .before .before .before .args in
@@ -149,14 +128,15 @@ loop-again c =
     let is = c .before .before .before .before .before .before .before .before .found .given .1 in
     let found = rw is at (c .before .before .before .before .before .before .before .before .before .before .find-step .ensures .0) in
     let resolved =
-        rw (c .before .before .resolution .given .1) at (c .before .before .before .before .survivor .ensures (chasing.inHead (wideQuery (l .query))) (sym (c .before .before .before .before .before .before .in-head .ensures)) (sym (c .before .before .before .before .before .in-head2 .ensures))) in
-    let twelve = l .inv .0 in
-    (twelve,
-    l .inv .1,
-    rw
-    (c .replace .ensures)
-    (under-replace (a .q) (heldOf (a .dependencies) (a .held)) (l .query) (x .0) (x .1 .0) (y .0) (y .1 .0) found resolved (l .count) (l .inv .2) (omega (arith, c .before .before .before .before .before .before .before .before .before .before .before .before .pre .size-fits))
-    (rw is at (c .before .before .before .before .before .before .before .before .before .before .find-step .ensures .1))))
+    rw (c .before .before .resolution .given .1) at (c .before .before .before .before .survivor .ensures (chasing.inHead (wideQuery (l .query))) (sym (c .before .before .before .before .before .before .in-head .ensures)) (sym (c .before .before .before .before .before .in-head2 .ensures))) in
+    let twelve = l .inv .0 in (
+      twelve,
+      l .inv .1,
+      rw
+          (c .replace .ensures)
+          (under-replace (a .q) (heldOf (a .dependencies) (a .held)) (l .query) (x .0) (x .1 .0) (y .0) (y .1 .0) found resolved (l .count) (l .inv .2) (omega (arith, c .before .before .before .before .before .before .before .before .before .before .before .before .pre .size-fits))
+          (rw is at (c .before .before .before .before .before .before .before .before .before .before .find-step .ensures .1))),
+    )
 
 pub chase-spec : {M : Type 1} → statement M
 chase-spec =

@@ -1,3 +1,5 @@
+-- `chase::find_step` meets its contract. The invariant of each loop: what the whole search finds is what is found from this position on (`Search`). The
+-- labelled loop goes round once, so it has nothing to keep. Assumes nothing.
 use mathlib.Core.Path.{_≡_, refl, sym, _∙_}
 use Prim.Native.Nat.{_≤_, _<_, _+_, _*_, _-_}
 use native.Mathlib.Omega.{arith}
@@ -8,10 +10,6 @@ use Rattle.chase.proofs.Good.{and-both, good-read}
 use Rattle.chase.specs.Outcome.{noDependency}
 use Rattle.chase.proofs.find_step.Statement.{statement}
 use Rattle.chase.proofs.find_step.Tie as tie
-use Rattle.chase.proofs.find_step.Reads as reads
-use Rattle.chase.proofs.find_step.Lts as lts
-use Rattle.chase.proofs.breaks.Reads as breaks-reads
-use Rattle.chase.proofs.entry_at.Reads as entry-at-reads
 
 abbrev Inv-loop3 : tie.InvT-loop3
 Inv-loop3 q held dependencies size cells d dependency right i j₀ j = (i < j) × (j ≤ size) × (brokenFrom q dependencies held 0 ≡ brokenFromPair q dependencies held d i j)
@@ -37,27 +35,22 @@ Inv-search q held dependencies size cells = Unit {0}
 abbrev μ-search : tie.MeasureT-search
 μ-search q held dependencies size cells = 0
 
--- src/lib.rt:105:16
 cast-size :
     tie.Need-cast-size Inv-loop3 μ-loop3 Inv-loop2 μ-loop2 Inv-loop μ-loop Inv-search μ-search
 cast-size c = search needs
 
--- src/lib.rt:107:5
 search-holds :
     tie.Need-search-holds Inv-loop3 μ-loop3 Inv-loop2 μ-loop2 Inv-loop μ-loop Inv-search μ-search
 search-holds c = tt
 
--- src/lib.rt:108:9
 loop-holds :
     tie.Need-loop-holds Inv-loop3 μ-loop3 Inv-loop2 μ-loop2 Inv-loop μ-loop Inv-search μ-search
 loop-holds c = (search needs, refl)
 
--- src/lib.rt:109:30
 mul-dependency :
     tie.Need-mul-dependency Inv-loop3 μ-loop3 Inv-loop2 μ-loop2 Inv-loop μ-loop Inv-search μ-search
 mul-dependency c = search needs
 
--- src/lib.rt:109:30
 array-copy-out-dependency :
     tie.Need-array-copy-out-dependency
     Inv-loop3
@@ -70,12 +63,10 @@ array-copy-out-dependency :
     μ-search
 array-copy-out-dependency c = search needs
 
--- src/lib.rt:110:25
 cast-right :
     tie.Need-cast-right Inv-loop3 μ-loop3 Inv-loop2 μ-loop2 Inv-loop μ-loop Inv-search μ-search
 cast-right c = search needs
 
--- src/lib.rt:111:13
 loop2-holds :
     tie.Need-loop2-holds Inv-loop3 μ-loop3 Inv-loop2 μ-loop2 Inv-loop μ-loop Inv-search μ-search
 loop2-holds c =
@@ -83,11 +74,9 @@ loop2-holds c =
     let d = c .before .before .before .loop .d in
     (search needs, c .before .before .before .loop .inv .1 ∙ dependency-next (a .q) (a .t2) (a .held) d (search needs) (search needs))
 
--- src/lib.rt:112:26
 add-j : tie.Need-add-j Inv-loop3 μ-loop3 Inv-loop2 μ-loop2 Inv-loop μ-loop Inv-search μ-search
 add-j c = search needs
 
--- src/lib.rt:112:17
 loop3-holds :
     tie.Need-loop3-holds Inv-loop3 μ-loop3 Inv-loop2 μ-loop2 Inv-loop μ-loop Inv-search μ-search
 loop3-holds c =
@@ -96,7 +85,6 @@ loop3-holds c =
     let i = c .before .loop2 .i in
     (search needs, search needs, c .before .loop2 .inv .1 ∙ row-next (a .q) (a .t2) (a .held) d i (search needs))
 
--- src/lib.rt:113:24
 breaks-requires :
     tie.Need-breaks-requires
     Inv-loop3
@@ -110,17 +98,14 @@ breaks-requires :
 breaks-requires c κs =
     (search needs, search needs, c .before .before .before .before .before .before .before .before .before .before .before .pre .right-fits (c .before .before .before .before .before .before .before .loop .d) (search needs))
 
--- src/lib.rt:115:45
 mul-entry-at :
     tie.Need-mul-entry-at Inv-loop3 μ-loop3 Inv-loop2 μ-loop2 Inv-loop μ-loop Inv-search μ-search
 mul-entry-at c = search needs
 
--- src/lib.rt:115:45
 add-entry-at :
     tie.Need-add-entry-at Inv-loop3 μ-loop3 Inv-loop2 μ-loop2 Inv-loop μ-loop Inv-search μ-search
 add-entry-at c = search needs
 
--- src/lib.rt:115:29
 entry-at-requires :
     tie.Need-entry-at-requires
     Inv-loop3
@@ -140,17 +125,14 @@ entry-at-requires c κs =
     let inside : 8 * i + getD (a .t2) d noDependency .right < 96 = omega arith in
     inside
 
--- src/lib.rt:116:45
 mul-entry-at-2 :
     tie.Need-mul-entry-at-2 Inv-loop3 μ-loop3 Inv-loop2 μ-loop2 Inv-loop μ-loop Inv-search μ-search
 mul-entry-at-2 c = search needs
 
--- src/lib.rt:116:45
 add-entry-at-2 :
     tie.Need-add-entry-at-2 Inv-loop3 μ-loop3 Inv-loop2 μ-loop2 Inv-loop μ-loop Inv-search μ-search
 add-entry-at-2 c = search needs
 
--- src/lib.rt:116:29
 entry-at-requires-2 :
     tie.Need-entry-at-requires-2
     Inv-loop3
@@ -170,16 +152,13 @@ entry-at-requires-2 c κs =
     let inside : 8 * j + getD (a .t2) d noDependency .right < 96 = omega arith in
     inside
 
--- src/lib.rt:112:21
 add-j-2 : tie.Need-add-j-2 Inv-loop3 μ-loop3 Inv-loop2 μ-loop2 Inv-loop μ-loop Inv-search μ-search
 add-j-2 c = search needs
 
--- src/lib.rt:112:17
 loop3-less :
     tie.Need-loop3-less Inv-loop3 μ-loop3 Inv-loop2 μ-loop2 Inv-loop μ-loop Inv-search μ-search
 loop3-less c = search needs
 
--- src/lib.rt:112:17
 loop3-again :
     tie.Need-loop3-again Inv-loop3 μ-loop3 Inv-loop2 μ-loop2 Inv-loop μ-loop Inv-search μ-search
 loop3-again c =
@@ -189,16 +168,13 @@ loop3-again c =
     let j = c .before .before .before .loop3 .j in
     (search needs, search needs, c .before .before .before .loop3 .inv .2 ∙ pair-next (a .q) (a .t2) (a .held) d i j (search needs) (sym (c .before .breaks .ensures) ∙ c .if1 .left))
 
--- src/lib.rt:111:17
 add-i : tie.Need-add-i Inv-loop3 μ-loop3 Inv-loop2 μ-loop2 Inv-loop μ-loop Inv-search μ-search
 add-i c = search needs
 
--- src/lib.rt:111:13
 loop2-less :
     tie.Need-loop2-less Inv-loop3 μ-loop3 Inv-loop2 μ-loop2 Inv-loop μ-loop Inv-search μ-search
 loop2-less c = search needs
 
--- src/lib.rt:111:13
 loop2-again :
     tie.Need-loop2-again Inv-loop3 μ-loop3 Inv-loop2 μ-loop2 Inv-loop μ-loop Inv-search μ-search
 loop2-again c =
@@ -208,16 +184,13 @@ loop2-again c =
     let j = c .before .loop3 .j in
     (search needs, c .before .loop3 .inv .2 ∙ pair-last (a .q) (a .t2) (a .held) d i j (search needs))
 
--- src/lib.rt:108:13
 add-d : tie.Need-add-d Inv-loop3 μ-loop3 Inv-loop2 μ-loop2 Inv-loop μ-loop Inv-search μ-search
 add-d c = search needs
 
--- src/lib.rt:108:9
 loop-less :
     tie.Need-loop-less Inv-loop3 μ-loop3 Inv-loop2 μ-loop2 Inv-loop μ-loop Inv-search μ-search
 loop-less c = search needs
 
--- src/lib.rt:108:9
 loop-again :
     tie.Need-loop-again Inv-loop3 μ-loop3 Inv-loop2 μ-loop2 Inv-loop μ-loop Inv-search μ-search
 loop-again c =
@@ -226,19 +199,18 @@ loop-again c =
     let i = c .before .loop2 .i in
     (search needs, c .before .loop2 .inv .1 ∙ row-last (a .q) (a .t2) (a .held) d i (search needs))
 
--- src/lib.rt:101:1
 returns : tie.Need-returns Inv-loop3 μ-loop3 Inv-loop2 μ-loop2 Inv-loop μ-loop Inv-search μ-search
 returns c =
     let a = c .before .before .before .before .before .before .before .before .before .before .before .before .before .before .before .args in
     let d = c .before .before .before .before .before .before .before .before .before .before .before .loop .d in
     let i = c .before .before .before .before .before .before .before .loop2 .i in
     let j = c .before .before .before .before .before .loop3 .j in
-    let fits : getD (a .t2) d noDependency .right < 8 = c .before .before .before .before .before .before .before .before .before .before .before .before .before .before .before .pre .right-fits d (search needs) in
-    (pair-found (a .q) (a .t2) (a .held) d i j _ _ (search needs) fits (sym (c .before .before .if1 .taken) ∙ c .before .before .before .breaks .ensures)
-    (c .before .entry-at .ensures) (c .entry-at2 .ensures) (c .before .before .before .before .before .loop3 .inv .2),
-    λ good. and-both _ _ (good-read _ _ _ (c .before .entry-at .ensures) good) (good-read _ _ _ (c .entry-at2 .ensures) good))
+    let fits : getD (a .t2) d noDependency .right < 8 = c .before .before .before .before .before .before .before .before .before .before .before .before .before .before .before .pre .right-fits d (search needs) in (
+      pair-found (a .q) (a .t2) (a .held) d i j _ _ (search needs) fits (sym (c .before .before .if1 .taken) ∙ c .before .before .before .breaks .ensures)
+          (c .before .entry-at .ensures) (c .entry-at2 .ensures) (c .before .before .before .before .before .loop3 .inv .2),
+      λ good. and-both _ _ (good-read _ _ _ (c .before .entry-at .ensures) good) (good-read _ _ _ (c .entry-at2 .ensures) good),
+    )
 
--- src/lib.rt:101:1
 returns-2 :
     tie.Need-returns-2 Inv-loop3 μ-loop3 Inv-loop2 μ-loop2 Inv-loop μ-loop Inv-search μ-search
 returns-2 c =

@@ -1,32 +1,24 @@
+-- `chase::in_head` meets its contract: by the cases of the entry. Assumes nothing.
 use borrow.Author.Needs.{needs}
 use Rattle.chase.proofs.Steps.{in-head-variable}
 use Rattle.chase.proofs.in_head.Statement.{statement}
 use Rattle.chase.proofs.in_head.Tie as tie
-use Rattle.chase.proofs.in_head.Reads as reads
-use Rattle.chase.proofs.in_head.Lts as lts
-use Rattle.chase.proofs.stands.Reads as stands-reads
 
--- src/lib.rt:153:31
 enum-told : tie.Need-enum-told
 enum-told c = search needs
 
--- src/lib.rt:154:25
 enum-known-e : tie.Need-enum-known-e
 enum-known-e c = search needs
 
--- src/lib.rt:156:26
 cast-stands : tie.Need-cast-stands
 cast-stands c = search needs
 
--- src/lib.rt:156:13
 stands-requires : tie.Need-stands-requires
 stands-requires c κs = search needs
 
--- src/lib.rt:148:1
 returns : tie.Need-returns
 returns c = search needs
 
--- src/lib.rt:148:1
 returns-2 : tie.Need-returns-2
 returns-2 c = in-head-variable _ _ _ _ (c .before .before .before .before .e .given .1) (c .stands .ensures)
 

@@ -1,50 +1,39 @@
+-- `chase::same_entry` meets its contract: by the cases of the two entries. Assumes nothing.
 use borrow.Author.Needs.{needs}
 use Rattle.theory.specs.Query.{sameEntry}
 use Rattle.chase.proofs.same_entry.Statement.{statement}
 use Rattle.chase.proofs.same_entry.Tie as tie
-use Rattle.chase.proofs.same_entry.Reads as reads
-use Rattle.chase.proofs.same_entry.Lts as lts
 
--- src/lib.rt:42:25
 enum-known-a : tie.Need-enum-known-a
 enum-known-a c = search needs
 
--- src/lib.rt:43:29
 enum-known-b : tie.Need-enum-known-b
 enum-known-b c = search needs
 
--- src/lib.rt:44:35
 enum-told : tie.Need-enum-told
 enum-told c = search needs
 
--- src/lib.rt:46:25
 enum-known-a-2 : tie.Need-enum-known-a-2
 enum-known-a-2 c = search needs
 
--- src/lib.rt:47:35
 enum-told-2 : tie.Need-enum-told-2
 enum-told-2 c = search needs
 
--- src/lib.rt:48:29
 enum-known-b-2 : tie.Need-enum-known-b-2
 enum-known-b-2 c = search needs
 
--- src/lib.rt:38:1
 returns : tie.Need-returns
 unfolding sameEntry
 returns c = cc
 
--- src/lib.rt:38:1
 returns-2 : tie.Need-returns-2
 unfolding sameEntry
 returns-2 c = search needs
 
--- src/lib.rt:38:1
 returns-3 : tie.Need-returns-3
 unfolding sameEntry
 returns-3 c = search needs
 
--- src/lib.rt:38:1
 returns-4 : tie.Need-returns-4
 unfolding sameEntry
 returns-4 c = cc

@@ -1,14 +1,11 @@
-use mathlib.Core.Path.{_≡_, sym, _∙_, ap}
+-- `chase::substitute_head` meets its contract. The loop's invariant: the first k cells are done. Assumes nothing.
+use mathlib.Core.Path.{_≡_}
 use Prim.Native.Nat.{_≤_, _-_}
 use borrow.Author.Needs.{needs}
-use lib.ListN.{length, set}
 use Rattle.chase.specs.Wide.{substituteCell}
 use Rattle.chase.proofs.Lists.{mapFirst, mapFirst-none, mapFirst-more, mapFirst-done}
 use Rattle.chase.proofs.substitute_head.Statement.{statement}
 use Rattle.chase.proofs.substitute_head.Tie as tie
-use Rattle.chase.proofs.substitute_head.Reads as reads
-use Rattle.chase.proofs.substitute_head.Lts as lts
-use Rattle.chase.proofs.substitute.Reads as substitute-reads
 
 abbrev Inv-loop : tie.InvT-loop
 Inv-loop v e head out₀ k₀ out k = (k ≤ 8) × (out ≡ mapFirst (substituteCell v e) k head)
@@ -16,43 +13,33 @@ Inv-loop v e head out₀ k₀ out k = (k ≤ 8) × (out ≡ mapFirst (substitute
 abbrev μ-loop : tie.MeasureT-loop
 μ-loop v e head out₀ k₀ out k = 8 - k
 
--- src/lib.rt:221:5
 loop-holds : tie.Need-loop-holds Inv-loop μ-loop
 loop-holds c = (search needs, mapFirst-none _ _)
 
--- src/lib.rt:222:29
 mul-substitute : tie.Need-mul-substitute Inv-loop μ-loop
 mul-substitute c = search needs
 
--- src/lib.rt:222:29
 array-copy-out-substitute : tie.Need-array-copy-out-substitute Inv-loop μ-loop
 array-copy-out-substitute c = search needs
 
--- src/lib.rt:222:18
 substitute-requires : tie.Need-substitute-requires Inv-loop μ-loop
 substitute-requires c κs = search needs
 
--- src/lib.rt:222:9
 mul-out : tie.Need-mul-out Inv-loop μ-loop
 mul-out c = search needs
 
--- src/lib.rt:222:9
 array-set-from-out : tie.Need-array-set-from-out Inv-loop μ-loop
 array-set-from-out c = search needs
 
--- src/lib.rt:221:9
 add-k : tie.Need-add-k Inv-loop μ-loop
 add-k c = search needs
 
--- src/lib.rt:221:5
 loop-less : tie.Need-loop-less Inv-loop μ-loop
 loop-less c = search needs
 
--- src/lib.rt:221:5
 loop-again : tie.Need-loop-again Inv-loop μ-loop
 loop-again c = (search needs, mapFirst-more _ _ _ _ _ _ (c .before .before .before .loop .inv .1) (c .substitute .ensures) (search needs))
 
--- src/lib.rt:217:1
 returns : tie.Need-returns Inv-loop μ-loop
 returns c = mapFirst-done _ _ 8 _ _ (c .before .loop .inv .1) (search needs) (search needs)
 
