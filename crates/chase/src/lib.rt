@@ -200,6 +200,14 @@ fn survivor(a: Entry, a_in_head: bool, b: Entry, b_in_head: bool) -> Resolution
     }
 }
 
+// What two different entries of a query lead to.
+fn resolve(q: Query, a: Entry, b: Entry) -> Resolution
+    requires { ⌜ q .arity ≤ 8 ⌝ }
+    ensures { λ r. ⌜ resolutionOf r ≡ chasing.resolve (chasing.inHead (wideQuery q)) (entryOf a) (entryOf b) ⌝ }
+{
+    survivor(a, in_head(q, a), b, in_head(q, b))
+}
+
 // A cell with entry e in place of variable v.
 fn substitute(cell: Cell, v: u8, e: Entry) -> Cell
     ensures { λ r. ⌜ r ≡ substituteCell v e cell ⌝ }
@@ -286,7 +294,7 @@ pub fn chase(q: Query, dependencies: [Dependency; 32], held: usize) -> Chased
                 count: count,
             };
         };
-        let resolution = survivor(a, in_head(query, a), b, in_head(query, b));
+        let resolution = resolve(query, a, b);
         let Resolution::Replace(v, e) = resolution else {
             return Chased {
                 query: never(q.arity),

@@ -1,12 +1,12 @@
 -- `chase::chase` meets its contract. The loop's invariant is `Under`: the chase of the query so far gives the whole chase, `count` replacements later. The
 -- measure is the number of replacements that are left. Assumes nothing.
-use mathlib.Core.Path.{_≡_, sym}
-use Prim.Native.Nat.{_<_, _+_}
+use mathlib.Core.Path.{_≡_}
+use Prim.Native.Nat.{suc, _<_, _+_}
 use native.Mathlib.Omega.{arith}
 use borrow.Author.Needs.{needs}
 use lib.ListN.{length}
-use Rattle.chase.proofs.Lists.{length-of-map}
 use Rattle.chase.specs.Wide.{wideQuery, heldOf}
+use Rattle.chase.proofs.Lists.{length-of-map}
 use Rattle.chase.proofs.Rounds.{Under, under-start, under-replace, replaced-count, under-count, under-rest, under-clash}
 use Rattle.theory.specs.Chase as chasing
 use Rattle.chase.proofs.chase.Statement.{statement}
@@ -44,21 +44,26 @@ enum-told c = search needs
 
 returns : tie.Need-returns Inv-loop μ-loop
 returns c =
-    let a = c .before .before .before .before .args in
+    let s = c .before .before .before .before in
+    let a = s .args in
     let l = c .before .before .before .loop in
     let twelve = l .inv .0 in
     λ schema good widths.
-    under-rest (a .dependencies) (a .held) (a .q) (l .query) (l .count) (l .inv .2) (omega (arith, c .before .before .before .before .pre .size-fits)) schema good widths
+    under-rest
+    (a .dependencies)
+    (a .held)
+    (a .q)
+    (l .query)
+    (l .count)
+    (l .inv .2)
+    (omega (arith, s .pre .size-fits))
+    schema
+    good
+    widths
     (rw (c .enum-told .given .1) at (c .before .before .find-step .ensures .0))
 
-in-head-requires : tie.Need-in-head-requires Inv-loop μ-loop
-in-head-requires c κs = rw (c .before .before .before .before .loop .inv .2 .same-arity) (c .before .before .before .before .before .pre .arity-fits)
-
-in-head-requires-2 : tie.Need-in-head-requires-2 Inv-loop μ-loop
-in-head-requires-2 c κs = rw (c .before .before .before .before .before .loop .inv .2 .same-arity) (c .before .before .before .before .before .before .pre .arity-fits)
-
-survivor-requires : tie.Need-survivor-requires Inv-loop μ-loop
-survivor-requires c κs = search needs
+resolve-requires : tie.Need-resolve-requires Inv-loop μ-loop
+resolve-requires c κs = rw (c .before .before .before .before .loop .inv .2 .same-arity) (c .before .before .before .before .before .pre .arity-fits)
 
 enum-known-resolution : tie.Need-enum-known-resolution Inv-loop μ-loop
 enum-known-resolution c = search needs
@@ -71,72 +76,92 @@ never-requires c κs = search needs
 
 returns-2 : tie.Need-returns-2 Inv-loop μ-loop
 returns-2 c =
-    let a = c .before .before .before .before .before .before .before .before .before .before .before .args in
-    let l = c .before .before .before .before .before .before .before .before .before .before .loop in
-    let x = c .before .before .before .before .before .before .before .found .given .0 in
-    let is = c .before .before .before .before .before .before .before .found .given .1 in
-    let found = rw is at (c .before .before .before .before .before .before .before .before .before .find-step .ensures .0) in
-    let resolved =
-    rw (c .before .enum-told2 .given .1) at (c .before .before .before .survivor .ensures (chasing.inHead (wideQuery (l .query))) (sym (c .before .before .before .before .before .in-head .ensures)) (sym (c .before .before .before .before .in-head2 .ensures))) in
+    let s = c .before .before .before .before .before .before .before .before .before in
+    let a = s .args in
+    let l = c .before .before .before .before .before .before .before .before .loop in
+    let f = c .before .before .before .before .before .found .given in
     let twelve = l .inv .0 in
     let eight = l .inv .1 in
-    let p = c .before .before .before .before .before .before .before .before .before .before .before .pre in
     λ schema good widths.
     rw
     (c .never .ensures)
-    (under-clash (a .dependencies) (a .held) (a .q) (l .query) (l .count) (l .inv .2) (omega (arith, p .size-fits)) schema good widths (x .0) (x .1 .0) (p .arity-fits)
-    (omega (arith, p .arity-fits)) found resolved)
+    (under-clash
+    (a .dependencies)
+    (a .held)
+    (a .q)
+    (l .query)
+    (l .count)
+    (l .inv .2)
+    (omega (arith, s .pre .size-fits))
+    schema
+    good
+    widths
+    (f .0 .0)
+    (f .0 .1 .0)
+    (s .pre .arity-fits)
+    (omega (arith, s .pre .arity-fits))
+    (rw (f .1) at (c .before .before .before .before .before .before .before .find-step .ensures .0))
+    (rw (c .before .enum-told2 .given .1) at (c .before .before .before .resolve .ensures)))
 
 replace-requires : tie.Need-replace-requires Inv-loop μ-loop
 replace-requires c κs = search needs
 
+-- After a replacement fewer are left
+fewer : (c : tie.After-replace Inv-loop μ-loop)
+    → chasing.chase (heldOf (c .before .before .before .before .before .before .before .before .before .before .args .dependencies) (c .before .before .before .before .before .before .before .before .before .before .args .held)) (wideQuery (c .before .before .before .before .before .before .before .before .before .loop .query)) .count
+    ≡ suc (chasing.chase (heldOf (c .before .before .before .before .before .before .before .before .before .before .args .dependencies) (c .before .before .before .before .before .before .before .before .before .before .args .held)) (wideQuery (c .replace .result)) .count)
+fewer c =
+    let a = c .before .before .before .before .before .before .before .before .before .before .args in
+    let f = c .before .before .before .before .before .before .found .given in
+    let e = c .before .before .resolution .given in
+    rw
+    (c .replace .ensures)
+    (replaced-count
+    (a .q)
+    (heldOf (a .dependencies) (a .held))
+    (c .before .before .before .before .before .before .before .before .before .loop .query)
+    (f .0 .0)
+    (f .0 .1 .0)
+    (e .0 .0)
+    (e .0 .1 .0)
+    (rw (f .1) at (c .before .before .before .before .before .before .before .before .find-step .ensures .0))
+    (rw (e .1) at (c .before .before .before .before .resolve .ensures)))
+
 add-count : tie.Need-add-count Inv-loop μ-loop
 add-count c =
-    let a = c .before .before .before .before .before .before .before .before .before .before .before .before .args in
-    let l = c .before .before .before .before .before .before .before .before .before .before .before .loop in
-    let x = c .before .before .before .before .before .before .before .before .found .given .0 in
-    let y = c .before .before .resolution .given .0 in
-    let is = c .before .before .before .before .before .before .before .before .found .given .1 in
-    let found = rw is at (c .before .before .before .before .before .before .before .before .before .before .find-step .ensures .0) in
-    let resolved =
-    rw (c .before .before .resolution .given .1) at (c .before .before .before .before .survivor .ensures (chasing.inHead (wideQuery (l .query))) (sym (c .before .before .before .before .before .before .in-head .ensures)) (sym (c .before .before .before .before .before .in-head2 .ensures))) in
-    let p = c .before .before .before .before .before .before .before .before .before .before .before .before .pre in
-    let ds = heldOf (a .dependencies) (a .held) in
-    let one-less = replaced-count (a .q) ds (l .query) (x .0) (x .1 .0) (y .0) (y .1 .0) found resolved in
-    let small : l .count + 1 < 256 = omega (arith, one-less, under-count (a .q) ds (l .query) (l .count) (l .inv .2) (p .arity-fits) (p .size-fits)) in
+    let s = c .before .before .before .before .before .before .before .before .before .before in
+    let a = s .args in
+    let l = c .before .before .before .before .before .before .before .before .before .loop in
+    let bound = under-count (a .q) (heldOf (a .dependencies) (a .held)) (l .query) (l .count) (l .inv .2) (s .pre .arity-fits) (s .pre .size-fits) in
+    let small : l .count + 1 < 256 = omega (arith, fewer c, bound) in
     record { fits = small }
 
 loop-less : tie.Need-loop-less Inv-loop μ-loop
-loop-less c =
-    let a = c .before .before .before .before .before .before .before .before .before .before .before .before .args in
-    let l = c .before .before .before .before .before .before .before .before .before .before .before .loop in
-    let x = c .before .before .before .before .before .before .before .before .found .given .0 in
-    let y = c .before .before .resolution .given .0 in
-    let is = c .before .before .before .before .before .before .before .before .found .given .1 in
-    let found = rw is at (c .before .before .before .before .before .before .before .before .before .before .find-step .ensures .0) in
-    let resolved =
-    rw (c .before .before .resolution .given .1) at (c .before .before .before .before .survivor .ensures (chasing.inHead (wideQuery (l .query))) (sym (c .before .before .before .before .before .before .in-head .ensures)) (sym (c .before .before .before .before .before .in-head2 .ensures))) in
-    let one-less = replaced-count (a .q) (heldOf (a .dependencies) (a .held)) (l .query) (x .0) (x .1 .0) (y .0) (y .1 .0) found resolved in
-    rw (c .replace .ensures) (omega (arith, one-less))
+loop-less c = omega (arith, fewer c)
 
 loop-again : tie.Need-loop-again Inv-loop μ-loop
 loop-again c =
-    let a = c .before .before .before .before .before .before .before .before .before .before .before .before .args in
-    let l = c .before .before .before .before .before .before .before .before .before .before .before .loop in
-    let x = c .before .before .before .before .before .before .before .before .found .given .0 in
-    let y = c .before .before .resolution .given .0 in
-    let is = c .before .before .before .before .before .before .before .before .found .given .1 in
-    let found = rw is at (c .before .before .before .before .before .before .before .before .before .before .find-step .ensures .0) in
-    let resolved =
-    rw (c .before .before .resolution .given .1) at (c .before .before .before .before .survivor .ensures (chasing.inHead (wideQuery (l .query))) (sym (c .before .before .before .before .before .before .in-head .ensures)) (sym (c .before .before .before .before .before .in-head2 .ensures))) in
-    let twelve = l .inv .0 in (
-      twelve,
-      l .inv .1,
-      rw
-          (c .replace .ensures)
-          (under-replace (a .q) (heldOf (a .dependencies) (a .held)) (l .query) (x .0) (x .1 .0) (y .0) (y .1 .0) found resolved (l .count) (l .inv .2) (omega (arith, c .before .before .before .before .before .before .before .before .before .before .before .before .pre .size-fits))
-          (rw is at (c .before .before .before .before .before .before .before .before .before .before .find-step .ensures .1))),
-    )
+    let s = c .before .before .before .before .before .before .before .before .before .before in
+    let a = s .args in
+    let l = c .before .before .before .before .before .before .before .before .before .loop in
+    let f = c .before .before .before .before .before .before .found .given in
+    let e = c .before .before .resolution .given in
+    let twelve = l .inv .0 in
+    let next = under-replace
+    (a .q)
+    (heldOf (a .dependencies) (a .held))
+    (l .query)
+    (f .0 .0)
+    (f .0 .1 .0)
+    (e .0 .0)
+    (e .0 .1 .0)
+    (rw (f .1) at (c .before .before .before .before .before .before .before .before .find-step .ensures .0))
+    (rw (e .1) at (c .before .before .before .before .resolve .ensures))
+    (l .count)
+    (l .inv .2)
+    (omega (arith, s .pre .size-fits))
+    (rw (f .1) at (c .before .before .before .before .before .before .before .before .find-step .ensures .1)) in
+    (twelve, l .inv .1, rw (c .replace .ensures) next)
 
 pub chase-spec : {M : Type 1} → statement M
 chase-spec =
@@ -149,9 +174,7 @@ chase-spec =
     enum-known-found
     enum-told
     returns
-    in-head-requires
-    in-head-requires-2
-    survivor-requires
+    resolve-requires
     enum-known-resolution
     enum-told-2
     never-requires
