@@ -1,7 +1,7 @@
 -- `chase::chase` meets its contract. The loop's invariant is `Under`: the chase of the query so far gives the whole chase, `count` replacements later. The
 -- measure is the number of replacements that are left. Assumes nothing.
 use mathlib.Core.Path.{_≡_}
-use Prim.Native.Nat.{suc, _<_, _+_}
+use Prim.Native.Nat.{suc}
 use native.Mathlib.Omega.{arith}
 use borrow.Author.Needs.{needs}
 use lib.ListN.{length}
@@ -133,8 +133,7 @@ add-count c =
     let a = s .args in
     let l = c .before .before .before .before .before .before .before .before .before .loop in
     let bound = under-count (a .q) (heldOf (a .dependencies) (a .held)) (l .query) (l .count) (l .inv .2) (s .pre .arity-fits) (s .pre .size-fits) in
-    let small : l .count + 1 < 256 = omega (arith, fewer c, bound) in
-    record { fits = small }
+    record { fits = omega (arith, fewer c, bound) }
 
 loop-less : tie.Need-loop-less Inv-loop μ-loop
 loop-less c = omega (arith, fewer c)
