@@ -22,6 +22,7 @@ use Rattle.theory.proofs.Lists.{bool-cases, and-left, and-right}
 
 -- ---- tests on a list
 
+-- Two tests that pass pass together
 pub and-both : (a b : Bool) → a ≡ true → b ≡ true → a && b ≡ true
 and-both a b p q = rw (p, q)
 

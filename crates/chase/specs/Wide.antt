@@ -1,5 +1,6 @@
 -- A stored query as the code of the chase reads it: its rows with all their 8 cells, and what each of its functions answers.
 -- A column that a row's relation does not have holds constant 0, so the chase of these wide rows is that of the rows: `proofs/Narrow`.
+use mathlib.Core.Path.{_≡_}
 use mathlib.Core.Bool.{Bool, true, false, cond, _&&_}
 use mathlib.Core.List.{List, [], _∷_, map}
 use mathlib.Core.Option.{Option, none, some}
@@ -76,6 +77,12 @@ entryInHead inHead (theory.Entry.variable v) = inHead v
 abbrev pub resolutionOf : Resolution → chasing.Resolution
 resolutionOf Clash = chasing.clash
 resolutionOf (Replace v e) = chasing.replace v (entryOf e)
+
+-- r is the theory's resolution of two entries, for each head in which they stand as the flags say
+abbrev pub Survivor : Entry → Bool → Entry → Bool → chasing.Resolution → Type 0
+Survivor a a-in-head b b-in-head r =
+    (inHead : ℕ → Bool) → entryInHead inHead (entryOf a) ≡ a-in-head → entryInHead inHead (entryOf b) ≡ b-in-head
+    → r ≡ chasing.resolve inHead (entryOf a) (entryOf b)
 
 -- Entry e in place of variable v
 unfoldable pub substituteEntry : ℕ → Entry → Entry → Entry

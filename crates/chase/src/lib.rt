@@ -7,13 +7,13 @@ use record::Dependency;
 use record::Entry;
 use record::Query;
 ghost use mathlib.Core.Path.{_≡_};
-ghost use mathlib.Core.Bool.{Bool, true, not};
+ghost use mathlib.Core.Bool.{Bool, true};
 ghost use mathlib.Core.List.{List, map};
 ghost use Prim.Native.Nat.{ℕ, _≤_, _<_};
 ghost use lib.ListN.{take, getD};
 ghost use Rattle.record.specs.View.{entryOf, entriesOf, columnsOf, dependencyOf};
 ghost use Rattle.record.specs.Rule.{noCell, goodCell, goodQuery, neverQuery, every, between};
-ghost use Rattle.chase.specs.Wide.{rowAt, wideRow, wideQuery, heldOf, firstDiffering, foundOf, goodFound, entryInHead, resolutionOf, substituteCell, mapCells};
+ghost use Rattle.chase.specs.Wide.{rowAt, wideRow, wideQuery, heldOf, firstDiffering, foundOf, goodFound, entryInHead, resolutionOf, Survivor, substituteCell, mapCells};
 ghost use Rattle.chase.specs.Outcome.{Chasable, IsChased};
 ghost use Rattle.theory.specs.Query as theory;
 ghost use Rattle.theory.specs.Chase as chasing;
@@ -180,7 +180,7 @@ fn survives(v: u8, v_in_head: bool, w: u8, w_in_head: bool) -> bool
 
 // The survivor of two different entries: two constants clash, a constant survives a variable, and of two variables one `survives`.
 fn survivor(a: Entry, a_in_head: bool, b: Entry, b_in_head: bool) -> Resolution
-    ensures { λ r. ⌜ ((inHead : ℕ → Bool) → entryInHead inHead (entryOf a) ≡ a_in_head → entryInHead inHead (entryOf b) ≡ b_in_head → resolutionOf r ≡ chasing.resolve inHead (entryOf a) (entryOf b)) ⌝ }
+    ensures { λ r. ⌜ Survivor a a_in_head b b_in_head (resolutionOf r) ⌝ }
 {
     match a {
         Entry::Constant(_) => match b {

@@ -1,6 +1,7 @@
 -- `chase::chase` meets its contract. The loop's invariant is `Under`: the chase of the query so far gives the whole chase, `count` replacements later. The
 -- measure is the number of replacements that are left. Assumes nothing.
-use mathlib.Core.Path.{_≡_}
+use mathlib.Core.Path.{_≡_, sym, _∙_, ap}
+use mathlib.Core.List.{List}
 use Prim.Native.Nat.{suc}
 use native.Mathlib.Omega.{arith}
 use borrow.Author.Needs.{needs}
@@ -8,6 +9,8 @@ use lib.ListN.{length}
 use Rattle.chase.specs.Wide.{wideQuery, heldOf}
 use Rattle.chase.proofs.Lists.{length-of-map}
 use Rattle.chase.proofs.Rounds.{Under, under-start, under-replace, replaced-count, under-count, under-rest, under-clash}
+use Rattle.record.specs.declared.Query.{Query}
+use Rattle.theory.specs.Database.{Dependency}
 use Rattle.theory.specs.Chase as chasing
 use Rattle.chase.proofs.chase.Statement.{statement}
 use Rattle.chase.proofs.chase.Tie as tie
@@ -106,33 +109,36 @@ returns-2 c =
 replace-requires : tie.Need-replace-requires Inv-loop μ-loop
 replace-requires c κs = search needs
 
--- After a replacement fewer are left
+-- The dependencies and the query before a replacement
+abbrev heldAt : tie.After-replace Inv-loop μ-loop → List Dependency
+heldAt c = let a = c .before .before .before .before .before .before .before .before .before .before .args in heldOf (a .dependencies) (a .held)
+
+abbrev queryAt : tie.After-replace Inv-loop μ-loop → Query
+queryAt c = c .before .before .before .before .before .before .before .before .before .loop .query
+
+-- After it one replacement fewer is left
 fewer : (c : tie.After-replace Inv-loop μ-loop)
-    → chasing.chase (heldOf (c .before .before .before .before .before .before .before .before .before .before .args .dependencies) (c .before .before .before .before .before .before .before .before .before .before .args .held)) (wideQuery (c .before .before .before .before .before .before .before .before .before .loop .query)) .count
-    ≡ suc (chasing.chase (heldOf (c .before .before .before .before .before .before .before .before .before .before .args .dependencies) (c .before .before .before .before .before .before .before .before .before .before .args .held)) (wideQuery (c .replace .result)) .count)
+    → chasing.chase (heldAt c) (wideQuery (queryAt c)) .count ≡ suc (chasing.chase (heldAt c) (wideQuery (c .replace .result)) .count)
 fewer c =
-    let a = c .before .before .before .before .before .before .before .before .before .before .args in
     let f = c .before .before .before .before .before .before .found .given in
     let e = c .before .before .resolution .given in
-    rw
-    (c .replace .ensures)
-    (replaced-count
-    (a .q)
-    (heldOf (a .dependencies) (a .held))
-    (c .before .before .before .before .before .before .before .before .before .loop .query)
+    replaced-count
+    (c .before .before .before .before .before .before .before .before .before .before .args .q)
+    (heldAt c)
+    (queryAt c)
     (f .0 .0)
     (f .0 .1 .0)
     (e .0 .0)
     (e .0 .1 .0)
     (rw (f .1) at (c .before .before .before .before .before .before .before .before .find-step .ensures .0))
-    (rw (e .1) at (c .before .before .before .before .resolve .ensures)))
+    (rw (e .1) at (c .before .before .before .before .resolve .ensures))
+    ∙ ap (λ (x : Query). suc (chasing.chase (heldAt c) (wideQuery x) .count)) (sym (c .replace .ensures))
 
 add-count : tie.Need-add-count Inv-loop μ-loop
 add-count c =
     let s = c .before .before .before .before .before .before .before .before .before .before in
-    let a = s .args in
     let l = c .before .before .before .before .before .before .before .before .before .loop in
-    let bound = under-count (a .q) (heldOf (a .dependencies) (a .held)) (l .query) (l .count) (l .inv .2) (s .pre .arity-fits) (s .pre .size-fits) in
+    let bound = under-count (s .args .q) (heldAt c) (queryAt c) (l .count) (l .inv .2) (s .pre .arity-fits) (s .pre .size-fits) in
     record { fits = omega (arith, fewer c, bound) }
 
 loop-less : tie.Need-loop-less Inv-loop μ-loop
@@ -141,15 +147,14 @@ loop-less c = omega (arith, fewer c)
 loop-again : tie.Need-loop-again Inv-loop μ-loop
 loop-again c =
     let s = c .before .before .before .before .before .before .before .before .before .before in
-    let a = s .args in
     let l = c .before .before .before .before .before .before .before .before .before .loop in
     let f = c .before .before .before .before .before .before .found .given in
     let e = c .before .before .resolution .given in
     let twelve = l .inv .0 in
     let next = under-replace
-    (a .q)
-    (heldOf (a .dependencies) (a .held))
-    (l .query)
+    (s .args .q)
+    (heldAt c)
+    (queryAt c)
     (f .0 .0)
     (f .0 .1 .0)
     (e .0 .0)
