@@ -1,4 +1,5 @@
 // The record of relations, dependencies and saved queries: its types, its rule, and the calls that change or ask it alone.
+pub mod rule; // rule.rt: whether a record, and each part of one, is as document 01 describes
 
 // An entry of a query: a constant or a variable, each by its number.
 pub enum Entry {

@@ -1,0 +1,2 @@
+-- Laws that the proofs of the functions share, and the facts that other crates cite.
+pub mod Tail

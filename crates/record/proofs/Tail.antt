@@ -1,0 +1,93 @@
+-- Tests of all elements of a list as a loop makes them, position by position: `everyAt` takes the position too.
+-- First what a turn of the loop shows, then how the rule's `every` and `inUse` are such tests. For any elements, test and length.
+use mathlib.Core.Path.{_≡_, refl, sym, ap, _∙_}
+use mathlib.Core.Bool.{Bool, true, false, cond, not, _&&_}
+use mathlib.Core.List.{List, [], _∷_}
+use Prim.Native.Nat.{ℕ, zero, suc, _+_, _≤_, _<_}
+use native.Mathlib.Numerals.{add-one}
+use native.Mathlib.Omega.{arith}
+use lib.Dec.{ltb}
+use lib.ListN.{length, take, drop, getD, drop-of-length-le}
+use lib.Seq.{drop-cons, take-nil, drop-nil}
+use borrow.Author.Tests.{lt-ltb, le-ltb, not-true, not-false}
+use Rattle.record.specs.Rule.{every, inUse}
+
+-- Whether each element passes a test at its position, the first standing at position i
+unfoldable pub everyAt : {A : Type 0} → (ℕ → A → Bool) → ℕ → List A → Bool
+everyAt test i [] = true
+everyAt test i (x ∷ xs) = test i x && everyAt test (suc i) xs
+
+and-true : (a b : Bool) → a ≡ true → a && b ≡ b
+and-true a b e = ap (λ (t : Bool). t && b) e
+
+and-false : (a b : Bool) → a ≡ false → a && b ≡ false
+and-false a b e = ap (λ (t : Bool). t && b) e
+
+split : {A : Type 0} (test : ℕ → A → Bool) (xs : List A) (d : A) (i : ℕ) → i < length xs
+    → everyAt test i (drop i xs) ≡ test i (getD xs i d) && everyAt test (suc i) (drop (suc i) xs)
+unfolding everyAt
+split test xs d i h = ap (everyAt test i) (drop-cons xs i d h)
+
+-- The invariant of a loop that tests xs: the whole test is that of what is left, from position i on
+pub record Remains {A : Type 0} (test : ℕ → A → Bool) (xs : List A) (whole : Bool) (i : ℕ) : Type 0 where
+  pub rest : whole ≡ everyAt test i (drop i xs)
+
+module _ {A : Type 0} {test : ℕ → A → Bool} {xs : List A} {whole : Bool} {i : ℕ} where
+  -- A turn whose test passes keeps it
+  pub turn-passes : Remains test xs whole i → (d : A) {t : Bool} → i < length xs → t ≡ test i (getD xs i d) → not t ≡ false → Remains test xs whole (i + 1)
+  turn-passes inv d h e holds =
+      record {
+        rest =
+            inv .rest ∙ split test xs d i h ∙ and-true _ _ (sym e ∙ not-false _ holds)
+            ∙ ap (λ (k : ℕ). everyAt test k (drop k xs)) (sym (add-one i));
+      }
+
+  -- A turn whose test fails decides
+  pub turn-fails : Remains test xs whole i → (d : A) {t : Bool} → i < length xs → t ≡ test i (getD xs i d) → not t ≡ true → false ≡ whole
+  turn-fails inv d h e fails = sym (inv .rest ∙ split test xs d i h ∙ and-false _ _ (sym e ∙ not-true _ fails))
+
+  -- Past the end nothing is left
+  pub turns-end : Remains test xs whole i → length xs ≤ i → true ≡ whole
+  unfolding everyAt
+  turns-end inv h = sym (inv .rest ∙ ap (everyAt test i) (drop-of-length-le xs h))
+
+-- ---- the rule's tests
+
+pub and-assoc : (a b c : Bool) → (a && b) && c ≡ a && (b && c)
+and-assoc true b c = refl
+and-assoc false b c = refl
+
+-- One test for every element
+pub every-at : {A : Type 0} (test : A → Bool) (i : ℕ) (xs : List A) → every test xs ≡ everyAt (λ _. test) i xs
+unfolding every everyAt
+every-at test i [] = refl
+every-at test i (x ∷ xs) = ap (λ (t : Bool). test x && t) (every-at test (suc i) xs)
+
+-- A loop that makes one test of every element from position i on starts so
+pub every-start : {A : Type 0} (test : A → Bool) (i : ℕ) (xs : List A) → Remains (λ _. test) xs (every test (drop i xs)) i
+every-start test i xs = record { rest = every-at test i (drop i xs) }
+
+-- Good below position n, blank from there on
+abbrev pub usedTest : {A : Type 0} → ℕ → (A → Bool) → (A → Bool) → ℕ → A → Bool
+usedTest n good blank i x = cond (ltb i n) (good x) (blank x)
+
+module _ {A : Type 0} (good blank : A → Bool) where
+  blank-from : (i m : ℕ) (xs : List A) → m ≤ i → every blank xs ≡ everyAt (usedTest m good blank) i xs
+  unfolding every everyAt
+  blank-from i m [] e = refl
+  blank-from i m (x ∷ xs) e =
+      let h : ltb i m ≡ false = le-ltb i m e in
+      rw h (ap (λ (t : Bool). blank x && t) (blank-from (suc i) m xs (omega arith)))
+
+  used-from : (n i m : ℕ) (xs : List A) → m ≡ i + n → inUse n good blank xs ≡ everyAt (usedTest m good blank) i xs
+  unfolding every everyAt
+  used-from zero i m xs e = blank-from i m xs (omega arith)
+  used-from (suc n) i m [] e = refl
+  used-from (suc n) i m (x ∷ xs) e =
+      let h : ltb i m ≡ true = lt-ltb i m (omega arith) in
+      let q : m ≡ suc i + n = omega arith in
+      rw h (and-assoc (good x) (every good (take n xs)) (every blank (drop n xs)) ∙ ap (λ (t : Bool). good x && t) (used-from n (suc i) m xs q))
+
+  -- A loop that tests an array of which n elements are in use starts so
+  pub used-start : (n : ℕ) (xs : List A) → Remains (usedTest n good blank) xs (inUse n good blank xs) 0
+  used-start n xs = record { rest = used-from n 0 n xs (omega arith) }
