@@ -1,2 +1,3 @@
 -- Laws that the proofs of the functions share, and the facts that other crates cite.
 pub mod Tail
+pub mod Tests

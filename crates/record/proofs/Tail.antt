@@ -3,14 +3,15 @@
 use mathlib.Core.Path.{_≡_, refl, sym, ap, _∙_}
 use mathlib.Core.Bool.{Bool, true, false, cond, not, _&&_}
 use mathlib.Core.List.{List, [], _∷_}
-use Prim.Native.Nat.{ℕ, zero, suc, _+_, _≤_, _<_}
+use Prim.Native.Nat.{ℕ, zero, suc, _+_, _*_, _≤_, _<_}
 use native.Mathlib.Numerals.{add-one}
 use native.Mathlib.Omega.{arith}
 use lib.Dec.{ltb}
-use lib.ListN.{length, take, drop, getD, drop-of-length-le}
-use lib.Seq.{drop-cons, take-nil, drop-nil}
+use lib.ListN.{length, take, drop, getD, length-drop, drop-of-length-le}
+use lib.Seq.{drop-cons, drop-drop, getD-take, getD-drop, length-take-le}
 use borrow.Author.Tests.{lt-ltb, le-ltb, not-true, not-false}
-use Rattle.record.specs.Rule.{every, inUse}
+use Rattle.record.specs.declared.Cell.{Cell}
+use Rattle.record.specs.Rule.{every, inUse, goodRow, goodRows}
 
 -- Whether each element passes a test at its position, the first standing at position i
 unfoldable pub everyAt : {A : Type 0} → (ℕ → A → Bool) → ℕ → List A → Bool
@@ -51,6 +52,14 @@ module _ {A : Type 0} {test : ℕ → A → Bool} {xs : List A} {whole : Bool} {
   unfolding everyAt
   turns-end inv h = sym (inv .rest ∙ ap (everyAt test i) (drop-of-length-le xs h))
 
+-- ---- a stretch of an array
+
+pub stretch-length : {A : Type 0} (start n : ℕ) (xs : List A) → start + n ≤ length xs → length (take n (drop start xs)) ≡ n
+stretch-length start n xs h = length-take-le n (drop start xs) (rw length-drop (omega arith))
+
+pub stretch-getD : {A : Type 0} (start n : ℕ) (xs : List A) (i : ℕ) (d : A) → i < n → getD (take n (drop start xs)) i d ≡ getD xs (start + i) d
+stretch-getD start n xs i d h = getD-take n (drop start xs) i d h ∙ getD-drop start xs i d
+
 -- ---- the rule's tests
 
 pub and-assoc : (a b c : Bool) → (a && b) && c ≡ a && (b && c)
@@ -88,6 +97,27 @@ module _ {A : Type 0} (good blank : A → Bool) where
       let q : m ≡ suc i + n = omega arith in
       rw h (and-assoc (good x) (every good (take n xs)) (every blank (drop n xs)) ∙ ap (λ (t : Bool). good x && t) (used-from n (suc i) m xs q))
 
+  -- Where none is in use, all are blank
+  pub none-used : (xs : List A) → inUse 0 good blank xs ≡ every blank xs
+  unfolding every
+  none-used xs = refl
+
   -- A loop that tests an array of which n elements are in use starts so
   pub used-start : (n : ℕ) (xs : List A) → Remains (usedTest n good blank) xs (inUse n good blank xs) 0
   used-start n xs = record { rest = used-from n 0 n xs (omega arith) }
+
+-- The row at position i names a known relation and has good entries
+abbrev pub rowTest : List ℕ → List Cell → ℕ → ℕ → Bool
+rowTest schema cells i relation = goodRow schema relation (take 8 (drop (8 * i) cells))
+
+rows-from : (schema : List ℕ) (cells : List Cell) (i : ℕ) (rs : List ℕ) → goodRows schema rs (drop (8 * i) cells) ≡ everyAt (rowTest schema cells) i rs
+unfolding goodRows everyAt
+rows-from schema cells i [] = refl
+rows-from schema cells i (r ∷ rs) =
+    let next : 8 * i + 8 ≡ 8 * suc i = omega arith in
+    let here : drop 8 (drop (8 * i) cells) ≡ drop (8 * suc i) cells = drop-drop 8 (8 * i) cells ∙ ap (λ (k : ℕ). drop k cells) next in
+    ap (λ (t : Bool). goodRow schema r (take 8 (drop (8 * i) cells)) && t) (ap (goodRows schema rs) here ∙ rows-from schema cells (suc i) rs)
+
+-- A loop that tests rows starts so
+pub rows-start : (schema : List ℕ) (cells : List Cell) (rs : List ℕ) → Remains (rowTest schema cells) rs (goodRows schema rs cells) 0
+rows-start schema cells rs = record { rest = rows-from schema cells 0 rs }
