@@ -2,15 +2,17 @@
 -- First what a turn of the loop shows, then how the rule's `every` and `inUse` are such tests. For any elements, test and length.
 use mathlib.Core.Path.{_≡_, refl, sym, ap, _∙_}
 use mathlib.Core.Bool.{Bool, true, false, cond, not, _&&_}
-use mathlib.Core.List.{List, [], _∷_}
+use mathlib.Core.List.{List, [], _∷_, map}
 use Prim.Native.Nat.{ℕ, zero, suc, _+_, _*_, _≤_, _<_}
+use native.Mathlib.Nat.{le-of-suc-le-suc, not-suc-le-zero}
 use native.Mathlib.Numerals.{add-one}
 use native.Mathlib.Omega.{arith}
 use lib.Dec.{ltb}
-use lib.ListN.{length, take, drop, getD, length-drop, drop-of-length-le}
+use lib.ListN.{length, take, drop, getD, length-drop, length-map, drop-of-length-le}
 use lib.Seq.{drop-cons, drop-drop, getD-take, getD-drop, length-take-le}
 use borrow.Author.Tests.{lt-ltb, le-ltb, not-true, not-false}
 use Rattle.record.specs.declared.Cell.{Cell}
+use Rattle.record.specs.declared.Place.{Place}
 use Rattle.record.specs.Rule.{every, inUse, goodRow, goodRows}
 
 -- Whether each element passes a test at its position, the first standing at position i
@@ -52,7 +54,44 @@ module _ {A : Type 0} {test : ℕ → A → Bool} {xs : List A} {whole : Bool} {
   unfolding everyAt
   turns-end inv h = sym (inv .rest ∙ ap (everyAt test i) (drop-of-length-le xs h))
 
+-- ---- a search
+
+-- The invariant of a loop that looks for an element that passes a test: whether there is one is decided by what is left, from position i on
+pub record Sought {A : Type 0} (test : ℕ → A → Bool) (xs : List A) (found : Bool) (i : ℕ) : Type 0 where
+  pub rest : Remains (λ k x. not (test k x)) xs (not found) i
+
+not-back : (a b : Bool) → a ≡ not b → not a ≡ b
+not-back a true e = ap not e
+not-back a false e = ap not e
+
+module _ {A : Type 0} {test : ℕ → A → Bool} {xs : List A} {found : Bool} {i : ℕ} where
+  -- A turn whose test passes finds one
+  pub search-finds : Sought test xs found i → (d : A) {t : Bool} → i < length xs → t ≡ test i (getD xs i d) → t ≡ true → true ≡ found
+  search-finds inv d {t} h e holds = not-back false found (turn-fails (inv .rest) d {t = not t} h (ap not e) (ap (λ (b : Bool). not (not b)) holds))
+
+  -- A turn whose test fails goes on
+  pub search-passes : Sought test xs found i → (d : A) {t : Bool} → i < length xs → t ≡ test i (getD xs i d) → t ≡ false → Sought test xs found (i + 1)
+  search-passes inv d {t} h e fails = record { rest = turn-passes (inv .rest) d {t = not t} h (ap not e) (ap (λ (b : Bool). not (not b)) fails) }
+
+  -- At the end there is none
+  pub search-ends : Sought test xs found i → length xs ≤ i → false ≡ found
+  search-ends inv h = not-back true found (turns-end (inv .rest) h)
+
 -- ---- a stretch of an array
+
+-- What a read of an array of places past its end would give
+abbrev pub pastPlace : Place
+pastPlace = record { filled = false; query = record { arity = 0; size = 0; head = []; relations = []; cells = [] } }
+
+-- What stands at a position does not depend on what would stand past the end
+pub getD-any : {A : Type 0} (xs : List A) (i : ℕ) (d e : A) → i < length xs → getD xs i d ≡ getD xs i e
+getD-any [] i d e h = absurd (not-suc-le-zero h)
+getD-any (x ∷ xs) zero d e h = refl
+getD-any (x ∷ xs) (suc i) d e h = getD-any xs i d e (le-of-suc-le-suc h)
+
+-- A list is as long as what is made of its elements: what a struct's type tells of its arrays
+pub mapped-length : (A B : Type 0) (f : A → B) (xs : List A) (n : ℕ) → length (map f xs) ≡ n → length xs ≡ n
+mapped-length A B f xs n e = sym (length-map xs f) ∙ e
 
 pub stretch-length : {A : Type 0} (start n : ℕ) (xs : List A) → start + n ≤ length xs → length (take n (drop start xs)) ≡ n
 stretch-length start n xs h = length-take-le n (drop start xs) (rw length-drop (omega arith))

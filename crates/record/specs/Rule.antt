@@ -102,6 +102,24 @@ goodQuery schema q =
     && goodRows schema (take (q .size) (q .relations)) (q .cells)
     && every isZero (drop (q .size) (q .relations)) && every blankCell (drop (8 * q .size) (q .cells))
 
+-- Whether an entry is variable v
+abbrev pub isVariable : ℕ → Entry → Bool
+isVariable v (Constant n) = false
+isVariable v (Variable w) = eqb v w
+
+-- The entry of a cell is variable v
+abbrev pub namesVariable : ℕ → Cell → Bool
+namesVariable v c = isVariable v (c .entry)
+
+-- Whether an entry is a constant or one of the given variables
+abbrev pub safeEntry : List ℕ → Entry → Bool
+safeEntry variables (Constant n) = true
+safeEntry variables (Variable v) = theory.member v variables
+
+-- The entry of a cell is a constant or one of the given variables
+abbrev pub safeCell : List ℕ → Cell → Bool
+safeCell variables c = safeEntry variables (c .entry)
+
 -- Each head variable occurs in a row: what refusal 6 asks of a query
 unfoldable pub headSafe : List ℕ → Query → Bool
 headSafe schema q =

@@ -12,7 +12,9 @@ ghost use mathlib.Core.Path.{_≡_};
 ghost use Prim.Native.Nat.{_+_, _*_, _≤_};
 ghost use lib.Dec.{eqb};
 ghost use lib.ListN.{take, drop, getD};
-ghost use Rattle.record.specs.Rule.{between, every, inUse, isZero, blankCell, blankDependency, blankQuery, goodRelations, goodSet, goodDependency, goodDependencies, goodCell, goodRows, goodQuery, headSafe, goodPlace, goodRecord};
+ghost use Rattle.theory.specs.Query.{member, variablesOf, rowEntries};
+ghost use Rattle.record.specs.View.{entriesOf, rowsOf};
+ghost use Rattle.record.specs.Rule.{namesVariable, safeCell, between, every, inUse, isZero, blankCell, blankDependency, blankQuery, goodRelations, goodSet, goodDependency, goodDependencies, goodCell, goodRows, goodQuery, headSafe, goodPlace, goodRecord};
 
 // Whether an entry in use is within the limits.
 pub fn cell_good(c: Cell) -> bool
@@ -285,4 +287,121 @@ pub fn query_blank(q: Query) -> bool
         return false;
     }
     cells_blank(cells, 0)
+}
+
+// Whether an entry is the given variable.
+fn cell_names(c: Cell, v: u8) -> bool
+    ensures { λ r. ⌜ r ≡ namesVariable v c ⌝ }
+{
+    let e = c.entry;
+    match e {
+        Entry::Constant(_) => false,
+        Entry::Variable(w) => v == w,
+    }
+}
+
+// Whether a variable stands among the first entries of a row.
+pub fn row_has(cells: [Cell; 96], start: usize, width: usize, v: u8) -> bool
+    requires { ⌜ start + width ≤ 96 ⌝ }
+    ensures { λ r. ⌜ r ≡ member v (variablesOf (entriesOf (take width (drop start cells)))) ⌝ }
+{
+    for i in 0..width {
+        if cell_names(cells[start + i], v) {
+            return true;
+        }
+    }
+    false
+}
+
+// Whether a variable stands in one of the first rows.
+pub fn rows_have(relations: u8, widths: [u8; 8], size: usize, named: [u8; 12], cells: [Cell; 96], v: u8) -> bool
+    requires { ⌜ (goodRelations relations widths ≡ true) × (size ≤ 12) ⌝ }
+    ensures { λ r. ⌜ r ≡ member v (variablesOf (rowEntries (rowsOf (take relations widths) (take size named) cells))) ⌝ }
+{
+    for row in 0..size {
+        let width = width_of(relations, widths, named[row]);
+        if row_has(cells, 8 * row, width as usize, v) {
+            return true;
+        }
+    }
+    false
+}
+
+// Whether an entry of the head is a constant or stands in a row.
+fn head_cell_safe(relations: u8, widths: [u8; 8], size: usize, named: [u8; 12], cells: [Cell; 96], c: Cell) -> bool
+    requires { ⌜ (goodRelations relations widths ≡ true) × (size ≤ 12) ⌝ }
+    ensures { λ r. ⌜ r ≡ safeCell (variablesOf (rowEntries (rowsOf (take relations widths) (take size named) cells))) c ⌝ }
+{
+    let e = c.entry;
+    match e {
+        Entry::Constant(_) => true,
+        Entry::Variable(v) => rows_have(relations, widths, size, named, cells, v),
+    }
+}
+
+// Whether each head variable stands in a row: what refusal 6 asks of a query that keeps the limits.
+pub fn head_safe(relations: u8, widths: [u8; 8], q: Query) -> bool
+    requires { ⌜ (goodRelations relations widths ≡ true) × (q .arity ≤ 8) × (q .size ≤ 12) ⌝ }
+    ensures { λ r. ⌜ r ≡ headSafe (take relations widths) q ⌝ }
+{
+    let head = q.head;
+    let named = q.relations;
+    let cells = q.cells;
+    let arity = q.arity as usize;
+    let size = q.size as usize;
+    for i in 0..arity {
+        if !head_cell_safe(relations, widths, size, named, cells, head[i]) {
+            return false;
+        }
+    }
+    true
+}
+
+// Whether a filled place holds a good query with a safe head, or a vacant one holds nothing.
+pub fn place_good(relations: u8, widths: [u8; 8], p: Place) -> bool
+    requires { ⌜ goodRelations relations widths ≡ true ⌝ }
+    ensures { λ r. ⌜ r ≡ goodPlace (take relations widths) p ⌝ }
+{
+    let q = p.query;
+    if p.filled {
+        if !query_good(relations, widths, q) {
+            return false;
+        }
+        head_safe(relations, widths, q)
+    } else {
+        query_blank(q)
+    }
+}
+
+// Whether every place is good.
+pub fn places_good(relations: u8, widths: [u8; 8], places: [Place; 8]) -> bool
+    requires { ⌜ goodRelations relations widths ≡ true ⌝ }
+    ensures { λ r. ⌜ r ≡ every (goodPlace (take relations widths)) places ⌝ }
+{
+    for i in 0..8 {
+        if !place_good(relations, widths, places[i]) {
+            return false;
+        }
+    }
+    true
+}
+
+impl Record {
+    // Whether the record is as document 01's "The record" describes it: what refusal 14 asks.
+    pub fn whole(self) -> bool
+        ensures { λ r. ⌜ r ≡ goodRecord self ⌝ }
+    {
+        let relations = self.relations;
+        let widths = self.widths;
+        let held = self.held;
+        let dependencies = self.dependencies;
+        let places = self.places;
+        if !relations_good(relations, widths) {
+            return false;
+        }
+        if !dependencies_good(relations, widths, held, dependencies) {
+            return false;
+        }
+        places_good(relations, widths, places)
+    }
 }
