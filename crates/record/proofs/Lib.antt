@@ -3,3 +3,4 @@ pub mod Tail
 pub mod Tests
 pub mod Variables
 pub mod Good
+pub mod Stored

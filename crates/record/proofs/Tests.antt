@@ -1,6 +1,6 @@
 -- What a test that holds tells: of a conjunction, of every element of a list, of an array that is partly in use, of the relations' widths.
 -- For any elements, any number of them and any test. The lengths of arrays are the types', so a law that needs one asks it.
-use mathlib.Core.Path.{_≡_, refl, sym, ap, _∙_}
+use mathlib.Core.Path.{_≡_, refl, sym, ap, ap₂, subst, _∙_}
 use mathlib.Core.Bool.{Bool, true, false, cond, not, _&&_}
 use mathlib.Core.List.{List, [], _∷_, _++_, List·Memᴰ, List·Memᴰ·head, List·Memᴰ·tail}
 use Prim.Native.Nat.{ℕ, zero, suc, _+_, _*_, _-_, _%_, _^_, _≤_, _<_}
@@ -9,7 +9,7 @@ use lib.Pow.{pow-mono}
 use native.Mathlib.Nat.{one-mul, mod-eq-of-lt, lt-of-le-of-lt, le-of-suc-le-suc, not-suc-le-zero}
 use native.Mathlib.Omega.{arith}
 use lib.Dec.{eqb, ltb, leb, lit<}
-use lib.ListN.{length, take, drop, getD, set, replicate, length-take, List·getD-eq-default}
+use lib.ListN.{length, take, drop, getD, set, replicate, length-take, length-drop, take-append-drop, List·getD-eq-default}
 use lib.Seq.{getD-take, length-take-le}
 use borrow.Author.Tests.{leb-true, ltb-true, ltb-false, eqb-true, lt-ltb, le-ltb}
 use Rattle.record.specs.Rule.{every, inUse, between, isZero, goodRelations}
@@ -52,6 +52,58 @@ unfolding every
 every-member test (y ∷ xs) e (List·Memᴰ·head p) = ap test p ∙ and-left (test y) (every test xs) e
 every-member test (y ∷ xs) e (List·Memᴰ·tail at) = every-member test xs (and-right (test y) (every test xs) e) at
 
+-- A weaker test
+pub every-weaken : {A : Type 0} (test other : A → Bool) → ((x : A) → test x ≡ true → other x ≡ true) → (xs : List A) → every test xs ≡ true → every other xs ≡ true
+unfolding every
+every-weaken test other lift [] e = refl
+every-weaken test other lift (x ∷ xs) e =
+    and-both (other x) (every other xs) (lift x (and-left (test x) (every test xs) e))
+    (every-weaken test other lift xs (and-right (test x) (every test xs) e))
+
+-- Every element of two lists together
+pub every-append : {A : Type 0} (test : A → Bool) (xs ys : List A) → every test xs ≡ true → every test ys ≡ true → every test (xs ++ ys) ≡ true
+unfolding every
+every-append test [] ys p q = q
+every-append test (x ∷ xs) ys p q =
+    and-both (test x) (every test (xs ++ ys)) (and-left (test x) (every test xs) p)
+    (every-append test xs ys (and-right (test x) (every test xs) p) q)
+
+-- Every element of a first part, and of a last part
+pub every-take : {A : Type 0} (test : A → Bool) (n : ℕ) (xs : List A) → every test xs ≡ true → every test (take n xs) ≡ true
+unfolding every
+every-take test zero xs e = refl
+every-take test (suc n) [] e = refl
+every-take test (suc n) (x ∷ xs) e =
+    and-both (test x) (every test (take n xs)) (and-left (test x) (every test xs) e) (every-take test n xs (and-right (test x) (every test xs) e))
+
+pub every-drop : {A : Type 0} (test : A → Bool) (n : ℕ) (xs : List A) → every test xs ≡ true → every test (drop n xs) ≡ true
+unfolding every
+every-drop test zero xs e = e
+every-drop test (suc n) [] e = refl
+every-drop test (suc n) (x ∷ xs) e = every-drop test n xs (and-right (test x) (every test xs) e)
+
+-- After one element is replaced by another that passes
+pub every-set : {A : Type 0} (test : A → Bool) (xs : List A) (i : ℕ) (y : A) → every test xs ≡ true → test y ≡ true → every test (set xs i y) ≡ true
+unfolding every
+every-set test [] i y e p = e
+every-set test (x ∷ xs) zero y e p = and-both (test y) (every test xs) p (and-right (test x) (every test xs) e)
+every-set test (x ∷ xs) (suc i) y e p =
+    and-both (test x) (every test (set xs i y)) (and-left (test x) (every test xs) e) (every-set test xs i y (and-right (test x) (every test xs) e) p)
+
+-- Of one value, repeated
+pub every-replicate : {A : Type 0} (test : A → Bool) (n : ℕ) (x : A) → test x ≡ true → every test (replicate n x) ≡ true
+unfolding every
+every-replicate test zero x e = refl
+every-replicate test (suc n) x e = and-both (test x) (every test (replicate n x)) e (every-replicate test n x e)
+
+-- A test that only one value passes
+pub every-same : {A : Type 0} (test : A → Bool) (z : A) → ((x : A) → test x ≡ true → x ≡ z) → (xs : List A) → every test xs ≡ true → xs ≡ replicate (length xs) z
+unfolding every
+every-same test z only [] e = refl
+every-same {A} test z only (x ∷ xs) e =
+    ap₂ (λ (y : A) (ys : List A). y ∷ ys) (only x (and-left (test x) (every test xs) e))
+    (every-same test z only xs (and-right (test x) (every test xs) e))
+
 -- ---- numbers and arrays
 
 -- A number that passes `between` is
@@ -66,6 +118,22 @@ module _ {A : Type 0} (n : ℕ) (good blank : A → Bool) (xs : List A) where
   -- What is not in use is blank
   pub used-blank : inUse n good blank xs ≡ true → every blank (drop n xs) ≡ true
   used-blank e = and-right (every good (take n xs)) (every blank (drop n xs)) e
+
+  -- What is in use and what is not, together
+  pub used-whole : every good (take n xs) ≡ true → every blank (drop n xs) ≡ true → inUse n good blank xs ≡ true
+  used-whole p q = and-both (every good (take n xs)) (every blank (drop n xs)) p q
+
+  -- Where blank elements are good, all are good
+  pub used-all : ((x : A) → blank x ≡ true → good x ≡ true) → inUse n good blank xs ≡ true → every good xs ≡ true
+  used-all lift e =
+      subst (λ (ys : List A). every good ys ≡ true) (take-append-drop n xs)
+      (every-append good (take n xs) (drop n xs) (used-good e) (every-weaken blank good lift (drop n xs) (used-blank e)))
+
+  -- Where only one value is blank, an array is what is in use followed by that value
+  pub used-padded : (z : A) → ((x : A) → blank x ≡ true → x ≡ z) → inUse n good blank xs ≡ true → xs ≡ take n xs ++ replicate (length xs - n) z
+  used-padded z only e =
+      sym (take-append-drop n xs)
+      ∙ ap (λ (ys : List A). take n xs ++ ys) (every-same blank z only (drop n xs) (used-blank e) ∙ ap (λ (k : ℕ). replicate k z) (length-drop n xs))
 
 -- ---- the relations
 
