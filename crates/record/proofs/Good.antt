@@ -6,7 +6,7 @@ use mathlib.Core.List.{List}
 use Prim.Native.Nat.{ℕ, _*_, _^_, _≤_, _<_}
 use lib.Dec.{eqb, ltb, leb}
 use lib.ListN.{length, take, drop, getD}
-use borrow.Author.Tests.{leb-true, ltb-true, eqb-false, not-true}
+use borrow.Author.Tests.{leb-true, ltb-true, eqb-false, not-true, le-leb, lt-ltb, ne-eqb}
 use Rattle.record.specs.declared.Cell.{Cell}
 use Rattle.record.specs.declared.Query.{Query}
 use Rattle.record.specs.declared.Dependency.{Dependency}
@@ -47,6 +47,11 @@ good-query schema q e =
       cells = and-right (a && b && d && f && g) h e;
     }
 
+pub make-query : (schema : List ℕ) (q : Query) → GoodQuery schema q → goodQuery schema q ≡ true
+unfolding goodQuery
+make-query schema q g =
+    rw (le-leb (q .arity) 8 (g .arity), le-leb (q .size) 12 (g .size), g .head, g .rows, g .named, g .cells)
+
 -- A dependency that refusal 4 passes
 pub record GoodDependency (schema : List ℕ) (d : Dependency) : Type 0 where
   pub relation : d .relation < length schema
@@ -70,6 +75,11 @@ good-dependency schema d e =
       right = ltb-true _ _ (and-right (a && b && f) g e);
     }
 
+pub make-dependency : (schema : List ℕ) (d : Dependency) → GoodDependency schema d → goodDependency schema d ≡ true
+unfolding goodDependency
+make-dependency schema d g =
+    rw (lt-ltb _ _ (g .relation), ne-eqb _ _ (g .nonempty), lt-ltb _ _ (g .left), lt-ltb _ _ (g .right))
+
 -- A record that refusal 14 passes
 pub record GoodRecord (r : Record) : Type 0 where
   pub relations : goodRelations (r .relations) (r .widths) ≡ true
@@ -92,3 +102,7 @@ good-record r e =
       dependencies = and-right b d e1;
       places = and-right (a && (b && d)) f e;
     }
+
+pub make-record : (r : Record) → GoodRecord r → goodRecord r ≡ true
+unfolding goodRecord goodDependencies
+make-record r g = rw (g .relations, le-leb (r .held) 32 (g .held), g .dependencies, g .places)

@@ -4,3 +4,4 @@ pub mod Tests
 pub mod Variables
 pub mod Good
 pub mod Stored
+pub mod Shape

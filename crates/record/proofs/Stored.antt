@@ -102,6 +102,19 @@ row-at schema (k ∷ rs) cells (suc i) e h =
     subst (λ (cs : List Cell). goodRow schema (getD rs i 0) (take 8 cs) ≡ true) (drop-drop (8 * i) 8 cells ∙ ap (λ (n : ℕ). drop n cells) next)
     (row-at schema rs (drop 8 cells) i (rows-rest schema k rs cells e) (le-of-suc-le-suc h))
 
+-- And where each is good, all are
+pub rows-made : (schema rs : List ℕ) (cells : List Cell)
+    → ((i : ℕ) → i < length rs → goodRow schema (getD rs i 0) (take 8 (drop (8 * i) cells)) ≡ true) → goodRows schema rs cells ≡ true
+unfolding goodRows
+rows-made schema [] cells at = refl
+rows-made schema (k ∷ rs) cells at =
+    and-both (goodRow schema k (take 8 cells)) (goodRows schema rs (drop 8 cells)) (at 0 (omega arith))
+    (rows-made schema rs (drop 8 cells)
+    (λ i h.
+      let next : 8 * suc i ≡ 8 + 8 * i = omega arith in
+      subst (λ (cs : List Cell). goodRow schema (getD rs i 0) (take 8 cs) ≡ true)
+      (ap (λ (n : ℕ). drop n cells) next ∙ sym (drop-drop (8 * i) 8 cells)) (at (suc i) (omega arith))))
+
 module _ (schema : List ℕ) (narrow : (i : ℕ) → getD schema i 0 ≤ 8) where
   -- The rows of good rows fit the schema
   pub rows-fit : (rs : List ℕ) (cells : List Cell) {r : theory.Row theory.Entry} → 8 * length rs ≤ length cells

@@ -46,6 +46,12 @@ every-getD test [] i d e h = absurd (not-suc-le-zero h)
 every-getD test (x ∷ xs) zero d e h = and-left (test x) (every test xs) e
 every-getD test (x ∷ xs) (suc i) d e h = every-getD test xs i d (and-right (test x) (every test xs) e) (le-of-suc-le-suc h)
 
+-- And where it holds at each position, it holds of every element
+pub every-made : {A : Type 0} (test : A → Bool) (xs : List A) (d : A) → ((i : ℕ) → i < length xs → test (getD xs i d) ≡ true) → every test xs ≡ true
+unfolding every
+every-made test [] d at = refl
+every-made test (x ∷ xs) d at = and-both (test x) (every test xs) (at 0 (omega arith)) (every-made test xs d (λ i h. at (suc i) (omega arith)))
+
 -- A test of every element holds of each
 pub every-member : {A : Type 0} (test : A → Bool) (xs : List A) {x : A} → every test xs ≡ true → List·Memᴰ x xs → test x ≡ true
 unfolding every
@@ -130,10 +136,10 @@ module _ {A : Type 0} (n : ℕ) (good blank : A → Bool) (xs : List A) where
       (every-append good (take n xs) (drop n xs) (used-good e) (every-weaken blank good lift (drop n xs) (used-blank e)))
 
   -- Where only one value is blank, an array is what is in use followed by that value
-  pub used-padded : (z : A) → ((x : A) → blank x ≡ true → x ≡ z) → inUse n good blank xs ≡ true → xs ≡ take n xs ++ replicate (length xs - n) z
-  used-padded z only e =
+  pub padded : (z : A) → ((x : A) → blank x ≡ true → x ≡ z) → every blank (drop n xs) ≡ true → xs ≡ take n xs ++ replicate (length xs - n) z
+  padded z only e =
       sym (take-append-drop n xs)
-      ∙ ap (λ (ys : List A). take n xs ++ ys) (every-same blank z only (drop n xs) (used-blank e) ∙ ap (λ (k : ℕ). replicate k z) (length-drop n xs))
+      ∙ ap (λ (ys : List A). take n xs ++ ys) (every-same blank z only (drop n xs) e ∙ ap (λ (k : ℕ). replicate k z) (length-drop n xs))
 
 -- ---- the relations
 
@@ -160,6 +166,10 @@ module _ (n : ℕ) (widths : List ℕ) (good : goodRelations n widths ≡ true) 
   widths-used : inUse n (between 1 8) isZero widths ≡ true
   unfolding goodRelations
   widths-used = and-right (between 1 8 n) (inUse n (between 1 8) isZero widths) good
+
+  -- The widths past them are 0
+  pub widths-blank : every isZero (drop n widths) ≡ true
+  widths-blank = used-blank n (between 1 8) isZero widths widths-used
 
   -- A relation has 1 to 8 columns
   pub width-bounds : (i : ℕ) → i < length (take n widths) → (1 ≤ getD (take n widths) i 0) × (getD (take n widths) i 0 ≤ 8)
