@@ -5,3 +5,5 @@ pub mod Variables
 pub mod Good
 pub mod Stored
 pub mod Shape
+pub mod Refusals
+pub mod Outcomes
