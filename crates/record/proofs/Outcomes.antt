@@ -1,22 +1,56 @@
 -- Each call's definition by the test that decides it: what the code has shown when it answers.
 use mathlib.Core.Path.{_≡_, refl, sym, ap, _∙_}
-use mathlib.Core.Bool.{Bool, true, false, cond, not}
-use mathlib.Core.List.{List, [], _∷_}
+use mathlib.Core.Bool.{Bool, true, false, cond, not, _&&_}
+use mathlib.Core.List.{List, [], _∷_, _++_}
 use mathlib.Core.Option.{Option, none, some}
-use Prim.Native.Nat.{ℕ, _+_, _<_}
+use Prim.Native.Nat.{ℕ, _+_, _-_, _<_}
 use native.Mathlib.Omega.{arith}
-use lib.Dec.{eqb, ltb}
-use lib.ListN.{set}
-use borrow.Author.Tests.{lt-ltb, le-ltb, eq-eqb, ne-eqb}
+use lib.Dec.{eqb, ltb, leb}
+use lib.ListN.{length, set, replicate}
+use lib.Seq.{take-append-seam, drop-append-seam}
+use borrow.Author.Tests.{lt-ltb, le-ltb, lt-leb, eq-eqb, ne-eqb}
 use Rattle.record.specs.declared.Query.{Query}
 use Rattle.record.specs.declared.Dependency.{Dependency}
 use Rattle.record.specs.declared.Lookup.the-variants as lookup
 use Rattle.record.specs.declared.Record.{Record}
 use Rattle.record.specs.declared.Outcome.{Outcome}
 use Rattle.record.specs.View.{schemaOf}
-use Rattle.record.specs.Rule.{goodRecord, goodDependency, goodQuery, headSafe, noPlace}
-use Rattle.record.specs.Calls.{firstHolding, concluded, broken, above, vacant, filled, isFilled, placeAt, filledPlace, vacantPlace, withPlace, addDependency, putQuery, dropQuery}
+use Rattle.record.specs.Rule.{between, every, isZero, goodRelations, blankRecord, goodRecord, goodDependency, goodQuery, headSafe, noPlace}
+use Rattle.record.specs.Calls.{firstHolding, concluded, broken, above, vacant, filled, isFilled, placeAt, filledPlace, vacantPlace, withPlace, emptyRecord, openRecord, addDependency, putQuery, dropQuery}
+use Rattle.record.proofs.Tests.{every-replicate}
 use Rattle.record.proofs.Refusals.{first-goes, found-refused, filled-at, vacant-at, place-refused, vacant-refused}
+
+-- ---- open
+
+and-true-right : (b : Bool) → b && true ≡ b
+and-true-right true = refl
+and-true-right false = refl
+
+and-false-right : (b : Bool) → b && false ≡ false
+and-false-right true = refl
+and-false-right false = refl
+
+-- Padded widths are good exactly when there are 1 to 8, each 1 to 8
+widths-judged : (widths : List ℕ) (k : ℕ)
+    → goodRelations (length widths) (widths ++ replicate k 0) ≡ between 1 8 (length widths) && every (between 1 8) widths
+unfolding goodRelations
+widths-judged widths k =
+    rw (take-append-seam widths (replicate k 0), drop-append-seam widths (replicate k 0), every-replicate isZero k 0 refl,
+    and-true-right (every (between 1 8) widths))
+
+module _ (widths : List ℕ) where
+  pub open-many : 8 < length widths → concluded (some 3) blankRecord blankRecord ≡ openRecord widths
+  unfolding openRecord firstHolding
+  open-many h = rw (lt-leb (length widths) 8 h, and-false-right (leb 1 (length widths)))
+
+  pub open-unfit : goodRelations (length widths) (widths ++ replicate (8 - length widths) 0) ≡ false → concluded (some 3) blankRecord blankRecord ≡ openRecord widths
+  unfolding openRecord firstHolding
+  open-unfit e = rw (sym (widths-judged widths (8 - length widths)) ∙ e)
+
+  pub open-done : goodRelations (length widths) (widths ++ replicate (8 - length widths) 0) ≡ true
+      → (r : Record) → r ≡ emptyRecord (length widths) (widths ++ replicate (8 - length widths) 0) → concluded none r r ≡ openRecord widths
+  unfolding openRecord firstHolding
+  open-done e r is = rw (sym (widths-judged widths (8 - length widths)) ∙ e, is)
 
 -- ---- drop
 

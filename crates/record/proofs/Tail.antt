@@ -2,14 +2,14 @@
 -- First what a turn of the loop shows, then how the rule's `every` and `inUse` are such tests. For any elements, test and length.
 use mathlib.Core.Path.{_≡_, refl, sym, ap, _∙_}
 use mathlib.Core.Bool.{Bool, true, false, cond, not, _&&_}
-use mathlib.Core.List.{List, [], _∷_, map}
-use Prim.Native.Nat.{ℕ, zero, suc, _+_, _*_, _≤_, _<_}
-use native.Mathlib.Nat.{le-of-suc-le-suc, not-suc-le-zero}
+use mathlib.Core.List.{List, [], _∷_, _++_, map}
+use Prim.Native.Nat.{ℕ, zero, suc, _+_, _*_, _-_, _≤_, _<_}
+use native.Mathlib.Nat.{le-of-lt, le-of-suc-le-suc, not-suc-le-zero}
 use native.Mathlib.Numerals.{add-one}
 use native.Mathlib.Omega.{arith}
 use lib.Dec.{ltb}
-use lib.ListN.{length, take, drop, getD, length-drop, length-map, drop-of-length-le}
-use lib.Seq.{drop-cons, drop-drop, getD-take, getD-drop, length-take-le}
+use lib.ListN.{length, take, drop, getD, set, replicate, length-drop, length-map, drop-of-length-le}
+use lib.Seq.{drop-cons, drop-drop, getD-take, getD-drop, length-take-le, take-suc, set-at, append-snoc}
 use borrow.Author.Tests.{lt-ltb, le-ltb, not-true, not-false}
 use Rattle.record.specs.declared.Cell.{Cell}
 use Rattle.record.specs.declared.Place.{Place}
@@ -98,6 +98,24 @@ stretch-length start n xs h = length-take-le n (drop start xs) (rw length-drop (
 
 pub stretch-getD : {A : Type 0} (start n : ℕ) (xs : List A) (i : ℕ) (d : A) → i < n → getD (take n (drop start xs)) i d ≡ getD xs (start + i) d
 stretch-getD start n xs i d h = getD-take n (drop start xs) i d h ∙ getD-drop start xs i d
+
+-- ---- an array filled from the front
+
+-- The first i elements of xs, then z up to n elements in all
+abbrev pub filledTo : {A : Type 0} → ℕ → A → List A → ℕ → List A
+filledTo n z xs i = take i xs ++ replicate (n - i) z
+
+-- A store of the next element
+pub filled-next : {A : Type 0} (n : ℕ) (z : A) (xs : List A) (i : ℕ) → i < length xs → i < n
+    → set (filledTo n z xs i) i (getD xs i z) ≡ filledTo n z xs (i + 1)
+filled-next {A} n z xs i h room =
+    let long : length (take i xs) ≡ i = length-take-le i xs (le-of-lt h) in
+    let step : n - i ≡ suc (n - (i + 1)) = omega arith in
+    ap (λ (k : ℕ). set (take i xs ++ replicate k z) i (getD xs i z)) step
+    ∙ set-at (take i xs) z (replicate (n - (i + 1)) z) (getD xs i z) i long
+    ∙ sym (append-snoc (take i xs) (getD xs i z) (replicate (n - (i + 1)) z))
+    ∙ ap (λ (l : List A). l ++ replicate (n - (i + 1)) z) (sym (take-suc xs i z h))
+    ∙ ap (λ (k : ℕ). take k xs ++ replicate (n - (i + 1)) z) (sym (add-one i))
 
 -- ---- the rule's tests
 

@@ -80,17 +80,16 @@ withPlace r place p =
 
 -- ---- the calls
 
+-- A record of the given relations, no dependencies, all places vacant
+abbrev pub emptyRecord : ℕ → List ℕ → Record
+emptyRecord relations widths =
+    record { relations = relations; widths = widths; held = 0; dependencies = replicate 32 noDependency; places = replicate 8 noPlace }
+
 -- Open a record from relation widths, no dependencies, all places vacant: 3 unless there are 1 to 8 widths, each 1 to 8
 unfoldable pub openRecord : List ℕ → Outcome
 openRecord widths =
     concluded (firstHolding ((not (between 1 8 (length widths) && every (between 1 8) widths), 3) ∷ [])) blankRecord
-    (record {
-      relations = length widths;
-      widths = widths ++ replicate (8 - length widths) 0;
-      held = 0;
-      dependencies = replicate 32 noDependency;
-      places = replicate 8 noPlace;
-    })
+    (emptyRecord (length widths) (widths ++ replicate (8 - length widths) 0))
 
 -- Add a dependency after those held: 14; 4 unless it is good; 13 where 32 are held
 unfoldable pub addDependency : Record → Dependency → Outcome

@@ -15,8 +15,8 @@ ghost use mathlib.Core.Option.{none, some};
 ghost use mathlib.Core.List.{_++_};
 ghost use Prim.Native.Nat.{_-_, _≤_};
 ghost use lib.ListN.{length, replicate};
-ghost use Rattle.record.specs.Rule.{noCell, noQuery, noPlace, noDependency, blankRecord};
-ghost use Rattle.record.specs.Calls.{concluded, placeAt, filledPlace, vacantPlace, openRecord, addDependency, putQuery, dropQuery, numberOf};
+ghost use Rattle.record.specs.Rule.{noQuery, noPlace, blankRecord};
+ghost use Rattle.record.specs.Calls.{concluded, placeAt, filledPlace, vacantPlace, emptyRecord, openRecord, addDependency, putQuery, dropQuery, numberOf};
 
 // A call is done.
 fn done(after: Record) -> Outcome
@@ -85,7 +85,60 @@ pub fn no_place() -> Place
     }
 }
 
+// A record of the given relations, without dependencies, all places vacant.
+fn opened(relations: u8, widths: [u8; 8]) -> Record
+    ensures { λ r. ⌜ r ≡ emptyRecord relations widths ⌝ }
+{
+    let unused = Dependency {
+        relation: 0,
+        left: 0,
+        right: 0,
+    };
+    let vacant = no_place();
+    Record {
+        relations,
+        widths,
+        held: 0,
+        dependencies: [unused; 32],
+        places: [vacant; 8],
+    }
+}
+
+// The blank record, all fields 0.
+pub fn blank_record() -> Record
+    ensures { λ r. ⌜ r ≡ blankRecord ⌝ }
+{
+    opened(0, [0; 8])
+}
+
+// At most 8 widths, and 0 for each that is not in use.
+fn padded_widths(widths: &[u8]) -> [u8; 8]
+    requires { ⌜ length (now widths) ≤ 8 ⌝ }
+    ensures { λ r. ⌜ r ≡ now (widths .entry) ++ replicate (8 - length (now (widths .entry))) 0 ⌝ }
+{
+    let mut padded = [0u8; 8];
+    for i in 0..widths.len() {
+        padded[i] = widths[i];
+    }
+    padded
+}
+
 impl Record {
+    // Open a record from relation widths.
+    pub fn open(widths: &[u8]) -> Outcome
+        ensures { λ r. ⌜ r ≡ openRecord (now (widths .entry)) ⌝ }
+    {
+        if 8 < widths.len() {
+            return refused(3, blank_record());
+        }
+        let relations = widths.len() as u8;
+        let padded = padded_widths(widths);
+        if !rule::relations_good(relations, padded) {
+            return refused(3, blank_record());
+        }
+        done(opened(relations, padded))
+    }
+
     // The index of a place to be read or dropped, or 7, or 11.
     pub fn filled_place(self, place: usize) -> Lookup
         ensures { λ r. ⌜ r ≡ filledPlace self place ⌝ }
