@@ -7,3 +7,4 @@ pub mod Stored
 pub mod Shape
 pub mod Refusals
 pub mod Outcomes
+pub mod Masks
