@@ -52,6 +52,25 @@ unfolding goodQuery
 make-query schema q g =
     rw (le-leb (q .arity) 8 (g .arity), le-leb (q .size) 12 (g .size), g .head, g .rows, g .named, g .cells)
 
+-- A relation and a set of columns that refusal 4 passes
+pub record GoodSet (schema : List ℕ) (relation left : ℕ) : Type 0 where
+  pub relation-known : relation < length schema
+  pub nonempty : left ≡ 0 → ⊥
+  pub within : left < 2 ^ getD schema relation 0
+
+pub good-set : (schema : List ℕ) (relation left : ℕ) → goodSet schema relation left ≡ true → GoodSet schema relation left
+unfolding goodSet
+good-set schema relation left e =
+    let a : Bool = ltb relation (length schema) in
+    let b : Bool = not (eqb left 0) in
+    let f : Bool = ltb left (2 ^ getD schema relation 0) in
+    let e2 : a && b ≡ true = and-left (a && b) f e in
+    record {
+      relation-known = ltb-true _ _ (and-left a b e2);
+      nonempty = eqb-false _ _ (not-true _ (and-right a b e2));
+      within = ltb-true _ _ (and-right (a && b) f e);
+    }
+
 -- A dependency that refusal 4 passes
 pub record GoodDependency (schema : List ℕ) (d : Dependency) : Type 0 where
   pub relation : d .relation < length schema

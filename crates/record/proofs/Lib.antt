@@ -8,3 +8,4 @@ pub mod Shape
 pub mod Refusals
 pub mod Outcomes
 pub mod Masks
+pub mod Closure

@@ -5,8 +5,8 @@ use mathlib.Core.Bool.{Bool, true, false, cond, not, _&&_}
 use mathlib.Core.List.{List, [], _∷_, _++_, List·Memᴰ, List·Memᴰ·head, List·Memᴰ·tail}
 use Prim.Native.Nat.{ℕ, zero, suc, _+_, _*_, _-_, _%_, _^_, _≤_, _<_}
 use mathlib.Core.Logic.{_⊎_, inl, inr, ⊎-elim}
-use lib.Pow.{pow-mono}
-use native.Mathlib.Nat.{one-mul, mod-eq-of-lt, lt-of-le-of-lt, le-of-suc-le-suc, not-suc-le-zero}
+use lib.Pow.{pow-lt}
+use native.Mathlib.Nat.{one-mul, mod-eq-of-lt, le-of-suc-le-suc, not-suc-le-zero}
 use native.Mathlib.Omega.{arith}
 use lib.Dec.{eqb, ltb, leb, lit<}
 use lib.ListN.{length, take, drop, getD, set, replicate, length-take, length-drop, take-append-drop, List·getD-eq-default}
@@ -150,10 +150,9 @@ known-relation n widths r fits h = lt-ltb r (length (take n widths)) (rw (length
 pub unknown-relation : (n : ℕ) (widths : List ℕ) (r : ℕ) → n ≤ r → ltb r (length (take n widths)) ≡ false
 unknown-relation n widths r h = le-ltb r (length (take n widths)) (rw (length-take n widths) (omega arith))
 
--- A one shifted by a width, in 16 bits
-pub shifted-one : (w : ℕ) → w ≤ 8 → 1 * 2 ^ w % 65536 ≡ 2 ^ w
-shifted-one w h = rw (one-mul (2 ^ w)) (mod-eq-of-lt (lt-of-le-of-lt (pow-mono h) (lit< tt)))
-
+-- A one shifted by less than the number of bits
+pub shifted-one : (k w : ℕ) → w < k → 1 * 2 ^ w % 2 ^ k ≡ 2 ^ w
+shifted-one k w h = ap (λ (n : ℕ). n % 2 ^ k) (one-mul (2 ^ w)) ∙ mod-eq-of-lt (pow-lt h)
 
 module _ (n : ℕ) (widths : List ℕ) (good : goodRelations n widths ≡ true) where
   -- There are 1 to 8 relations

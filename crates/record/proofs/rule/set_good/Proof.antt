@@ -5,7 +5,8 @@ use mathlib.Core.Path.{_≡_, refl, sym, ap, _∙_}
 use mathlib.Core.Bool.{Bool, true, false, cond, not, _&&_}
 use Prim.Native.Nat.{ℕ, zero, suc, _+_, _*_, _-_, _%_, _^_, _≤_, _<_}
 use mathlib.Core.List.{List}
-use lib.Dec.{eqb, ltb, leb}
+use native.Mathlib.Nat.{lt-of-le-of-lt}
+use lib.Dec.{lit<, eqb, ltb, leb}
 use lib.ListN.{length, take, drop, getD}
 use native.Mathlib.Omega.{arith}
 use borrow.Author.Needs.{needs}
@@ -18,7 +19,7 @@ use Rattle.record.proofs.rule.width_of.Reads as width-of-reads
 within : (schema : List ℕ) (relation left width : ℕ) → ltb relation (length schema) ≡ true → eqb left 0 ≡ false → width ≡ getD schema relation 0
     → getD schema relation 0 ≤ 8 → ltb left (1 * 2 ^ width % 65536) ≡ goodSet schema relation left
 unfolding goodSet
-within schema relation left width known nonempty e narrow = rw (known, nonempty, e, shifted-one _ narrow)
+within schema relation left width known nonempty e narrow = rw (known, nonempty, e, shifted-one 16 _ (lt-of-le-of-lt narrow (lit< tt)))
 
 returns : tie.Need-returns
 unfolding goodSet
