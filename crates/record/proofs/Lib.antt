@@ -9,3 +9,4 @@ pub mod Refusals
 pub mod Outcomes
 pub mod Masks
 pub mod Closure
+pub mod Kept

@@ -22,7 +22,7 @@ use Rattle.theory.specs.Query.{_∈_}
 use Rattle.theory.specs.Determined.{determined}
 use Rattle.record.specs.View.{columnsOf, schemaOf, dependenciesOf}
 use Rattle.record.specs.Rule.{between, every, goodSet, rightNarrow, blankDependency, isZero, goodRelations, blankRecord, goodRecord, goodDependency, goodQuery, headSafe, noPlace}
-use Rattle.record.specs.Calls.{firstHolding, concluded, broken, above, vacant, filled, isFilled, placeAt, filledPlace, vacantPlace, withPlace, emptyRecord, openRecord, addDependency, putQuery, dropQuery, maskOf, columnsAnswer, determinedColumns}
+use Rattle.record.specs.Calls.{firstHolding, concluded, broken, above, vacant, filled, isFilled, placeAt, filledPlace, vacantPlace, withPlace, withDependency, emptyRecord, openRecord, addDependency, putQuery, dropQuery, maskOf, columnsAnswer, determinedColumns}
 use Rattle.record.specs.Closure.{growMask}
 use Rattle.record.proofs.Tests.{every-replicate, every-weaken, used-good}
 use Rattle.record.proofs.Good.{good-record, good-dependency, good-set}
@@ -139,12 +139,7 @@ module _ (r : Record) (d : Dependency) where
       unfolding addDependency firstHolding
       add-full e = rw (good, fit, eq-eqb (r .held) 32 e)
 
-      -- The record with one dependency more
-      abbrev pub grown : Record
-      grown =
-          record { relations = r .relations; widths = r .widths; held = r .held + 1; dependencies = set (r .dependencies) (r .held) d; places = r .places }
-
-      pub add-done : (r .held ≡ 32 → ⊥) → concluded none grown grown ≡ addDependency r d
+      pub add-done : (r .held ≡ 32 → ⊥) → concluded none (withDependency r d) (withDependency r d) ≡ addDependency r d
       unfolding addDependency firstHolding
       add-done e = rw (good, fit, ne-eqb (r .held) 32 e)
 

@@ -7,10 +7,11 @@ use Prim.Native.Nat.{ℕ, zero, suc, _+_, _*_, _-_, _%_, _^_, _≤_, _<_}
 use mathlib.Core.Logic.{_⊎_, inl, inr, ⊎-elim}
 use lib.Pow.{pow-lt}
 use native.Mathlib.Nat.{one-mul, mod-eq-of-lt, le-of-suc-le-suc, not-suc-le-zero}
+use native.Mathlib.Numerals.{add-one}
 use native.Mathlib.Omega.{arith}
 use lib.Dec.{eqb, ltb, leb, lit<}
 use lib.ListN.{length, take, drop, getD, set, replicate, length-take, length-drop, take-append-drop, List·getD-eq-default}
-use lib.Seq.{getD-take, length-take-le}
+use lib.Seq.{length-take-le, take-suc-set, drop-set-lt, drop-drop}
 use borrow.Author.Tests.{leb-true, ltb-true, ltb-false, eqb-true, lt-ltb, le-ltb}
 use Rattle.record.specs.Rule.{every, inUse, between, isZero, goodRelations}
 
@@ -140,6 +141,16 @@ module _ {A : Type 0} (n : ℕ) (good blank : A → Bool) (xs : List A) where
   padded z only e =
       sym (take-append-drop n xs)
       ∙ ap (λ (ys : List A). take n xs ++ ys) (every-same blank z only (drop n xs) e ∙ ap (λ (k : ℕ). replicate k z) (length-drop n xs))
+
+  -- One element more is in use
+  pub used-more : (y : A) → n < length xs → good y ≡ true → inUse n good blank xs ≡ true → inUse (n + 1) good blank (set xs n y) ≡ true
+  unfolding every
+  used-more y h fits e =
+      let front : take (n + 1) (set xs n y) ≡ take n xs ++ (y ∷ []) = ap (λ (k : ℕ). take k (set xs n y)) (add-one n) ∙ take-suc-set xs n y h in
+      let back : drop (n + 1) (set xs n y) ≡ drop 1 (drop n xs) = drop-set-lt (n + 1) xs n y (omega arith) ∙ sym (drop-drop 1 n xs) in
+      and-both (every good (take (n + 1) (set xs n y))) (every blank (drop (n + 1) (set xs n y)))
+      (ap (every good) front ∙ every-append good (take n xs) (y ∷ []) (used-good e) (and-both (good y) true fits refl))
+      (ap (every blank) back ∙ every-drop blank 1 (drop n xs) (used-blank e))
 
 -- ---- the relations
 

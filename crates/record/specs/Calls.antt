@@ -81,6 +81,11 @@ abbrev pub withPlace : Record → ℕ → Place → Record
 withPlace r place p =
     record { relations = r .relations; widths = r .widths; held = r .held; dependencies = r .dependencies; places = set (r .places) place p }
 
+-- The record with one dependency more, after those held
+abbrev pub withDependency : Record → Dependency → Record
+withDependency r d =
+    record { relations = r .relations; widths = r .widths; held = r .held + 1; dependencies = set (r .dependencies) (r .held) d; places = r .places }
+
 -- ---- the calls
 
 -- A record of the given relations, no dependencies, all places vacant
@@ -98,7 +103,7 @@ openRecord widths =
 unfoldable pub addDependency : Record → Dependency → Outcome
 addDependency r d =
     concluded (firstHolding (broken r ∷ (not (goodDependency (schemaOf r) d), 4) ∷ (eqb (r .held) 32, 13) ∷ [])) r
-    (record { relations = r .relations; widths = r .widths; held = r .held + 1; dependencies = set (r .dependencies) (r .held) d; places = r .places })
+    (withDependency r d)
 
 -- Put a query into a vacant place: 14; 7; 5 unless it keeps the limits and holds nothing where it is not in use; 6 where a head variable is in no row; 12
 unfoldable pub putQuery : Record → ℕ → Query → Outcome
