@@ -1,5 +1,7 @@
 -- The closure on masks is the theory's closure: the same look through the dependencies, made on a mask in place of a list of columns.
 --   1. the first element that passes, 2. a look, 3. all looks, 4. the determined columns.
+-- ---- 1. the first element that passes
+-- It is an element, and passes
 use mathlib.Core.Path.{_≡_, refl, sym, ap, ap₂, subst, _∙_}
 use mathlib.Core.Bool.{Bool, true, false, cond, not, _&&_}
 use mathlib.Core.List.{List, [], _∷_, map, List·Memᴰ·head, List·Memᴰ·tail}
@@ -18,7 +20,7 @@ use borrow.Author.Tests.{eqb-true, ltb-true}
 use Rattle.theory.specs.Query.{member, _∈_}
 use Rattle.theory.specs.Chase.{firstPassing}
 use Rattle.theory.specs.Database.{Dependency}
-use Rattle.theory.specs.Determined.{subset, adds, growOn, growFor, closure, columnsIn, determined}
+use Rattle.theory.specs.Determined.{subset, adds, growOn, growFor, closure, determined}
 use Rattle.record.specs.declared.Dependency as stored
 use Rattle.record.specs.View.{columnsFrom, columnsOf, dependencyOf}
 use Rattle.record.specs.Rule.{every, rightNarrow, noDependency}
@@ -27,9 +29,6 @@ use Rattle.record.specs.Closure.{addRight, nextMask, growMask}
 use Rattle.record.proofs.Tests.{and-left, every-getD}
 use Rattle.record.proofs.Masks.{Same, same-columns, same-more, subset-mask, bit-shift, columns-in, mask-columns, columns-count}
 
--- ---- 1. the first element that passes
-
--- It is an element, and passes
 pub passing-in : {A : Type 0} (test : A → Bool) (xs : List A) (x : A) → firstPassing test xs ≡ some x → (x ∈ xs) × (test x ≡ true)
 unfolding firstPassing
 passing-in test [] x e = let z : _≡_ {A = ℕ} 0 1 = cc in absurd (omega arith)
@@ -100,7 +99,7 @@ adds-relation relation known d e =
 -- Whether a stored dependency adds to a mask, as the code tests it
 pub adds-mask : (d : stored.Dependency) (relation mask : ℕ) → d .left < 256 → mask < 256
     → adds relation (columnsOf mask) (dependencyOf d)
-      ≡ eqb (d .relation) relation && eqb (bitAnd (d .left) mask) (d .left) && not (eqb (mask / 2 ^ d .right % 2) 1)
+    ≡ eqb (d .relation) relation && eqb (bitAnd (d .left) mask) (d .left) && not (eqb (mask / 2 ^ d .right % 2) 1)
 unfolding adds
 adds-mask d relation mask l m =
     let same = same-columns mask m in
@@ -168,8 +167,8 @@ module _ (ds : List Dependency) (relation w : ℕ) (narrow : (d : Dependency) �
   grow-same wide (suc n) known mask h same =
       let small : mask < 256 = lt-of-lt-of-le h (pow-mono wide) in
       let agree : firstPassing (adds relation (columnsOf mask)) ds ≡ firstPassing (adds relation known) ds =
-          passing-same (adds relation (columnsOf mask)) (adds relation known)
-          (adds-same relation (columnsOf mask) known (λ c. same-columns mask small .at c ∙ sym (same .at c))) ds
+      passing-same (adds relation (columnsOf mask)) (adds relation known)
+      (adds-same relation (columnsOf mask) known (λ c. same-columns mask small .at c ∙ sym (same .at c))) ds
       in
       go (firstPassing (adds relation known) ds) agree (grow-same wide n)
     where

@@ -1,22 +1,20 @@
 -- What it tells that a record, a query or a dependency passes the rule's test: its parts, each by name.
 -- What these parts mean for the theory's queries and dependencies is in `Stored`.
-use mathlib.Core.Path.{_≡_, refl, sym, ap, _∙_}
-use mathlib.Core.Bool.{Bool, true, false, not, _&&_}
+-- A query that refusal 5 passes
+use mathlib.Core.Path.{_≡_}
+use mathlib.Core.Bool.{Bool, true, not, _&&_}
 use mathlib.Core.List.{List}
 use Prim.Native.Nat.{ℕ, _*_, _^_, _≤_, _<_}
 use lib.Dec.{eqb, ltb, leb}
 use lib.ListN.{length, take, drop, getD}
 use borrow.Author.Tests.{leb-true, ltb-true, eqb-false, not-true, le-leb, lt-ltb, ne-eqb}
-use Rattle.record.specs.declared.Cell.{Cell}
 use Rattle.record.specs.declared.Query.{Query}
 use Rattle.record.specs.declared.Dependency.{Dependency}
-use Rattle.record.specs.declared.Place.{Place}
 use Rattle.record.specs.declared.Record.{Record}
 use Rattle.record.specs.View.{schemaOf}
-use Rattle.record.specs.Rule.{every, inUse, isZero, goodRelations, goodSet, goodDependency, goodDependencies, blankDependency, goodCell, blankCell, goodRow, goodRows, headInUse, goodQuery, headSafe, blankQuery, goodPlace, goodRecord}
+use Rattle.record.specs.Rule.{every, inUse, isZero, goodRelations, goodSet, goodDependency, goodDependencies, blankDependency, goodCell, blankCell, goodRows, headInUse, goodQuery, goodPlace, goodRecord}
 use Rattle.record.proofs.Tests.{and-left, and-right}
 
--- A query that refusal 5 passes
 pub record GoodQuery (schema : List ℕ) (q : Query) : Type 0 where
   pub arity : q .arity ≤ 8
   pub size : q .size ≤ 12

@@ -1,22 +1,22 @@
 -- The calls keep the rule: a good record with another content of a place, with one dependency more, and a record just opened are good.
-use mathlib.Core.Path.{_≡_, refl, sym, ap, subst, _∙_}
-use mathlib.Core.Bool.{Bool, true, false, cond, not, _&&_}
-use mathlib.Core.List.{List, [], _∷_, _++_}
-use Prim.Native.Nat.{ℕ, zero, suc, _+_, _-_, _≤_, _<_}
+-- A place that holds a good query with a safe head is good, and so is a vacant one
+use mathlib.Core.Path.{_≡_, refl}
+use mathlib.Core.Bool.{true}
+use mathlib.Core.List.{List}
+use Prim.Native.Nat.{ℕ, _<_}
 use native.Mathlib.Omega.{arith}
-use lib.ListN.{length, take, drop, getD, set, replicate}
+use lib.ListN.{length, take, getD}
 use lib.Seq.{getD-set-same, getD-set-other}
 use Rattle.record.specs.declared.Query.{Query}
 use Rattle.record.specs.declared.Dependency.{Dependency}
 use Rattle.record.specs.declared.Place.{Place}
 use Rattle.record.specs.declared.Record.{Record}
 use Rattle.record.specs.View.{schemaOf}
-use Rattle.record.specs.Rule.{every, inUse, goodRelations, goodDependency, blankDependency, goodQuery, headSafe, blankQuery, goodPlace, goodRecord, noPlace, noDependency}
+use Rattle.record.specs.Rule.{every, goodRelations, goodDependency, blankDependency, goodQuery, headSafe, blankQuery, goodPlace, goodRecord, noPlace}
 use Rattle.record.specs.Calls.{withPlace, withDependency, emptyRecord}
 use Rattle.record.proofs.Tests.{and-both, every-set, every-replicate, used-more}
-use Rattle.record.proofs.Good.{GoodRecord, good-record, make-record}
+use Rattle.record.proofs.Good.{good-record, make-record}
 
--- A place that holds a good query with a safe head is good, and so is a vacant one
 pub filled-place : (schema : List ℕ) (q : Query) → goodQuery schema q ≡ true → headSafe schema q ≡ true
     → goodPlace schema (record { filled = true; query = q }) ≡ true
 filled-place schema q good safe = and-both (goodQuery schema q) (headSafe schema q) good safe

@@ -1,11 +1,12 @@
 -- Sets of columns as masks, bit c for column c: membership, subset, union and size of a mask are those of its columns.
+-- Whether column c is in a mask
 use mathlib.Core.Path.{_≡_, refl, sym, ap, ap₂, _∙_}
-use mathlib.Core.Bool.{Bool, true, false, cond, not, _&&_, _||_}
-use mathlib.Core.List.{List, [], _∷_}
-use Prim.Native.Nat.{ℕ, zero, suc, _+_, _*_, _/_, _%_, _^_, _≤_, _<_, min, max}
+use mathlib.Core.Bool.{Bool, true, false, cond, _&&_, _||_}
+use mathlib.Core.List.{List, _∷_}
+use Prim.Native.Nat.{ℕ, zero, suc, _+_, _*_, _/_, _%_, _^_, _<_, min, max}
 use native.Mathlib.Nat.{two-pow-succ, mod-lt, div-one, div-div-eq-div-mul, pow-succ', div-add-mod', zero-mul, one-mul, mul-one, mul-add, add-mul, add-comm, add-zero}
 use native.Mathlib.Omega.{arith}
-use lib.Dec.{eqb, ltb, lit<, eqb·zero-suc, eqb·suc-zero, eqb·suc-suc}
+use lib.Dec.{eqb, lit<, eqb·zero-suc, eqb·suc-zero, eqb·suc-suc}
 use lib.Bits.{bitAnd, bitOr, and-step, or-step, and-zero-l}
 use lib.Count.{ones, ones-step}
 use lib.ListN.{length}
@@ -15,7 +16,6 @@ use Rattle.theory.specs.Determined.{subset, columnsIn}
 use Rattle.record.specs.View.{columnsFrom, columnsOf}
 use Rattle.record.specs.Calls.{maskOf}
 
--- Whether column c is in a mask
 unfoldable pub bit : ℕ → ℕ → Bool
 bit mask zero = eqb (mask % 2) 1
 bit mask (suc c) = bit (mask / 2) c
@@ -171,13 +171,13 @@ subset-from (suc n) s l m known h same =
     let half : l / 2 < 2 ^ n = omega (arith, two-pow-succ n) in
     let first : member s known ≡ eqb (m % 2) 1 = ap (λ (k : ℕ). member k known) (omega arith) ∙ same 0 in
     let next : (k : ℕ) → member (suc s + k) known ≡ bit (m / 2) k =
-        λ k. let shift : suc s + k ≡ s + suc k = omega arith in ap (λ (i : ℕ). member i known) shift ∙ same (suc k)
+    λ k. let shift : suc s + k ≡ s + suc k = omega arith in ap (λ (i : ℕ). member i known) shift ∙ same (suc k)
     in
     go (eqb (l % 2) 1) first (subset-from n (suc s) (l / 2) (m / 2) known half next) ∙ sym (and-test l m)
   where
     go : (t : Bool) → member s known ≡ eqb (m % 2) 1 → subset (columnsFrom (suc s) n (l / 2)) known ≡ eqb (bitAnd (l / 2) (m / 2)) (l / 2)
         → subset (cond t (s ∷ columnsFrom (suc s) n (l / 2)) (columnsFrom (suc s) n (l / 2))) known
-          ≡ cond t (eqb (m % 2) 1) true && eqb (bitAnd (l / 2) (m / 2)) (l / 2)
+        ≡ cond t (eqb (m % 2) 1) true && eqb (bitAnd (l / 2) (m / 2)) (l / 2)
     go true first rest = ap₂ _&&_ first rest
     go false first rest = rest
 
@@ -194,7 +194,7 @@ columns-in-from zero s m known same = refl
 columns-in-from (suc n) s m known same =
     let first : member s known ≡ eqb (m % 2) 1 = ap (λ (k : ℕ). member k known) (omega arith) ∙ same 0 in
     let next : (k : ℕ) → member (suc s + k) known ≡ bit (m / 2) k =
-        λ k. let shift : suc s + k ≡ s + suc k = omega arith in ap (λ (i : ℕ). member i known) shift ∙ same (suc k)
+    λ k. let shift : suc s + k ≡ s + suc k = omega arith in ap (λ (i : ℕ). member i known) shift ∙ same (suc k)
     in
     ap₂ (λ (t : Bool) (cs : List ℕ). cond t (s ∷ cs) cs) first (columns-in-from n (suc s) (m / 2) known next)
 

@@ -1,36 +1,34 @@
 -- Each call's definition by the test that decides it: what the code has shown when it answers.
+-- ---- open
 use mathlib.Core.Path.{_≡_, refl, sym, ap, ap₂, subst, _∙_}
-use mathlib.Core.Bool.{Bool, true, false, cond, not, _&&_}
+use mathlib.Core.Bool.{Bool, true, false, not, _&&_}
 use mathlib.Core.List.{List, [], _∷_, _++_}
 use mathlib.Core.Option.{Option, none, some}
-use Prim.Native.Nat.{ℕ, _+_, _-_, _^_, _≤_, _<_}
+use Prim.Native.Nat.{ℕ, _-_, _^_, _<_}
 use native.Mathlib.Omega.{arith}
-use lib.Dec.{eqb, ltb, leb}
+use native.Mathlib.Nat.{lt-of-lt-of-le}
+use lib.Dec.{leb}
 use lib.Count.{ones}
 use lib.ListN.{length, take, getD, set, replicate}
-use native.Mathlib.Nat.{lt-of-lt-of-le}
 use lib.Seq.{take-append-seam, drop-append-seam}
 use borrow.Author.Tests.{lt-ltb, le-ltb, lt-leb, eq-eqb, ne-eqb}
+use Rattle.theory.specs.Database as database
+use Rattle.theory.specs.Query.{_∈_}
+use Rattle.theory.specs.Determined.{determined}
 use Rattle.record.specs.declared.Query.{Query}
 use Rattle.record.specs.declared.Dependency.{Dependency}
 use Rattle.record.specs.declared.Lookup.the-variants as lookup
 use Rattle.record.specs.declared.Record.{Record}
-use Rattle.record.specs.declared.Outcome.{Outcome}
 use Rattle.record.specs.declared.Columns.the-variants as columns
-use Rattle.theory.specs.Database as database
-use Rattle.theory.specs.Query.{_∈_}
-use Rattle.theory.specs.Determined.{determined}
 use Rattle.record.specs.View.{columnsOf, schemaOf, dependenciesOf}
 use Rattle.record.specs.Rule.{between, every, goodSet, rightNarrow, blankDependency, isZero, goodRelations, blankRecord, goodRecord, goodDependency, goodQuery, headSafe, noPlace}
-use Rattle.record.specs.Calls.{firstHolding, concluded, broken, above, vacant, filled, isFilled, placeAt, filledPlace, vacantPlace, withPlace, withDependency, emptyRecord, openRecord, addDependency, putQuery, dropQuery, maskOf, columnsAnswer, determinedColumns}
+use Rattle.record.specs.Calls.{firstHolding, concluded, broken, above, vacant, filled, placeAt, filledPlace, vacantPlace, withPlace, withDependency, emptyRecord, openRecord, addDependency, putQuery, dropQuery, maskOf, determinedColumns}
 use Rattle.record.specs.Closure.{growMask}
 use Rattle.record.proofs.Tests.{every-replicate, every-weaken, used-good}
 use Rattle.record.proofs.Good.{good-record, good-dependency, good-set}
 use Rattle.record.proofs.Stored.{narrow, dependencies-fit}
 use Rattle.record.proofs.Closure.{held-length, determined-mask, determined-count}
 use Rattle.record.proofs.Refusals.{first-goes, found-refused, filled-at, vacant-at, place-refused, vacant-refused}
-
--- ---- open
 
 and-true-right : (b : Bool) → b && true ≡ b
 and-true-right true = refl
@@ -45,8 +43,12 @@ widths-judged : (widths : List ℕ) (k : ℕ)
     → goodRelations (length widths) (widths ++ replicate k 0) ≡ between 1 8 (length widths) && every (between 1 8) widths
 unfolding goodRelations
 widths-judged widths k =
-    rw (take-append-seam widths (replicate k 0), drop-append-seam widths (replicate k 0), every-replicate isZero k 0 refl,
-    and-true-right (every (between 1 8) widths))
+    rw (
+      take-append-seam widths (replicate k 0),
+      drop-append-seam widths (replicate k 0),
+      every-replicate isZero k 0 refl,
+      and-true-right (every (between 1 8) widths),
+    )
 
 module _ (widths : List ℕ) where
   pub open-many : 8 < length widths → concluded (some 3) blankRecord blankRecord ≡ openRecord widths
@@ -170,13 +172,13 @@ module _ (r : Record) (relation left : ℕ) where
         let w : ℕ = getD (schemaOf r) relation 0 in
         let ds : List database.Dependency = dependenciesOf r in
         let fits : (d : database.Dependency) → d ∈ ds → d .relation ≡ relation → d .right < w =
-            λ d at same. subst (λ (k : ℕ). d .right < getD (schemaOf r) k 0) same (dependencies-fit r good d at .right)
+        λ d at same. subst (λ (k : ℕ). d .right < getD (schemaOf r) k 0) same (dependencies-fit r good d at .right)
         in
         let within : left < 2 ^ w = good-set (schemaOf r) relation left fit .within in
         let looks : length ds ≡ r .held = held-length (r .held) (r .dependencies) (omega (arith, good-record r good .held)) in
         let is : mask ≡ growMask (length ds) ds relation left = e ∙ ap (λ (n : ℕ). growMask n ds relation left) (sym looks) in
         let set : mask ≡ maskOf (determined ds relation w (columnsOf left)) = is ∙ sym (determined-mask ds relation w fits (narrow r good relation) left within) in
         let count : ones mask ≡ length (determined ds relation w (columnsOf left)) =
-            ap ones is ∙ sym (determined-count ds relation w fits (narrow r good relation) left within)
+        ap ones is ∙ sym (determined-count ds relation w fits (narrow r good relation) left within)
         in
         rw (good, fit) (ap₂ columns.Determined set count)

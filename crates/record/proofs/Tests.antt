@@ -1,23 +1,22 @@
 -- What a test that holds tells: of a conjunction, of every element of a list, of an array that is partly in use, of the relations' widths.
 -- For any elements, any number of them and any test. The lengths of arrays are the types', so a law that needs one asks it.
+-- ---- conjunctions
+-- An index is below a bound or not
 use mathlib.Core.Path.{_≡_, refl, sym, ap, ap₂, subst, _∙_}
-use mathlib.Core.Bool.{Bool, true, false, cond, not, _&&_}
+use mathlib.Core.Logic.{_⊎_, inl, inr, ⊎-elim}
+use mathlib.Core.Bool.{Bool, true, false, _&&_}
 use mathlib.Core.List.{List, [], _∷_, _++_, List·Memᴰ, List·Memᴰ·head, List·Memᴰ·tail}
 use Prim.Native.Nat.{ℕ, zero, suc, _+_, _*_, _-_, _%_, _^_, _≤_, _<_}
-use mathlib.Core.Logic.{_⊎_, inl, inr, ⊎-elim}
-use lib.Pow.{pow-lt}
 use native.Mathlib.Nat.{one-mul, mod-eq-of-lt, le-of-suc-le-suc, not-suc-le-zero}
 use native.Mathlib.Numerals.{add-one}
 use native.Mathlib.Omega.{arith}
-use lib.Dec.{eqb, ltb, leb, lit<}
+use lib.Pow.{pow-lt}
+use lib.Dec.{ltb, leb}
 use lib.ListN.{length, take, drop, getD, set, replicate, length-take, length-drop, take-append-drop, List·getD-eq-default}
 use lib.Seq.{length-take-le, take-suc-set, drop-set-lt, drop-drop}
-use borrow.Author.Tests.{leb-true, ltb-true, ltb-false, eqb-true, lt-ltb, le-ltb}
+use borrow.Author.Tests.{leb-true, ltb-true, ltb-false, lt-ltb, le-ltb}
 use Rattle.record.specs.Rule.{every, inUse, between, isZero, goodRelations}
 
--- ---- conjunctions
-
--- An index is below a bound or not
 pub below-or-past : (i n : ℕ) → (i < n) ⊎ (n ≤ i)
 below-or-past i n = go (ltb i n) refl
   where

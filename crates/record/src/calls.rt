@@ -10,7 +10,6 @@ use crate::Place;
 use crate::Query;
 use crate::Record;
 use crate::rule;
-
 ghost use mathlib.Core.Path.{_≡_};
 ghost use mathlib.Core.Option.{none, some};
 ghost use mathlib.Core.Bool.{true};

@@ -1,24 +1,20 @@
+-- `record::Record::determined` meets its contract, by `Outcomes`: the closed mask is that of the determined columns, and its ones are their number.
+-- Assumes nothing.
+use mathlib.Core.Path.{_≡_, sym, _∙_}
+use mathlib.Core.Bool.{true}
+use Prim.Native.Nat.{_^_, _<_}
+use native.Mathlib.Nat.{lt-of-le-of-lt}
+use lib.Count.{ones-le}
+use lib.Dec.{lit<}
+use lib.ListN.{length}
 use borrow.Author.Tests.{not-true, not-false}
+use borrow.Author.Needs.{needs}
 use Rattle.record.specs.Rule.{goodRecord}
 use Rattle.record.proofs.Tail.{mapped-length}
 use Rattle.record.proofs.Good.{good-record}
 use Rattle.record.proofs.Outcomes.{rights-narrow, determined-broken, determined-unfit, determined-done}
-use mathlib.Core.Path.{_≡_, refl, sym, ap, _∙_}
-use mathlib.Core.Bool.{Bool, true, false, cond, not, _&&_}
-use Prim.Native.Nat.{ℕ, zero, suc, _+_, _^_, _<_}
-use native.Mathlib.Nat.{lt-of-le-of-lt}
-use lib.Count.{ones-le}
-use lib.Dec.{lit<}
-use lib.ListN.{length, take, drop, getD}
-use native.Mathlib.Omega.{arith}
-use borrow.Author.Needs.{needs}
 use Rattle.record.proofs.Record.determined.Statement.{statement}
 use Rattle.record.proofs.Record.determined.Tie as tie
-use Rattle.record.proofs.Record.determined.Reads as reads
-use Rattle.record.proofs.Record.determined.Lts as lts
-use Rattle.record.proofs.Record.whole.Reads as whole-reads
-use Rattle.record.proofs.calls.closed_columns.Reads as closed-columns-reads
-use Rattle.record.proofs.rule.set_good.Reads as set-good-reads
 
 whole-requires : tie.Need-whole-requires
 whole-requires c κs = search needs

@@ -1,20 +1,18 @@
+-- `record::calls::adds_column` meets its contract: the tests on masks are those of `adds` on lists of columns.
+-- Assumes nothing.
+use mathlib.Core.Path.{_≡_}
+use mathlib.Core.Bool.{false, not}
+use Prim.Native.Nat.{ℕ, _/_, _%_, _^_, _<_}
 use lib.Bits.{bitAnd}
+use lib.Dec.{eqb}
 use borrow.Author.Tests.{eq-eqb, ne-eqb}
+use borrow.Author.Needs.{needs}
 use Rattle.theory.specs.Determined.{adds}
 use Rattle.record.specs.declared.Dependency.{Dependency}
 use Rattle.record.specs.View.{columnsOf, dependencyOf}
 use Rattle.record.proofs.Closure.{adds-mask}
-use mathlib.Core.Path.{_≡_, refl, sym, ap, _∙_}
-use mathlib.Core.Bool.{Bool, true, false, cond, not, _&&_}
-use Prim.Native.Nat.{ℕ, zero, suc, _+_, _*_, _/_, _%_, _^_, _<_}
-use lib.Dec.{eqb, ltb, leb}
-use lib.ListN.{length, take, drop, getD}
-use native.Mathlib.Omega.{arith}
-use borrow.Author.Needs.{needs}
 use Rattle.record.proofs.calls.adds_column.Statement.{statement}
 use Rattle.record.proofs.calls.adds_column.Tie as tie
-use Rattle.record.proofs.calls.adds_column.Reads as reads
-use Rattle.record.proofs.calls.adds_column.Lts as lts
 
 module _ (d : Dependency) (relation mask : ℕ) (l : d .left < 256) (m : mask < 256) where
   stops-1 : (d .relation ≡ relation → ⊥) → false ≡ adds relation (columnsOf mask) (dependencyOf d)

@@ -1,20 +1,16 @@
+-- `record::calls::closed_columns` meets its contract. Invariant: the looks that are left, on the mask so far, give the whole closure.
+-- Assumes nothing.
+use mathlib.Core.Path.{_≡_, sym, ap, _∙_}
 use mathlib.Core.List.{map}
+use Prim.Native.Nat.{ℕ, _+_, _-_, _≤_}
 use native.Mathlib.Nat.{sub-zero}
-use Rattle.record.specs.View.{dependencyOf}
-use Rattle.record.specs.Closure.{nextMask, growMask}
-use Rattle.record.proofs.Closure.{grow-step, grow-end}
+use lib.ListN.{take}
 use borrow.Author.Needs.{needs}
-use mathlib.Core.Path.{_≡_, refl, sym, ap, _∙_}
-use mathlib.Core.Bool.{Bool, true, false, cond, not, _&&_}
-use Prim.Native.Nat.{ℕ, zero, suc, _+_, _*_, _-_, _≤_, _<_}
-use lib.Dec.{eqb, ltb, leb}
-use lib.ListN.{length, take, drop, getD}
-use native.Mathlib.Omega.{arith}
+use Rattle.record.specs.View.{dependencyOf}
+use Rattle.record.specs.Closure.{growMask}
+use Rattle.record.proofs.Closure.{grow-step, grow-end}
 use Rattle.record.proofs.calls.closed_columns.Statement.{statement}
 use Rattle.record.proofs.calls.closed_columns.Tie as tie
-use Rattle.record.proofs.calls.closed_columns.Reads as reads
-use Rattle.record.proofs.calls.closed_columns.Lts as lts
-use Rattle.record.proofs.calls.next_columns.Reads as next-columns-reads
 
 abbrev Inv-loop : tie.InvT-loop
 Inv-loop held dependencies relation left mask₀ counter₀ mask counter =
@@ -41,10 +37,11 @@ loop-again c =
     let held = c .before .before .before .args .held in
     let list = map dependencyOf (take held (c .before .before .before .args .dependencies)) in
     let relation = c .before .before .before .args .relation in
-    let i = c .before .before .loop .counter in
-    (search needs,
-    ap (growMask (held - (i + 1)) list relation) (c .next-columns .ensures) ∙ sym (grow-step held i list relation (c .before .before .loop .mask) (search needs))
-    ∙ c .before .before .loop .inv .1)
+    let i = c .before .before .loop .counter in (
+      search needs,
+      ap (growMask (held - (i + 1)) list relation) (c .next-columns .ensures) ∙ sym (grow-step held i list relation (c .before .before .loop .mask) (search needs))
+          ∙ c .before .before .loop .inv .1,
+    )
 
 returns : tie.Need-returns Inv-loop μ-loop
 returns c =

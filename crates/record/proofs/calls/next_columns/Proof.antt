@@ -1,28 +1,23 @@
+-- `record::calls::next_columns` meets its contract. Invariant: the first dependency that adds is the first from i on.
+-- Assumes nothing.
+use mathlib.Core.Path.{_≡_, sym, ap, _∙_}
 use mathlib.Core.List.{List, map}
-use mathlib.Core.Option.{Option, none, some}
+use mathlib.Core.Option.{some}
+use Prim.Native.Nat.{_-_, _≤_, _<_}
+use native.Mathlib.Omega.{arith}
 use lib.Bits.{bitOr}
+use lib.ListN.{length, take, getD}
+use borrow.Author.Needs.{needs}
 use Rattle.theory.specs.Chase.{firstPassing}
 use Rattle.theory.specs.Database as database
 use Rattle.theory.specs.Determined.{adds}
 use Rattle.record.specs.View.{columnsOf, dependencyOf}
+use Rattle.record.specs.Rule.{noDependency}
 use Rattle.record.specs.Closure.{addRight, nextMask}
-use Rattle.record.specs.Rule.{rightNarrow, noDependency}
 use Rattle.record.proofs.Tests.{shifted-one}
 use Rattle.record.proofs.Closure.{Passing, passing-start, passing-finds, passing-goes, passing-ends, held-length, held-at, right-at}
-use lib.Seq.{getD-take, length-take-le}
-use borrow.Author.Tests.{ltb-true}
-use borrow.Author.Needs.{needs}
-use mathlib.Core.Path.{_≡_, refl, sym, ap, _∙_}
-use mathlib.Core.Bool.{Bool, true, false, cond, not, _&&_}
-use Prim.Native.Nat.{ℕ, zero, suc, _+_, _*_, _-_, _≤_, _<_}
-use lib.Dec.{eqb, ltb, leb}
-use lib.ListN.{length, take, drop, getD}
-use native.Mathlib.Omega.{arith}
 use Rattle.record.proofs.calls.next_columns.Statement.{statement}
 use Rattle.record.proofs.calls.next_columns.Tie as tie
-use Rattle.record.proofs.calls.next_columns.Reads as reads
-use Rattle.record.proofs.calls.next_columns.Lts as lts
-use Rattle.record.proofs.calls.adds_column.Reads as adds-column-reads
 
 abbrev Inv-loop : tie.InvT-loop
 Inv-loop held relation mask dependencies i₀ i =
@@ -33,9 +28,11 @@ abbrev μ-loop : tie.MeasureT-loop
 μ-loop held relation mask dependencies i₀ i = held - i
 
 loop-holds : tie.Need-loop-holds Inv-loop μ-loop
-loop-holds c =
-    (search needs, search needs,
-    passing-start (adds (c .args .relation) (columnsOf (c .args .mask))) (map dependencyOf (take (c .args .held) (c .args .t2))))
+loop-holds c = (
+  search needs,
+  search needs,
+  passing-start (adds (c .args .relation) (columnsOf (c .args .mask))) (map dependencyOf (take (c .args .held) (c .args .t2))),
+)
 
 mul-d : tie.Need-mul-d Inv-loop μ-loop
 mul-d c = search needs
@@ -73,7 +70,7 @@ returns c =
     let inside : i < length list = rw (held-length held ds fits) below in
     let test = adds (c .before .before .before .before .before .args .relation) (columnsOf (c .before .before .before .before .before .args .mask)) in
     let seen : test (getD list i (dependencyOf noDependency)) ≡ c .before .adds-column .result =
-        ap test (held-at held ds i below) ∙ sym (c .before .adds-column .ensures)
+    ap test (held-at held ds i below) ∙ sym (c .before .adds-column .ensures)
     in
     let found = passing-finds (c .before .before .before .before .loop .inv .2) (dependencyOf noDependency) inside (seen ∙ c .if1 .taken) in
     ap (bitOr (c .before .before .before .before .before .args .mask)) (shifted-one 8 (getD ds i noDependency .right) (right-at held ds i (c .before .before .before .before .before .pre .1) below fits))
@@ -96,7 +93,7 @@ loop-again c =
     let inside : i < length list = rw (held-length held ds fits) below in
     let test = adds (c .before .before .before .before .before .args .relation) (columnsOf (c .before .before .before .before .before .args .mask)) in
     let seen : test (getD list i (dependencyOf noDependency)) ≡ c .before .adds-column .result =
-        ap test (held-at held ds i below) ∙ sym (c .before .adds-column .ensures)
+    ap test (held-at held ds i below) ∙ sym (c .before .adds-column .ensures)
     in
     (search needs, search needs, passing-goes (c .before .before .before .before .loop .inv .2) (dependencyOf noDependency) inside (seen ∙ c .if1 .left))
 
