@@ -70,27 +70,40 @@ fn hanging() -> Query {
     q
 }
 
-// Opening, and the blank record that a refusal returns.
+// Opening.
 fn opening() {
     told(b"open, widths 2 3", Record::open(&[2, 3]));
     told(
         b"open, eight widths",
         Record::open(&[8, 8, 8, 8, 8, 8, 8, 8]),
     );
+}
+
+// Widths that are refused.
+fn bad_widths() {
     told(b"open, no widths", Record::open(&[]));
     told(
         b"open, nine widths",
         Record::open(&[1, 1, 1, 1, 1, 1, 1, 1, 1]),
     );
     told(b"open, width 0", Record::open(&[2, 0]));
+}
+
+// The blank record that a refusal returns.
+fn blank() {
     let blank = told(b"open, width 9", Record::open(&[9]));
     told(b"drop place 8 of the blank record", blank.drop_query(8));
 }
 
-// The limits of a query.
-fn limits(r: Record) {
+// The limits of a query: rows.
+fn row_limits(r: Record) {
     told(b"put 12 rows", r.put(0, rows(12)));
     told(b"put 13 rows", r.put(0, rows(13)));
+    told(b"put never, no head", r.put(0, rows(0)));
+}
+
+// The limits of a query: variables and constants.
+fn entry_limits(r: Record) {
     told(b"put v95", r.put(0, one_row(Entry::Variable(95))));
     told(b"put v96", r.put(0, one_row(Entry::Variable(96))));
     told(
@@ -101,11 +114,10 @@ fn limits(r: Record) {
         b"put 2147483648",
         r.put(0, one_row(Entry::Constant(2147483648))),
     );
-    told(b"put never, no head", r.put(0, rows(0)));
 }
 
-// What a query holds where it is not in use.
-fn unused(r: Record) {
+// Cells that are not in use.
+fn unused_cells(r: Record) {
     let mut q = rows(1);
     q.cells[2] = Cell {
         entry: Entry::Constant(1),
@@ -116,6 +128,10 @@ fn unused(r: Record) {
         entry: Entry::Variable(0),
     };
     told(b"put an entry past the rows", r.put(0, q));
+}
+
+// A relation and a head entry that are not in use.
+fn unused_fields(r: Record) {
     let mut q = rows(1);
     q.relations[11] = 1;
     told(b"put a relation past the rows", r.put(0, q));
@@ -124,6 +140,10 @@ fn unused(r: Record) {
         entry: Entry::Constant(7),
     };
     told(b"put an entry past the head", r.put(0, q));
+}
+
+// The head of never.
+fn never_head(r: Record) {
     let mut q = rows(0);
     q.arity = 8;
     told(b"put never, head length 8", r.put(0, q));
@@ -131,6 +151,10 @@ fn unused(r: Record) {
         entry: Entry::Constant(7),
     };
     told(b"put never with a head entry", r.put(0, q));
+}
+
+// A head too long, and a relation that is not there.
+fn unknown(r: Record) {
     let mut q = rows(1);
     q.arity = 9;
     told(b"put head length 9", r.put(0, q));
@@ -139,21 +163,32 @@ fn unused(r: Record) {
     told(b"put an unknown relation", r.put(0, q));
 }
 
-// The order of refusals, and dropping.
-fn order(r: Record) {
+// The order of refusals at a place that is vacant or not there.
+fn vacant(r: Record) {
     told(b"put a hanging head variable", r.put(7, hanging()));
     told(b"put 13 rows at place 8", r.put(8, rows(13)));
-    let r = told(b"put 12 rows at place 7", r.put(7, rows(12)));
+}
+
+// The order of refusals at a filled place.
+fn filled(r: Record) {
     told(b"put 13 rows where filled", r.put(7, rows(13)));
     told(
         b"put a hanging head variable where filled",
         r.put(7, hanging()),
     );
     told(b"put 12 rows where filled", r.put(7, rows(12)));
+}
+
+// Dropping.
+fn dropping(r: Record) {
     told(b"drop place 6", r.drop_query(6));
     told(b"drop place 8", r.drop_query(8));
     let r = told(b"drop place 7", r.drop_query(7));
     told(b"drop place 7 again", r.drop_query(7));
+}
+
+// A broken record.
+fn broken(r: Record) {
     let mut broken = r;
     broken.widths[7] = 1;
     told(
@@ -230,31 +265,59 @@ fn bad(r: Record) {
 
 // Determined columns: a to b, b to c.
 fn determined(r: Record) {
-    let r = told(
-        b"add b to c",
-        r.add_dependency(Dependency {
-            relation: 1,
-            left: 2,
-            right: 2,
-        }),
-    );
-    let r = told(b"add a to b", r.add_dependency(a_to_b()));
     told_columns(b"determined by a", r.determined(1, 1));
     told_columns(b"determined by c", r.determined(1, 4));
     told_columns(b"determined by a of R", r.determined(0, 1));
+}
+
+// Bad questions about determined columns.
+fn undetermined(r: Record) {
     told_columns(b"determined by nothing", r.determined(1, 0));
     told_columns(b"determined by column 3", r.determined(1, 8));
     told_columns(b"determined in relation 2", r.determined(2, 1));
 }
 
-fn main() {
-    opening();
-    let outcome = Record::open(&[2, 3]);
-    let r = outcome.record;
-    limits(r);
-    unused(r);
-    order(r);
+// Questions to an empty record of R and S.
+fn puts(r: Record) {
+    row_limits(r);
+    entry_limits(r);
+    unused_cells(r);
+    unused_fields(r);
+    never_head(r);
+    unknown(r);
+}
+
+// Questions to it with place 7 filled and vacant.
+fn places(r: Record) {
+    vacant(r);
+    let r = told(b"put 12 rows at place 7", r.put(7, rows(12)));
+    filled(r);
+    dropping(r);
+}
+
+// Questions about dependencies.
+fn dependencies(r: Record) {
     full(r);
     bad(r);
+    let b_to_c = Dependency {
+        relation: 1,
+        left: 2,
+        right: 2,
+    };
+    let r = told(b"add b to c", r.add_dependency(b_to_c));
+    let r = told(b"add a to b", r.add_dependency(a_to_b()));
     determined(r);
+    undetermined(r);
+}
+
+fn main() {
+    opening();
+    bad_widths();
+    blank();
+    let outcome = Record::open(&[2, 3]);
+    let r = outcome.record;
+    puts(r);
+    places(r);
+    broken(r);
+    dependencies(r);
 }
