@@ -1,5 +1,6 @@
 // Document 01's examples of the calls on the record alone: limits, refusals and their order, determined columns.
-// Each line is what was asked and the answer: done, the refusal's number, or a set of columns (bit c for column c) and its size.
+// A line is what was asked, with the number of the case, and the answer: done, or the refusal's number, or a set of columns (bit c for
+// column c) and its size. Relation 0 is R with columns a, b, and relation 1 is S with columns a, b, c.
 use record::Answer;
 use record::Cell;
 use record::Columns;
@@ -10,16 +11,22 @@ use record::Query;
 use record::Record;
 use record::calls;
 
-// Writes what was asked and the answer, and hands on the record.
-fn told(asked: &[u8], outcome: Outcome) -> Record {
-    io::write_all(1, asked);
+// Writes what was asked and the number of the case.
+fn asked(what: &[u8], case: u8) {
+    io::write_all(1, what);
+    io::write_all(1, b" ");
+    io::print_decimal(1, case as u64);
+    io::write_all(1, b": ");
+}
+
+// Writes an answer, and hands on the record.
+fn told(outcome: Outcome) -> Record {
     let answer = outcome.answer;
     match answer {
         Answer::Done => {
-            io::write_all(1, b": done\n");
+            io::write_all(1, b"done\n");
         }
         Answer::Refused(n) => {
-            io::write_all(1, b": ");
             io::print_decimal(1, n as u64);
             io::write_all(1, b"\n");
         }
@@ -27,10 +34,8 @@ fn told(asked: &[u8], outcome: Outcome) -> Record {
     outcome.record
 }
 
-// Writes what was asked and the columns.
-fn told_columns(asked: &[u8], answer: Columns) {
-    io::write_all(1, asked);
-    io::write_all(1, b": ");
+// Writes an answer about columns.
+fn told_columns(answer: Columns) {
     match answer {
         Columns::Determined(mask, count) => {
             io::write_all(1, b"set ");
@@ -45,279 +50,212 @@ fn told_columns(asked: &[u8], answer: Columns) {
     io::write_all(1, b"\n");
 }
 
-// A query with an empty head and one row, R(e, 0).
-fn one_row(e: Entry) -> Query {
+// Open with 0 to 9 widths.
+fn open_counts() {
+    let widths = [1u8; 9];
+    for n in 0..10usize {
+        asked(b"open, widths", n as u8);
+        told(Record::open(&widths[..n]));
+    }
+}
+
+// Open with a width of 0 to 9.
+fn open_widths() {
+    for w in 0..10u8 {
+        asked(b"open, width", w);
+        told(Record::open(&[2, w]));
+    }
+}
+
+// A query with an empty head and that many rows, the first R(e, 0), the others R(0, 0).
+fn rows(size: u8, e: Entry) -> Query {
     let mut q = calls::no_query();
-    q.size = 1;
+    q.size = size;
     q.cells[0] = Cell { entry: e };
     q
 }
 
-// A query of that many rows, each R(0, 0).
-fn rows(size: u8) -> Query {
-    let mut q = calls::no_query();
-    q.size = size;
-    q
-}
-
-// A query with head v1 and one row, R(v0, 0): the head variable is in no row.
-fn hanging() -> Query {
-    let mut q = one_row(Entry::Variable(0));
-    q.arity = 1;
-    q.head[0] = Cell {
-        entry: Entry::Variable(1),
-    };
-    q
-}
-
-// Opening.
-fn opening() {
-    told(b"open, widths 2 3", Record::open(&[2, 3]));
-    told(
-        b"open, eight widths",
-        Record::open(&[8, 8, 8, 8, 8, 8, 8, 8]),
-    );
-}
-
-// Widths that are refused.
-fn bad_widths() {
-    told(b"open, no widths", Record::open(&[]));
-    told(
-        b"open, nine widths",
-        Record::open(&[1, 1, 1, 1, 1, 1, 1, 1, 1]),
-    );
-    told(b"open, width 0", Record::open(&[2, 0]));
-}
-
-// The blank record that a refusal returns.
-fn blank() {
-    let blank = told(b"open, width 9", Record::open(&[9]));
-    told(b"drop place 8 of the blank record", blank.drop_query(8));
-}
-
-// The limits of a query: rows.
-fn row_limits(r: Record) {
-    told(b"put 12 rows", r.put(0, rows(12)));
-    told(b"put 13 rows", r.put(0, rows(13)));
-    told(b"put never, no head", r.put(0, rows(0)));
-}
-
-// The limits of a query: variables and constants.
-fn entry_limits(r: Record) {
-    told(b"put v95", r.put(0, one_row(Entry::Variable(95))));
-    told(b"put v96", r.put(0, one_row(Entry::Variable(96))));
-    told(
-        b"put 2147483647",
-        r.put(0, one_row(Entry::Constant(2147483647))),
-    );
-    told(
-        b"put 2147483648",
-        r.put(0, one_row(Entry::Constant(2147483648))),
-    );
-}
-
-// Cells that are not in use.
-fn unused_cells(r: Record) {
-    let mut q = rows(1);
-    q.cells[2] = Cell {
-        entry: Entry::Constant(1),
-    };
-    told(b"put an entry past the row's columns", r.put(0, q));
-    let mut q = rows(1);
-    q.cells[8] = Cell {
-        entry: Entry::Variable(0),
-    };
-    told(b"put an entry past the rows", r.put(0, q));
-}
-
-// A relation and a head entry that are not in use.
-fn unused_fields(r: Record) {
-    let mut q = rows(1);
-    q.relations[11] = 1;
-    told(b"put a relation past the rows", r.put(0, q));
-    let mut q = rows(1);
-    q.head[0] = Cell {
-        entry: Entry::Constant(7),
-    };
-    told(b"put an entry past the head", r.put(0, q));
-}
-
-// The head of never.
-fn never_head(r: Record) {
-    let mut q = rows(0);
-    q.arity = 8;
-    told(b"put never, head length 8", r.put(0, q));
-    q.head[0] = Cell {
-        entry: Entry::Constant(7),
-    };
-    told(b"put never with a head entry", r.put(0, q));
-}
-
-// A head too long, and a relation that is not there.
-fn unknown(r: Record) {
-    let mut q = rows(1);
-    q.arity = 9;
-    told(b"put head length 9", r.put(0, q));
-    let mut q = rows(1);
-    q.relations[0] = 2;
-    told(b"put an unknown relation", r.put(0, q));
-}
-
-// The order of refusals at a place that is vacant or not there.
-fn vacant(r: Record) {
-    told(b"put a hanging head variable", r.put(7, hanging()));
-    told(b"put 13 rows at place 8", r.put(8, rows(13)));
-}
-
-// The order of refusals at a filled place.
-fn filled(r: Record) {
-    told(b"put 13 rows where filled", r.put(7, rows(13)));
-    told(
-        b"put a hanging head variable where filled",
-        r.put(7, hanging()),
-    );
-    told(b"put 12 rows where filled", r.put(7, rows(12)));
-}
-
-// Dropping.
-fn dropping(r: Record) {
-    told(b"drop place 6", r.drop_query(6));
-    told(b"drop place 8", r.drop_query(8));
-    let r = told(b"drop place 7", r.drop_query(7));
-    told(b"drop place 7 again", r.drop_query(7));
-}
-
-// A broken record.
-fn broken(r: Record) {
-    let mut broken = r;
-    broken.widths[7] = 1;
-    told(
-        b"put 13 rows at place 8 of a broken record",
-        broken.put(8, rows(13)),
-    );
-    told(b"add to a broken record", broken.add_dependency(a_to_b()));
-    told_columns(
-        b"determined by nothing in a broken record",
-        broken.determined(0, 0),
-    );
-}
-
-// a to b of S, which is relation 1.
-fn a_to_b() -> Dependency {
-    Dependency {
-        relation: 1,
-        left: 1,
-        right: 1,
+// The first cases of queries to put: limits.
+fn limit(case: u8) -> Query {
+    match case {
+        0 => rows(12, Entry::Constant(0)),
+        1 => rows(13, Entry::Constant(0)),
+        2 => rows(1, Entry::Variable(95)),
+        3 => rows(1, Entry::Variable(96)),
+        4 => rows(1, Entry::Constant(2147483647)),
+        5 => rows(1, Entry::Constant(2147483648)),
+        // never, head length 0
+        _ => rows(0, Entry::Constant(0)),
     }
 }
 
-// The record with a to b added 31 times.
-fn nearly_full(r: Record) -> Record {
+// The other cases: a field that is not in use, a relation that is not there, a head variable in no row.
+fn unfit(case: u8) -> Query {
+    let mut q = rows(1, Entry::Constant(0));
+    let seven = Cell {
+        entry: Entry::Constant(7),
+    };
+    match case {
+        // past the row's columns
+        7 => {
+            q.cells[2] = seven;
+        }
+        // past the rows
+        8 => {
+            q.cells[8] = seven;
+        }
+        // past the rows
+        9 => {
+            q.relations[11] = 1;
+        }
+        // past the head
+        10 => {
+            q.head[0] = seven;
+        }
+        // a head too long
+        11 => {
+            q.arity = 9;
+        }
+        // an unknown relation
+        12 => {
+            q.relations[0] = 2;
+        }
+        // a head variable in no row
+        _ => {
+            q.arity = 1;
+            q.head[0] = Cell {
+                entry: Entry::Variable(1),
+            };
+        }
+    }
+    q
+}
+
+// Never with head length 8, as it is and with a head entry.
+fn never(case: u8) -> Query {
+    let mut q = rows(0, Entry::Constant(0));
+    q.arity = 8;
+    if case == 15 {
+        q.head[0] = Cell {
+            entry: Entry::Constant(7),
+        };
+    }
+    q
+}
+
+// The query of a case.
+fn query(case: u8) -> Query {
+    if case < 7 {
+        return limit(case);
+    }
+    if case < 14 {
+        return unfit(case);
+    }
+    never(case)
+}
+
+// Put the query of each case at a place. Where the record is whole and the place vacant, 5 is given for 1, 3, 5, 7 to 12 and 15, and 6 for 13.
+fn puts(r: Record, place: usize) {
+    for case in 0..16u8 {
+        asked(b"put", case);
+        told(r.put(place, query(case)));
+    }
+}
+
+// Drop places 0 to 9.
+fn drops(r: Record) {
+    for place in 0..10usize {
+        asked(b"drop", place as u8);
+        told(r.drop_query(place));
+    }
+}
+
+// a to b of S, b to c of S, and dependencies that are refused.
+fn dependency(case: u8) -> Dependency {
+    let mut d = Dependency {
+        relation: 1,
+        left: 1,
+        right: 1,
+    };
+    match case {
+        0 => {}
+        // b to c
+        1 => {
+            d.left = 2;
+            d.right = 2;
+        }
+        // an unknown relation
+        2 => {
+            d.relation = 2;
+        }
+        // an empty left set
+        3 => {
+            d.left = 0;
+        }
+        // left column 3
+        4 => {
+            d.left = 8;
+        }
+        // right column 3
+        _ => {
+            d.right = 3;
+        }
+    }
+    d
+}
+
+// Add the dependency of each case.
+fn adds(r: Record) {
+    for case in 0..6u8 {
+        asked(b"add", case);
+        told(r.add_dependency(dependency(case)));
+    }
+}
+
+// The record with b to c and a to b added 16 times each, so that 32 are held.
+fn full(r: Record) -> Record {
     let mut grown = r;
-    for _ in 0..31usize {
-        let outcome = grown.add_dependency(a_to_b());
-        grown = outcome.record;
+    for case in 0..32u8 {
+        asked(b"add to", case);
+        grown = told(grown.add_dependency(dependency(1 - case % 2)));
     }
     grown
 }
 
-// 32 dependencies, and then no more.
-fn full(r: Record) {
-    let r = told(b"add the 32nd", nearly_full(r).add_dependency(a_to_b()));
-    told(b"add the 33rd", r.add_dependency(a_to_b()));
-    told(
-        b"add a 33rd that is bad",
-        r.add_dependency(Dependency {
-            relation: 2,
-            left: 1,
-            right: 1,
-        }),
-    );
+// The columns of a relation that each of its sets, and the empty one, determines.
+fn determined(r: Record, relation: u8) {
+    for left in 0..9u8 {
+        asked(b"determined by", left);
+        told_columns(r.determined(relation, left));
+    }
 }
 
-// Bad dependencies.
-fn bad(r: Record) {
-    told(
-        b"add, empty left set",
-        r.add_dependency(Dependency {
-            relation: 1,
-            left: 0,
-            right: 1,
-        }),
-    );
-    told(
-        b"add, left column 2 of R",
-        r.add_dependency(Dependency {
-            relation: 0,
-            left: 4,
-            right: 1,
-        }),
-    );
-    told(
-        b"add, right column 2 of R",
-        r.add_dependency(Dependency {
-            relation: 0,
-            left: 1,
-            right: 2,
-        }),
-    );
-}
-
-// Determined columns: a to b, b to c.
-fn determined(r: Record) {
-    told_columns(b"determined by a", r.determined(1, 1));
-    told_columns(b"determined by c", r.determined(1, 4));
-    told_columns(b"determined by a of R", r.determined(0, 1));
-}
-
-// Bad questions about determined columns.
-fn undetermined(r: Record) {
-    told_columns(b"determined by nothing", r.determined(1, 0));
-    told_columns(b"determined by column 3", r.determined(1, 8));
-    told_columns(b"determined in relation 2", r.determined(2, 1));
-}
-
-// Questions to an empty record of R and S.
-fn puts(r: Record) {
-    row_limits(r);
-    entry_limits(r);
-    unused_cells(r);
-    unused_fields(r);
-    never_head(r);
-    unknown(r);
-}
-
-// Questions to it with place 7 filled and vacant.
-fn places(r: Record) {
-    vacant(r);
-    let r = told(b"put 12 rows at place 7", r.put(7, rows(12)));
-    filled(r);
-    dropping(r);
-}
-
-// Questions about dependencies.
-fn dependencies(r: Record) {
-    full(r);
-    bad(r);
-    let b_to_c = Dependency {
-        relation: 1,
-        left: 2,
-        right: 2,
-    };
-    let r = told(b"add b to c", r.add_dependency(b_to_c));
-    let r = told(b"add a to b", r.add_dependency(a_to_b()));
-    determined(r);
-    undetermined(r);
+// A record with something where no relation is.
+fn broken(r: Record) {
+    let mut spoilt = r;
+    spoilt.widths[7] = 1;
+    puts(spoilt, 8);
+    drops(spoilt);
+    adds(spoilt);
+    determined(spoilt, 1);
 }
 
 fn main() {
-    opening();
-    bad_widths();
-    blank();
-    let outcome = Record::open(&[2, 3]);
-    let r = outcome.record;
-    puts(r);
-    places(r);
+    open_counts();
+    open_widths();
+    let opened = Record::open(&[2, 3]);
+    let r = opened.record;
+    puts(r, 0);
+    puts(r, 8);
+    adds(r);
+    let put = r.put(7, query(0));
+    let filled = put.record;
+    puts(filled, 7);
+    drops(filled);
+    let dependent = full(r);
+    adds(dependent);
+    determined(dependent, 1);
+    determined(dependent, 0);
+    determined(dependent, 2);
     broken(r);
-    dependencies(r);
 }
