@@ -1,0 +1,3 @@
+-- The text of the listing, and what it is to have written some of it into a buffer.
+pub mod Text
+pub mod Writing
