@@ -1,3 +1,4 @@
 -- Laws that the proofs of the functions share.
 pub mod Writing
 pub mod Numbers
+pub mod Stored

@@ -3,11 +3,13 @@
 use record::{Cell, Entry, Query};
 
 ghost use mathlib.Core.Path.{_≡_};
-ghost use Prim.Native.Nat.{ℕ, _+_, _≤_, _<_};
-ghost use mathlib.Core.List.{List, [], _∷_};
+ghost use Prim.Native.Nat.{ℕ, _+_, _*_, _≤_, _<_};
+ghost use mathlib.Core.List.{List, [], _∷_, _++_};
 ghost use lib.ListN.{length, take, drop, getD};
+ghost use Rattle.text.specs.Stored.{rowOf};
 ghost use Rattle.text.specs.Writing.{Fits, Written};
-ghost use Rattle.text.specs.Text.{decimal};
+ghost use Rattle.record.specs.View.{entryOf, entriesOf};
+ghost use Rattle.text.specs.Text.{decimal, field, entryText, entriesText, placeLine, neverLine, headLine, rowLine, refusedText};
 
 // Writes some bytes.
 fn put(buffer: &mut [u8], at: usize, bytes: &[u8]) -> usize
@@ -22,12 +24,12 @@ fn put(buffer: &mut [u8], at: usize, bytes: &[u8]) -> usize
     next
 }
 
-// Writes a digit.
-fn put_digit(buffer: &mut [u8], at: usize, digit: usize) -> usize
-    requires { ⌜ Fits (now buffer) at ((48 + digit) ∷ []) × (digit < 10) ⌝ }
-    ensures { λ r. ⌜ Written (now (buffer .entry)) at ((48 + digit) ∷ []) (now (buffer .exit)) r ⌝ }
+// Writes a byte.
+fn put_byte(buffer: &mut [u8], at: usize, byte: u8) -> usize
+    requires { ⌜ Fits (now buffer) at (byte ∷ []) ⌝ }
+    ensures { λ r. ⌜ Written (now (buffer .entry)) at (byte ∷ []) (now (buffer .exit)) r ⌝ }
 {
-    buffer[at] = 48 + digit as u8;
+    buffer[at] = byte;
     at + 1
 }
 
@@ -37,8 +39,122 @@ fn put_number(buffer: &mut [u8], at: usize, n: usize) -> usize
     ensures { λ r. ⌜ Written (now (buffer .entry)) at (decimal n) (now (buffer .exit)) r ⌝ }
 {
     if n < 10 {
-        return put_digit(buffer, at, n);
+        return put_byte(buffer, at, 48 + n as u8);
     }
     let next = put_number(buffer, at, n / 10);
-    put_digit(buffer, next, n % 10)
+    put_byte(buffer, next, 48 + (n % 10) as u8)
+}
+
+// Writes a word and a number right after it.
+fn put_field(buffer: &mut [u8], at: usize, word: &[u8], n: usize) -> usize
+    requires { ⌜ Fits (now buffer) at (field (now word) n) ⌝ }
+    ensures { λ r. ⌜ Written (now (buffer .entry)) at (field (now (word .entry)) n) (now (buffer .exit)) r ⌝ }
+{
+    let next = put(buffer, at, word);
+    put_number(buffer, next, n)
+}
+
+// Writes an entry.
+fn put_entry(buffer: &mut [u8], at: usize, entry: Entry) -> usize
+    requires { ⌜ Fits (now buffer) at (entryText (entryOf entry)) ⌝ }
+    ensures { λ r. ⌜ Written (now (buffer .entry)) at (entryText (entryOf entry)) (now (buffer .exit)) r ⌝ }
+{
+    match entry {
+        Entry::Constant(n) => put_number(buffer, at, n as usize),
+        Entry::Variable(v) => put_field(buffer, at, b"v", v as usize),
+    }
+}
+
+// Writes a byte and an entry right after it.
+fn put_entry_after(buffer: &mut [u8], at: usize, byte: u8, entry: Entry) -> usize
+    requires { ⌜ Fits (now buffer) at ((byte ∷ []) ++ entryText (entryOf entry)) ⌝ }
+    ensures { λ r. ⌜ Written (now (buffer .entry)) at ((byte ∷ []) ++ entryText (entryOf entry)) (now (buffer .exit)) r ⌝ }
+{
+    let next = put_byte(buffer, at, byte);
+    put_entry(buffer, next, entry)
+}
+
+// Writes the first n of some entries, each after a space.
+fn put_entries(buffer: &mut [u8], at: usize, cells: [Cell; 8], n: usize) -> usize
+    requires { ⌜ Fits (now buffer) at (entriesText (entriesOf (take n cells))) × (n ≤ 8) ⌝ }
+    ensures { λ r. ⌜ Written (now (buffer .entry)) at (entriesText (entriesOf (take n cells))) (now (buffer .exit)) r ⌝ }
+{
+    let mut next = at;
+    for i in 0..n {
+        let cell = cells[i];
+        let entry = cell.entry;
+        next = put_entry_after(buffer, next, b' ', entry);
+    }
+    next
+}
+
+// The eight cells of row i.
+fn row_cells(cells: [Cell; 96], i: usize) -> [Cell; 8]
+    requires { ⌜ i < 12 ⌝ }
+    ensures { λ r. ⌜ r ≡ take 8 (drop (8 * i) cells) ⌝ }
+{
+    let at = 8 * i;
+    [
+        cells[at],
+        cells[at + 1],
+        cells[at + 2],
+        cells[at + 3],
+        cells[at + 4],
+        cells[at + 5],
+        cells[at + 6],
+        cells[at + 7],
+    ]
+}
+
+// Writes the line of a place that has a result with rows.
+fn put_place_line(buffer: &mut [u8], at: usize, place: usize, rows: usize, kept: usize, count: usize) -> usize
+    requires { ⌜ Fits (now buffer) at (placeLine place rows kept count) ⌝ }
+    ensures { λ r. ⌜ Written (now (buffer .entry)) at (placeLine place rows kept count) (now (buffer .exit)) r ⌝ }
+{
+    let next = put_field(buffer, at, b"place ", place);
+    let next = put_field(buffer, next, b" rows ", rows);
+    let next = put_field(buffer, next, b" kept ", kept);
+    let next = put_field(buffer, next, b" replaced ", count);
+    put_byte(buffer, next, b'\n')
+}
+
+// Writes the line of a place whose result is never.
+fn put_never_line(buffer: &mut [u8], at: usize, place: usize, rows: usize, count: usize) -> usize
+    requires { ⌜ Fits (now buffer) at (neverLine place rows count) ⌝ }
+    ensures { λ r. ⌜ Written (now (buffer .entry)) at (neverLine place rows count) (now (buffer .exit)) r ⌝ }
+{
+    let next = put_field(buffer, at, b"place ", place);
+    let next = put_field(buffer, next, b" rows ", rows);
+    let next = put(buffer, next, b" never");
+    let next = put_field(buffer, next, b" replaced ", count);
+    put_byte(buffer, next, b'\n')
+}
+
+// Writes the line of a head, whose first n cells are in use.
+fn put_head_line(buffer: &mut [u8], at: usize, cells: [Cell; 8], n: usize) -> usize
+    requires { ⌜ Fits (now buffer) at (headLine (entriesOf (take n cells))) × (n ≤ 8) ⌝ }
+    ensures { λ r. ⌜ Written (now (buffer .entry)) at (headLine (entriesOf (take n cells))) (now (buffer .exit)) r ⌝ }
+{
+    let next = put(buffer, at, b"head");
+    let next = put_entries(buffer, next, cells, n);
+    put_byte(buffer, next, b'\n')
+}
+
+// Writes the line of a row, whose first n cells are in use.
+fn put_row_line(buffer: &mut [u8], at: usize, relation: usize, cells: [Cell; 8], n: usize) -> usize
+    requires { ⌜ Fits (now buffer) at (rowLine (rowOf relation (take n cells))) × (n ≤ 8) ⌝ }
+    ensures { λ r. ⌜ Written (now (buffer .entry)) at (rowLine (rowOf relation (take n cells))) (now (buffer .exit)) r ⌝ }
+{
+    let next = put_field(buffer, at, b"row ", relation);
+    let next = put_entries(buffer, next, cells, n);
+    put_byte(buffer, next, b'\n')
+}
+
+// Writes the line of a refused file.
+pub fn write_refused(buffer: &mut [u8], at: usize, n: u8) -> usize
+    requires { ⌜ at + 12 ≤ length (now buffer) ⌝ }
+    ensures { λ r. ⌜ Written (now (buffer .entry)) at (refusedText n) (now (buffer .exit)) r ⌝ }
+{
+    let next = put_field(buffer, at, b"refused ", n as usize);
+    put_byte(buffer, next, b'\n')
 }
