@@ -2,3 +2,5 @@
 pub mod Writing
 pub mod Numbers
 pub mod Stored
+pub mod Marks
+pub mod Good

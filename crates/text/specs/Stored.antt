@@ -1,11 +1,14 @@
 -- The text of what the record stores, by way of the queries and mappings that its fields stand for.
-use mathlib.Core.List.{List}
+use mathlib.Core.Bool.{Bool, true, false}
+use mathlib.Core.List.{List, [], _∷_}
 use Prim.Native.Nat.{ℕ}
-use lib.ListN.{getD}
+use lib.Dec.{leb}
+use lib.ListN.{getD, set}
 use Rattle.record.specs.declared.Cell.{Cell}
 use Rattle.record.specs.View.{entryOf, entriesOf}
-use Rattle.record.specs.Rule.{noCell}
+use Rattle.record.specs.Rule.{every, noCell}
 use Rattle.theory.specs.Query as theory
+use Rattle.text.specs.Text.{passing}
 
 -- The row of a relation with the entries that some cells stand for
 abbrev pub rowOf : ℕ → List Cell → theory.Row theory.Entry
@@ -14,3 +17,16 @@ rowOf relation cells = record { relation = relation; values = entriesOf cells }
 -- The mapping that stored images stand for
 abbrev pub imageOf : List Cell → ℕ → theory.Entry
 imageOf images v = entryOf (getD images v noCell .entry)
+
+-- No relation has more than 8 columns
+abbrev pub narrow : List ℕ → Bool
+narrow widths = every (λ w. leb w 8) widths
+
+-- Marks with those of some numbers set
+unfoldable pub marks : List Bool → List ℕ → List Bool
+marks seen [] = seen
+marks seen (n ∷ ns) = marks (set seen n true) ns
+
+-- The numbers below 96 that are marked, ascending
+abbrev pub marked : List Bool → List ℕ
+marked seen = passing (λ v. getD seen v false) 0 96

@@ -114,12 +114,16 @@ abbrev pub equals : List ℕ
 equals = 61 ∷ []
 
 -- ` v1=7`: a variable and its image
-unfoldable pub imageText : (ℕ → theory.Entry) → ℕ → List ℕ
-imageText image v = field nextWord v ++ (equals ++ entryText (image v))
+unfoldable pub imageText : ℕ → theory.Entry → List ℕ
+imageText v image = field nextWord v ++ (equals ++ entryText image)
+
+-- The image of each of some variables
+unfoldable pub imagesText : (ℕ → theory.Entry) → List ℕ → List ℕ
+imagesText image variables = flatMap (λ v. imageText v (image v)) variables
 
 -- `map` and the image of each variable
 unfoldable pub mapLine : (ℕ → theory.Entry) → List ℕ → List ℕ
-mapLine image variables = mapWord ++ (flatMap (imageText image) variables ++ newline)
+mapLine image variables = mapWord ++ (imagesText image variables ++ newline)
 
 -- ---- the variables that occur
 

@@ -4,12 +4,15 @@ use record::{Cell, Entry, Query};
 
 ghost use mathlib.Core.Path.{_≡_};
 ghost use Prim.Native.Nat.{ℕ, _+_, _*_, _≤_, _<_};
+ghost use mathlib.Core.Bool.{true, false};
 ghost use mathlib.Core.List.{List, [], _∷_, _++_};
-ghost use lib.ListN.{length, take, drop, getD};
-ghost use Rattle.text.specs.Stored.{rowOf};
+ghost use lib.ListN.{length, take, drop, replicate};
+ghost use Rattle.text.specs.Stored.{rowOf, imageOf, narrow, marks, marked};
 ghost use Rattle.text.specs.Writing.{Fits, Written};
-ghost use Rattle.record.specs.View.{entryOf, entriesOf};
-ghost use Rattle.text.specs.Text.{decimal, field, entryText, entriesText, placeLine, neverLine, headLine, rowLine, refusedText};
+ghost use Rattle.record.specs.View.{entryOf, entriesOf, queryOf};
+ghost use Rattle.record.specs.Rule.{every, goodEntry, goodCell, goodQuery};
+ghost use Rattle.theory.specs.Query.{variablesOf};
+ghost use Rattle.text.specs.Text.{decimal, field, entryText, entriesText, placeLine, neverLine, headLine, rowLine, rowsText, imageText, imagesText, mapLine, refusedText};
 
 // Writes some bytes.
 fn put(buffer: &mut [u8], at: usize, bytes: &[u8]) -> usize
@@ -147,6 +150,101 @@ fn put_row_line(buffer: &mut [u8], at: usize, relation: usize, cells: [Cell; 8],
 {
     let next = put_field(buffer, at, b"row ", relation);
     let next = put_entries(buffer, next, cells, n);
+    put_byte(buffer, next, b'\n')
+}
+
+// Writes a line for each row of a query.
+fn put_rows(buffer: &mut [u8], at: usize, widths: [u8; 8], query: Query) -> usize
+    requires { ⌜ Fits (now buffer) at (rowsText (queryOf widths query .rows)) × (narrow widths ≡ true) × (goodQuery widths query ≡ true) ⌝ }
+    ensures { λ r. ⌜ Written (now (buffer .entry)) at (rowsText (queryOf widths query .rows)) (now (buffer .exit)) r ⌝ }
+{
+    let size = query.size as usize;
+    let relations = query.relations;
+    let cells = query.cells;
+    let mut next = at;
+    for r in 0..size {
+        let relation = relations[r] as usize;
+        let width = widths[relation] as usize;
+        next = put_row_line(buffer, next, relation, row_cells(cells, r), width);
+    }
+    next
+}
+
+// Marks the variable of an entry, if it is one.
+fn mark_entry(seen: [bool; 96], entry: Entry) -> [bool; 96]
+    requires { ⌜ goodEntry entry ≡ true ⌝ }
+    ensures { λ r. ⌜ r ≡ marks seen (variablesOf (entryOf entry ∷ [])) ⌝ }
+{
+    let mut after = seen;
+    if let Entry::Variable(v) = entry {
+        after[v as usize] = true;
+    }
+    after
+}
+
+// Marks the variables of eight cells.
+fn mark_cells(seen: [bool; 96], cells: [Cell; 8]) -> [bool; 96]
+    requires { ⌜ every goodCell cells ≡ true ⌝ }
+    ensures { λ r. ⌜ r ≡ marks seen (variablesOf (entriesOf cells)) ⌝ }
+{
+    let mut after = seen;
+    for c in 0..8 {
+        let cell = cells[c];
+        let entry = cell.entry;
+        let marked = mark_entry(after, entry);
+        after = marked;
+    }
+    after
+}
+
+// The variables that occur in a query, marked. A cell that is not in use names none.
+fn mark_query(query: Query) -> [bool; 96]
+    requires { ⌜ (every goodCell (query .head) ≡ true) × (every goodCell (query .cells) ≡ true) ⌝ }
+    ensures { λ r. ⌜ r ≡ marks (marks (replicate 96 false) (variablesOf (entriesOf (query .head)))) (variablesOf (entriesOf (query .cells))) ⌝ }
+{
+    let head = query.head;
+    let cells = query.cells;
+    let mut seen = mark_cells([false; 96], head);
+    for r in 0..12 {
+        let row = row_cells(cells, r);
+        let marked = mark_cells(seen, row);
+        seen = marked;
+    }
+    seen
+}
+
+// Writes a variable and its image.
+fn put_image(buffer: &mut [u8], at: usize, v: usize, image: Entry) -> usize
+    requires { ⌜ Fits (now buffer) at (imageText v (entryOf image)) ⌝ }
+    ensures { λ r. ⌜ Written (now (buffer .entry)) at (imageText v (entryOf image)) (now (buffer .exit)) r ⌝ }
+{
+    let next = put_field(buffer, at, b" v", v);
+    put_entry_after(buffer, next, b'=', image)
+}
+
+// Writes the images of the marked variables, ascending.
+fn put_images(buffer: &mut [u8], at: usize, seen: [bool; 96], images: [Cell; 96]) -> usize
+    requires { ⌜ Fits (now buffer) at (imagesText (imageOf images) (marked seen)) ⌝ }
+    ensures { λ r. ⌜ Written (now (buffer .entry)) at (imagesText (imageOf images) (marked seen)) (now (buffer .exit)) r ⌝ }
+{
+    let mut next = at;
+    for v in 0..96 {
+        if seen[v] {
+            let cell = images[v];
+            let image = cell.entry;
+            next = put_image(buffer, next, v, image);
+        }
+    }
+    next
+}
+
+// Writes the line of a mapping: the images of the marked variables.
+fn put_map_line(buffer: &mut [u8], at: usize, seen: [bool; 96], images: [Cell; 96]) -> usize
+    requires { ⌜ Fits (now buffer) at (mapLine (imageOf images) (marked seen)) ⌝ }
+    ensures { λ r. ⌜ Written (now (buffer .entry)) at (mapLine (imageOf images) (marked seen)) (now (buffer .exit)) r ⌝ }
+{
+    let next = put(buffer, at, b"map");
+    let next = put_images(buffer, next, seen, images);
     put_byte(buffer, next, b'\n')
 }
 
