@@ -6,7 +6,7 @@ use Prim.Native.Nat.{ℕ, zero, suc, _+_, _*_, _-_, _≤_, _<_}
 use native.Mathlib.Nat.{add-zero}
 use native.Mathlib.Numerals.{add-one}
 use native.Mathlib.Omega.{arith}
-use lib.ListN.{length, take, drop, getD, length-take, length-drop, drop-of-length-le}
+use lib.ListN.{length, take, drop, getD, length-take, length-drop, length-map, drop-of-length-le}
 use lib.Seq.{drop-cons, getD-take, getD-drop, length-take-le, take-take, drop-drop}
 use Rattle.record.specs.declared.Cell.{Cell}
 use Rattle.record.specs.View.{entryOf, entriesOf, rowsOf}
@@ -14,6 +14,12 @@ use Rattle.record.specs.Rule.{noCell}
 use Rattle.theory.specs.Query as theory
 use Rattle.text.specs.Text.{space, entryText, entriesText, rowLine, rowsText, imageText, imagesText, passing}
 use Rattle.text.specs.Stored.{rowOf}
+
+-- A list is as long as its map
+pub mapped-length : (A B : Type 0) (f : A → B) (xs : List A) (n : ℕ) → length (map f xs) ≡ n → length xs ≡ n
+mapped-length A B f xs n e = sym (length-map xs f) ∙ e
+
+-- ---- entries
 
 -- From cell i on, the entry of cell i comes first
 pub entries-turn : (cells : List Cell) (n i : ℕ) → i < n → n ≤ length cells

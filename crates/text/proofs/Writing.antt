@@ -98,6 +98,11 @@ module _ {given : List ℕ} {first : ℕ} {whole : List ℕ} where
   pub seen-as : {rest rest′ buffer : List ℕ} {at : ℕ} → Progress given first whole rest buffer at → rest ≡ rest′ → Progress given first whole rest′ buffer at
   seen-as {buffer = buffer} {at} p e = subst (λ (r : List ℕ). Progress given first whole r buffer at) e p
 
+  -- the buffer and the position may be had in another way
+  pub moved : {rest buffer buffer′ : List ℕ} {at at′ : ℕ} → Progress given first whole rest buffer at → buffer′ ≡ buffer → at′ ≡ at → Progress given first whole rest buffer′ at′
+  moved {rest} {buffer′ = buffer′} {at} p e i =
+      subst (λ (k : ℕ). Progress given first whole rest buffer′ k) (sym i) (subst (λ (b : List ℕ). Progress given first whole rest b at) (sym e) p)
+
   -- all that is left fits, and when it is written, all is written
   pub rest-fits : {rest buffer : List ℕ} {at : ℕ} → Progress given first whole rest buffer at → Fits buffer at rest
   rest-fits {rest} p = part-fits p rest [] (sym (append-nil rest))

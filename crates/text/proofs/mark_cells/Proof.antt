@@ -1,4 +1,14 @@
+-- `text::mark_cells` meets its contract. Invariant: the marks after all cells are those after the cells from c on. Assumes nothing.
 use borrow.Author.Needs.{needs}
+use mathlib.Core.Path.{_≡_, refl, sym, ap, _∙_}
+use mathlib.Core.Bool.{Bool}
+use mathlib.Core.List.{List}
+use Prim.Native.Nat.{ℕ, _+_, _-_, _<_, _≤_}
+use native.Mathlib.Omega.{arith}
+use lib.ListN.{length, drop}
+use Rattle.record.specs.Rule.{goodCell, noCell}
+use Rattle.text.proofs.Good.{every-getD}
+use Rattle.text.proofs.Marks.{afterCells, after-one, after-none}
 use Rattle.text.proofs.mark_cells.Statement.{statement}
 use Rattle.text.proofs.mark_cells.Tie as tie
 use Rattle.text.proofs.mark_cells.Reads as reads
@@ -6,42 +16,34 @@ use Rattle.text.proofs.mark_cells.Lts as lts
 use Rattle.text.proofs.mark_entry.Reads as mark-entry-reads
 
 abbrev Inv-loop : tie.InvT-loop
-Inv-loop cells after₀ c₀ after c = ?
+Inv-loop cells after₀ c₀ after c = (c ≤ 8) × (length cells ≡ 8) × (afterCells after₀ cells ≡ afterCells after (drop c cells))
 
 abbrev μ-loop : tie.MeasureT-loop
-μ-loop cells after₀ c₀ after c = ?
+μ-loop cells after₀ c₀ after c = 8 - c
 
--- src/lib.rt:191:5
 loop-holds : tie.Need-loop-holds Inv-loop μ-loop
-loop-holds c = search needs
+loop-holds c = (search needs, search needs, refl)
 
--- src/lib.rt:192:20
 mul-cell : tie.Need-mul-cell Inv-loop μ-loop
 mul-cell c = search needs
 
--- src/lib.rt:192:20
 array-copy-out-cell : tie.Need-array-copy-out-cell Inv-loop μ-loop
 array-copy-out-cell c = search needs
 
--- src/lib.rt:194:13
 mark-entry-requires : tie.Need-mark-entry-requires Inv-loop μ-loop
-mark-entry-requires c κs = search needs
+mark-entry-requires c κs = every-getD goodCell (c .before .before .before .args .t2) (c .before .before .loop .c) noCell (c .before .before .before .pre) (search needs)
 
--- src/lib.rt:191:9
 add-c : tie.Need-add-c Inv-loop μ-loop
 add-c c = search needs
 
--- src/lib.rt:191:5
 loop-less : tie.Need-loop-less Inv-loop μ-loop
 loop-less c = search needs
 
--- src/lib.rt:191:5
 loop-again : tie.Need-loop-again Inv-loop μ-loop
-loop-again c = search needs
+loop-again c = (search needs, search needs, c .before .before .before .loop .inv .2 ∙ after-one (c .before .before .before .loop .after) (c .before .before .before .before .args .t2) (c .before .before .before .loop .c) (search needs) ∙ ap (λ (s : List Bool). afterCells s (drop (c .before .before .before .loop .c + 1) (c .before .before .before .before .args .t2))) (sym (c .mark-entry .ensures)))
 
--- src/lib.rt:186:1
 returns : tie.Need-returns Inv-loop μ-loop
-returns c = search needs
+returns c = sym (c .before .loop .inv .2 ∙ after-none (c .before .loop .after) (c .before .before .args .t2) (c .before .loop .c) (search needs))
 
 pub mark-cells-spec : {M : Type 1} → statement M
 mark-cells-spec =

@@ -1,5 +1,6 @@
 -- `text::mark_entry` meets its contract: by the two cases of an entry. A good variable is below 96. Assumes nothing.
 use borrow.Author.Needs.{needs}
+use Rattle.text.proofs.Good.{variable-below}
 use mathlib.Core.Path.{_≡_, ap, sym, _∙_}
 use mathlib.Core.Bool.{true}
 use native.Mathlib.Omega.{arith}
@@ -21,7 +22,7 @@ cast-after : tie.Need-cast-after
 cast-after c = search needs
 
 array-write-after : tie.Need-array-write-after
-array-write-after c = ?w
+array-write-after c = variable-below _ _ (c .before .entry .given .1) (c .before .before .before .pre)
 
 enum-told : tie.Need-enum-told
 enum-told c = search needs

@@ -1,4 +1,16 @@
+-- `text::put_images` meets its contract. Invariant: the images from variable v on are left to be written. Assumes nothing.
 use borrow.Author.Needs.{needs}
+use mathlib.Core.Path.{_≡_, refl, sym, ap, _∙_}
+use mathlib.Core.Bool.{Bool, true, false}
+use mathlib.Core.List.{List}
+use mathlib.Core.Logic.{⊎-elim}
+use Prim.Native.Nat.{ℕ, _+_, _-_, _<_, _≤_}
+use native.Mathlib.Omega.{arith}
+use lib.ListN.{length, drop, getD}
+use Rattle.text.specs.Text.{passing, imageText, imagesText}
+use Rattle.text.specs.Stored.{imageOf, marked}
+use Rattle.text.proofs.Stored.{images-passed, images-skipped, images-end}
+use Rattle.text.proofs.Writing.{Progress, started, part-fits, wrote, finished, seen-as, moved, same-size}
 use Rattle.text.proofs.put_images.Statement.{statement}
 use Rattle.text.proofs.put_images.Tie as tie
 use Rattle.text.proofs.put_images.Reads as reads
@@ -6,50 +18,48 @@ use Rattle.text.proofs.put_images.Lts as lts
 use Rattle.text.proofs.put_image.Reads as put-image-reads
 
 abbrev Inv-loop : tie.InvT-loop
-Inv-loop buffer₀ at seen images next₀ v₀ buffer next v = ?
+Inv-loop buffer₀ at seen images next₀ v₀ buffer next v = (v ≤ 96) × Progress buffer₀ at (imagesText (imageOf images) (marked seen)) (imagesText (imageOf images) (passing (λ w. getD seen w false) v (96 - v))) buffer next
 
 abbrev μ-loop : tie.MeasureT-loop
-μ-loop buffer₀ at seen images next₀ v₀ buffer next v = ?
+μ-loop buffer₀ at seen images next₀ v₀ buffer next v = 96 - v
 
--- src/lib.rt:228:5
 loop-holds : tie.Need-loop-holds Inv-loop μ-loop
-loop-holds c = search needs
+loop-holds c = (search needs, started (c .before .pre))
 
--- src/lib.rt:229:12
 array-read-if1 : tie.Need-array-read-if1 Inv-loop μ-loop
 array-read-if1 c = search needs
 
--- src/lib.rt:230:24
 mul-cell : tie.Need-mul-cell Inv-loop μ-loop
 mul-cell c = search needs
 
--- src/lib.rt:230:24
 array-copy-out-cell : tie.Need-array-copy-out-cell Inv-loop μ-loop
 array-copy-out-cell c = search needs
 
--- src/lib.rt:232:13
 put-image-requires : tie.Need-put-image-requires Inv-loop μ-loop
-put-image-requires c κs = search needs
+put-image-requires c κs = part-fits (c .before .before .before .before .loop .inv .1) _ _ (images-passed (imageOf (c .before .before .before .before .before .before .args .t4)) (λ w. getD (c .before .before .before .before .before .before .args .t3) w false) (c .before .before .before .before .loop .v) (c .before .before .before .loop-test .taken) (c .before .before .if1 .taken))
 
--- src/lib.rt:228:9
 add-v : tie.Need-add-v Inv-loop μ-loop
 add-v c = search needs
 
--- src/lib.rt:228:5
 loop-less : tie.Need-loop-less Inv-loop μ-loop
 loop-less c = search needs
 
--- src/lib.rt:228:5
 loop-again : tie.Need-loop-again Inv-loop μ-loop
-loop-again c = search needs
+loop-again c = 
+    let i = imageOf (c .before .before .before .before .args .t4) in
+    let t : ℕ → Bool = λ w. getD (c .before .before .before .before .args .t3) w false in (
+      search needs,
+      ⊎-elim
+          (λ w. moved (wrote (c .before .before .loop .inv .1) _ (images-passed i t (c .before .before .loop .v) (c .before .loop-test .taken) (w .0 .taken)) (w .3 .ensures)) (w .6) (w .7))
+          (λ w. moved (seen-as (c .before .before .loop .inv .1) (images-skipped i t (c .before .before .loop .v) (c .before .loop-test .taken) (w .0 .left))) (w .1) (w .2))
+          (c .if1 .came),
+    )
 
--- src/lib.rt:223:1
 same-length : tie.Need-same-length Inv-loop μ-loop
-same-length c = search needs
+same-length c = same-size (c .before .loop .inv .1)
 
--- src/lib.rt:223:1
 returns : tie.Need-returns Inv-loop μ-loop
-returns c = search needs
+returns c = finished (seen-as (c .before .loop .inv .1) (images-end (imageOf (c .before .before .before .args .t4)) (λ w. getD (c .before .before .before .args .t3) w false) (c .before .loop .v) (c .loop-test .left)))
 
 pub put-images-spec : {M : Type 1} → statement M
 put-images-spec =
