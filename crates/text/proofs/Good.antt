@@ -23,16 +23,16 @@ use Rattle.text.proofs.Marks.{variables-append, entries-append}
 
 -- ---- tests
 
-and-left : (a b : Bool) → a && b ≡ true → a ≡ true
+pub and-left : (a b : Bool) → a && b ≡ true → a ≡ true
 and-left true b e = refl
 and-left false b e = e
 
-and-right : (a b : Bool) → a && b ≡ true → b ≡ true
+pub and-right : (a b : Bool) → a && b ≡ true → b ≡ true
 and-right true b e = e
 and-right false true e = refl
 and-right false false e = e
 
-and-both : (a b : Bool) → a ≡ true → b ≡ true → a && b ≡ true
+pub and-both : (a b : Bool) → a ≡ true → b ≡ true → a && b ≡ true
 and-both true b p q = q
 and-both false b p q = p
 

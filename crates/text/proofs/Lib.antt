@@ -4,3 +4,4 @@ pub mod Numbers
 pub mod Stored
 pub mod Marks
 pub mod Good
+pub mod Bound

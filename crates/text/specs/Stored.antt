@@ -30,3 +30,7 @@ marks seen (n ∷ ns) = marks (set seen n true) ns
 -- The numbers below 96 that are marked, ascending
 abbrev pub marked : List Bool → List ℕ
 marked seen = passing (λ v. getD seen v false) 0 96
+
+-- Room for the text of any place: a line of at most 37 bytes, a head of at most 93, 12 rows of at most 94 each and a mapping of at most 1444
+abbrev pub placeRoom : ℕ
+placeRoom = 2702
