@@ -220,7 +220,11 @@ module _ (schema : List ℕ) (q : Query) (good : goodQuery schema q ≡ true) wh
 
   cells-blank : every blankCell (drop (8 * q .size) (q .cells)) ≡ true
   unfolding goodQuery
-  cells-blank = and-right _ (every blankCell (drop (8 * q .size) (q .cells))) good
+  cells-blank =
+      and-right
+      (leb (q .arity) 8 && leb (q .size) 12 && inUse (headInUse q) goodCell blankCell (q .head) && goodRows schema (take (q .size) (q .relations)) (q .cells)
+      && every isZero (drop (q .size) (q .relations)))
+      (every blankCell (drop (8 * q .size) (q .cells))) good
 
   pub head-good : every goodCell (q .head) ≡ true
   head-good = used-good (headInUse q) (q .head) head-used

@@ -7,12 +7,12 @@ ghost use Prim.Native.Nat.{ℕ, _+_, _*_, _≤_, _<_};
 ghost use mathlib.Core.Bool.{true, false};
 ghost use mathlib.Core.List.{List, [], _∷_, _++_};
 ghost use lib.ListN.{length, take, drop, replicate};
-ghost use Rattle.text.specs.Stored.{rowOf, imageOf, narrow, marks, marked};
+ghost use Rattle.text.specs.Stored.{rowOf, imageOf, narrow, marks, marked, Listable};
 ghost use Rattle.text.specs.Writing.{Fits, Written};
 ghost use Rattle.record.specs.View.{entryOf, entriesOf, queryOf};
 ghost use Rattle.record.specs.Rule.{every, goodEntry, goodCell, goodQuery};
 ghost use Rattle.theory.specs.Query.{variablesOf};
-ghost use Rattle.text.specs.Text.{decimal, field, entryText, entriesText, placeLine, neverLine, headLine, rowLine, rowsText, imageText, imagesText, mapLine, refusedText};
+ghost use Rattle.text.specs.Text.{decimal, field, entryText, entriesText, placeLine, neverLine, headLine, rowLine, rowsText, imageText, imagesText, mapLine, placeText, refusedText};
 
 // Writes some bytes.
 fn put(buffer: &mut [u8], at: usize, bytes: &[u8]) -> usize
@@ -246,6 +246,25 @@ fn put_map_line(buffer: &mut [u8], at: usize, seen: [bool; 96], images: [Cell; 9
     let next = put(buffer, at, b"map");
     let next = put_images(buffer, next, seen, images);
     put_byte(buffer, next, b'\n')
+}
+
+// Writes the lines of a place: its number, its query, the result of its reduction, the number of replacements and the mapping.
+pub fn write_place(buffer: &mut [u8], at: usize, place: usize, widths: [u8; 8], source: Query, result: Query, count: u8, images: [Cell; 96]) -> usize
+    requires { ⌜ Listable (now buffer) at place widths source result images ⌝ }
+    ensures { λ r. ⌜ Written (now (buffer .entry)) at (placeText place (queryOf widths source) (queryOf widths result) count (imageOf images)) (now (buffer .exit)) r ⌝ }
+{
+    let rows = source.size as usize;
+    let kept = result.size as usize;
+    if kept == 0 {
+        return put_never_line(buffer, at, place, rows, count as usize);
+    }
+    let seen = mark_query(source);
+    let head = result.head;
+    let arity = result.arity as usize;
+    let next = put_place_line(buffer, at, place, rows, kept, count as usize);
+    let next = put_head_line(buffer, next, head, arity);
+    let next = put_rows(buffer, next, widths, result);
+    put_map_line(buffer, next, seen, images)
 }
 
 // Writes the line of a refused file.
