@@ -1,12 +1,11 @@
 -- How long the text of a place can be: entries first, then the lines, then the whole. Assumes nothing.
 use mathlib.Core.Path.{_≡_, refl, sym, ap, _∙_}
-use mathlib.Core.Bool.{Bool, true, false, cond, _&&_}
+use mathlib.Core.Bool.{Bool, true, false, cond}
 use mathlib.Core.List.{List, [], _∷_, _++_, flatMap}
-use Prim.Native.Nat.{ℕ, zero, suc, _+_, _*_, _-_, _^_, _≤_, _<_}
-use native.Mathlib.Nat.{not-suc-le-zero}
+use Prim.Native.Nat.{ℕ, zero, suc, _+_, _*_, _^_, _≤_, _<_}
 use native.Mathlib.Omega.{arith}
-use lib.Dec.{eqb, ltb, leb, lit<}
-use lib.ListN.{length, take, drop, getD, length-append, length-take, length-map}
+use lib.Dec.{eqb, ltb}
+use lib.ListN.{length, take, drop, getD, length-append, length-take}
 use lib.Seq.{length-take-le}
 use borrow.Author.Tests.{leb-true, ltb-true}
 use Rattle.record.specs.declared.Cell.{Cell}
@@ -14,12 +13,12 @@ use Rattle.record.specs.declared.Entry.{Entry}
 use Rattle.record.specs.declared.Entry.the-variants.{Constant, Variable}
 use Rattle.record.specs.declared.Query.{Query}
 use Rattle.record.specs.View.{entryOf, entriesOf, rowsOf, queryOf}
-use Rattle.record.specs.Rule.{every, goodEntry, goodCell, goodRow, goodRows, goodQuery, noCell}
+use Rattle.record.specs.Rule.{every, goodEntry, goodCell, goodRow, goodRows, goodQuery}
 use Rattle.theory.specs.Query as theory
-use Rattle.text.specs.Text.{decimal, field, entryText, space, entriesText, newline, placeWord, rowsWord, keptWord, neverWord, replacedWord, placeLine, neverLine, headWord, headLine, rowWord, rowLine, rowsText, nextWord, equals, imageText, imagesText, mapWord, mapLine, passing, above, occurring, placeText}
+use Rattle.text.specs.Text.{field, entryText, entriesText, newline, placeWord, rowsWord, keptWord, replacedWord, placeLine, neverLine, headLine, rowWord, rowLine, rowsText, nextWord, equals, imageText, imagesText, mapLine, passing, above, occurring, placeText}
 use Rattle.text.specs.Stored.{imageOf, narrow, placeRoom}
 use Rattle.text.proofs.Numbers.{decimal-length}
-use Rattle.text.proofs.Good.{and-left, and-right, and-both, every-getD, every-take, every-drop, arity-small, size-small, head-good, cells-good, rows-known, relation-known, width-narrow, variables-below}
+use Rattle.text.proofs.Good.{and-left, and-right, and-both, every-take, every-drop, arity-small, size-small, head-good, cells-good, rows-known, width-narrow, variables-below}
 
 -- ---- entries
 
@@ -156,10 +155,10 @@ module _ (widths : List ℕ) (eight : length widths ≡ 8) (w : narrow widths �
           → length (rowsText (queryOf widths result .rows)) ≤ 94 * result .size
           → length (mapLine (imageOf images) (occurring (queryOf widths source))) ≤ 1444
           → length
-            (cond t (neverLine place (length (queryOf widths source .rows)) count)
-            (placeLine place (length (queryOf widths source .rows)) (length (queryOf widths result .rows)) count
-            ++ (headLine (queryOf widths result .head) ++ (rowsText (queryOf widths result .rows) ++ mapLine (imageOf images) (occurring (queryOf widths source))))))
-            ≤ placeRoom
+          (cond t (neverLine place (length (queryOf widths source .rows)) count)
+          (placeLine place (length (queryOf widths source .rows)) (length (queryOf widths result .rows)) count
+          ++ (headLine (queryOf widths result .head) ++ (rowsText (queryOf widths result .rows) ++ mapLine (imageOf images) (occurring (queryOf widths source))))))
+          ≤ placeRoom
       go true m k line never head rows map = omega arith
       go false m k line never head rows map =
           rw (

@@ -14,7 +14,7 @@ use Rattle.record.specs.declared.Entry.{Entry}
 use Rattle.record.specs.declared.Entry.the-variants.{Constant, Variable}
 use Rattle.record.specs.declared.Query.{Query}
 use Rattle.record.specs.View.{entryOf, entriesOf, rowsOf, queryOf}
-use Rattle.record.specs.Rule.{every, inUse, isZero, blankEntry, blankCell, goodEntry, goodCell, goodRow, goodRows, headInUse, goodQuery, noCell}
+use Rattle.record.specs.Rule.{every, inUse, isZero, blankEntry, blankCell, goodEntry, goodCell, goodRow, goodRows, headInUse, goodQuery}
 use Rattle.theory.specs.Query as theory
 use Rattle.theory.specs.Query.{variablesOf, rowEntries}
 use Rattle.text.specs.Text.{above}
@@ -68,7 +68,7 @@ module _ {A : Type 0} (test : A → Bool) where
       and-both (other x) (every other xs) (w x (and-left (test x) (every test xs) e)) (every-weaken other w xs (and-right (test x) (every test xs) e))
 
   -- a list passes if what comes before a place passes and what comes after it does
-  every-join : (n : ℕ) (xs : List A) → every test (take n xs) ≡ true → every test (drop n xs) ≡ true → every test xs ≡ true
+  pub every-join : (n : ℕ) (xs : List A) → every test (take n xs) ≡ true → every test (drop n xs) ≡ true → every test xs ≡ true
   every-join n xs p q = ap (every test) (sym (take-append-drop n xs)) ∙ every-append (take n xs) (drop n xs) p q
 
 -- ---- entries and cells
@@ -253,7 +253,7 @@ module _ (schema : List ℕ) (q : Query) (good : goodQuery schema q ≡ true) wh
     query-variables fits =
         ap (λ (vs : List ℕ). vs ++ variablesOf (entriesOf (q .cells))) head-variables
         ∙ ap (λ (vs : List ℕ). variablesOf (entriesOf (take (q .arity) (q .head))) ++ vs)
-          (rows-variables schema (λ i. width-narrow schema i fits) (take (q .size) (q .relations)) (q .cells) rows-known blank-after)
+        (rows-variables schema (λ i. width-narrow schema i fits) (take (q .size) (q .relations)) (q .cells) rows-known blank-after)
         ∙ sym (variables-append (entriesOf (take (q .arity) (q .head))) (rowEntries (rowsOf schema (take (q .size) (q .relations)) (q .cells))))
 
     pub variables-below : narrow schema ≡ true → above (theory.variables (queryOf schema q)) ≤ 96

@@ -5,3 +5,5 @@ pub mod Stored
 pub mod Marks
 pub mod Good
 pub mod Bound
+pub mod Schema
+pub mod Example

@@ -1,8 +1,8 @@
 -- Laws of the text of what is stored: what a turn of a loop over cells, rows or images writes. For any number of them. Assumes nothing.
-use mathlib.Core.Path.{_≡_, refl, sym, ap, _∙_}
-use mathlib.Core.Bool.{Bool, true, false, cond}
+use mathlib.Core.Path.{_≡_, sym, ap, _∙_}
+use mathlib.Core.Bool.{Bool, true, false}
 use mathlib.Core.List.{List, [], _∷_, _++_, flatMap, map}
-use Prim.Native.Nat.{ℕ, zero, suc, _+_, _*_, _-_, _≤_, _<_}
+use Prim.Native.Nat.{ℕ, suc, _+_, _*_, _-_, _≤_, _<_}
 use native.Mathlib.Nat.{add-zero}
 use native.Mathlib.Numerals.{add-one}
 use native.Mathlib.Omega.{arith}
@@ -39,12 +39,12 @@ entries-end cells n i h = let e : drop i (take n cells) ≡ [] = drop-of-length-
 -- The eight cells from a position on, one by one
 pub eight-cells : (cells : List Cell) (k : ℕ) → k + 8 ≤ length cells
     → getD cells k noCell ∷ getD cells (k + 1) noCell ∷ getD cells (k + 2) noCell ∷ getD cells (k + 3) noCell ∷ getD cells (k + 4) noCell ∷ getD cells (k + 5) noCell
-      ∷ getD cells (k + 6) noCell ∷ getD cells (k + 7) noCell ∷ [] ≡ take 8 (drop k cells)
+    ∷ getD cells (k + 6) noCell ∷ getD cells (k + 7) noCell ∷ [] ≡ take 8 (drop k cells)
 eight-cells cells k h = go (drop k cells) (getD-drop k cells) (rw length-drop (omega arith))
   where
     go : (xs : List Cell) → ((i : ℕ) (d : Cell) → getD xs i d ≡ getD cells (k + i) d) → 8 ≤ length xs
         → getD cells k noCell ∷ getD cells (k + 1) noCell ∷ getD cells (k + 2) noCell ∷ getD cells (k + 3) noCell ∷ getD cells (k + 4) noCell ∷ getD cells (k + 5) noCell
-          ∷ getD cells (k + 6) noCell ∷ getD cells (k + 7) noCell ∷ [] ≡ take 8 xs
+        ∷ getD cells (k + 6) noCell ∷ getD cells (k + 7) noCell ∷ [] ≡ take 8 xs
     go [] at l = absurd (omega arith)
     go (a ∷ []) at l = absurd (omega arith)
     go (a ∷ b ∷ []) at l = absurd (omega arith)
@@ -62,8 +62,8 @@ eight-cells cells k h = go (drop k cells) (getD-drop k cells) (rw length-drop (o
 -- From row r on, the line of row r comes first
 pub rows-turn : (widths relations : List ℕ) (cells : List Cell) (n r : ℕ) → r < n → n ≤ length relations → getD widths (getD relations r 0) 0 ≤ 8
     → rowsText (rowsOf widths (drop r (take n relations)) (drop (8 * r) cells))
-      ≡ rowLine (rowOf (getD relations r 0) (take (getD widths (getD relations r 0) 0) (take 8 (drop (8 * r) cells))))
-        ++ rowsText (rowsOf widths (drop (r + 1) (take n relations)) (drop (8 * (r + 1)) cells))
+    ≡ rowLine (rowOf (getD relations r 0) (take (getD widths (getD relations r 0) 0) (take 8 (drop (8 * r) cells))))
+    ++ rowsText (rowsOf widths (drop (r + 1) (take n relations)) (drop (8 * (r + 1)) cells))
 unfolding rowsText rowsOf flatMap
 rows-turn widths relations cells n r h l narrow =
     let here : r < length (take n relations) = rw (length-take-le n relations l) h in

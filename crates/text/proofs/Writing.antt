@@ -2,11 +2,11 @@
 -- and ends with `finished`; `part-fits` is what the next part asks. Assumes nothing.
 use mathlib.Core.Path.{_≡_, refl, sym, ap, _∙_, subst}
 use mathlib.Core.List.{List, [], _∷_, _++_, append-assoc, append-nil}
-use Prim.Native.Nat.{ℕ, suc, _+_, _≤_, _<_}
+use Prim.Native.Nat.{ℕ, _+_, _≤_, _<_}
 use native.Mathlib.Nat.{add-zero}
 use native.Mathlib.Numerals.{add-one}
 use native.Mathlib.Omega.{arith}
-use lib.ListN.{length, take, drop, set, getD, length-append, length-take, length-drop, take-append-drop}
+use lib.ListN.{length, take, drop, set, length-append, length-take, length-drop, take-append-drop}
 use lib.Seq.{take-at, drop-at, drop-drop, set-split}
 use Rattle.text.specs.Writing.{over, Fits, Written}
 

@@ -1,6 +1,6 @@
 -- Document 01's "The listing program": the lines of a place and of a refused file, as bytes.
 -- First numbers and entries, then the lines, then the whole text. For every width, row count, variable and constant: document 01's limits are the record's.
-use mathlib.Core.Bool.{Bool, true, false, cond}
+use mathlib.Core.Bool.{Bool, cond}
 use mathlib.Core.List.{List, [], _∷_, _++_, flatMap}
 use Prim.Native.Nat.{ℕ, zero, suc, _+_, _*_, _-_, _/_, _%_, max}
 use lib.Dec.{eqb, ltb}

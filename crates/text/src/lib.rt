@@ -1,11 +1,12 @@
 // The text of the listing, written into a lent buffer. Each function that writes takes the position to write from and returns the one after.
 
-use record::{Cell, Entry, Query};
-
+use record::Cell;
+use record::Entry;
+use record::Query;
 ghost use mathlib.Core.Path.{_≡_};
-ghost use Prim.Native.Nat.{ℕ, _+_, _*_, _≤_, _<_};
+ghost use Prim.Native.Nat.{_+_, _*_, _≤_, _<_};
 ghost use mathlib.Core.Bool.{true, false};
-ghost use mathlib.Core.List.{List, [], _∷_, _++_};
+ghost use mathlib.Core.List.{[], _∷_, _++_};
 ghost use lib.ListN.{length, take, drop, replicate};
 ghost use Rattle.text.specs.Stored.{rowOf, imageOf, narrow, marks, marked, Listable};
 ghost use Rattle.text.specs.Writing.{Fits, Written};
@@ -110,7 +111,14 @@ fn row_cells(cells: [Cell; 96], i: usize) -> [Cell; 8]
 }
 
 // Writes the line of a place that has a result with rows.
-fn put_place_line(buffer: &mut [u8], at: usize, place: usize, rows: usize, kept: usize, count: usize) -> usize
+fn put_place_line(
+    buffer: &mut [u8],
+    at: usize,
+    place: usize,
+    rows: usize,
+    kept: usize,
+    count: usize,
+) -> usize
     requires { ⌜ Fits (now buffer) at (placeLine place rows kept count) ⌝ }
     ensures { λ r. ⌜ Written (now (buffer .entry)) at (placeLine place rows kept count) (now (buffer .exit)) r ⌝ }
 {
@@ -249,7 +257,16 @@ fn put_map_line(buffer: &mut [u8], at: usize, seen: [bool; 96], images: [Cell; 9
 }
 
 // Writes the lines of a place: its number, its query, the result of its reduction, the number of replacements and the mapping.
-pub fn write_place(buffer: &mut [u8], at: usize, place: usize, widths: [u8; 8], source: Query, result: Query, count: u8, images: [Cell; 96]) -> usize
+pub fn write_place(
+    buffer: &mut [u8],
+    at: usize,
+    place: usize,
+    widths: [u8; 8],
+    source: Query,
+    result: Query,
+    count: u8,
+    images: [Cell; 96],
+) -> usize
     requires { ⌜ Listable (now buffer) at place widths source result images ⌝ }
     ensures { λ r. ⌜ Written (now (buffer .entry)) at (placeText place (queryOf widths source) (queryOf widths result) count (imageOf images)) (now (buffer .exit)) r ⌝ }
 {
@@ -272,6 +289,6 @@ pub fn write_refused(buffer: &mut [u8], at: usize, n: u8) -> usize
     requires { ⌜ at + 12 ≤ length (now buffer) ⌝ }
     ensures { λ r. ⌜ Written (now (buffer .entry)) at (refusedText n) (now (buffer .exit)) r ⌝ }
 {
-    let next = put_field(buffer, at, b"refused ", n as usize);
-    put_byte(buffer, next, b'\n')
+    let end = put_field(buffer, at, b"refused ", n as usize);
+    put_byte(buffer, end, b'\n')
 }

@@ -3,17 +3,13 @@ use borrow.Author.Needs.{needs}
 use mathlib.Core.Path.{_≡_, refl, sym, ap, _∙_}
 use mathlib.Core.Bool.{Bool}
 use mathlib.Core.List.{List}
-use Prim.Native.Nat.{ℕ, _+_, _-_, _<_, _≤_}
-use native.Mathlib.Omega.{arith}
+use Prim.Native.Nat.{_+_, _-_, _≤_}
 use lib.ListN.{length, drop}
 use Rattle.record.specs.Rule.{goodCell, noCell}
 use Rattle.text.proofs.Good.{every-getD}
 use Rattle.text.proofs.Marks.{afterCells, after-one, after-none}
 use Rattle.text.proofs.mark_cells.Statement.{statement}
 use Rattle.text.proofs.mark_cells.Tie as tie
-use Rattle.text.proofs.mark_cells.Reads as reads
-use Rattle.text.proofs.mark_cells.Lts as lts
-use Rattle.text.proofs.mark_entry.Reads as mark-entry-reads
 
 abbrev Inv-loop : tie.InvT-loop
 Inv-loop cells after₀ c₀ after c = (c ≤ 8) × (length cells ≡ 8) × (afterCells after₀ cells ≡ afterCells after (drop c cells))

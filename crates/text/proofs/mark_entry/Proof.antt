@@ -1,19 +1,9 @@
 -- `text::mark_entry` meets its contract: by the two cases of an entry. A good variable is below 96. Assumes nothing.
 use borrow.Author.Needs.{needs}
 use Rattle.text.proofs.Good.{variable-below}
-use mathlib.Core.Path.{_≡_, ap, sym, _∙_}
-use mathlib.Core.Bool.{true}
-use native.Mathlib.Omega.{arith}
-use Prim.Native.Nat.{ℕ, _≤_}
-use borrow.Author.Tests.{leb-true}
-use Rattle.record.specs.declared.Entry.{Entry}
-use Rattle.record.specs.declared.Entry.the-variants.{Variable}
-use Rattle.record.specs.Rule.{goodEntry}
 use Rattle.text.proofs.Marks.{mark-constant, mark-variable}
 use Rattle.text.proofs.mark_entry.Statement.{statement}
 use Rattle.text.proofs.mark_entry.Tie as tie
-use Rattle.text.proofs.mark_entry.Reads as reads
-use Rattle.text.proofs.mark_entry.Lts as lts
 
 enum-known-entry : tie.Need-enum-known-entry
 enum-known-entry c = search needs

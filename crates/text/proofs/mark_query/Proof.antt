@@ -4,19 +4,15 @@ use Rattle.record.specs.declared.Cell.{Cell}
 use mathlib.Core.Path.{_≡_, refl, sym, ap, _∙_}
 use mathlib.Core.Bool.{Bool}
 use mathlib.Core.List.{List}
-use Prim.Native.Nat.{ℕ, _+_, _*_, _-_, _<_, _≤_}
+use Prim.Native.Nat.{_+_, _*_, _-_, _≤_}
 use native.Mathlib.Omega.{arith}
-use lib.ListN.{length, take, drop}
+use lib.ListN.{length, drop}
 use Rattle.record.specs.Rule.{every, goodCell}
 use Rattle.text.proofs.Good.{every-take, every-drop}
 use Rattle.text.proofs.Stored.{mapped-length}
 use Rattle.text.proofs.Marks.{afterCells, after-eight, after-none}
 use Rattle.text.proofs.mark_query.Statement.{statement}
 use Rattle.text.proofs.mark_query.Tie as tie
-use Rattle.text.proofs.mark_query.Reads as reads
-use Rattle.text.proofs.mark_query.Lts as lts
-use Rattle.text.proofs.mark_cells.Reads as mark-cells-reads
-use Rattle.text.proofs.row_cells.Reads as row-cells-reads
 
 abbrev Inv-loop : tie.InvT-loop
 Inv-loop cells seen₀ r₀ seen r = (r ≤ 12) × (length cells ≡ 96) × (afterCells seen₀ cells ≡ afterCells seen (drop (8 * r) cells))
@@ -34,7 +30,7 @@ row-cells-requires : tie.Need-row-cells-requires Inv-loop μ-loop
 row-cells-requires c κs = search needs
 
 mark-cells-requires-2 : tie.Need-mark-cells-requires-2 Inv-loop μ-loop
-mark-cells-requires-2 c κs = 
+mark-cells-requires-2 c κs =
     let cells = c .before .before .before .before .before .before .args .query .cells in
     ap (every goodCell) (c .row-cells .ensures) ∙ every-take goodCell 8 (drop (8 * c .before .before .loop .r) cells) (every-drop goodCell (8 * c .before .before .loop .r) cells (c .before .before .before .before .before .before .pre .1))
 
@@ -45,7 +41,7 @@ loop-less : tie.Need-loop-less Inv-loop μ-loop
 loop-less c = search needs
 
 loop-again : tie.Need-loop-again Inv-loop μ-loop
-loop-again c = 
+loop-again c =
     let cells = c .before .before .before .before .before .before .before .args .query .cells in
     let rest = drop (8 * (c .before .before .before .loop .r + 1)) cells in (
       search needs,
@@ -56,7 +52,7 @@ loop-again c =
     )
 
 returns : tie.Need-returns Inv-loop μ-loop
-returns c = 
+returns c =
     let cells = c .before .before .before .before .before .args .query .cells in
     sym (ap (λ (s : List Bool). afterCells s cells) (sym (c .before .before .mark-cells .ensures)) ∙ c .before .loop .inv .2 ∙ after-none (c .before .loop .seen) cells (8 * c .before .loop .r) (omega arith))
 

@@ -1,7 +1,8 @@
+-- `text::put` meets its contract. Invariant: the bytes from i on are left to be written. Assumes nothing.
 use borrow.Author.Needs.{needs}
-use mathlib.Core.Path.{_≡_, ap, sym, _∙_}
+use mathlib.Core.Path.{_≡_}
 use mathlib.Core.List.{List, [], _∷_, _++_}
-use Prim.Native.Nat.{ℕ, suc, _+_, _-_, _<_, _≤_}
+use Prim.Native.Nat.{ℕ, _+_, _-_, _<_, _≤_}
 use native.Mathlib.Numerals.{add-one}
 use native.Mathlib.Omega.{arith}
 use lib.ListN.{length, drop, set, getD, drop-of-length-le}
@@ -9,8 +10,6 @@ use lib.Seq.{drop-cons}
 use Rattle.text.proofs.Writing.{Progress, started, part-fits, wrote, finished, seen-as, same-size, wrote-byte}
 use Rattle.text.proofs.put.Statement.{statement}
 use Rattle.text.proofs.put.Tie as tie
-use Rattle.text.proofs.put.Reads as reads
-use Rattle.text.proofs.put.Lts as lts
 
 -- a turn stores the next byte
 turn : {given : List ℕ} {first : ℕ} {bytes buffer : List ℕ} {next i : ℕ} → Progress given first bytes (drop i bytes) buffer next → i < length bytes
@@ -26,39 +25,30 @@ Inv-loop buffer₀ at bytes next₀ i₀ i-end buffer next i = (i-end ≡ length
 abbrev μ-loop : tie.MeasureT-loop
 μ-loop buffer₀ at bytes next₀ i₀ i-end buffer next i = i-end - i
 
--- src/lib.rt:18:5
 loop-holds : tie.Need-loop-holds Inv-loop μ-loop
 loop-holds c = (search needs, search needs, started (c .pre))
 
--- src/lib.rt:19:24
 shared-slice-read-buffer : tie.Need-shared-slice-read-buffer Inv-loop μ-loop
 shared-slice-read-buffer c = search needs
 
--- src/lib.rt:19:9
 slice-write-buffer : tie.Need-slice-write-buffer Inv-loop μ-loop
 slice-write-buffer c = turn (c .before .before .loop .inv .2) (c .before .loop-test .taken) .0
 
--- src/lib.rt:20:9
 add-next : tie.Need-add-next Inv-loop μ-loop
 add-next c = omega (arith, turn (c .before .before .loop .inv .2) (c .before .loop-test .taken) .0, same-size (c .before .before .loop .inv .2))
 
--- src/lib.rt:18:9
 add-i : tie.Need-add-i Inv-loop μ-loop
 add-i c = search needs
 
--- src/lib.rt:18:5
 loop-less : tie.Need-loop-less Inv-loop μ-loop
 loop-less c = search needs
 
--- src/lib.rt:18:5
 loop-again : tie.Need-loop-again Inv-loop μ-loop
 loop-again c = (search needs, search needs, turn (c .before .before .loop .inv .2) (c .before .loop-test .taken) .1)
 
--- src/lib.rt:13:1
 same-length : tie.Need-same-length Inv-loop μ-loop
 same-length c = same-size (c .before .loop .inv .2)
 
--- src/lib.rt:13:1
 returns : tie.Need-returns Inv-loop μ-loop
 returns c = finished (seen-as (c .before .loop .inv .2) (drop-of-length-le (c .before .before .args .bytes .now) (c .loop-test .left)))
 

@@ -1,21 +1,14 @@
 -- `text::put_entries` meets its contract. Invariant: the entries from i on are left to be written. Assumes nothing.
 use borrow.Author.Needs.{needs}
 use Rattle.text.proofs.Stored.{entries-turn, entries-end}
-use mathlib.Core.Path.{_≡_, refl, sym, ap, _∙_}
-use mathlib.Core.List.{List, [], _∷_, _++_}
-use Prim.Native.Nat.{ℕ, suc, _+_, _-_, _<_, _≤_}
-use native.Mathlib.Omega.{arith}
-use lib.ListN.{length, take, drop, getD}
-use Rattle.record.specs.declared.Cell.{Cell}
-use Rattle.record.specs.View.{entryOf, entriesOf}
-use Rattle.record.specs.Rule.{noCell}
-use Rattle.text.specs.Text.{space, entryText, entriesText}
+use mathlib.Core.Path.{_≡_}
+use Prim.Native.Nat.{_-_, _≤_}
+use lib.ListN.{length, take, drop}
+use Rattle.record.specs.View.{entriesOf}
+use Rattle.text.specs.Text.{entriesText}
 use Rattle.text.proofs.Writing.{Progress, started, part-fits, wrote, finished, seen-as, same-size}
 use Rattle.text.proofs.put_entries.Statement.{statement}
 use Rattle.text.proofs.put_entries.Tie as tie
-use Rattle.text.proofs.put_entries.Reads as reads
-use Rattle.text.proofs.put_entries.Lts as lts
-use Rattle.text.proofs.put_entry_after.Reads as put-entry-after-reads
 
 abbrev Inv-loop : tie.InvT-loop
 Inv-loop buffer₀ at n cells next₀ i₀ buffer next i = (i ≤ n) × (length cells ≡ 8) × Progress buffer₀ at (entriesText (entriesOf (take n cells))) (entriesText (entriesOf (drop i (take n cells)))) buffer next

@@ -1,7 +1,7 @@
 -- `text::put_entry` meets its contract: by the two cases of an entry. Assumes nothing.
 use borrow.Author.Needs.{needs}
 use mathlib.Core.Path.{_≡_, ap}
-use mathlib.Core.List.{List, [], _∷_}
+use mathlib.Core.List.{List}
 use Prim.Native.Nat.{ℕ}
 use Rattle.record.specs.declared.Entry.{Entry}
 use Rattle.record.specs.declared.Entry.the-variants.{Constant, Variable}
@@ -11,10 +11,6 @@ use Rattle.text.specs.Writing.{Fits}
 use Rattle.text.proofs.Writing.{Progress, started, rest-fits, wrote-rest, seen-as}
 use Rattle.text.proofs.put_entry.Statement.{statement}
 use Rattle.text.proofs.put_entry.Tie as tie
-use Rattle.text.proofs.put_entry.Reads as reads
-use Rattle.text.proofs.put_entry.Lts as lts
-use Rattle.text.proofs.put_field.Reads as put-field-reads
-use Rattle.text.proofs.put_number.Reads as put-number-reads
 
 constant-left : {buffer : List ℕ} {at n : ℕ} {e : Entry} → Fits buffer at (entryText (entryOf e)) → e ≡ Constant n
     → Progress buffer at (entryText (entryOf e)) (decimal n) buffer at

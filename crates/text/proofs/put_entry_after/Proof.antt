@@ -7,10 +7,6 @@ use Rattle.text.specs.Text.{entryText}
 use Rattle.text.proofs.Writing.{started, part-fits, rest-fits, wrote, wrote-rest}
 use Rattle.text.proofs.put_entry_after.Statement.{statement}
 use Rattle.text.proofs.put_entry_after.Tie as tie
-use Rattle.text.proofs.put_entry_after.Reads as reads
-use Rattle.text.proofs.put_entry_after.Lts as lts
-use Rattle.text.proofs.put_byte.Reads as put-byte-reads
-use Rattle.text.proofs.put_entry.Reads as put-entry-reads
 
 put-byte-requires : tie.Need-put-byte-requires
 put-byte-requires c κs = part-fits (started (c .before .before .pre)) (c .before .before .args .byte ∷ []) (entryText (entryOf (c .before .before .args .entry))) refl

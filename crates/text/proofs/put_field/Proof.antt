@@ -5,10 +5,6 @@ use Rattle.text.specs.Text.{decimal}
 use Rattle.text.proofs.Writing.{started, part-fits, rest-fits, wrote, wrote-rest}
 use Rattle.text.proofs.put_field.Statement.{statement}
 use Rattle.text.proofs.put_field.Tie as tie
-use Rattle.text.proofs.put_field.Reads as reads
-use Rattle.text.proofs.put_field.Lts as lts
-use Rattle.text.proofs.put.Reads as put-reads
-use Rattle.text.proofs.put_number.Reads as put-number-reads
 
 put-requires : tie.Need-put-requires
 put-requires c κs = part-fits (started (c .before .before .before .pre)) (c .before .before .before .args .word .now) (decimal (c .before .before .before .args .n)) refl

@@ -3,15 +3,10 @@ use borrow.Author.Needs.{needs}
 use mathlib.Core.Path.{refl}
 use lib.ListN.{take}
 use Rattle.record.specs.View.{entriesOf}
-use Rattle.text.specs.Text.{entriesText, headWord, newline, headLine}
+use Rattle.text.specs.Text.{entriesText, headWord, headLine}
 use Rattle.text.proofs.Writing.{started, part-fits, rest-fits, wrote, wrote-rest}
 use Rattle.text.proofs.put_head_line.Statement.{statement}
 use Rattle.text.proofs.put_head_line.Tie as tie
-use Rattle.text.proofs.put_head_line.Reads as reads
-use Rattle.text.proofs.put_head_line.Lts as lts
-use Rattle.text.proofs.put.Reads as put-reads
-use Rattle.text.proofs.put_byte.Reads as put-byte-reads
-use Rattle.text.proofs.put_entries.Reads as put-entries-reads
 
 slice-aggregate-put : tie.Need-slice-aggregate-put
 slice-aggregate-put c = search needs

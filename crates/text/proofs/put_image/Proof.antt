@@ -5,10 +5,6 @@ use Rattle.text.specs.Text.{field, nextWord, imageText}
 use Rattle.text.proofs.Writing.{started, part-fits, rest-fits, wrote, wrote-rest}
 use Rattle.text.proofs.put_image.Statement.{statement}
 use Rattle.text.proofs.put_image.Tie as tie
-use Rattle.text.proofs.put_image.Reads as reads
-use Rattle.text.proofs.put_image.Lts as lts
-use Rattle.text.proofs.put_entry_after.Reads as put-entry-after-reads
-use Rattle.text.proofs.put_field.Reads as put-field-reads
 
 slice-aggregate-put-field : tie.Need-slice-aggregate-put-field
 slice-aggregate-put-field c = search needs

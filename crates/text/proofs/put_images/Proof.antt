@@ -1,21 +1,15 @@
 -- `text::put_images` meets its contract. Invariant: the images from variable v on are left to be written. Assumes nothing.
 use borrow.Author.Needs.{needs}
-use mathlib.Core.Path.{_≡_, refl, sym, ap, _∙_}
-use mathlib.Core.Bool.{Bool, true, false}
-use mathlib.Core.List.{List}
+use mathlib.Core.Bool.{Bool, false}
 use mathlib.Core.Logic.{⊎-elim}
-use Prim.Native.Nat.{ℕ, _+_, _-_, _<_, _≤_}
-use native.Mathlib.Omega.{arith}
-use lib.ListN.{length, drop, getD}
-use Rattle.text.specs.Text.{passing, imageText, imagesText}
+use Prim.Native.Nat.{ℕ, _-_, _≤_}
+use lib.ListN.{getD}
+use Rattle.text.specs.Text.{passing, imagesText}
 use Rattle.text.specs.Stored.{imageOf, marked}
 use Rattle.text.proofs.Stored.{images-passed, images-skipped, images-end}
 use Rattle.text.proofs.Writing.{Progress, started, part-fits, wrote, finished, seen-as, moved, same-size}
 use Rattle.text.proofs.put_images.Statement.{statement}
 use Rattle.text.proofs.put_images.Tie as tie
-use Rattle.text.proofs.put_images.Reads as reads
-use Rattle.text.proofs.put_images.Lts as lts
-use Rattle.text.proofs.put_image.Reads as put-image-reads
 
 abbrev Inv-loop : tie.InvT-loop
 Inv-loop buffer₀ at seen images next₀ v₀ buffer next v = (v ≤ 96) × Progress buffer₀ at (imagesText (imageOf images) (marked seen)) (imagesText (imageOf images) (passing (λ w. getD seen w false) v (96 - v))) buffer next
@@ -45,7 +39,7 @@ loop-less : tie.Need-loop-less Inv-loop μ-loop
 loop-less c = search needs
 
 loop-again : tie.Need-loop-again Inv-loop μ-loop
-loop-again c = 
+loop-again c =
     let i = imageOf (c .before .before .before .before .args .t4) in
     let t : ℕ → Bool = λ w. getD (c .before .before .before .before .args .t3) w false in (
       search needs,

@@ -1,16 +1,11 @@
 -- `text::put_map_line` meets its contract: its parts one after another. Assumes nothing.
 use borrow.Author.Needs.{needs}
 use mathlib.Core.Path.{refl}
-use Rattle.text.specs.Text.{imagesText, mapWord, newline, mapLine}
+use Rattle.text.specs.Text.{imagesText, mapWord, mapLine}
 use Rattle.text.specs.Stored.{imageOf, marked}
 use Rattle.text.proofs.Writing.{started, part-fits, rest-fits, wrote, wrote-rest}
 use Rattle.text.proofs.put_map_line.Statement.{statement}
 use Rattle.text.proofs.put_map_line.Tie as tie
-use Rattle.text.proofs.put_map_line.Reads as reads
-use Rattle.text.proofs.put_map_line.Lts as lts
-use Rattle.text.proofs.put.Reads as put-reads
-use Rattle.text.proofs.put_byte.Reads as put-byte-reads
-use Rattle.text.proofs.put_images.Reads as put-images-reads
 
 slice-aggregate-put : tie.Need-slice-aggregate-put
 slice-aggregate-put c = search needs

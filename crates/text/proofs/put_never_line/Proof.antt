@@ -1,18 +1,10 @@
 -- `text::put_never_line` meets its contract: its parts one after another. Assumes nothing.
 use borrow.Author.Needs.{needs}
 use mathlib.Core.Path.{refl}
-use mathlib.Core.List.{List, _++_}
-use Prim.Native.Nat.{ℕ}
-use Rattle.text.specs.Text.{field, placeWord, rowsWord, neverWord, replacedWord, newline, neverLine}
-use Rattle.text.specs.Writing.{Fits, Written}
-use Rattle.text.proofs.Writing.{Progress, started, part-fits, rest-fits, wrote, wrote-rest}
+use Rattle.text.specs.Text.{field, placeWord, rowsWord, neverWord, replacedWord, neverLine}
+use Rattle.text.proofs.Writing.{started, part-fits, rest-fits, wrote, wrote-rest}
 use Rattle.text.proofs.put_never_line.Statement.{statement}
 use Rattle.text.proofs.put_never_line.Tie as tie
-use Rattle.text.proofs.put_never_line.Reads as reads
-use Rattle.text.proofs.put_never_line.Lts as lts
-use Rattle.text.proofs.put.Reads as put-reads
-use Rattle.text.proofs.put_byte.Reads as put-byte-reads
-use Rattle.text.proofs.put_field.Reads as put-field-reads
 
 slice-aggregate-put-field : tie.Need-slice-aggregate-put-field
 slice-aggregate-put-field c = search needs

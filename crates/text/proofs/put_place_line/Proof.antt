@@ -1,14 +1,10 @@
 -- `text::put_place_line` meets its contract: its parts one after another. Assumes nothing.
 use borrow.Author.Needs.{needs}
 use mathlib.Core.Path.{refl}
-use Rattle.text.specs.Text.{field, placeWord, rowsWord, keptWord, replacedWord, newline, placeLine}
+use Rattle.text.specs.Text.{field, placeWord, rowsWord, keptWord, replacedWord, placeLine}
 use Rattle.text.proofs.Writing.{started, part-fits, rest-fits, wrote, wrote-rest}
 use Rattle.text.proofs.put_place_line.Statement.{statement}
 use Rattle.text.proofs.put_place_line.Tie as tie
-use Rattle.text.proofs.put_place_line.Reads as reads
-use Rattle.text.proofs.put_place_line.Lts as lts
-use Rattle.text.proofs.put_byte.Reads as put-byte-reads
-use Rattle.text.proofs.put_field.Reads as put-field-reads
 
 slice-aggregate-put-field : tie.Need-slice-aggregate-put-field
 slice-aggregate-put-field c = search needs

@@ -3,15 +3,10 @@ use borrow.Author.Needs.{needs}
 use mathlib.Core.Path.{refl}
 use lib.ListN.{take}
 use Rattle.record.specs.View.{entriesOf}
-use Rattle.text.specs.Text.{field, entriesText, rowWord, newline, rowLine}
+use Rattle.text.specs.Text.{field, entriesText, rowWord, rowLine}
 use Rattle.text.proofs.Writing.{started, part-fits, rest-fits, wrote, wrote-rest}
 use Rattle.text.proofs.put_row_line.Statement.{statement}
 use Rattle.text.proofs.put_row_line.Tie as tie
-use Rattle.text.proofs.put_row_line.Reads as reads
-use Rattle.text.proofs.put_row_line.Lts as lts
-use Rattle.text.proofs.put_byte.Reads as put-byte-reads
-use Rattle.text.proofs.put_entries.Reads as put-entries-reads
-use Rattle.text.proofs.put_field.Reads as put-field-reads
 
 slice-aggregate-put-field : tie.Need-slice-aggregate-put-field
 slice-aggregate-put-field c = search needs

@@ -1,6 +1,6 @@
 -- `text::put_rows` meets its contract. Invariant: the rows from r on are left to be written. Assumes nothing.
 use borrow.Author.Needs.{needs}
-use mathlib.Core.Path.{_≡_, refl, sym, ap, _∙_}
+use mathlib.Core.Path.{_≡_, sym}
 use mathlib.Core.List.{List, _++_}
 use Prim.Native.Nat.{ℕ, _+_, _*_, _-_, _<_, _≤_}
 use native.Mathlib.Omega.{arith}
@@ -18,10 +18,6 @@ use Rattle.text.proofs.Stored.{mapped-length, rows-turn, rows-end}
 use Rattle.text.proofs.Writing.{Progress, started, part-fits, wrote, finished, seen-as, same-size}
 use Rattle.text.proofs.put_rows.Statement.{statement}
 use Rattle.text.proofs.put_rows.Tie as tie
-use Rattle.text.proofs.put_rows.Reads as reads
-use Rattle.text.proofs.put_rows.Lts as lts
-use Rattle.text.proofs.put_row_line.Reads as put-row-line-reads
-use Rattle.text.proofs.row_cells.Reads as row-cells-reads
 
 module _ (widths : List ℕ) (q : Query) (good : goodQuery widths q ≡ true) (long : length (q .relations) ≡ 12) (r : ℕ) (h : r < q .size) where
   fits : q .size ≤ length (q .relations)
@@ -37,8 +33,8 @@ module _ (widths : List ℕ) (q : Query) (good : goodQuery widths q ≡ true) (l
   -- the line of row r is next
   turn : narrow widths ≡ true → (row : List Cell) → row ≡ take 8 (drop (8 * r) (q .cells))
       → rowsText (rowsOf widths (drop r (take (q .size) (q .relations))) (drop (8 * r) (q .cells)))
-        ≡ rowLine (rowOf (getD (q .relations) r 0) (take (getD widths (getD (q .relations) r 0) 0) row))
-          ++ rowsText (rowsOf widths (drop (r + 1) (take (q .size) (q .relations))) (drop (8 * (r + 1)) (q .cells)))
+      ≡ rowLine (rowOf (getD (q .relations) r 0) (take (getD widths (getD (q .relations) r 0) 0) row))
+      ++ rowsText (rowsOf widths (drop (r + 1) (take (q .size) (q .relations))) (drop (8 * (r + 1)) (q .cells)))
   turn eight row e = rw e (rows-turn widths (q .relations) (q .cells) (q .size) r h fits (width-narrow widths (getD (q .relations) r 0) eight))
 
 abbrev Inv-loop : tie.InvT-loop
@@ -70,7 +66,7 @@ row-cells-requires : tie.Need-row-cells-requires Inv-loop μ-loop
 row-cells-requires c κs = omega (arith, size-small _ _ (c .before .before .before .before .before .before .before .pre .2))
 
 put-row-line-requires : tie.Need-put-row-line-requires Inv-loop μ-loop
-put-row-line-requires c κs = 
+put-row-line-requires c κs =
     let q = c .before .before .before .before .before .before .before .before .args .query in (
       part-fits (c .before .before .before .loop .inv .3) _ _
           (turn (c .before .before .before .before .before .before .before .before .args .t3) q (c .before .before .before .before .before .before .before .before .pre .2) (c .before .before .before .loop .inv .1) (c .before .before .before .loop .r) (c .before .before .loop-test .taken) (c .before .before .before .before .before .before .before .before .pre .1) (c .row-cells .result) (c .row-cells .ensures)),
@@ -84,7 +80,7 @@ loop-less : tie.Need-loop-less Inv-loop μ-loop
 loop-less c = search needs
 
 loop-again : tie.Need-loop-again Inv-loop μ-loop
-loop-again c = 
+loop-again c =
     let before = c .before .before .before .before .before .before in (
       search needs,
       search needs,

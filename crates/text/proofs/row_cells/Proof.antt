@@ -7,8 +7,6 @@ use lib.ListN.{length}
 use Rattle.text.proofs.Stored.{eight-cells}
 use Rattle.text.proofs.row_cells.Statement.{statement}
 use Rattle.text.proofs.row_cells.Tie as tie
-use Rattle.text.proofs.row_cells.Reads as reads
-use Rattle.text.proofs.row_cells.Lts as lts
 
 mul-at : tie.Need-mul-at
 mul-at c = search needs

@@ -3,20 +3,19 @@ use borrow.Author.Needs.{needs}
 use mathlib.Core.Path.{_≡_, refl, sym, ap, _∙_}
 use mathlib.Core.Bool.{Bool, true, false, cond}
 use mathlib.Core.List.{List, _++_}
-use Prim.Native.Nat.{ℕ, _+_, _≤_, _<_}
+use Prim.Native.Nat.{ℕ, _≤_, _<_}
 use native.Mathlib.Omega.{arith}
 use lib.Dec.{eqb}
 use lib.ListN.{length, take, getD, replicate, length-replicate, getD-replicate}
-use borrow.Author.Tests.{eq-eqb, ne-eqb}
+use borrow.Author.Tests.{ne-eqb}
 use Rattle.theory.specs.Query as theory
 use Rattle.theory.specs.Query.{member, variablesOf}
-use Rattle.record.specs.declared.Cell.{Cell}
 use Rattle.record.specs.declared.Query.{Query}
 use Rattle.record.specs.View.{entriesOf, queryOf}
 use Rattle.record.specs.Rule.{goodQuery}
 use Rattle.text.specs.Text.{neverLine, placeLine, headLine, rowsText, mapLine, occurring, placeText}
-use Rattle.text.specs.Writing.{Fits, Written}
-use Rattle.text.specs.Stored.{imageOf, narrow, marks, marked, Listable}
+use Rattle.text.specs.Writing.{Fits}
+use Rattle.text.specs.Stored.{imageOf, narrow, marks, marked}
 use Rattle.text.proofs.Good.{head-good, cells-good, arity-small, size-small, query-variables, variables-below}
 use Rattle.text.proofs.Marks.{marks-append, marks-getD, marked-occurring}
 use Rattle.text.proofs.Stored.{mapped-length}
@@ -24,14 +23,6 @@ use Rattle.text.proofs.Bound.{query-rows, place-short}
 use Rattle.text.proofs.Writing.{Progress, started, part-fits, rest-fits, wrote, wrote-rest, seen-as}
 use Rattle.text.proofs.write_place.Statement.{statement}
 use Rattle.text.proofs.write_place.Tie as tie
-use Rattle.text.proofs.write_place.Reads as reads
-use Rattle.text.proofs.write_place.Lts as lts
-use Rattle.text.proofs.mark_query.Reads as mark-query-reads
-use Rattle.text.proofs.put_head_line.Reads as put-head-line-reads
-use Rattle.text.proofs.put_map_line.Reads as put-map-line-reads
-use Rattle.text.proofs.put_never_line.Reads as put-never-line-reads
-use Rattle.text.proofs.put_place_line.Reads as put-place-line-reads
-use Rattle.text.proofs.put_rows.Reads as put-rows-reads
 
 -- The marks after a good query are those of its variables
 marks-occurring : (widths : List ℕ) (q : Query) (seen : List Bool) → narrow widths ≡ true → goodQuery widths q ≡ true → q .size ≤ length (q .relations)
@@ -84,11 +75,11 @@ never-left c z =
 lines-left : (c : tie.Start) {seen : List Bool} → (c .args .result .size ≡ 0 → ⊥)
     → seen ≡ marks (marks (replicate 96 false) (variablesOf (entriesOf (c .args .source .head)))) (variablesOf (entriesOf (c .args .source .cells)))
     → Progress (c .args .buffer .now) (c .args .at) (text c)
-      (placeLine (c .args .place) (c .args .source .size) (c .args .result .size) (c .args .count)
-      ++ (headLine (entriesOf (take (c .args .result .arity) (c .args .result .head)))
-      ++ (rowsText (queryOf (c .args .widths) (c .args .result) .rows) ++ mapLine (imageOf (c .args .images)) (marked seen))))
-      (c .args .buffer .now)
-      (c .args .at)
+    (placeLine (c .args .place) (c .args .source .size) (c .args .result .size) (c .args .count)
+    ++ (headLine (entriesOf (take (c .args .result .arity) (c .args .result .head)))
+    ++ (rowsText (queryOf (c .args .widths) (c .args .result) .rows) ++ mapLine (imageOf (c .args .images)) (marked seen))))
+    (c .args .buffer .now)
+    (c .args .at)
 unfolding placeText
 lines-left c {seen} some e =
     let m : length (queryOf (c .args .widths) (c .args .source) .rows) ≡ c .args .source .size = query-rows (c .args .widths) (c .args .source) (source-long c) in
@@ -123,17 +114,18 @@ put-place-line-requires : tie.Need-put-place-line-requires
 put-place-line-requires c κs = part-fits (lines-left (c .before .before .before .before .before .before .before .before) (c .before .before .before .before .if1 .left) (c .before .before .before .mark-query .ensures)) _ _ refl
 
 put-head-line-requires : tie.Need-put-head-line-requires
-put-head-line-requires c κs = 
+put-head-line-requires c κs =
     (part-fits (wrote (lines-left (c .before .before .before .before .before .before .before .before .before .before .before .before) (c .before .before .before .before .before .before .before .before .if1 .left) (c .before .before .before .before .before .before .before .mark-query .ensures)) _ refl (c .before .before .before .put-place-line .ensures)) _ _ refl, arity-small _ _ (c .before .before .before .before .before .before .before .before .before .before .before .before .pre .result-good))
 
 put-rows-requires : tie.Need-put-rows-requires
-put-rows-requires c κs = 
-    (part-fits (wrote (wrote (lines-left (c .before .before .before .before .before .before .before .before .before .before .before .before .before .before .before .before) (c .before .before .before .before .before .before .before .before .before .before .before .before .if1 .left) (c .before .before .before .before .before .before .before .before .before .before .before .mark-query .ensures)) _ refl (c .before .before .before .before .before .before .before .put-place-line .ensures)) _ refl (c .before .before .before .put-head-line .ensures)) _ _ refl,
-    c .before .before .before .before .before .before .before .before .before .before .before .before .before .before .before .before .pre .widths-narrow,
-    c .before .before .before .before .before .before .before .before .before .before .before .before .before .before .before .before .pre .result-good)
+put-rows-requires c κs = (
+  part-fits (wrote (wrote (lines-left (c .before .before .before .before .before .before .before .before .before .before .before .before .before .before .before .before) (c .before .before .before .before .before .before .before .before .before .before .before .before .if1 .left) (c .before .before .before .before .before .before .before .before .before .before .before .mark-query .ensures)) _ refl (c .before .before .before .before .before .before .before .put-place-line .ensures)) _ refl (c .before .before .before .put-head-line .ensures)) _ _ refl,
+  c .before .before .before .before .before .before .before .before .before .before .before .before .before .before .before .before .pre .widths-narrow,
+  c .before .before .before .before .before .before .before .before .before .before .before .before .before .before .before .before .pre .result-good,
+)
 
 put-map-line-requires : tie.Need-put-map-line-requires
-put-map-line-requires c κs = 
+put-map-line-requires c κs =
     rest-fits
     (wrote (wrote (wrote (lines-left (c .before .before .before .before .before .before .before .before .before .before .before .before .before .before .before .before .before .before .before .before) (c .before .before .before .before .before .before .before .before .before .before .before .before .before .before .before .before .if1 .left) (c .before .before .before .before .before .before .before .before .before .before .before .before .before .before .before .mark-query .ensures)) _ refl (c .before .before .before .before .before .before .before .before .before .before .before .put-place-line .ensures)) _ refl (c .before .before .before .before .before .before .before .put-head-line .ensures)) _ refl
     (c .before .before .before .put-rows .ensures))
@@ -142,7 +134,7 @@ same-length-2 : tie.Need-same-length-2
 same-length-2 c = search needs
 
 returns-2 : tie.Need-returns-2
-returns-2 c = 
+returns-2 c =
     wrote-rest
     (wrote (wrote (wrote (lines-left (c .before .before .before .before .before .before .before .before .before .before .before .before .before .before .before .before .before .before .before .before .before .before .before) (c .before .before .before .before .before .before .before .before .before .before .before .before .before .before .before .before .before .before .before .if1 .left) (c .before .before .before .before .before .before .before .before .before .before .before .before .before .before .before .before .before .before .mark-query .ensures)) _ refl (c .before .before .before .before .before .before .before .before .before .before .before .before .before .before .put-place-line .ensures)) _ refl (c .before .before .before .before .before .before .before .before .before .before .put-head-line .ensures)) _ refl
     (c .before .before .before .before .before .before .put-rows .ensures))

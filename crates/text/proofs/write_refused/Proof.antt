@@ -1,6 +1,6 @@
 -- `text::write_refused` meets its contract: a word with a number, then the end of the line. A byte has at most three digits. Assumes nothing.
 use borrow.Author.Needs.{needs}
-use mathlib.Core.Path.{_≡_, refl, sym, ap, _∙_}
+use mathlib.Core.Path.{refl}
 use mathlib.Core.List.{List}
 use Prim.Native.Nat.{ℕ, _+_, _≤_, _<_}
 use native.Mathlib.Omega.{arith}
@@ -11,10 +11,6 @@ use Rattle.text.proofs.Numbers.{decimal-length}
 use Rattle.text.proofs.Writing.{Progress, started, part-fits, rest-fits, wrote, wrote-rest}
 use Rattle.text.proofs.write_refused.Statement.{statement}
 use Rattle.text.proofs.write_refused.Tie as tie
-use Rattle.text.proofs.write_refused.Reads as reads
-use Rattle.text.proofs.write_refused.Lts as lts
-use Rattle.text.proofs.put_byte.Reads as put-byte-reads
-use Rattle.text.proofs.put_field.Reads as put-field-reads
 
 whole-fits : {buffer : List ℕ} {at n : ℕ} → at + 12 ≤ length buffer → n < 256 → Fits buffer at (refusedText n)
 unfolding refusedText
