@@ -11,7 +11,7 @@ use native.Mathlib.Nat.{le-of-suc-le-suc, not-suc-le-zero, two-pow-succ}
 use native.Mathlib.Omega.{arith}
 use lib.Dec.{eqb, ltb}
 use lib.ListN.{length, take, drop, getD, length-take, length-drop, length-map}
-use lib.Seq.{take-take, drop-drop, length-take-le}
+use lib.Seq.{getD-take, take-add, take-take, drop-drop, length-take-le}
 use borrow.Author.Tests.{leb-true, ltb-true, eqb-true}
 use Rattle.theory.specs.Query as theory
 use Rattle.theory.specs.Query.{member, variablesOf, rowEntries, WellFormed, FitsSchema, _∈_}
@@ -27,7 +27,7 @@ use Rattle.record.specs.declared.Place.{Place}
 use Rattle.record.specs.declared.Record.{Record}
 use Rattle.record.specs.View.{entryOf, entriesOf, rowsOf, queryOf, columnsFrom, dependencyOf, schemaOf, dependenciesOf}
 use Rattle.record.specs.Rule.{every, inUse, goodDependency, blankDependency, goodEntry, goodCell, blankEntry, blankCell, goodRow, goodRows, headInUse, goodQuery, headSafe, blankQuery, goodPlace, goodRecord}
-use Rattle.record.proofs.Tests.{and-left, and-right, and-both, every-getD, every-take, used-all, used-good, relations-bounds, width-bounds, width-le}
+use Rattle.record.proofs.Tests.{and-left, and-right, and-both, every-append, used-whole, every-getD, every-take, used-all, used-good, relations-bounds, width-bounds, width-le}
 use Rattle.record.proofs.Good.{good-query, good-dependency, good-record}
 
 pub member-in : (n : ℕ) (ms : List ℕ) → member n ms ≡ true → n ∈ ms
@@ -255,3 +255,46 @@ filled-parts schema p good filled =
     subst (λ (t : Bool). cond t (goodQuery schema (p .query) && headSafe schema (p .query)) (blankQuery (p .query)) ≡ true) filled good
     in
     (and-left (goodQuery schema (p .query)) (headSafe schema (p .query)) e, and-right (goodQuery schema (p .query)) (headSafe schema (p .query)) e)
+
+-- ---- 7. cells by position
+
+module _ (schema : List ℕ) (q : Query) (good : goodQuery schema q ≡ true) (i : ℕ) (h : i < q .size) (long : q .size ≤ length (q .relations)) where
+  -- Row i names a known relation, and of its 8 cells those of the relation's columns are good and the others blank
+  pub row-good : (getD (q .relations) i 0 < length schema)
+      × (inUse (getD schema (getD (q .relations) i 0) 0) goodCell blankCell (take 8 (drop (8 * i) (q .cells))) ≡ true)
+  row-good =
+      let inside : i < length (take (q .size) (q .relations)) = rw (length-take-le (q .size) (q .relations) long) h in
+      let read : getD (take (q .size) (q .relations)) i 0 ≡ getD (q .relations) i 0 = getD-take (q .size) (q .relations) i 0 h in
+      row-parts schema (getD (q .relations) i 0) (take 8 (drop (8 * i) (q .cells)))
+      (ap (λ (k : ℕ). goodRow schema k (take 8 (drop (8 * i) (q .cells)))) (sym read)
+      ∙ row-at schema (take (q .size) (q .relations)) (q .cells) i (good-query schema q good .rows) inside)
+
+  pub row-relation : getD (q .relations) i 0 < length schema
+  row-relation = row-good .0
+
+-- All cells of good rows are good, those that are not in use too
+rows-cells : (schema rs : List ℕ) (cells : List Cell) → goodRows schema rs cells ≡ true → every goodCell (take (8 * length rs) cells) ≡ true
+unfolding every
+rows-cells schema [] cells e = refl
+rows-cells schema (k ∷ rs) cells e =
+    let more : 8 * length (k ∷ rs) ≡ 8 + 8 * length rs = omega arith in
+    ap (λ (n : ℕ). every goodCell (take n cells)) more ∙ ap (every goodCell) (take-add 8 (8 * length rs) cells)
+    ∙ every-append goodCell (take 8 cells) (take (8 * length rs) (drop 8 cells))
+    (used-all (getD schema k 0) goodCell blankCell (take 8 cells) (λ c. blank-good (c .entry))
+    (row-parts schema k (take 8 cells) (rows-first schema k rs cells e) .1))
+    (rows-cells schema rs (drop 8 cells) (rows-rest schema k rs cells e))
+
+module _ (schema : List ℕ) (q : Query) (good : goodQuery schema q ≡ true) where
+  -- Every cell of the head, and every cell of the rows, in use or not, is good
+  pub head-cells : every goodCell (q .head) ≡ true
+  head-cells = used-all (headInUse q) goodCell blankCell (q .head) (λ c. blank-good (c .entry)) (good-query schema q good .head)
+
+  pub all-cells : q .size ≤ length (q .relations) → every goodCell (q .cells) ≡ true
+  all-cells long =
+      let rows : length (take (q .size) (q .relations)) ≡ q .size = length-take-le (q .size) (q .relations) long in
+      let used : every goodCell (take (8 * q .size) (q .cells)) ≡ true =
+      ap (λ (n : ℕ). every goodCell (take (8 * n) (q .cells))) (sym rows)
+      ∙ rows-cells schema (take (q .size) (q .relations)) (q .cells) (good-query schema q good .rows)
+      in
+      used-all (8 * q .size) goodCell blankCell (q .cells) (λ c. blank-good (c .entry))
+      (used-whole (8 * q .size) goodCell blankCell (q .cells) used (good-query schema q good .cells))
