@@ -1,0 +1,3 @@
+-- Laws shared by several proofs.
+pub mod Tells
+pub mod Masks

@@ -1,0 +1,2 @@
+-- When images of rows are consistent.
+pub mod Agree

@@ -1,0 +1,93 @@
+// The search's table: which candidates of one row go together with a candidate of another. Rows 0 to size - 1 are the source's rows, whose candidates
+// are the target's rows; row `size` is its head, whose one candidate is the target's head.
+use crate::agree::{agrees, keeps};
+
+// Where the numbers of row r start: the head's after those of 12 rows.
+pub fn row_at(size: usize, r: usize) -> usize {
+    if r == size { 96 } else { 8 * r }
+}
+
+// Where the numbers of candidate d of row r start.
+pub fn image_at(size: usize, r: usize, d: usize) -> usize {
+    if r == size { 96 } else { 8 * d }
+}
+
+// How many candidates row r has, of a target with `count` rows.
+pub fn candidates(size: usize, count: usize, r: usize) -> usize {
+    if r == size { 1 } else { count }
+}
+
+// The candidates of row q that go together with candidate d of row r.
+pub fn together(source: &[u32], target: &[u32], size: usize, count: usize, r: usize, d: usize, q: usize) -> u16 {
+    let row = row_at(size, r);
+    let image = image_at(size, r, d);
+    let other = row_at(size, q);
+    let mut mask: u16 = 0;
+    let mut e = candidates(size, count, q);
+    while 0 < e {
+        e -= 1;
+        if agrees(source, target, row, image, other, image_at(size, q, e)) {
+            mask = mask * 2 + 1;
+        } else {
+            mask = mask * 2;
+        }
+    }
+    mask
+}
+
+// Whether row r can go to candidate d at all: a row of the same relation, with the row's constants in their places and one entry for each of its variables.
+pub fn possible(source: &[u32], target: &[u32], named: [u8; 12], offered: [u8; 12], size: usize, r: usize, d: usize) -> bool {
+    if r < size {
+        if named[r] != offered[d] {
+            return false;
+        }
+    }
+    let row = row_at(size, r);
+    let image = image_at(size, r, d);
+    if !keeps(source, target, row, image) {
+        return false;
+    }
+    agrees(source, target, row, image, row, image)
+}
+
+// The candidates of row r.
+pub fn domain(source: &[u32], target: &[u32], named: [u8; 12], offered: [u8; 12], size: usize, count: usize, r: usize) -> u16 {
+    let mut mask: u16 = 0;
+    let mut d = candidates(size, count, r);
+    while 0 < d {
+        d -= 1;
+        if possible(source, target, named, offered, size, r, d) {
+            mask = mask * 2 + 1;
+        } else {
+            mask = mask * 2;
+        }
+    }
+    mask
+}
+
+// The candidates of every row.
+pub fn domains(source: &[u32], target: &[u32], named: [u8; 12], offered: [u8; 12], size: usize, count: usize) -> [u16; 13] {
+    let mut all = [0u16; 13];
+    for r in 0..size + 1 {
+        all[r] = domain(source, target, named, offered, size, count, r);
+    }
+    all
+}
+
+// The whole table: the candidates of row q that go together with candidate d of row r stand at (r * 12 + d) * 13 + q.
+pub fn table(source: &[u32], target: &[u32], size: usize, count: usize) -> [u16; 2028] {
+    let mut all = [0u16; 2028];
+    for k in 0..2028 {
+        let r = k / 156;
+        let d = k / 13 % 12;
+        let q = k % 13;
+        if r <= size {
+            if q <= size {
+                if d < candidates(size, count, r) {
+                    all[k] = together(source, target, size, count, r, d, q);
+                }
+            }
+        }
+    }
+    all
+}
