@@ -1,0 +1,26 @@
+//! A second implementation of document 01, to run the engine against.
+//! Layers, each using only those above it:
+//! record, file, chase, mapping, reduction, comparison, closure, database, listing.
+//! Then what tests another engine: judge, random, generate, vectors.
+
+pub mod record;
+pub mod file;
+pub mod chase;
+pub mod mapping;
+pub mod reduction;
+pub mod comparison;
+pub mod closure;
+pub mod database;
+pub mod listing;
+
+pub mod judge;
+pub mod random;
+pub mod generate;
+pub mod vectors;
+
+#[cfg(test)]
+mod examples;
+#[cfg(test)]
+mod crosscheck;
+#[cfg(test)]
+mod mistakes;
