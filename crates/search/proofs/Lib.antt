@@ -1,0 +1,2 @@
+-- Laws shared by several proofs.
+pub mod Sets

@@ -1,0 +1,2 @@
+-- What the search looks for.
+pub mod Solution
