@@ -57,6 +57,10 @@ blankQuery q = isZero (q .arity) && isZero (q .size) && every blankCell (q .head
 unfoldable pub goodRelations : ℕ → List ℕ → Bool
 goodRelations relations widths = between 1 8 relations && inUse relations (between 1 8) isZero widths
 
+-- A known relation and a nonempty set of its columns: what refusal 4 asks of a question about determined columns
+unfoldable pub goodSet : List ℕ → ℕ → ℕ → Bool
+goodSet schema relation left = ltb relation (length schema) && not (eqb left 0) && ltb left (2 ^ getD schema relation 0)
+
 -- A known relation, a nonempty set of its columns and one of its columns
 unfoldable pub goodDependency : List ℕ → Dependency → Bool
 goodDependency schema d =
@@ -98,6 +102,24 @@ goodQuery schema q =
     && goodRows schema (take (q .size) (q .relations)) (q .cells)
     && every isZero (drop (q .size) (q .relations)) && every blankCell (drop (8 * q .size) (q .cells))
 
+-- Whether an entry is variable v
+abbrev pub isVariable : ℕ → Entry → Bool
+isVariable v (Constant n) = false
+isVariable v (Variable w) = eqb v w
+
+-- The entry of a cell is variable v
+abbrev pub namesVariable : ℕ → Cell → Bool
+namesVariable v c = isVariable v (c .entry)
+
+-- Whether an entry is a constant or one of the given variables
+abbrev pub safeEntry : List ℕ → Entry → Bool
+safeEntry variables (Constant n) = true
+safeEntry variables (Variable v) = theory.member v variables
+
+-- The entry of a cell is a constant or one of the given variables
+abbrev pub safeCell : List ℕ → Cell → Bool
+safeCell variables c = safeEntry variables (c .entry)
+
 -- Each head variable occurs in a row: what refusal 6 asks of a query
 unfoldable pub headSafe : List ℕ → Query → Bool
 headSafe schema q =
@@ -121,6 +143,10 @@ goodRecord r =
 abbrev pub noCell : Cell
 noCell = record { entry = Constant 0 }
 
+-- The dependency of a slot that is not in use
+abbrev pub noDependency : Dependency
+noDependency = record { relation = 0; left = 0; right = 0 }
+
 -- The query of a vacant place
 abbrev pub noQuery : Query
 noQuery = record { arity = 0; size = 0; head = replicate 8 noCell; relations = replicate 12 0; cells = replicate 96 noCell }
@@ -140,6 +166,6 @@ blankRecord =
       relations = 0;
       widths = replicate 8 0;
       held = 0;
-      dependencies = replicate 32 (record { relation = 0; left = 0; right = 0 });
+      dependencies = replicate 32 noDependency;
       places = replicate 8 noPlace;
     }

@@ -1,4 +1,6 @@
 // The record of relations, dependencies and saved queries: its types, its rule, and the calls that change or ask it alone.
+pub mod rule; // rule.rt: whether a record, and each part of one, is as document 01 describes
+pub mod calls; // calls.rt: open, add a dependency, put and drop a query, determined columns
 
 // An entry of a query: a constant or a variable, each by its number.
 pub enum Entry {
@@ -53,4 +55,10 @@ pub enum Answer {
 pub struct Outcome {
     pub answer: Answer,
     pub record: Record,
+}
+
+// Where a place is looked up: its index, or document 01's number of the refusal.
+pub enum Lookup {
+    At(usize),
+    Refused(u8),
 }

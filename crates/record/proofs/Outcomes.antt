@@ -1,0 +1,139 @@
+-- Each call's definition by the test that decides it: what the code has shown when it answers.
+use mathlib.Core.Path.{_≡_, refl, sym, ap, _∙_}
+use mathlib.Core.Bool.{Bool, true, false, cond, not, _&&_}
+use mathlib.Core.List.{List, [], _∷_, _++_}
+use mathlib.Core.Option.{Option, none, some}
+use Prim.Native.Nat.{ℕ, _+_, _-_, _<_}
+use native.Mathlib.Omega.{arith}
+use lib.Dec.{eqb, ltb, leb}
+use lib.ListN.{length, set, replicate}
+use lib.Seq.{take-append-seam, drop-append-seam}
+use borrow.Author.Tests.{lt-ltb, le-ltb, lt-leb, eq-eqb, ne-eqb}
+use Rattle.record.specs.declared.Query.{Query}
+use Rattle.record.specs.declared.Dependency.{Dependency}
+use Rattle.record.specs.declared.Lookup.the-variants as lookup
+use Rattle.record.specs.declared.Record.{Record}
+use Rattle.record.specs.declared.Outcome.{Outcome}
+use Rattle.record.specs.View.{schemaOf}
+use Rattle.record.specs.Rule.{between, every, isZero, goodRelations, blankRecord, goodRecord, goodDependency, goodQuery, headSafe, noPlace}
+use Rattle.record.specs.Calls.{firstHolding, concluded, broken, above, vacant, filled, isFilled, placeAt, filledPlace, vacantPlace, withPlace, emptyRecord, openRecord, addDependency, putQuery, dropQuery}
+use Rattle.record.proofs.Tests.{every-replicate}
+use Rattle.record.proofs.Refusals.{first-goes, found-refused, filled-at, vacant-at, place-refused, vacant-refused}
+
+-- ---- open
+
+and-true-right : (b : Bool) → b && true ≡ b
+and-true-right true = refl
+and-true-right false = refl
+
+and-false-right : (b : Bool) → b && false ≡ false
+and-false-right true = refl
+and-false-right false = refl
+
+-- Padded widths are good exactly when there are 1 to 8, each 1 to 8
+widths-judged : (widths : List ℕ) (k : ℕ)
+    → goodRelations (length widths) (widths ++ replicate k 0) ≡ between 1 8 (length widths) && every (between 1 8) widths
+unfolding goodRelations
+widths-judged widths k =
+    rw (take-append-seam widths (replicate k 0), drop-append-seam widths (replicate k 0), every-replicate isZero k 0 refl,
+    and-true-right (every (between 1 8) widths))
+
+module _ (widths : List ℕ) where
+  pub open-many : 8 < length widths → concluded (some 3) blankRecord blankRecord ≡ openRecord widths
+  unfolding openRecord firstHolding
+  open-many h = rw (lt-leb (length widths) 8 h, and-false-right (leb 1 (length widths)))
+
+  pub open-unfit : goodRelations (length widths) (widths ++ replicate (8 - length widths) 0) ≡ false → concluded (some 3) blankRecord blankRecord ≡ openRecord widths
+  unfolding openRecord firstHolding
+  open-unfit e = rw (sym (widths-judged widths (8 - length widths)) ∙ e)
+
+  pub open-done : goodRelations (length widths) (widths ++ replicate (8 - length widths) 0) ≡ true
+      → (r : Record) → r ≡ emptyRecord (length widths) (widths ++ replicate (8 - length widths) 0) → concluded none r r ≡ openRecord widths
+  unfolding openRecord firstHolding
+  open-done e r is = rw (sym (widths-judged widths (8 - length widths)) ∙ e, is)
+
+-- ---- drop
+
+module _ (r : Record) (place : ℕ) where
+  pub drop-broken : goodRecord r ≡ false → concluded (some 14) r r ≡ dropQuery r place
+  unfolding dropQuery firstHolding
+  drop-broken e = rw e
+
+  module _ (good : goodRecord r ≡ true) where
+    past : firstHolding (broken r ∷ above place ∷ vacant r place ∷ []) ≡ firstHolding (above place ∷ vacant r place ∷ [])
+    past = first-goes (not (goodRecord r)) 14 (above place ∷ vacant r place ∷ []) (ap not good)
+
+    pub drop-refused : (n : ℕ) → filledPlace r place ≡ lookup.Refused n → concluded (some n) r r ≡ dropQuery r place
+    unfolding dropQuery
+    drop-refused n e =
+        ap (λ (o : Option ℕ). concluded o r (withPlace r place noPlace)) (sym (past ∙ found-refused (firstHolding (above place ∷ vacant r place ∷ [])) place n e))
+
+    pub drop-done : (at : ℕ) → filledPlace r place ≡ lookup.At at → concluded none (withPlace r at noPlace) (withPlace r at noPlace) ≡ dropQuery r place
+    unfolding dropQuery firstHolding
+    drop-done at e =
+        let f = filled-at r place at e in
+        rw (good, lt-ltb place 8 (f .1), f .2, f .0)
+
+-- ---- put
+
+module _ (r : Record) (place : ℕ) (q : Query) where
+  pub put-broken : goodRecord r ≡ false → concluded (some 14) r r ≡ putQuery r place q
+  unfolding putQuery firstHolding
+  put-broken e = rw e
+
+  module _ (good : goodRecord r ≡ true) where
+    pub put-high : (n : ℕ) → placeAt place ≡ lookup.Refused n → concluded (some n) r r ≡ putQuery r place q
+    unfolding putQuery firstHolding
+    put-high n e =
+        let f = place-refused place n e in
+        rw (good, le-ltb place 8 (f .0), f .1)
+
+    module _ (low : place < 8) where
+      pub put-unfit : goodQuery (schemaOf r) q ≡ false → concluded (some 5) r r ≡ putQuery r place q
+      unfolding putQuery firstHolding
+      put-unfit e = rw (good, lt-ltb place 8 low, e)
+
+      module _ (fit : goodQuery (schemaOf r) q ≡ true) where
+        pub put-unsafe : headSafe (schemaOf r) q ≡ false → concluded (some 6) r r ≡ putQuery r place q
+        unfolding putQuery firstHolding
+        put-unsafe e = rw (good, lt-ltb place 8 low, fit, e)
+
+        module _ (safe : headSafe (schemaOf r) q ≡ true) where
+          pub put-filled : (n : ℕ) → vacantPlace r place ≡ lookup.Refused n → concluded (some n) r r ≡ putQuery r place q
+          unfolding putQuery firstHolding
+          put-filled n e =
+              let f = vacant-refused r place n low e in
+              rw (good, lt-ltb place 8 low, fit, safe, f .0, f .1)
+
+          pub put-done : (at : ℕ) → vacantPlace r place ≡ lookup.At at
+              → concluded none (withPlace r at (record { filled = true; query = q })) (withPlace r at (record { filled = true; query = q })) ≡ putQuery r place q
+          unfolding putQuery firstHolding
+          put-done at e =
+              let f = vacant-at r place at e in
+              rw (good, lt-ltb place 8 low, fit, safe, f .2, f .0)
+
+-- ---- add
+
+module _ (r : Record) (d : Dependency) where
+  pub add-broken : goodRecord r ≡ false → concluded (some 14) r r ≡ addDependency r d
+  unfolding addDependency firstHolding
+  add-broken e = rw e
+
+  module _ (good : goodRecord r ≡ true) where
+    pub add-unfit : goodDependency (schemaOf r) d ≡ false → concluded (some 4) r r ≡ addDependency r d
+    unfolding addDependency firstHolding
+    add-unfit e = rw (good, e)
+
+    module _ (fit : goodDependency (schemaOf r) d ≡ true) where
+      pub add-full : r .held ≡ 32 → concluded (some 13) r r ≡ addDependency r d
+      unfolding addDependency firstHolding
+      add-full e = rw (good, fit, eq-eqb (r .held) 32 e)
+
+      -- The record with one dependency more
+      abbrev pub grown : Record
+      grown =
+          record { relations = r .relations; widths = r .widths; held = r .held + 1; dependencies = set (r .dependencies) (r .held) d; places = r .places }
+
+      pub add-done : (r .held ≡ 32 → ⊥) → concluded none grown grown ≡ addDependency r d
+      unfolding addDependency firstHolding
+      add-done e = rw (good, fit, ne-eqb (r .held) 32 e)

@@ -1,0 +1,113 @@
+use mathlib.Core.Option.{none, some}
+use borrow.Author.Tests.{not-true, not-false}
+use Rattle.record.specs.declared.Record.{Record}
+use Rattle.record.specs.declared.Lookup.the-variants as lookup
+use Rattle.record.specs.Rule.{goodRecord, noPlace}
+use Rattle.record.specs.Calls.{concluded, numberOf, filledPlace, withPlace}
+use Rattle.record.proofs.Refusals.{filled-at}
+use Rattle.record.proofs.Outcomes.{drop-broken, drop-refused, drop-done}
+use mathlib.Core.Path.{_≡_, refl, sym, ap, _∙_}
+use mathlib.Core.Bool.{Bool, true, false, cond, not, _&&_}
+use Prim.Native.Nat.{ℕ, zero, suc, _+_, _*_, _-_, _≤_, _<_}
+use lib.Dec.{eqb, ltb, leb}
+use lib.ListN.{length, take, drop, getD}
+use native.Mathlib.Omega.{arith}
+use borrow.Author.Needs.{needs}
+use Rattle.record.proofs.Record.drop_query.Statement.{statement}
+use Rattle.record.proofs.Record.drop_query.Tie as tie
+use Rattle.record.proofs.Record.drop_query.Reads as reads
+use Rattle.record.proofs.Record.drop_query.Lts as lts
+use Rattle.record.proofs.Record.filled_place.Reads as filled-place-reads
+use Rattle.record.proofs.Record.whole.Reads as whole-reads
+use Rattle.record.proofs.calls.done.Reads as done-reads
+use Rattle.record.proofs.calls.no_place.Reads as no-place-reads
+use Rattle.record.proofs.calls.number.Reads as number-reads
+use Rattle.record.proofs.calls.refused.Reads as refused-reads
+
+whole-requires : tie.Need-whole-requires
+whole-requires c κs = search needs
+
+refused-requires : tie.Need-refused-requires
+refused-requires c κs = search needs
+
+returns : tie.Need-returns
+returns c = c .refused .ensures ∙ drop-broken (c .before .before .before .args .self) (c .before .before .before .args .place) (sym (c .before .before .whole .ensures) ∙ not-true _ (c .before .if1 .taken))
+
+filled-place-requires : tie.Need-filled-place-requires
+filled-place-requires c κs = search needs
+
+enum-known-found : tie.Need-enum-known-found
+enum-known-found c = search needs
+
+enum-told : tie.Need-enum-told
+enum-told c = search needs
+
+number-requires : tie.Need-number-requires
+number-requires c κs = search needs
+
+refused-requires-2 : tie.Need-refused-requires-2
+refused-requires-2 c κs = search needs
+
+returns-2 : tie.Need-returns-2
+returns-2 c =
+    let self = c .before .before .before .before .before .before .before .args .self in
+    let place = c .before .before .before .before .before .before .before .args .place in
+    let good : goodRecord self ≡ true = sym (c .before .before .before .before .before .before .whole .ensures) ∙ not-false _ (c .before .before .before .before .before .if1 .left) in
+    let told = c .before .before .enum-told .given in
+    let number : c .before .number .result ≡ told .0 .0 = c .before .number .ensures ∙ ap numberOf (told .1) in
+    c .refused2 .ensures ∙ ap (λ (n : ℕ). concluded (some n) self self) number
+    ∙ drop-refused self place good (told .0 .0) (sym (c .before .before .before .before .filled-place .ensures) ∙ told .1)
+
+no-place-requires : tie.Need-no-place-requires
+no-place-requires c κs = search needs
+
+mul-t10 : tie.Need-mul-t10
+mul-t10 c =
+    let self = c .before .before .before .before .before .before .before .args .self in
+    let place = c .before .before .before .before .before .before .before .args .place in
+    let at = c .before .before .found .given .0 .0 in
+    let is : filledPlace self place ≡ lookup.At at = sym (c .before .before .before .before .filled-place .ensures) ∙ c .before .before .found .given .1 in
+    let low : at < 8 = omega (arith, filled-at self place at is .0, filled-at self place at is .1) in
+    record { fits = omega arith }
+
+element-set-from-next : tie.Need-element-set-from-next
+element-set-from-next c =
+    let self = c .before .before .before .before .before .before .before .args .self in
+    let place = c .before .before .before .before .before .before .before .args .place in
+    let at = c .before .before .found .given .0 .0 in
+    let is : filledPlace self place ≡ lookup.At at = sym (c .before .before .before .before .filled-place .ensures) ∙ c .before .before .found .given .1 in
+    let low : at < 8 = omega (arith, filled-at self place at is .0, filled-at self place at is .1) in
+    search needs
+
+done-requires : tie.Need-done-requires
+done-requires c κs = search needs
+
+returns-3 : tie.Need-returns-3
+returns-3 c =
+    let self = c .before .before .before .before .before .before .before .before .args .self in
+    let place = c .before .before .before .before .before .before .before .before .args .place in
+    let at = c .before .before .before .found .given .0 .0 in
+    let is : filledPlace self place ≡ lookup.At at = sym (c .before .before .before .before .before .filled-place .ensures) ∙ c .before .before .before .found .given .1 in
+    let low : at < 8 = omega (arith, filled-at self place at is .0, filled-at self place at is .1) in
+    let good : goodRecord self ≡ true = sym (c .before .before .before .before .before .before .before .whole .ensures) ∙ not-false _ (c .before .before .before .before .before .before .if1 .left) in
+    let stored : withPlace self at (c .before .no-place .result) ≡ withPlace self at noPlace = ap (withPlace self at) (c .before .no-place .ensures) in
+    c .done .ensures ∙ ap (λ (after : Record). concluded none after after) stored ∙ drop-done self place good at is
+
+pub drop-query-spec : {M : Type 1} → statement M
+drop-query-spec =
+    tie.close
+    (tie.spec
+    whole-requires
+    refused-requires
+    returns
+    filled-place-requires
+    enum-known-found
+    enum-told
+    number-requires
+    refused-requires-2
+    returns-2
+    no-place-requires
+    mul-t10
+    element-set-from-next
+    done-requires
+    returns-3)

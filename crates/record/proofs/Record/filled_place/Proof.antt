@@ -1,0 +1,50 @@
+use Rattle.record.specs.declared.Place.{Place}
+use Rattle.record.specs.Rule.{noPlace}
+use Rattle.record.specs.Calls.{isFilled}
+use Rattle.record.proofs.Tail.{mapped-length, getD-any, pastPlace}
+use Rattle.record.proofs.Refusals.{filled-high, filled-yes, filled-no}
+use mathlib.Core.Path.{_≡_, refl, sym, ap, _∙_}
+use mathlib.Core.Bool.{Bool, true, false, cond, not, _&&_}
+use Prim.Native.Nat.{ℕ, zero, suc, _+_, _*_, _-_, _≤_, _<_}
+use lib.Dec.{eqb, ltb, leb}
+use lib.ListN.{length, take, drop, getD}
+use native.Mathlib.Omega.{arith}
+use borrow.Author.Needs.{needs}
+use Rattle.record.proofs.Record.filled_place.Statement.{statement}
+use Rattle.record.proofs.Record.filled_place.Tie as tie
+use Rattle.record.proofs.Record.filled_place.Reads as reads
+use Rattle.record.proofs.Record.filled_place.Lts as lts
+
+returns : tie.Need-returns
+returns c = filled-high (c .before .before .args .self) (c .before .before .args .place) (c .if1 .taken)
+
+mul-p : tie.Need-mul-p
+mul-p c = search needs
+
+array-copy-out-p : tie.Need-array-copy-out-p
+array-copy-out-p c = search needs
+
+returns-2 : tie.Need-returns-2
+returns-2 c =
+    let self = c .before .before .before .before .args .self in
+    let place = c .before .before .before .before .args .place in
+    let long : length (self .places) ≡ 8 = search (mapped-length, needs) in
+    let below : place < 8 = search needs in
+    let same : isFilled self place ≡ getD (self .places) place pastPlace .filled =
+        ap (λ (p : Place). p .filled) (getD-any (self .places) place noPlace pastPlace (omega arith))
+    in
+    filled-yes self place below (same ∙ c .if2 .taken)
+
+returns-3 : tie.Need-returns-3
+returns-3 c =
+    let self = c .before .before .before .before .args .self in
+    let place = c .before .before .before .before .args .place in
+    let long : length (self .places) ≡ 8 = search (mapped-length, needs) in
+    let below : place < 8 = search needs in
+    let same : isFilled self place ≡ getD (self .places) place pastPlace .filled =
+        ap (λ (p : Place). p .filled) (getD-any (self .places) place noPlace pastPlace (omega arith))
+    in
+    filled-no self place below (same ∙ c .if2 .left)
+
+pub filled-place-spec : {M : Type 1} → statement M
+filled-place-spec = tie.close (tie.spec returns mul-p array-copy-out-p returns-2 returns-3)

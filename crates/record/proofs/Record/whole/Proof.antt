@@ -1,0 +1,61 @@
+use borrow.Author.Tests.{not-true, not-false}
+use Rattle.record.specs.declared.Record.{Record}
+use Rattle.record.specs.View.{schemaOf}
+use Rattle.record.specs.Rule.{every, goodRelations, goodDependencies, goodPlace, goodRecord}
+use mathlib.Core.Path.{_≡_, refl, sym, ap, _∙_}
+use mathlib.Core.Bool.{Bool, true, false, cond, not, _&&_}
+use Prim.Native.Nat.{ℕ, zero, suc, _+_, _*_, _-_, _≤_, _<_}
+use lib.Dec.{eqb, ltb, leb}
+use lib.ListN.{length, take, drop, getD}
+use native.Mathlib.Omega.{arith}
+use borrow.Author.Needs.{needs}
+use Rattle.record.proofs.Record.whole.Statement.{statement}
+use Rattle.record.proofs.Record.whole.Tie as tie
+use Rattle.record.proofs.Record.whole.Reads as reads
+use Rattle.record.proofs.Record.whole.Lts as lts
+use Rattle.record.proofs.rule.dependencies_good.Reads as dependencies-good-reads
+use Rattle.record.proofs.rule.places_good.Reads as places-good-reads
+use Rattle.record.proofs.rule.relations_good.Reads as relations-good-reads
+
+module _ (r : Record) where
+  stops-1 : goodRelations (r .relations) (r .widths) ≡ false → false ≡ goodRecord r
+  unfolding goodRecord
+  stops-1 e = rw e
+
+  module _ (relations : goodRelations (r .relations) (r .widths) ≡ true) where
+    stops-2 : goodDependencies (schemaOf r) (r .held) (r .dependencies) ≡ false → false ≡ goodRecord r
+    unfolding goodRecord
+    stops-2 e = rw (relations, e)
+
+    goes : goodDependencies (schemaOf r) (r .held) (r .dependencies) ≡ true → every (goodPlace (schemaOf r)) (r .places) ≡ goodRecord r
+    unfolding goodRecord
+    goes e = rw (relations, e)
+
+relations-good-requires : tie.Need-relations-good-requires
+relations-good-requires c κs = search needs
+
+returns : tie.Need-returns
+returns c = stops-1 (c .before .before .before .before .before .args .self) (sym (c .before .relations-good .ensures) ∙ not-true _ (c .if1 .taken))
+
+dependencies-good-requires : tie.Need-dependencies-good-requires
+dependencies-good-requires c κs = sym (c .before .relations-good .ensures) ∙ not-false _ (c .if1 .left)
+
+returns-2 : tie.Need-returns-2
+returns-2 c = stops-2 (c .before .before .before .before .before .before .before .args .self) (sym (c .before .before .before .relations-good .ensures) ∙ not-false _ (c .before .before .if1 .left)) (sym (c .before .dependencies-good .ensures) ∙ not-true _ (c .if2 .taken))
+
+places-good-requires : tie.Need-places-good-requires
+places-good-requires c κs = (sym (c .before .before .before .relations-good .ensures) ∙ not-false _ (c .before .before .if1 .left))
+
+returns-3 : tie.Need-returns-3
+returns-3 c = c .places-good .ensures ∙ goes (c .before .before .before .before .before .before .before .before .args .self) (sym (c .before .before .before .before .relations-good .ensures) ∙ not-false _ (c .before .before .before .if1 .left)) (sym (c .before .before .dependencies-good .ensures) ∙ not-false _ (c .before .if2 .left))
+
+pub whole-spec : {M : Type 1} → statement M
+whole-spec =
+    tie.close
+    (tie.spec
+    relations-good-requires
+    returns
+    dependencies-good-requires
+    returns-2
+    places-good-requires
+    returns-3)

@@ -1,0 +1,35 @@
+use Rattle.record.specs.Rule.{safeEntry}
+use Rattle.theory.specs.Query.{variablesOf, rowEntries}
+use Rattle.record.specs.View.{rowsOf}
+use mathlib.Core.Path.{_≡_, refl, sym, ap, _∙_}
+use mathlib.Core.Bool.{Bool, true, false, cond, not, _&&_}
+use Prim.Native.Nat.{ℕ, zero, suc, _+_, _*_, _-_, _≤_, _<_}
+use lib.Dec.{eqb, ltb, leb}
+use lib.ListN.{length, take, drop, getD}
+use native.Mathlib.Omega.{arith}
+use borrow.Author.Needs.{needs}
+use Rattle.record.proofs.rule.head_cell_safe.Statement.{statement}
+use Rattle.record.proofs.rule.head_cell_safe.Tie as tie
+use Rattle.record.proofs.rule.head_cell_safe.Reads as reads
+use Rattle.record.proofs.rule.head_cell_safe.Lts as lts
+use Rattle.record.proofs.rule.rows_have.Reads as rows-have-reads
+
+enum-told : tie.Need-enum-told
+enum-told c = search needs
+
+enum-known-e : tie.Need-enum-known-e
+enum-known-e c = search needs
+
+rows-have-requires : tie.Need-rows-have-requires
+rows-have-requires c κs = search needs
+
+returns : tie.Need-returns
+returns c = search needs
+
+returns-2 : tie.Need-returns-2
+returns-2 c =
+    c .rows-have .ensures ∙ ap (safeEntry (variablesOf (rowEntries (rowsOf (take (c .before .before .before .before .args .relations) (c .before .before .before .before .args .widths)) (take (c .before .before .before .before .args .size) (c .before .before .before .before .args .named)) (c .before .before .before .before .args .cells))))) (sym (c .before .before .e .given .1))
+
+pub head-cell-safe-spec : {M : Type 1} → statement M
+head-cell-safe-spec =
+    tie.close (tie.spec enum-told enum-known-e rows-have-requires returns returns-2)

@@ -1,0 +1,109 @@
+-- What each call on the record alone answers: the refusals in document 01's order, and the record after the call.
+use mathlib.Core.Bool.{Bool, true, false, cond, not, _&&_}
+use mathlib.Core.List.{List, [], _∷_, _++_}
+use mathlib.Core.Option.{Option, none, some}
+use Prim.Native.Nat.{ℕ, _+_, _-_}
+use lib.Dec.{eqb, ltb, leb}
+use lib.ListN.{length, getD, set, replicate}
+use Rattle.record.specs.declared.Query.{Query}
+use Rattle.record.specs.declared.Dependency.{Dependency}
+use Rattle.record.specs.declared.Place.{Place}
+use Rattle.record.specs.declared.Record.{Record}
+use Rattle.record.specs.declared.Answer.{Answer}
+use Rattle.record.specs.declared.Answer.the-variants as answer
+use Rattle.record.specs.declared.Outcome.{Outcome}
+use Rattle.record.specs.declared.Lookup.{Lookup}
+use Rattle.record.specs.declared.Lookup.the-variants as lookup
+use Rattle.record.specs.View.{schemaOf}
+use Rattle.record.specs.Rule.{between, every, goodDependency, goodQuery, headSafe, goodRecord, noDependency, noPlace, blankRecord}
+
+-- ---- refusals
+
+-- The number of the first condition that holds, if one does: a call refuses with this number
+unfoldable pub firstHolding : List (Bool × ℕ) → Option ℕ
+firstHolding [] = none
+firstHolding (c ∷ rest) = cond (c .0) (some (c .1)) (firstHolding rest)
+
+-- A call that is refused with number n, or none, after which an accepted call leaves the record `after`: a refusal hands back the record given
+abbrev pub concluded : Option ℕ → Record → Record → Outcome
+concluded none given after = record { answer = answer.Done; «record» = after }
+concluded (some n) given after = record { answer = answer.Refused n; «record» = given }
+
+-- A place looked up that is refused with number n, or none
+abbrev pub found : Option ℕ → ℕ → Lookup
+found none place = lookup.At place
+found (some n) place = lookup.Refused n
+
+-- The number with which a place looked up is refused, 0 where it is not
+abbrev pub numberOf : Lookup → ℕ
+numberOf (lookup.At place) = 0
+numberOf (lookup.Refused n) = n
+
+-- ---- places
+
+-- Document 01's 14: the record breaks "The record"
+abbrev pub broken : Record → (Bool × ℕ)
+broken r = (not (goodRecord r), 14)
+
+-- 7: the place is above 7
+abbrev pub above : ℕ → (Bool × ℕ)
+above place = (not (ltb place 8), 7)
+
+-- Whether a place is filled
+abbrev pub isFilled : Record → ℕ → Bool
+isFilled r place = getD (r .places) place noPlace .filled
+
+-- 11: the place to be read or dropped is vacant
+abbrev pub vacant : Record → ℕ → (Bool × ℕ)
+vacant r place = (not (isFilled r place), 11)
+
+-- 12: the place to be filled is filled
+abbrev pub filled : Record → ℕ → (Bool × ℕ)
+filled r place = (isFilled r place, 12)
+
+-- The index of a place
+abbrev pub placeAt : ℕ → Lookup
+placeAt place = found (firstHolding (above place ∷ [])) place
+
+-- The index of a place to be read or dropped
+abbrev pub filledPlace : Record → ℕ → Lookup
+filledPlace r place = found (firstHolding (above place ∷ vacant r place ∷ [])) place
+
+-- The index of a place to be filled
+abbrev pub vacantPlace : Record → ℕ → Lookup
+vacantPlace r place = found (firstHolding (above place ∷ filled r place ∷ [])) place
+
+-- The record with another content of one place
+abbrev pub withPlace : Record → ℕ → Place → Record
+withPlace r place p =
+    record { relations = r .relations; widths = r .widths; held = r .held; dependencies = r .dependencies; places = set (r .places) place p }
+
+-- ---- the calls
+
+-- A record of the given relations, no dependencies, all places vacant
+abbrev pub emptyRecord : ℕ → List ℕ → Record
+emptyRecord relations widths =
+    record { relations = relations; widths = widths; held = 0; dependencies = replicate 32 noDependency; places = replicate 8 noPlace }
+
+-- Open a record from relation widths, no dependencies, all places vacant: 3 unless there are 1 to 8 widths, each 1 to 8
+unfoldable pub openRecord : List ℕ → Outcome
+openRecord widths =
+    concluded (firstHolding ((not (between 1 8 (length widths) && every (between 1 8) widths), 3) ∷ [])) blankRecord
+    (emptyRecord (length widths) (widths ++ replicate (8 - length widths) 0))
+
+-- Add a dependency after those held: 14; 4 unless it is good; 13 where 32 are held
+unfoldable pub addDependency : Record → Dependency → Outcome
+addDependency r d =
+    concluded (firstHolding (broken r ∷ (not (goodDependency (schemaOf r) d), 4) ∷ (eqb (r .held) 32, 13) ∷ [])) r
+    (record { relations = r .relations; widths = r .widths; held = r .held + 1; dependencies = set (r .dependencies) (r .held) d; places = r .places })
+
+-- Put a query into a vacant place: 14; 7; 5 unless it keeps the limits and holds nothing where it is not in use; 6 where a head variable is in no row; 12
+unfoldable pub putQuery : Record → ℕ → Query → Outcome
+putQuery r place q =
+    concluded
+    (firstHolding (broken r ∷ above place ∷ (not (goodQuery (schemaOf r) q), 5) ∷ (not (headSafe (schemaOf r) q), 6) ∷ filled r place ∷ [])) r
+    (withPlace r place (record { filled = true; query = q }))
+
+-- Drop a filled place: 14; 7; 11
+unfoldable pub dropQuery : Record → ℕ → Outcome
+dropQuery r place = concluded (firstHolding (broken r ∷ above place ∷ vacant r place ∷ [])) r (withPlace r place noPlace)

@@ -1,0 +1,242 @@
+// The calls that change or ask the record alone. Each takes the record by value and hands it back with the answer; a refused call hands it back unchanged.
+use crate::Answer;
+use crate::Cell;
+use crate::Dependency;
+use crate::Entry;
+use crate::Lookup;
+use crate::Outcome;
+use crate::Place;
+use crate::Query;
+use crate::Record;
+use crate::rule;
+
+ghost use mathlib.Core.Path.{_≡_};
+ghost use mathlib.Core.Option.{none, some};
+ghost use mathlib.Core.List.{_++_};
+ghost use Prim.Native.Nat.{_-_, _≤_};
+ghost use lib.ListN.{length, replicate};
+ghost use Rattle.record.specs.Rule.{noQuery, noPlace, blankRecord};
+ghost use Rattle.record.specs.Calls.{concluded, placeAt, filledPlace, vacantPlace, emptyRecord, openRecord, addDependency, putQuery, dropQuery, numberOf};
+
+// A call is done.
+fn done(after: Record) -> Outcome
+    ensures { λ r. ⌜ r ≡ concluded none after after ⌝ }
+{
+    Outcome {
+        answer: Answer::Done,
+        record: after,
+    }
+}
+
+// A call is refused with a number.
+fn refused(number: u8, given: Record) -> Outcome
+    ensures { λ r. ⌜ r ≡ concluded (some number) given given ⌝ }
+{
+    Outcome {
+        answer: Answer::Refused(number),
+        record: given,
+    }
+}
+
+// The number with which a place is refused, 0 where it is not.
+pub fn number(found: Lookup) -> u8
+    ensures { λ r. ⌜ r ≡ numberOf found ⌝ }
+{
+    match found {
+        Lookup::At(_) => 0,
+        Lookup::Refused(n) => n,
+    }
+}
+
+// The index of a place, or 7.
+pub fn place_at(place: usize) -> Lookup
+    ensures { λ r. ⌜ r ≡ placeAt place ⌝ }
+{
+    if place < 8 {
+        Lookup::At(place)
+    } else {
+        Lookup::Refused(7)
+    }
+}
+
+// The query of a vacant place.
+pub fn no_query() -> Query
+    ensures { λ r. ⌜ r ≡ noQuery ⌝ }
+{
+    let blank = Cell {
+        entry: Entry::Constant(0),
+    };
+    Query {
+        arity: 0,
+        size: 0,
+        head: [blank; 8],
+        relations: [0; 12],
+        cells: [blank; 96],
+    }
+}
+
+// A vacant place.
+pub fn no_place() -> Place
+    ensures { λ r. ⌜ r ≡ noPlace ⌝ }
+{
+    Place {
+        filled: false,
+        query: no_query(),
+    }
+}
+
+// A record of the given relations, without dependencies, all places vacant.
+fn opened(relations: u8, widths: [u8; 8]) -> Record
+    ensures { λ r. ⌜ r ≡ emptyRecord relations widths ⌝ }
+{
+    let unused = Dependency {
+        relation: 0,
+        left: 0,
+        right: 0,
+    };
+    let vacant = no_place();
+    Record {
+        relations,
+        widths,
+        held: 0,
+        dependencies: [unused; 32],
+        places: [vacant; 8],
+    }
+}
+
+// The blank record, all fields 0.
+pub fn blank_record() -> Record
+    ensures { λ r. ⌜ r ≡ blankRecord ⌝ }
+{
+    opened(0, [0; 8])
+}
+
+// At most 8 widths, and 0 for each that is not in use.
+fn padded_widths(widths: &[u8]) -> [u8; 8]
+    requires { ⌜ length (now widths) ≤ 8 ⌝ }
+    ensures { λ r. ⌜ r ≡ now (widths .entry) ++ replicate (8 - length (now (widths .entry))) 0 ⌝ }
+{
+    let mut padded = [0u8; 8];
+    for i in 0..widths.len() {
+        padded[i] = widths[i];
+    }
+    padded
+}
+
+impl Record {
+    // Open a record from relation widths.
+    pub fn open(widths: &[u8]) -> Outcome
+        ensures { λ r. ⌜ r ≡ openRecord (now (widths .entry)) ⌝ }
+    {
+        if 8 < widths.len() {
+            return refused(3, blank_record());
+        }
+        let relations = widths.len() as u8;
+        let padded = padded_widths(widths);
+        if !rule::relations_good(relations, padded) {
+            return refused(3, blank_record());
+        }
+        done(opened(relations, padded))
+    }
+
+    // The index of a place to be read or dropped, or 7, or 11.
+    pub fn filled_place(self, place: usize) -> Lookup
+        ensures { λ r. ⌜ r ≡ filledPlace self place ⌝ }
+    {
+        let places = self.places;
+        if 8 <= place {
+            return Lookup::Refused(7);
+        }
+        let p = places[place];
+        if p.filled {
+            Lookup::At(place)
+        } else {
+            Lookup::Refused(11)
+        }
+    }
+
+    // The index of a place to be filled, or 7, or 12.
+    pub fn vacant_place(self, place: usize) -> Lookup
+        ensures { λ r. ⌜ r ≡ vacantPlace self place ⌝ }
+    {
+        let places = self.places;
+        if 8 <= place {
+            return Lookup::Refused(7);
+        }
+        let p = places[place];
+        if p.filled {
+            Lookup::Refused(12)
+        } else {
+            Lookup::At(place)
+        }
+    }
+
+    // Drop a filled place.
+    pub fn drop_query(self, place: usize) -> Outcome
+        ensures { λ r. ⌜ r ≡ dropQuery self place ⌝ }
+    {
+        if !self.whole() {
+            return refused(14, self);
+        }
+        let found = self.filled_place(place);
+        let Lookup::At(at) = found else {
+            return refused(number(found), self);
+        };
+        let mut next = self;
+        next.places[at] = no_place();
+        done(next)
+    }
+
+    // Put a query into a vacant place.
+    pub fn put(self, place: usize, q: Query) -> Outcome
+        ensures { λ r. ⌜ r ≡ putQuery self place q ⌝ }
+    {
+        let relations = self.relations;
+        let widths = self.widths;
+        if !self.whole() {
+            return refused(14, self);
+        }
+        let found = place_at(place);
+        let Lookup::At(_) = found else {
+            return refused(number(found), self);
+        };
+        if !rule::query_good(relations, widths, q) {
+            return refused(5, self);
+        }
+        if !rule::head_safe(relations, widths, q) {
+            return refused(6, self);
+        }
+        let found = self.vacant_place(place);
+        let Lookup::At(at) = found else {
+            return refused(number(found), self);
+        };
+        let mut next = self;
+        next.places[at] = Place {
+            filled: true,
+            query: q,
+        };
+        done(next)
+    }
+
+    // Add a dependency after those held.
+    pub fn add_dependency(self, d: Dependency) -> Outcome
+        ensures { λ r. ⌜ r ≡ addDependency self d ⌝ }
+    {
+        let relations = self.relations;
+        let widths = self.widths;
+        let held = self.held;
+        if !self.whole() {
+            return refused(14, self);
+        }
+        if !rule::dependency_good(relations, widths, d) {
+            return refused(4, self);
+        }
+        if held == 32 {
+            return refused(13, self);
+        }
+        let mut next = self;
+        next.dependencies[held as usize] = d;
+        next.held = held + 1;
+        done(next)
+    }
+}
