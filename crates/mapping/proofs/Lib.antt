@@ -1,3 +1,4 @@
 -- Laws shared by several proofs.
 pub mod Tells
 pub mod Masks
+pub mod Stores

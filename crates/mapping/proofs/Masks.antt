@@ -7,7 +7,8 @@ use native.Mathlib.Nat.{div-div-eq-div-mul, pow-succ', not-suc-le-zero, le-of-su
 use native.Mathlib.Decide.{decLt}
 use lib.Pow.{pow-mono}
 use native.Mathlib.Omega.{arith}
-use Rattle.mapping.specs.Agree.{Has, Marks}
+use Rattle.search.specs.Solution.{Has}
+use Rattle.mapping.specs.Agree.{Marks}
 
 -- The lowest bit of a doubled mask is the added one
 has-lowest : (m b : ℕ) → b < 2 → (m * 2 + b) / 2 ^ 0 % 2 ≡ b

@@ -2,7 +2,7 @@
 -- Assumes nothing.
 use mathlib.Core.Path.{_≡_, refl}
 use mathlib.Core.Bool.{Bool, true, false, false≢true}
-use Rattle.mapping.specs.Agree.{Tells}
+use Rattle.search.specs.Solution.{Tells}
 
 pub tells-true : {P : Type 0} → P → Tells true P
 tells-true p = ((λ e. p), (λ q. refl))

@@ -1,2 +1,3 @@
--- When images of rows are consistent.
+-- When images of rows are consistent, and what finding and checking a mapping promise.
 pub mod Agree
+pub mod Mapped

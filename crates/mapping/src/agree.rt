@@ -1,7 +1,8 @@
 // Whether a choice of images is consistent: rows as numbers, 8 to a row, a number from 2,147,483,648 on being a variable.
 ghost use Prim.Native.Nat.{_+_, _≤_};
 ghost use lib.ListN.{length};
-ghost use Rattle.mapping.specs.Agree.{Tells, Takes, Agrees, Keeps};
+ghost use Rattle.search.specs.Solution.{Tells};
+ghost use Rattle.mapping.specs.Agree.{Takes, Agrees, Keeps};
 
 // Whether the row at q, with its image at e, takes the number `value` to `image` wherever it has it.
 pub fn takes(source: &[u32], target: &[u32], value: u32, image: u32, q: usize, e: usize) -> bool

@@ -1,24 +1,42 @@
-// The search's table: which candidates of one row go together with a candidate of another. Rows 0 to size - 1 are the source's rows, whose candidates
-// are the target's rows; row `size` is its head, whose one candidate is the target's head.
-use crate::agree::{agrees, keeps};
+// What the search is given: the candidates of each row, and which candidates of one row go together with a candidate of another. Rows 0 to size - 1
+// are the source's rows, whose candidates are the target's rows; row `size` is its head, whose one candidate is the target's head.
+use crate::agree::agrees;
+use crate::agree::keeps;
+
+ghost use mathlib.Core.Path.{_≡_};
+ghost use Prim.Native.Nat.{_+_, _≤_, _<_};
+ghost use Rattle.search.specs.Solution.{Tells};
+ghost use Rattle.mapping.specs.Agree.{Marks, rowStart, imageStart, candidatesOf, Laid, Together, Possible, IsDomain, IsTable};
 
 // Where the numbers of row r start: the head's after those of 12 rows.
-pub fn row_at(size: usize, r: usize) -> usize {
+pub fn row_at(size: usize, r: usize) -> usize
+    requires { ⌜ (size ≤ 12) × (r ≤ size) ⌝ }
+    ensures { λ s. ⌜ (s ≡ rowStart size r) × (s + 8 ≤ 104) ⌝ }
+{
     if r == size { 96 } else { 8 * r }
 }
 
 // Where the numbers of candidate d of row r start.
-pub fn image_at(size: usize, r: usize, d: usize) -> usize {
+pub fn image_at(size: usize, r: usize, d: usize) -> usize
+    requires { ⌜ d < 12 ⌝ }
+    ensures { λ s. ⌜ (s ≡ imageStart size r d) × (s + 8 ≤ 104) ⌝ }
+{
     if r == size { 96 } else { 8 * d }
 }
 
 // How many candidates row r has, of a target with `count` rows.
-pub fn candidates(size: usize, count: usize, r: usize) -> usize {
+pub fn candidates(size: usize, count: usize, r: usize) -> usize
+    requires { ⌜ count ≤ 12 ⌝ }
+    ensures { λ n. ⌜ (n ≡ candidatesOf size count r) × (n ≤ 12) ⌝ }
+{
     if r == size { 1 } else { count }
 }
 
 // The candidates of row q that go together with candidate d of row r.
-pub fn together(source: &[u32], target: &[u32], size: usize, count: usize, r: usize, d: usize, q: usize) -> u16 {
+pub fn together(source: &[u32], target: &[u32], size: usize, count: usize, r: usize, d: usize, q: usize) -> u16
+    requires { ⌜ Laid (now source) (now target) size count × (r ≤ size) × (d < 12) × (q ≤ size) ⌝ }
+    ensures { λ m. ⌜ Marks (candidatesOf size count q) m (Together (now (source .entry)) (now (target .entry)) size r d q) ⌝ }
+{
     let row = row_at(size, r);
     let image = image_at(size, r, d);
     let other = row_at(size, q);
@@ -36,7 +54,10 @@ pub fn together(source: &[u32], target: &[u32], size: usize, count: usize, r: us
 }
 
 // Whether row r can go to candidate d at all: a row of the same relation, with the row's constants in their places and one entry for each of its variables.
-pub fn possible(source: &[u32], target: &[u32], named: [u8; 12], offered: [u8; 12], size: usize, r: usize, d: usize) -> bool {
+pub fn possible(source: &[u32], target: &[u32], named: [u8; 12], offered: [u8; 12], size: usize, r: usize, d: usize) -> bool
+    requires { ⌜ Laid (now source) (now target) size 0 × (r ≤ size) × (d < 12) ⌝ }
+    ensures { λ b. ⌜ Tells b (Possible (now (source .entry)) (now (target .entry)) named offered size r d) ⌝ }
+{
     if r < size {
         if named[r] != offered[d] {
             return false;
@@ -51,7 +72,10 @@ pub fn possible(source: &[u32], target: &[u32], named: [u8; 12], offered: [u8; 1
 }
 
 // The candidates of row r.
-pub fn domain(source: &[u32], target: &[u32], named: [u8; 12], offered: [u8; 12], size: usize, count: usize, r: usize) -> u16 {
+pub fn domain(source: &[u32], target: &[u32], named: [u8; 12], offered: [u8; 12], size: usize, count: usize, r: usize) -> u16
+    requires { ⌜ Laid (now source) (now target) size count × (r ≤ size) ⌝ }
+    ensures { λ m. ⌜ Marks (candidatesOf size count r) m (Possible (now (source .entry)) (now (target .entry)) named offered size r) ⌝ }
+{
     let mut mask: u16 = 0;
     let mut d = candidates(size, count, r);
     while 0 < d {
@@ -66,7 +90,10 @@ pub fn domain(source: &[u32], target: &[u32], named: [u8; 12], offered: [u8; 12]
 }
 
 // The candidates of every row.
-pub fn domains(source: &[u32], target: &[u32], named: [u8; 12], offered: [u8; 12], size: usize, count: usize) -> [u16; 13] {
+pub fn domains(source: &[u32], target: &[u32], named: [u8; 12], offered: [u8; 12], size: usize, count: usize) -> [u16; 13]
+    requires { ⌜ Laid (now source) (now target) size count ⌝ }
+    ensures { λ all. ⌜ IsDomain (now (source .entry)) (now (target .entry)) named offered size count all ⌝ }
+{
     let mut all = [0u16; 13];
     for r in 0..size + 1 {
         all[r] = domain(source, target, named, offered, size, count, r);
@@ -75,7 +102,10 @@ pub fn domains(source: &[u32], target: &[u32], named: [u8; 12], offered: [u8; 12
 }
 
 // The whole table: the candidates of row q that go together with candidate d of row r stand at (r * 12 + d) * 13 + q.
-pub fn table(source: &[u32], target: &[u32], size: usize, count: usize) -> [u16; 2028] {
+pub fn table(source: &[u32], target: &[u32], size: usize, count: usize) -> [u16; 2028]
+    requires { ⌜ Laid (now source) (now target) size count ⌝ }
+    ensures { λ all. ⌜ IsTable (now (source .entry)) (now (target .entry)) size count all ⌝ }
+{
     let mut all = [0u16; 2028];
     for k in 0..2028 {
         let r = k / 156;

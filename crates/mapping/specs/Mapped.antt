@@ -1,0 +1,63 @@
+-- Stored queries laid out as 104 entries, and what finding and checking a mapping between them promise.
+use mathlib.Core.Path.{_≡_}
+use mathlib.Core.Bool.{true, false, cond}
+use mathlib.Core.List.{List}
+use mathlib.Core.Logic.{_⊎_}
+use Prim.Native.Nat.{ℕ, _+_, _-_, _≤_, _<_}
+use lib.Dec.{ltb}
+use lib.ListN.{getD, replicate}
+use Rattle.theory.specs.Query as theory
+use Rattle.theory.specs.Answer.{IsMapping, Mapping}
+use Rattle.record.specs.declared.Cell.{Cell}
+use Rattle.record.specs.declared.Query.{Query}
+use Rattle.record.specs.View.{entryOf, queryOf}
+use Rattle.record.specs.Rule.{goodQuery, noCell}
+use Rattle.mapping.specs.declared.Mapped.{Mapped}
+use Rattle.mapping.specs.Agree.{rowStart, imageStart}
+
+-- The cells of a query in one line: 96 of the rows, then 8 of the head
+abbrev pub cellAt : Query → ℕ → Cell
+cellAt q k = cond (ltb k 96) (getD (q .cells) k noCell) (getD (q .head) (k - 96) noCell)
+
+-- The entry that a cell stands for
+abbrev pub entryIn : List Cell → ℕ → theory.Entry
+entryIn cells k = entryOf (getD cells k noCell .entry)
+
+-- The assignment that an array of images gives: variable v goes to the entry at v
+abbrev pub imagesOf : List Cell → ℕ → theory.Entry
+imagesOf images v = entryIn images v
+
+-- A query that some schema makes good
+abbrev pub Storable : Query → Type 0
+Storable q = (schema : List ℕ) × (goodQuery schema q ≡ true)
+
+-- A schema in which no relation has more than 8 columns, as a record's
+abbrev pub Narrow : List ℕ → Type 0
+Narrow schema = (i : ℕ) → getD schema i 0 ≤ 8
+
+-- The images so far, from the first n columns of one row: a variable that stands there has the cell of an image of it, any other keeps its image
+abbrev pub RowAssigned : List Cell → List ℕ → List Cell → ℕ → ℕ → ℕ → List Cell → Type 0
+RowAssigned before source target row image n images =
+    (v : ℕ) → v < 96
+    → (((i : ℕ) → i < n → getD source (row + i) 0 ≡ 2147483648 + v → ⊥) × (getD images v noCell ≡ getD before v noCell))
+    ⊎ ((i : ℕ) × (i < n) × (getD source (row + i) 0 ≡ 2147483648 + v) × (getD images v noCell ≡ getD target (image + i) noCell))
+
+-- The images that the first n rows give: a variable that stands there has the cell of an image of it, any other constant 0
+abbrev pub Assigned : List ℕ → List Cell → ℕ → (ℕ → ℕ) → ℕ → List Cell → Type 0
+Assigned source target size choice n images =
+    (v : ℕ) → v < 96
+    → (((r i : ℕ) → r < n → i < 8 → getD source (rowStart size r + i) 0 ≡ 2147483648 + v → ⊥) × (getD images v noCell ≡ noCell))
+    ⊎ ((r : ℕ) × (i : ℕ) × (r < n) × (i < 8) × (getD source (rowStart size r + i) 0 ≡ 2147483648 + v)
+      × (getD images v noCell ≡ getD target (imageStart size r (choice r) + i) noCell))
+
+-- What is found: the images are a mapping, or there is no mapping and they hold constant 0
+pub record IsMapped (schema : List ℕ) (source target : Query) (r : Mapped) : Type 0 where
+  pub mapping : r .found ≡ true → IsMapping (queryOf schema source) (queryOf schema target) (imagesOf (r .images))
+  pub none : r .found ≡ false → Mapping (queryOf schema source) (queryOf schema target) → ⊥
+  pub blank : r .found ≡ false → r .images ≡ replicate 96 noCell
+
+-- The same for every schema that makes both queries good, where their arities are equal
+abbrev pub Finds : Query → Query → Mapped → Type 0
+Finds source target r =
+    (schema : List ℕ) → Narrow schema → goodQuery schema source ≡ true → goodQuery schema target ≡ true → source .arity ≡ target .arity
+    → IsMapped schema source target r
