@@ -2,3 +2,4 @@
 pub mod Tells
 pub mod Masks
 pub mod Stores
+pub mod Candidates

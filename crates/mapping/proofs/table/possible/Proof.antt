@@ -1,4 +1,13 @@
+-- `possible` tells whether a row can go to a candidate.
+-- Assumes nothing.
 use borrow.Author.Needs.{needs}
+use borrow.Author.Tests.{not-true, not-false}
+use mathlib.Core.Path.{sym, _∙_}
+use mathlib.Core.Bool.{false≢true}
+use mathlib.Core.Logic.{⊎-elim}
+use native.Mathlib.Nat.{not-le-of-lt}
+use Rattle.mapping.proofs.Tells.{tells-false}
+use Rattle.mapping.proofs.Candidates.{possible-keeps, possible-when}
 use Rattle.mapping.proofs.table.possible.Statement.{statement}
 use Rattle.mapping.proofs.table.possible.Tie as tie
 use Rattle.mapping.proofs.table.possible.Reads as reads
@@ -18,7 +27,7 @@ array-read-if2-2 c = search needs
 
 -- src/table.rt:63:13
 returns : tie.Need-returns
-returns c = search needs
+returns c = tells-false (λ p. c .if2 .taken (p .relation (c .before .if1 .taken)))
 
 -- src/table.rt:66:9
 row-at-requires : tie.Need-row-at-requires
@@ -34,7 +43,12 @@ keeps-requires c κs = search needs
 
 -- src/table.rt:69:9
 returns-2 : tie.Need-returns-2
-returns-2 c = search needs
+returns-2 c =
+    tells-false
+    (λ p. false≢true
+    (sym (not-true _ (c .if3 .taken))
+    ∙ c .before .keeps .ensures .1
+    (possible-keeps _ _ _ _ _ _ _ _ _ (c .before .before .before .row-at .ensures .0) (c .before .before .image-at .ensures .0) p)))
 
 -- src/table.rt:71:5
 agrees-requires : tie.Need-agrees-requires
@@ -42,7 +56,11 @@ agrees-requires c κs = search needs
 
 -- src/table.rt:57:1
 returns-3 : tie.Need-returns-3
-returns-3 c = search needs
+returns-3 c =
+    possible-when _ _ _ _ _ _ _ _ _ (c .before .before .before .before .row-at .ensures .0) (c .before .before .before .image-at .ensures .0) _
+    (⊎-elim (λ w h. w .1 .left) (λ w h. absurd (not-le-of-lt h (w .left))) (c .before .before .before .before .before .if1 .came))
+    (c .before .before .keeps .ensures .0 (not-false _ (c .before .if3 .left)))
+    (c .agrees .ensures)
 
 pub possible-spec : {M : Type 1} → statement M
 possible-spec =

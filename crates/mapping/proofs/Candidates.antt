@@ -1,0 +1,39 @@
+-- Laws of possible candidates, where the places of a row and of its image are known by equations.
+-- Assumes nothing.
+use mathlib.Core.Path.{_≡_, sym, subst, subst₂}
+use mathlib.Core.Bool.{Bool, true}
+use mathlib.Core.List.{List}
+use Prim.Native.Nat.{ℕ, _<_}
+use lib.ListN.{getD}
+use Rattle.search.specs.Solution.{Tells}
+use Rattle.mapping.specs.Agree.{Agrees, Keeps, rowStart, imageStart, Together, Possible}
+
+module _ (source target named offered : List ℕ) (size r d row image : ℕ) (at-row : row ≡ rowStart size r) (at-image : image ≡ imageStart size r d) where
+  -- A possible candidate has the row's constants
+  pub possible-keeps : Possible source target named offered size r d → Keeps source target row image
+  possible-keeps p = subst₂ (λ (x y : ℕ). Keeps source target x y) (sym at-row) (sym at-image) (p .keeps)
+
+  -- A candidate of the same relation with the row's constants is possible exactly when it has one number for each variable
+  pub possible-when : (b : Bool) → (r < size → getD named r 0 ≡ getD offered d 0) → Keeps source target row image
+      → Tells b (Agrees source target row image row image) → Tells b (Possible source target named offered size r d)
+  possible-when b same keeps tells =
+      ((λ e.
+        record {
+          relation = same;
+          keeps = subst₂ (λ (x y : ℕ). Keeps source target x y) at-row at-image keeps;
+          agrees = subst₂ (λ (x y : ℕ). Agrees source target x y x y) at-row at-image (tells .0 e);
+        }),
+      (λ p. tells .1 (subst₂ (λ (x y : ℕ). Agrees source target x y x y) (sym at-row) (sym at-image) (p .agrees))))
+
+-- Two candidates go together exactly when their images agree
+pub together-when : (source target : List ℕ) (size r d row image : ℕ) → row ≡ rowStart size r → image ≡ imageStart size r d
+    → (b : Bool) (q e other image' : ℕ) → other ≡ rowStart size q → image' ≡ imageStart size q e
+    → Tells b (Agrees source target row image other image') → Tells b (Together source target size r d q e)
+together-when source target size r d row image at-row at-image b q e other image' at-other at-image' tells =
+    ((λ t.
+      subst₂ (λ (x y : ℕ). Agrees source target x y (rowStart size q) (imageStart size q e)) at-row at-image
+      (subst₂ (λ (x y : ℕ). Agrees source target row image x y) at-other at-image' (tells .0 t))),
+    (λ p.
+      tells .1
+      (subst₂ (λ (x y : ℕ). Agrees source target x y other image') (sym at-row) (sym at-image)
+      (subst₂ (λ (x y : ℕ). Agrees source target (rowStart size r) (imageStart size r d) x y) (sym at-other) (sym at-image') p))))
