@@ -1,12 +1,15 @@
 -- Laws of possible candidates, where the places of a row and of its image are known by equations.
 -- Assumes nothing.
-use mathlib.Core.Path.{_≡_, sym, subst, subst₂}
-use mathlib.Core.Bool.{Bool, true}
+use mathlib.Core.Path.{_≡_, sym, subst, subst₂, subst₃}
+use mathlib.Core.Bool.{Bool, true, false, cond}
 use mathlib.Core.List.{List}
-use Prim.Native.Nat.{ℕ, _<_}
+use Prim.Native.Nat.{ℕ, _+_, _*_, _/_, _%_, _≤_, _<_}
+use native.Mathlib.Nat.{le-trans}
+use native.Mathlib.Omega.{arith}
+use lib.Dec.{eqb}
 use lib.ListN.{getD}
-use Rattle.search.specs.Solution.{Tells}
-use Rattle.mapping.specs.Agree.{Agrees, Keeps, rowStart, imageStart, Together, Possible}
+use Rattle.search.specs.Solution.{Tells, goes}
+use Rattle.mapping.specs.Agree.{Agrees, Keeps, Marks, rowStart, imageStart, candidatesOf, Together, Possible, IsMask, IsTable}
 
 module _ (source target named offered : List ℕ) (size r d row image : ℕ) (at-row : row ≡ rowStart size r) (at-image : image ≡ imageStart size r d) where
   -- A possible candidate has the row's constants
@@ -37,3 +40,29 @@ together-when source target size r d row image at-row at-image b q e other image
       tells .1
       (subst₂ (λ (x y : ℕ). Agrees source target x y other image') (sym at-row) (sym at-image)
       (subst₂ (λ (x y : ℕ). Agrees source target (rowStart size r) (imageStart size r d) x y) (sym at-other) (sym at-image') p))))
+
+-- A row has at most 12 candidates
+pub few-candidates : (size count r : ℕ) → count ≤ 12 → candidatesOf size count r ≤ 12
+few-candidates size count r h = go (eqb r size)
+  where
+    go : (t : Bool) → cond t 1 count ≤ 12
+    go true = omega arith
+    go false = h
+
+-- Masks in their places are a table
+pub masks-table : (source target : List ℕ) (size count : ℕ) (all : List ℕ) → size ≤ 12 → count ≤ 12
+    → ((k : ℕ) → k < 2028 → IsMask source target size count k (getD all k 0)) → IsTable source target size count all
+masks-table source target size count all few few' at r d q hr hq hd =
+    let small : d < 12 = le-trans hd (few-candidates size count r few') in
+    let row : ((r * 12 + d) * 13 + q) / 156 ≡ r = omega arith in
+    let candidate : ((r * 12 + d) * 13 + q) / 13 % 12 ≡ d = omega arith in
+    let other : ((r * 12 + d) * 13 + q) % 13 ≡ q = omega arith in
+    let mask : ℕ = goes all r d q in
+    let stated : (r' d' q' : ℕ) → ((r * 12 + d) * 13 + q) / 156 ≡ r' → ((r * 12 + d) * 13 + q) / 13 % 12 ≡ d' → ((r * 12 + d) * 13 + q) % 13 ≡ q'
+        → r' ≤ size → q' ≤ size → d' < candidatesOf size count r' → Marks (candidatesOf size count q') mask (Together source target size r' d' q') =
+        λ r' d' q' e f g.
+          subst₃
+          (λ (x y z : ℕ). x ≤ size → z ≤ size → y < candidatesOf size count x → Marks (candidatesOf size count z) mask (Together source target size x y z)) e f g
+          (at ((r * 12 + d) * 13 + q) (omega arith))
+    in
+    stated r d q row candidate other hr hq hd

@@ -3,3 +3,4 @@ pub mod Tells
 pub mod Masks
 pub mod Stores
 pub mod Candidates
+pub mod Images

@@ -3,7 +3,7 @@ use mathlib.Core.Path.{_≡_}
 use mathlib.Core.Bool.{cond}
 use mathlib.Core.List.{List}
 use mathlib.Core.Logic.{_↔_}
-use Prim.Native.Nat.{ℕ, _+_, _*_, _^_, _≤_, _<_}
+use Prim.Native.Nat.{ℕ, _+_, _*_, _/_, _%_, _^_, _≤_, _<_}
 use lib.Dec.{eqb}
 use lib.ListN.{getD, length}
 use Rattle.search.specs.Solution.{Has, goes}
@@ -60,6 +60,12 @@ pub record Possible (source target named offered : List ℕ) (size r d : ℕ) : 
 abbrev pub IsDomain : List ℕ → List ℕ → List ℕ → List ℕ → ℕ → ℕ → List ℕ → Type 0
 IsDomain source target named offered size count domain =
     (r : ℕ) → r ≤ size → Marks (candidatesOf size count r) (getD domain r 0) (Possible source target named offered size r)
+
+-- The mask at place k of the table: k stands for candidate k / 13 % 12 of row k / 156 and for row k % 13
+abbrev pub IsMask : List ℕ → List ℕ → ℕ → ℕ → ℕ → ℕ → Type 0
+IsMask source target size count k mask =
+    k / 156 ≤ size → k % 13 ≤ size → k / 13 % 12 < candidatesOf size count (k / 156)
+    → Marks (candidatesOf size count (k % 13)) mask (Together source target size (k / 156) (k / 13 % 12) (k % 13))
 
 -- Masks of the candidates of each row that go together with each candidate of each row
 abbrev pub IsTable : List ℕ → List ℕ → ℕ → ℕ → List ℕ → Type 0

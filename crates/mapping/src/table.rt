@@ -6,7 +6,7 @@ use crate::agree::keeps;
 ghost use mathlib.Core.Path.{_≡_};
 ghost use Prim.Native.Nat.{_+_, _≤_, _<_};
 ghost use Rattle.search.specs.Solution.{Tells};
-ghost use Rattle.mapping.specs.Agree.{Marks, rowStart, imageStart, candidatesOf, Laid, Together, Possible, IsDomain, IsTable};
+ghost use Rattle.mapping.specs.Agree.{Marks, rowStart, imageStart, candidatesOf, Laid, Together, Possible, IsDomain, IsMask, IsTable};
 
 // Where the numbers of row r start: the head's after those of 12 rows.
 pub fn row_at(size: usize, r: usize) -> usize
@@ -101,23 +101,34 @@ pub fn domains(source: &[u32], target: &[u32], named: [u8; 12], offered: [u8; 12
     all
 }
 
-// The whole table: the candidates of row q that go together with candidate d of row r stand at (r * 12 + d) * 13 + q.
+// The table at k = (r * 12 + d) * 13 + q: the candidates of row q that go together with candidate d of row r, or 0 where there is no such row or candidate.
+pub fn mask_at(source: &[u32], target: &[u32], size: usize, count: usize, k: usize) -> u16
+    requires { ⌜ Laid (now source) (now target) size count ⌝ }
+    ensures { λ m. ⌜ IsMask (now (source .entry)) (now (target .entry)) size count k m ⌝ }
+{
+    let r = k / 156;
+    let d = k / 13 % 12;
+    let q = k % 13;
+    if size < r {
+        return 0;
+    }
+    if size < q {
+        return 0;
+    }
+    if candidates(size, count, r) <= d {
+        return 0;
+    }
+    together(source, target, size, count, r, d, q)
+}
+
+// The whole table.
 pub fn table(source: &[u32], target: &[u32], size: usize, count: usize) -> [u16; 2028]
     requires { ⌜ Laid (now source) (now target) size count ⌝ }
     ensures { λ all. ⌜ IsTable (now (source .entry)) (now (target .entry)) size count all ⌝ }
 {
     let mut all = [0u16; 2028];
     for k in 0..2028 {
-        let r = k / 156;
-        let d = k / 13 % 12;
-        let q = k % 13;
-        if r <= size {
-            if q <= size {
-                if d < candidates(size, count, r) {
-                    all[k] = together(source, target, size, count, r, d, q);
-                }
-            }
-        }
+        all[k] = mask_at(source, target, size, count, k);
     }
     all
 }
