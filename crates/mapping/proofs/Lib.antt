@@ -4,3 +4,4 @@ pub mod Masks
 pub mod Stores
 pub mod Candidates
 pub mod Images
+pub mod Wide
