@@ -5,3 +5,4 @@ pub mod Stores
 pub mod Candidates
 pub mod Images
 pub mod Wide
+pub mod Lines

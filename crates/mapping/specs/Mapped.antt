@@ -19,7 +19,11 @@ use Rattle.mapping.specs.Agree.{rowStart, imageStart}
 abbrev pub cellAt : Query → ℕ → Cell
 cellAt q k = cond (ltb k 96) (getD (q .cells) k noCell) (getD (q .head) (k - 96) noCell)
 
--- The entry that a cell stands for
+-- The entries of a query in one line
+abbrev pub entryAt : Query → ℕ → theory.Entry
+entryAt q k = entryOf (cellAt q k .entry)
+
+-- The entry that a cell of an array stands for
 abbrev pub entryIn : List Cell → ℕ → theory.Entry
 entryIn cells k = entryOf (getD cells k noCell .entry)
 
