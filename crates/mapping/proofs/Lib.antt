@@ -6,3 +6,4 @@ pub mod Candidates
 pub mod Images
 pub mod Wide
 pub mod Lines
+pub mod Results
