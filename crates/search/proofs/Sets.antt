@@ -117,6 +117,7 @@ adds-single m r i = (into (or-has m (2 ^ r) i), has-or-left m (2 ^ r) i, λ e. h
     split : Has m i ⊎ Has (2 ^ r) i → Has m i ⊎ (i ≡ r)
     split (inl h) = inl h
     split (inr h) = inr (single-has r i h)
+
     into : (Has (bitOr m (2 ^ r)) i → Has m i ⊎ Has (2 ^ r) i) → Has (bitOr m (2 ^ r)) i → Has m i ⊎ (i ≡ r)
     into f h = split (f h)
 

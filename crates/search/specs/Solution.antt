@@ -63,17 +63,17 @@ unfoldable pub missing : ℕ → ℕ → ℕ
 missing zero placed = 0
 missing (suc n) placed = cond (eqb (placed / 2 ^ n % 2) 1) (missing n placed) (suc (missing n placed))
 
--- A row that is not placed, or the number of rows where each is placed
-pub record Picked (rows placed r : ℕ) : Type 0 where
+-- A row that is not placed, or `rows` where each of the first n is placed
+pub record PickedBefore (rows placed n r : ℕ) : Type 0 where
   pub within : r ≤ rows
   pub unplaced : r < rows → Has placed r → ⊥
-  pub all-placed : r ≡ rows → (q : ℕ) → q < rows → Has placed q
+  pub all-placed : r ≡ rows → (q : ℕ) → q < n → Has placed q
 
 -- What a search promises: a solution, or rows to blame, which are placed, with which no solution agrees
 pub record Verdict (rows : ℕ) (domain table chosen : List ℕ) (placed : ℕ) (o : Outcome) : Type 0 where
   pub solved : o .found ≡ true → Solution rows domain table (choiceOf (o .chosen))
   pub refuted : o .found ≡ false → Refuted rows domain table (o .blame) chosen
-  pub placed-only : Within (o .blame) placed
+  pub placed-only : o .found ≡ false → Within (o .blame) placed
 
 -- What is left to try for row r: a solution that agrees at the rows to blame has one of the candidates of the mask, from d on
 abbrev pub Remains : ℕ → List ℕ → List ℕ → List ℕ → ℕ → ℕ → ℕ → ℕ → Type 0

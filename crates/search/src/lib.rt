@@ -5,9 +5,10 @@
 // frame of some 200 bytes.
 
 ghost use mathlib.Core.Path.{_≡_};
+ghost use mathlib.Core.List.{List};
 ghost use Prim.Native.Nat.{ℕ, _+_, _*_, _≤_, _<_};
 ghost use lib.ListN.{length, getD};
-ghost use Rattle.search.specs.Solution.{Has, Tells, Adds, Within, Sized, goes, Explained, Picked, Verdict, Solved, Remains, missing};
+ghost use Rattle.search.specs.Solution.{Has, Tells, Adds, Within, Sized, goes, Explained, PickedBefore, Verdict, Solved, Remains, missing};
 
 // What is left of a row's candidates, and the placed rows that took the others away.
 pub struct Narrowed {
@@ -37,6 +38,37 @@ fn with(mask: u16, i: usize) -> u16
     mask | (1 << i)
 }
 
+// What is left of row r's candidates once row q is looked at: if it is placed, those that go together with what is chosen for it.
+fn narrow(
+    table: &[u16],
+    chosen: [u8; 13],
+    placed: u16,
+    r: usize,
+    q: usize,
+    left: Narrowed,
+) -> Narrowed
+    requires { ⌜ (length (now table) ≡ 2028) × (r < 13) × (q < 13) ⌝ }
+    ensures { λ n. ⌜ ((rows : ℕ) (domain : List ℕ) → q < rows → r < rows → Explained rows domain (now (table .entry)) chosen placed r left → Explained rows domain (now (table .entry)) chosen placed r n) ⌝ }
+{
+    let d = chosen[q] as usize;
+    if !has(placed, q) {
+        return left;
+    }
+    if 12 <= d {
+        return left;
+    }
+    let mask = left.mask;
+    let blame = left.blame;
+    let fewer = mask & table[(q * 12 + d) * 13 + r];
+    if fewer == mask {
+        return left;
+    }
+    Narrowed {
+        mask: fewer,
+        blame: with(blame, q),
+    }
+}
+
 // The candidates of row r that go together with what is chosen for the placed rows.
 fn candidates(
     rows: usize,
@@ -49,45 +81,66 @@ fn candidates(
     requires { ⌜ Sized rows (now domain) (now table) × (r < rows) ⌝ }
     ensures { λ n. ⌜ Explained rows (now (domain .entry)) (now (table .entry)) chosen placed r n ⌝ }
 {
-    let mut mask = domain[r];
-    let mut blame: u16 = 0;
+    let mut left = Narrowed {
+        mask: domain[r],
+        blame: 0,
+    };
     for q in 0..rows {
-        let d = chosen[q] as usize;
-        if has(placed, q) {
-            if d < 12 {
-                let fewer = mask & table[(q * 12 + d) * 13 + r];
-                if fewer != mask {
-                    mask = fewer;
-                    blame = with(blame, q);
-                }
-            }
+        left = narrow(table, chosen, placed, r, q, left);
+    }
+    left
+}
+
+// A row to place next, with the number of its candidates.
+pub struct Next {
+    pub row: usize,
+    pub count: u32,
+}
+
+// The better of the row found so far, `rows` standing for none, and row r: of two rows that are not placed the one with fewer candidates.
+fn better(
+    rows: usize,
+    domain: &[u16],
+    table: &[u16],
+    chosen: [u8; 13],
+    placed: u16,
+    r: usize,
+    best: Next,
+) -> Next
+    requires { ⌜ Sized rows (now domain) (now table) × (r < rows) ⌝ }
+    ensures { λ n. ⌜ (PickedBefore rows placed r (best .row) → PickedBefore rows placed (r + 1) (n .row)) ⌝ }
+{
+    if has(placed, r) {
+        return best;
+    }
+    let left = candidates(rows, domain, table, chosen, placed, r);
+    let mask = left.mask;
+    let count = u16::count_ones(mask);
+    let row = best.row;
+    if row < rows {
+        if best.count <= count {
+            return best;
         }
     }
-    Narrowed {
-        mask: mask,
-        blame: blame,
+    Next {
+        row: r,
+        count: count,
     }
 }
 
 // A row that is not placed, with the fewest candidates, or `rows` where each is placed.
 fn pick(rows: usize, domain: &[u16], table: &[u16], chosen: [u8; 13], placed: u16) -> usize
     requires { ⌜ Sized rows (now domain) (now table) ⌝ }
-    ensures { λ r. ⌜ Picked rows placed r ⌝ }
+    ensures { λ r. ⌜ PickedBefore rows placed rows r ⌝ }
 {
-    let mut best = rows;
-    let mut fewest: u32 = 100;
+    let mut best = Next {
+        row: rows,
+        count: 0,
+    };
     for r in 0..rows {
-        if !has(placed, r) {
-            let left = candidates(rows, domain, table, chosen, placed, r);
-            let mask = left.mask;
-            let count = u16::count_ones(mask);
-            if count < fewest {
-                best = r;
-                fewest = count;
-            }
-        }
+        best = better(rows, domain, table, chosen, placed, r, best);
     }
-    best
+    best.row
 }
 
 // The first row whose choice does not go together with that of row r, whose candidate is d, or `rows` where each does.

@@ -1,82 +1,39 @@
+-- `candidates` looks at each row in turn. The invariant: what is left so far is explained.
+-- Assumes nothing.
 use borrow.Author.Needs.{needs}
+use Prim.Native.Nat.{_-_, _≤_}
+use Rattle.search.specs.Solution.{Explained}
+use Rattle.search.proofs.Explain.{explained-start}
 use Rattle.search.proofs.candidates.Statement.{statement}
 use Rattle.search.proofs.candidates.Tie as tie
-use Rattle.search.proofs.candidates.Reads as reads
-use Rattle.search.proofs.candidates.Lts as lts
-use Rattle.search.proofs.has.Reads as has-reads
-use Rattle.search.proofs.with.Reads as with-reads
 
 abbrev Inv-loop : tie.InvT-loop
-Inv-loop rows domain table placed r chosen mask₀ blame₀ q₀ mask blame q = ?
+Inv-loop rows domain table chosen placed r left₀ q₀ left q = (q ≤ rows) × Explained rows domain table chosen placed r left
 
 abbrev μ-loop : tie.MeasureT-loop
-μ-loop rows domain table placed r chosen mask₀ blame₀ q₀ mask blame q = ?
+μ-loop rows domain table chosen placed r left₀ q₀ left q = rows - q
 
--- src/lib.rt:52:20
-mul-mask : tie.Need-mul-mask Inv-loop μ-loop
-mul-mask c = search needs
+mul-t9 : tie.Need-mul-t9 Inv-loop μ-loop
+mul-t9 c = search needs
 
--- src/lib.rt:52:20
-shared-slice-read-mask : tie.Need-shared-slice-read-mask Inv-loop μ-loop
-shared-slice-read-mask c = search needs
+shared-slice-read-t11 : tie.Need-shared-slice-read-t11 Inv-loop μ-loop
+shared-slice-read-t11 c = search needs
 
--- src/lib.rt:54:5
 loop-holds : tie.Need-loop-holds Inv-loop μ-loop
-loop-holds c = search needs
+loop-holds c = (search needs, explained-start _ _ _ _ _ _ (search needs))
 
--- src/lib.rt:55:17
-array-read-d : tie.Need-array-read-d Inv-loop μ-loop
-array-read-d c = search needs
+narrow-requires : tie.Need-narrow-requires Inv-loop μ-loop
+narrow-requires c κs = search needs
 
--- src/lib.rt:55:17
-cast-d : tie.Need-cast-d Inv-loop μ-loop
-cast-d c = search needs
-
--- src/lib.rt:56:12
-has-requires : tie.Need-has-requires Inv-loop μ-loop
-has-requires c κs = search needs
-
--- src/lib.rt:58:43
-mul-fewer : tie.Need-mul-fewer Inv-loop μ-loop
-mul-fewer c = search needs
-
--- src/lib.rt:58:43
-add-fewer : tie.Need-add-fewer Inv-loop μ-loop
-add-fewer c = search needs
-
--- src/lib.rt:58:42
-mul-fewer-2 : tie.Need-mul-fewer-2 Inv-loop μ-loop
-mul-fewer-2 c = search needs
-
--- src/lib.rt:58:42
-add-fewer-2 : tie.Need-add-fewer-2 Inv-loop μ-loop
-add-fewer-2 c = search needs
-
--- src/lib.rt:58:36
-mul-fewer-3 : tie.Need-mul-fewer-3 Inv-loop μ-loop
-mul-fewer-3 c = search needs
-
--- src/lib.rt:58:36
-shared-slice-read-fewer : tie.Need-shared-slice-read-fewer Inv-loop μ-loop
-shared-slice-read-fewer c = search needs
-
--- src/lib.rt:61:21
-with-requires : tie.Need-with-requires Inv-loop μ-loop
-with-requires c κs = search needs
-
--- src/lib.rt:54:9
 add-q : tie.Need-add-q Inv-loop μ-loop
 add-q c = search needs
 
--- src/lib.rt:54:5
 loop-less : tie.Need-loop-less Inv-loop μ-loop
 loop-less c = search needs
 
--- src/lib.rt:54:5
 loop-again : tie.Need-loop-again Inv-loop μ-loop
-loop-again c = search needs
+loop-again c = (search needs, c .narrow .ensures _ _ (search needs) (search needs) (c .before .before .loop .inv .1))
 
--- src/lib.rt:41:1
 returns : tie.Need-returns Inv-loop μ-loop
 returns c = search needs
 
@@ -86,19 +43,10 @@ candidates-spec =
     (tie.spec
     Inv-loop
     μ-loop
-    mul-mask
-    shared-slice-read-mask
+    mul-t9
+    shared-slice-read-t11
     loop-holds
-    array-read-d
-    cast-d
-    has-requires
-    mul-fewer
-    add-fewer
-    mul-fewer-2
-    add-fewer-2
-    mul-fewer-3
-    shared-slice-read-fewer
-    with-requires
+    narrow-requires
     add-q
     loop-less
     loop-again
