@@ -1,22 +1,20 @@
 -- What it tells that a record, a query or a dependency passes the rule's test: its parts, each by name.
 -- What these parts mean for the theory's queries and dependencies is in `Stored`.
-use mathlib.Core.Path.{_≡_, refl, sym, ap, _∙_}
-use mathlib.Core.Bool.{Bool, true, false, not, _&&_}
+-- A query that refusal 5 passes
+use mathlib.Core.Path.{_≡_}
+use mathlib.Core.Bool.{Bool, true, not, _&&_}
 use mathlib.Core.List.{List}
 use Prim.Native.Nat.{ℕ, _*_, _^_, _≤_, _<_}
 use lib.Dec.{eqb, ltb, leb}
 use lib.ListN.{length, take, drop, getD}
 use borrow.Author.Tests.{leb-true, ltb-true, eqb-false, not-true, le-leb, lt-ltb, ne-eqb}
-use Rattle.record.specs.declared.Cell.{Cell}
 use Rattle.record.specs.declared.Query.{Query}
 use Rattle.record.specs.declared.Dependency.{Dependency}
-use Rattle.record.specs.declared.Place.{Place}
 use Rattle.record.specs.declared.Record.{Record}
 use Rattle.record.specs.View.{schemaOf}
-use Rattle.record.specs.Rule.{every, inUse, isZero, goodRelations, goodSet, goodDependency, goodDependencies, blankDependency, goodCell, blankCell, goodRow, goodRows, headInUse, goodQuery, headSafe, blankQuery, goodPlace, goodRecord}
+use Rattle.record.specs.Rule.{every, inUse, isZero, goodRelations, goodSet, goodDependency, goodDependencies, blankDependency, goodCell, blankCell, goodRows, headInUse, goodQuery, goodPlace, goodRecord}
 use Rattle.record.proofs.Tests.{and-left, and-right}
 
--- A query that refusal 5 passes
 pub record GoodQuery (schema : List ℕ) (q : Query) : Type 0 where
   pub arity : q .arity ≤ 8
   pub size : q .size ≤ 12
@@ -51,6 +49,25 @@ pub make-query : (schema : List ℕ) (q : Query) → GoodQuery schema q → good
 unfolding goodQuery
 make-query schema q g =
     rw (le-leb (q .arity) 8 (g .arity), le-leb (q .size) 12 (g .size), g .head, g .rows, g .named, g .cells)
+
+-- A relation and a set of columns that refusal 4 passes
+pub record GoodSet (schema : List ℕ) (relation left : ℕ) : Type 0 where
+  pub relation-known : relation < length schema
+  pub nonempty : left ≡ 0 → ⊥
+  pub within : left < 2 ^ getD schema relation 0
+
+pub good-set : (schema : List ℕ) (relation left : ℕ) → goodSet schema relation left ≡ true → GoodSet schema relation left
+unfolding goodSet
+good-set schema relation left e =
+    let a : Bool = ltb relation (length schema) in
+    let b : Bool = not (eqb left 0) in
+    let f : Bool = ltb left (2 ^ getD schema relation 0) in
+    let e2 : a && b ≡ true = and-left (a && b) f e in
+    record {
+      relation-known = ltb-true _ _ (and-left a b e2);
+      nonempty = eqb-false _ _ (not-true _ (and-right a b e2));
+      within = ltb-true _ _ (and-right (a && b) f e);
+    }
 
 -- A dependency that refusal 4 passes
 pub record GoodDependency (schema : List ℕ) (d : Dependency) : Type 0 where

@@ -1,9 +1,14 @@
--- Laws that the proofs of the functions share, and the facts that other crates cite.
-pub mod Tail
+-- Facts that other crates cite: what a passed test tells (Tests, Good), what stored queries and dependencies are for the theory (Stored),
+-- by position and where they are blank (Shape), what a lookup of a place tells (Refusals), and that the calls keep the rule (Kept).
 pub mod Tests
-pub mod Variables
 pub mod Good
 pub mod Stored
 pub mod Shape
 pub mod Refusals
+pub mod Kept
+-- Laws of this crate's own proofs: loops (Tail), head variables (Variables), the calls (Outcomes), sets of columns as masks (Masks, Closure).
+pub mod Tail
+pub mod Variables
 pub mod Outcomes
+pub mod Masks
+pub mod Closure

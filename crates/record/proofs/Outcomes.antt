@@ -1,26 +1,34 @@
 -- Each call's definition by the test that decides it: what the code has shown when it answers.
-use mathlib.Core.Path.{_≡_, refl, sym, ap, _∙_}
-use mathlib.Core.Bool.{Bool, true, false, cond, not, _&&_}
+-- ---- open
+use mathlib.Core.Path.{_≡_, refl, sym, ap, ap₂, subst, _∙_}
+use mathlib.Core.Bool.{Bool, true, false, not, _&&_}
 use mathlib.Core.List.{List, [], _∷_, _++_}
 use mathlib.Core.Option.{Option, none, some}
-use Prim.Native.Nat.{ℕ, _+_, _-_, _<_}
+use Prim.Native.Nat.{ℕ, _-_, _^_, _<_}
 use native.Mathlib.Omega.{arith}
-use lib.Dec.{eqb, ltb, leb}
-use lib.ListN.{length, set, replicate}
+use native.Mathlib.Nat.{lt-of-lt-of-le}
+use lib.Dec.{leb}
+use lib.Count.{ones}
+use lib.ListN.{length, take, getD, set, replicate}
 use lib.Seq.{take-append-seam, drop-append-seam}
 use borrow.Author.Tests.{lt-ltb, le-ltb, lt-leb, eq-eqb, ne-eqb}
+use Rattle.theory.specs.Database as database
+use Rattle.theory.specs.Query.{_∈_}
+use Rattle.theory.specs.Determined.{determined}
 use Rattle.record.specs.declared.Query.{Query}
 use Rattle.record.specs.declared.Dependency.{Dependency}
 use Rattle.record.specs.declared.Lookup.the-variants as lookup
 use Rattle.record.specs.declared.Record.{Record}
-use Rattle.record.specs.declared.Outcome.{Outcome}
-use Rattle.record.specs.View.{schemaOf}
-use Rattle.record.specs.Rule.{between, every, isZero, goodRelations, blankRecord, goodRecord, goodDependency, goodQuery, headSafe, noPlace}
-use Rattle.record.specs.Calls.{firstHolding, concluded, broken, above, vacant, filled, isFilled, placeAt, filledPlace, vacantPlace, withPlace, emptyRecord, openRecord, addDependency, putQuery, dropQuery}
-use Rattle.record.proofs.Tests.{every-replicate}
+use Rattle.record.specs.declared.Columns.the-variants as columns
+use Rattle.record.specs.View.{columnsOf, schemaOf, dependenciesOf}
+use Rattle.record.specs.Rule.{between, every, goodSet, rightNarrow, blankDependency, isZero, goodRelations, blankRecord, goodRecord, goodDependency, goodQuery, headSafe, noPlace}
+use Rattle.record.specs.Calls.{firstHolding, concluded, broken, above, vacant, filled, placeAt, filledPlace, vacantPlace, withPlace, withDependency, emptyRecord, openRecord, addDependency, putQuery, dropQuery, maskOf, determinedColumns}
+use Rattle.record.specs.Closure.{growMask}
+use Rattle.record.proofs.Tests.{every-replicate, every-weaken, used-good}
+use Rattle.record.proofs.Good.{good-record, good-dependency, good-set}
+use Rattle.record.proofs.Stored.{narrow, dependencies-fit}
+use Rattle.record.proofs.Closure.{held-length, determined-mask, determined-count}
 use Rattle.record.proofs.Refusals.{first-goes, found-refused, filled-at, vacant-at, place-refused, vacant-refused}
-
--- ---- open
 
 and-true-right : (b : Bool) → b && true ≡ b
 and-true-right true = refl
@@ -35,8 +43,12 @@ widths-judged : (widths : List ℕ) (k : ℕ)
     → goodRelations (length widths) (widths ++ replicate k 0) ≡ between 1 8 (length widths) && every (between 1 8) widths
 unfolding goodRelations
 widths-judged widths k =
-    rw (take-append-seam widths (replicate k 0), drop-append-seam widths (replicate k 0), every-replicate isZero k 0 refl,
-    and-true-right (every (between 1 8) widths))
+    rw (
+      take-append-seam widths (replicate k 0),
+      drop-append-seam widths (replicate k 0),
+      every-replicate isZero k 0 refl,
+      and-true-right (every (between 1 8) widths),
+    )
 
 module _ (widths : List ℕ) where
   pub open-many : 8 < length widths → concluded (some 3) blankRecord blankRecord ≡ openRecord widths
@@ -129,11 +141,44 @@ module _ (r : Record) (d : Dependency) where
       unfolding addDependency firstHolding
       add-full e = rw (good, fit, eq-eqb (r .held) 32 e)
 
-      -- The record with one dependency more
-      abbrev pub grown : Record
-      grown =
-          record { relations = r .relations; widths = r .widths; held = r .held + 1; dependencies = set (r .dependencies) (r .held) d; places = r .places }
-
-      pub add-done : (r .held ≡ 32 → ⊥) → concluded none grown grown ≡ addDependency r d
+      pub add-done : (r .held ≡ 32 → ⊥) → concluded none (withDependency r d) (withDependency r d) ≡ addDependency r d
       unfolding addDependency firstHolding
       add-done e = rw (good, fit, ne-eqb (r .held) 32 e)
+
+-- ---- determined columns
+
+-- The right columns of the held dependencies are among 8
+pub rights-narrow : (r : Record) → goodRecord r ≡ true → every rightNarrow (take (r .held) (r .dependencies)) ≡ true
+rights-narrow r good =
+    every-weaken (goodDependency (schemaOf r)) rightNarrow
+    (λ d e. lt-ltb (d .right) 8 (lt-of-lt-of-le (good-dependency (schemaOf r) d e .right) (narrow r good (d .relation))))
+    (take (r .held) (r .dependencies))
+    (used-good (r .held) (goodDependency (schemaOf r)) blankDependency (r .dependencies) (good-record r good .dependencies))
+
+module _ (r : Record) (relation left : ℕ) where
+  pub determined-broken : goodRecord r ≡ false → columns.Refused 14 ≡ determinedColumns r relation left
+  unfolding determinedColumns firstHolding
+  determined-broken e = rw e
+
+  module _ (good : goodRecord r ≡ true) where
+    pub determined-unfit : goodSet (schemaOf r) relation left ≡ false → columns.Refused 4 ≡ determinedColumns r relation left
+    unfolding determinedColumns firstHolding
+    determined-unfit e = rw (good, e)
+
+    pub determined-done : goodSet (schemaOf r) relation left ≡ true → length (r .dependencies) ≡ 32 → (mask : ℕ)
+        → mask ≡ growMask (r .held) (dependenciesOf r) relation left → columns.Determined mask (ones mask) ≡ determinedColumns r relation left
+    unfolding determinedColumns firstHolding
+    determined-done fit long mask e =
+        let w : ℕ = getD (schemaOf r) relation 0 in
+        let ds : List database.Dependency = dependenciesOf r in
+        let fits : (d : database.Dependency) → d ∈ ds → d .relation ≡ relation → d .right < w =
+        λ d at same. subst (λ (k : ℕ). d .right < getD (schemaOf r) k 0) same (dependencies-fit r good d at .right)
+        in
+        let within : left < 2 ^ w = good-set (schemaOf r) relation left fit .within in
+        let looks : length ds ≡ r .held = held-length (r .held) (r .dependencies) (omega (arith, good-record r good .held)) in
+        let is : mask ≡ growMask (length ds) ds relation left = e ∙ ap (λ (n : ℕ). growMask n ds relation left) (sym looks) in
+        let set : mask ≡ maskOf (determined ds relation w (columnsOf left)) = is ∙ sym (determined-mask ds relation w fits (narrow r good relation) left within) in
+        let count : ones mask ≡ length (determined ds relation w (columnsOf left)) =
+        ap ones is ∙ sym (determined-count ds relation w fits (narrow r good relation) left within)
+        in
+        rw (good, fit) (ap₂ columns.Determined set count)

@@ -1,17 +1,16 @@
 -- The first condition that holds: what a test that holds or fails makes of it, and what the lookup of a place tells. For any list of conditions.
 use mathlib.Core.Path.{_≡_, refl, sym, ap, _∙_}
-use mathlib.Core.Bool.{Bool, true, false, cond, not}
 use mathlib.Core.Logic.{_⊎_, inl, inr, ⊎-elim}
+use mathlib.Core.Bool.{Bool, true, false, cond, not}
 use mathlib.Core.List.{List, [], _∷_}
 use mathlib.Core.Option.{Option, none, some}
 use Prim.Native.Nat.{ℕ, _≤_, _<_}
 use native.Mathlib.Omega.{arith}
 use lib.Dec.{ltb}
 use borrow.Author.Tests.{ltb-true, ltb-false, lt-ltb, le-ltb, not-true, not-false}
-use Rattle.record.specs.declared.Lookup.{Lookup}
 use Rattle.record.specs.declared.Lookup.the-variants as lookup
 use Rattle.record.specs.declared.Record.{Record}
-use Rattle.record.specs.Calls.{firstHolding, found, numberOf, above, vacant, filled, isFilled, placeAt, filledPlace, vacantPlace}
+use Rattle.record.specs.Calls.{firstHolding, found, above, vacant, filled, isFilled, placeAt, filledPlace, vacantPlace}
 
 module _ (b : Bool) (n : ℕ) (rest : List (Bool × ℕ)) where
   -- A condition that holds decides
@@ -122,7 +121,7 @@ place-refused place n e =
 pub vacant-refused : (r : Record) (place n : ℕ) → place < 8 → vacantPlace r place ≡ lookup.Refused n → (isFilled r place ≡ true) × (n ≡ 12)
 vacant-refused r place n low e =
     let o : firstHolding (filled r place ∷ []) ≡ some n =
-        sym (first-goes (not (ltb place 8)) 7 (filled r place ∷ []) (ap not (lt-ltb place 8 low)))
-        ∙ found-refused (firstHolding (above place ∷ filled r place ∷ [])) place n e
+    sym (first-goes (not (ltb place 8)) 7 (filled r place ∷ []) (ap not (lt-ltb place 8 low)))
+    ∙ found-refused (firstHolding (above place ∷ filled r place ∷ [])) place n e
     in
     ⊎-elim (λ h. (h .0, sym (h .1))) (λ h. absurd (nothing-holds n (h .1))) (some-holds (isFilled r place) 12 [] n o)

@@ -1,14 +1,15 @@
 -- Stored arrays by position, and values that are not in use:
 --   1. what stands at a position of the theory's query, 2. what a blank cell, dependency, query or place is.
-use mathlib.Core.Path.{_≡_, refl, sym, ap, ap₂, subst, _∙_}
+-- ---- 1. positions
+-- The theory's query has as many head entries and rows as the stored one says
+use mathlib.Core.Path.{_≡_, refl, ap, subst, _∙_}
 use mathlib.Core.Bool.{Bool, true, false, cond, _&&_}
-use mathlib.Core.List.{List, [], _∷_, _++_, map}
+use mathlib.Core.List.{List, [], _∷_, _++_}
 use Prim.Native.Nat.{ℕ, zero, suc, _+_, _*_, _-_, _≤_, _<_}
 use native.Mathlib.Nat.{le-of-suc-le-suc, not-suc-le-zero}
 use native.Mathlib.Omega.{arith}
-use lib.Dec.{eqb}
 use lib.ListN.{length, take, drop, getD, replicate, length-map, List·getD-map}
-use lib.Seq.{drop-drop, getD-take, getD-drop, length-take-le}
+use lib.Seq.{drop-drop, length-take-le}
 use borrow.Author.Tests.{eqb-true}
 use Rattle.theory.specs.Query as theory
 use Rattle.record.specs.declared.Entry.{Entry}
@@ -19,14 +20,11 @@ use Rattle.record.specs.declared.Dependency.{Dependency}
 use Rattle.record.specs.declared.Place.{Place}
 use Rattle.record.specs.declared.Record.{Record}
 use Rattle.record.specs.View.{entryOf, entriesOf, rowsOf, queryOf, schemaOf}
-use Rattle.record.specs.Rule.{between, every, inUse, isZero, goodDependency, headSafe, goodRecord, goodCell, blankEntry, blankCell, blankDependency, headInUse, goodQuery, blankQuery, goodPlace, noCell, noDependency, noQuery, noPlace}
+use Rattle.record.specs.Rule.{between, every, isZero, goodDependency, headSafe, goodRecord, goodCell, blankEntry, blankCell, blankDependency, headInUse, goodQuery, blankQuery, goodPlace, noCell, noDependency, noQuery, noPlace}
 use Rattle.record.proofs.Tests.{and-left, and-right, every-same, used-blank, padded, widths-blank}
 use Rattle.record.proofs.Tail.{stretch-getD}
 use Rattle.record.proofs.Good.{good-query, good-record}
 
--- ---- 1. positions
-
--- The theory's query has as many head entries and rows as the stored one says
 pub head-length : (schema : List ℕ) (q : Query) → q .arity ≤ length (q .head) → length (queryOf schema q .head) ≡ q .arity
 head-length schema q h = length-map (take (q .arity) (q .head)) (λ (c : Cell). entryOf (c .entry)) ∙ length-take-le (q .arity) (q .head) h
 
@@ -83,11 +81,11 @@ blank-dependency d e =
     let f : Bool = isZero (d .right) in
     let e2 : a && b ≡ true = and-left (a && b) f e in
     λ i.
-      record {
-        relation = eqb-true (d .relation) 0 (and-left a b e2) i;
-        left = eqb-true (d .left) 0 (and-right a b e2) i;
-        right = eqb-true (d .right) 0 (and-right (a && b) f e) i;
-      }
+    record {
+      relation = eqb-true (d .relation) 0 (and-left a b e2) i;
+      left = eqb-true (d .left) 0 (and-right a b e2) i;
+      right = eqb-true (d .right) 0 (and-right (a && b) f e) i;
+    }
 
 -- A blank query is the query of a vacant place
 pub blank-query : (q : Query) → length (q .head) ≡ 8 → length (q .relations) ≡ 12 → length (q .cells) ≡ 96 → blankQuery q ≡ true → q ≡ noQuery
@@ -102,29 +100,29 @@ blank-query q head-long named-long cells-long e =
     let e3 : a && b && f ≡ true = and-left (a && b && f) g e4 in
     let e2 : a && b ≡ true = and-left (a && b) f e3 in
     let head : q .head ≡ replicate 8 noCell =
-        every-same blankCell noCell blank-cell (q .head) (and-right (a && b) f e3) ∙ ap (λ (n : ℕ). replicate n noCell) head-long
+    every-same blankCell noCell blank-cell (q .head) (and-right (a && b) f e3) ∙ ap (λ (n : ℕ). replicate n noCell) head-long
     in
     let named : q .relations ≡ replicate 12 0 =
-        every-same isZero 0 blank-number (q .relations) (and-right (a && b && f) g e4) ∙ ap (λ (n : ℕ). replicate n 0) named-long
+    every-same isZero 0 blank-number (q .relations) (and-right (a && b && f) g e4) ∙ ap (λ (n : ℕ). replicate n 0) named-long
     in
     let cells : q .cells ≡ replicate 96 noCell =
-        every-same blankCell noCell blank-cell (q .cells) (and-right (a && b && f && g) h e) ∙ ap (λ (n : ℕ). replicate n noCell) cells-long
+    every-same blankCell noCell blank-cell (q .cells) (and-right (a && b && f && g) h e) ∙ ap (λ (n : ℕ). replicate n noCell) cells-long
     in
     λ i.
-      record {
-        arity = eqb-true (q .arity) 0 (and-left a b e2) i;
-        size = eqb-true (q .size) 0 (and-right a b e2) i;
-        head = head i;
-        relations = named i;
-        cells = cells i;
-      }
+    record {
+      arity = eqb-true (q .arity) 0 (and-left a b e2) i;
+      size = eqb-true (q .size) 0 (and-right a b e2) i;
+      head = head i;
+      relations = named i;
+      cells = cells i;
+    }
 
 -- A vacant place holds nothing
 pub vacant-place : (schema : List ℕ) (p : Place) → length (p .query .head) ≡ 8 → length (p .query .relations) ≡ 12 → length (p .query .cells) ≡ 96
     → goodPlace schema p ≡ true → p .filled ≡ false → p ≡ noPlace
 vacant-place schema p head-long named-long cells-long good vacant =
     let blank : blankQuery (p .query) ≡ true =
-        subst (λ (t : Bool). cond t (goodQuery schema (p .query) && headSafe schema (p .query)) (blankQuery (p .query)) ≡ true) vacant good
+    subst (λ (t : Bool). cond t (goodQuery schema (p .query) && headSafe schema (p .query)) (blankQuery (p .query)) ≡ true) vacant good
     in
     λ i. record { filled = vacant i; query = blank-query (p .query) head-long named-long cells-long blank i }
 

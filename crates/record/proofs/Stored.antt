@@ -1,17 +1,18 @@
 -- What the fields of a good query, a good record and its dependencies are for the theory, for every width, row count and arity:
 --   1. members of lists, 2. entries within the limits, 3. rows, 4. the stored query as a query of the theory, 5. dependencies.
 -- A law that needs an array to be long enough asks it, since the lengths of arrays are the types'.
+-- ---- 1. members of lists
 use mathlib.Core.Path.{_≡_, refl, sym, ap, subst, _∙_}
 use mathlib.Core.Logic.{⊎-elim}
-use mathlib.Core.Bool.{Bool, true, false, cond, not, _&&_}
-use mathlib.Core.List.{List, [], _∷_, _++_, map, List·Memᴰ, List·Memᴰ·head, List·Memᴰ·tail, List·Memᴰ·append-cases, List·Memᴰ·cases-cons, List·Memᴰ·not-nil, Memᴰ·cast}
-use Prim.Native.Nat.{ℕ, zero, suc, _+_, _*_, _-_, _/_, _%_, _^_, _≤_, _<_}
+use mathlib.Core.Bool.{Bool, true, false, cond, _&&_}
+use mathlib.Core.List.{List, [], _∷_, _++_, map, List·Memᴰ·head, List·Memᴰ·tail, List·Memᴰ·append-cases, List·Memᴰ·cases-cons, List·Memᴰ·not-nil, Memᴰ·cast}
+use Prim.Native.Nat.{ℕ, zero, suc, _+_, _*_, _/_, _%_, _^_, _≤_, _<_}
 use native.Mathlib.Nat.{le-of-suc-le-suc, not-suc-le-zero, two-pow-succ}
 use native.Mathlib.Omega.{arith}
-use lib.Dec.{eqb, ltb, leb}
-use lib.ListN.{length, take, drop, getD, replicate, length-take, length-drop, length-map, List·getD-map}
+use lib.Dec.{eqb, ltb}
+use lib.ListN.{length, take, drop, getD, length-take, length-drop, length-map}
 use lib.Seq.{take-take, drop-drop, length-take-le}
-use borrow.Author.Tests.{leb-true, ltb-true, ltb-false, eqb-true, eqb-false, eq-eqb, ne-eqb}
+use borrow.Author.Tests.{leb-true, ltb-true, eqb-true}
 use Rattle.theory.specs.Query as theory
 use Rattle.theory.specs.Query.{member, variablesOf, rowEntries, WellFormed, FitsSchema, _∈_}
 use Rattle.theory.specs.Database as database
@@ -24,12 +25,10 @@ use Rattle.record.specs.declared.Query.{Query}
 use Rattle.record.specs.declared.Dependency.{Dependency}
 use Rattle.record.specs.declared.Place.{Place}
 use Rattle.record.specs.declared.Record.{Record}
-use Rattle.record.specs.View.{entryOf, entriesOf, rowsOf, queryOf, columnsFrom, columnsOf, dependencyOf, schemaOf, dependenciesOf}
-use Rattle.record.specs.Rule.{every, inUse, isZero, goodRelations, goodDependency, blankDependency, goodEntry, goodCell, blankEntry, blankCell, goodRow, goodRows, headInUse, goodQuery, headSafe, blankQuery, goodPlace, goodRecord, noCell}
-use Rattle.record.proofs.Tests.{and-left, and-right, and-both, every-getD, every-member, every-take, every-set, used-all, used-good, used-blank, relations-bounds, width-bounds, width-le}
-use Rattle.record.proofs.Good.{GoodQuery, good-query, GoodDependency, good-dependency, GoodRecord, good-record}
-
--- ---- 1. members of lists
+use Rattle.record.specs.View.{entryOf, entriesOf, rowsOf, queryOf, columnsFrom, dependencyOf, schemaOf, dependenciesOf}
+use Rattle.record.specs.Rule.{every, inUse, goodDependency, blankDependency, goodEntry, goodCell, blankEntry, blankCell, goodRow, goodRows, headInUse, goodQuery, headSafe, blankQuery, goodPlace, goodRecord}
+use Rattle.record.proofs.Tests.{and-left, and-right, and-both, every-getD, every-take, used-all, used-good, relations-bounds, width-bounds, width-le}
+use Rattle.record.proofs.Good.{good-query, good-dependency, good-record}
 
 pub member-in : (n : ℕ) (ms : List ℕ) → member n ms ≡ true → n ∈ ms
 unfolding member
@@ -111,9 +110,9 @@ rows-made schema (k ∷ rs) cells at =
     and-both (goodRow schema k (take 8 cells)) (goodRows schema rs (drop 8 cells)) (at 0 (omega arith))
     (rows-made schema rs (drop 8 cells)
     (λ i h.
-      let next : 8 * suc i ≡ 8 + 8 * i = omega arith in
-      subst (λ (cs : List Cell). goodRow schema (getD rs i 0) (take 8 cs) ≡ true)
-      (ap (λ (n : ℕ). drop n cells) next ∙ sym (drop-drop (8 * i) 8 cells)) (at (suc i) (omega arith))))
+    let next : 8 * suc i ≡ 8 + 8 * i = omega arith in
+    subst (λ (cs : List Cell). goodRow schema (getD rs i 0) (take 8 cs) ≡ true)
+    (ap (λ (n : ℕ). drop n cells) next ∙ sym (drop-drop (8 * i) 8 cells)) (at (suc i) (omega arith))))
 
 module _ (schema : List ℕ) (narrow : (i : ℕ) → getD schema i 0 ≤ 8) where
   -- The rows of good rows fit the schema
@@ -122,9 +121,10 @@ module _ (schema : List ℕ) (narrow : (i : ℕ) → getD schema i 0 ≤ 8) wher
   unfolding rowsOf
   rows-fit (k ∷ rs) cells long good (List·Memᴰ·head p) =
       let wide : getD schema k 0 ≤ length cells = omega (arith, narrow k) in
-      subst (FitsSchema schema) (sym p)
-      (row-parts schema k (take 8 cells) (rows-first schema k rs cells good) .0,
-      length-map (take (getD schema k 0) cells) (λ (c : Cell). entryOf (c .entry)) ∙ length-take-le (getD schema k 0) cells wide)
+      subst (FitsSchema schema) (sym p) (
+        row-parts schema k (take 8 cells) (rows-first schema k rs cells good) .0,
+        length-map (take (getD schema k 0) cells) (λ (c : Cell). entryOf (c .entry)) ∙ length-take-le (getD schema k 0) cells wide,
+      )
   rows-fit (k ∷ rs) cells long good (List·Memᴰ·tail at) =
       rows-fit rs (drop 8 cells) (rw length-drop (omega arith)) (rows-rest schema k rs cells good) at
 
@@ -134,7 +134,7 @@ module _ (schema : List ℕ) (narrow : (i : ℕ) → getD schema i 0 ≤ 8) wher
   rows-within (k ∷ rs) cells good at =
       let w : ℕ = getD schema k 0 in
       let used : every goodCell (take w (take 8 cells)) ≡ true =
-          used-good w goodCell blankCell (take 8 cells) (row-parts schema k (take 8 cells) (rows-first schema k rs cells good) .1)
+      used-good w goodCell blankCell (take 8 cells) (row-parts schema k (take 8 cells) (rows-first schema k rs cells good) .1)
       in
       let here : every goodCell (take w cells) ≡ true = subst (λ (cs : List Cell). every goodCell cs ≡ true) (take-take w 8 cells (narrow k)) used in
       ⊎-elim (cells-within (take w cells) here) (λ m. rows-within rs (drop 8 cells) (rows-rest schema k rs cells good) m)
@@ -252,6 +252,6 @@ pub filled-parts : (schema : List ℕ) (p : Place) → goodPlace schema p ≡ tr
     → (goodQuery schema (p .query) ≡ true) × (headSafe schema (p .query) ≡ true)
 filled-parts schema p good filled =
     let e : goodQuery schema (p .query) && headSafe schema (p .query) ≡ true =
-        subst (λ (t : Bool). cond t (goodQuery schema (p .query) && headSafe schema (p .query)) (blankQuery (p .query)) ≡ true) filled good
+    subst (λ (t : Bool). cond t (goodQuery schema (p .query) && headSafe schema (p .query)) (blankQuery (p .query)) ≡ true) filled good
     in
     (and-left (goodQuery schema (p .query)) (headSafe schema (p .query)) e, and-right (goodQuery schema (p .query)) (headSafe schema (p .query)) e)

@@ -1,5 +1,6 @@
 -- Tests of all elements of a list as a loop makes them, position by position: `everyAt` takes the position too.
 -- First what a turn of the loop shows, then how the rule's `every` and `inUse` are such tests. For any elements, test and length.
+-- Whether each element passes a test at its position, the first standing at position i
 use mathlib.Core.Path.{_≡_, refl, sym, ap, _∙_}
 use mathlib.Core.Bool.{Bool, true, false, cond, not, _&&_}
 use mathlib.Core.List.{List, [], _∷_, _++_, map}
@@ -15,7 +16,6 @@ use Rattle.record.specs.declared.Cell.{Cell}
 use Rattle.record.specs.declared.Place.{Place}
 use Rattle.record.specs.Rule.{every, inUse, goodRow, goodRows}
 
--- Whether each element passes a test at its position, the first standing at position i
 unfoldable pub everyAt : {A : Type 0} → (ℕ → A → Bool) → ℕ → List A → Bool
 everyAt test i [] = true
 everyAt test i (x ∷ xs) = test i x && everyAt test (suc i) xs

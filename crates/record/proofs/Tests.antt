@@ -1,22 +1,22 @@
 -- What a test that holds tells: of a conjunction, of every element of a list, of an array that is partly in use, of the relations' widths.
 -- For any elements, any number of them and any test. The lengths of arrays are the types', so a law that needs one asks it.
+-- ---- conjunctions
+-- An index is below a bound or not
 use mathlib.Core.Path.{_≡_, refl, sym, ap, ap₂, subst, _∙_}
-use mathlib.Core.Bool.{Bool, true, false, cond, not, _&&_}
+use mathlib.Core.Logic.{_⊎_, inl, inr, ⊎-elim}
+use mathlib.Core.Bool.{Bool, true, false, _&&_}
 use mathlib.Core.List.{List, [], _∷_, _++_, List·Memᴰ, List·Memᴰ·head, List·Memᴰ·tail}
 use Prim.Native.Nat.{ℕ, zero, suc, _+_, _*_, _-_, _%_, _^_, _≤_, _<_}
-use mathlib.Core.Logic.{_⊎_, inl, inr, ⊎-elim}
-use lib.Pow.{pow-mono}
-use native.Mathlib.Nat.{one-mul, mod-eq-of-lt, lt-of-le-of-lt, le-of-suc-le-suc, not-suc-le-zero}
+use native.Mathlib.Nat.{one-mul, mod-eq-of-lt, le-of-suc-le-suc, not-suc-le-zero}
+use native.Mathlib.Numerals.{add-one}
 use native.Mathlib.Omega.{arith}
-use lib.Dec.{eqb, ltb, leb, lit<}
+use lib.Pow.{pow-lt}
+use lib.Dec.{ltb, leb}
 use lib.ListN.{length, take, drop, getD, set, replicate, length-take, length-drop, take-append-drop, List·getD-eq-default}
-use lib.Seq.{getD-take, length-take-le}
-use borrow.Author.Tests.{leb-true, ltb-true, ltb-false, eqb-true, lt-ltb, le-ltb}
+use lib.Seq.{length-take-le, take-suc-set, drop-set-lt, drop-drop}
+use borrow.Author.Tests.{leb-true, ltb-true, ltb-false, lt-ltb, le-ltb}
 use Rattle.record.specs.Rule.{every, inUse, between, isZero, goodRelations}
 
--- ---- conjunctions
-
--- An index is below a bound or not
 pub below-or-past : (i n : ℕ) → (i < n) ⊎ (n ≤ i)
 below-or-past i n = go (ltb i n) refl
   where
@@ -141,6 +141,16 @@ module _ {A : Type 0} (n : ℕ) (good blank : A → Bool) (xs : List A) where
       sym (take-append-drop n xs)
       ∙ ap (λ (ys : List A). take n xs ++ ys) (every-same blank z only (drop n xs) e ∙ ap (λ (k : ℕ). replicate k z) (length-drop n xs))
 
+  -- One element more is in use
+  pub used-more : (y : A) → n < length xs → good y ≡ true → inUse n good blank xs ≡ true → inUse (n + 1) good blank (set xs n y) ≡ true
+  unfolding every
+  used-more y h fits e =
+      let front : take (n + 1) (set xs n y) ≡ take n xs ++ (y ∷ []) = ap (λ (k : ℕ). take k (set xs n y)) (add-one n) ∙ take-suc-set xs n y h in
+      let back : drop (n + 1) (set xs n y) ≡ drop 1 (drop n xs) = drop-set-lt (n + 1) xs n y (omega arith) ∙ sym (drop-drop 1 n xs) in
+      and-both (every good (take (n + 1) (set xs n y))) (every blank (drop (n + 1) (set xs n y)))
+      (ap (every good) front ∙ every-append good (take n xs) (y ∷ []) (used-good e) (and-both (good y) true fits refl))
+      (ap (every blank) back ∙ every-drop blank 1 (drop n xs) (used-blank e))
+
 -- ---- the relations
 
 -- A relation is known exactly when its number is below the number of relations
@@ -150,10 +160,9 @@ known-relation n widths r fits h = lt-ltb r (length (take n widths)) (rw (length
 pub unknown-relation : (n : ℕ) (widths : List ℕ) (r : ℕ) → n ≤ r → ltb r (length (take n widths)) ≡ false
 unknown-relation n widths r h = le-ltb r (length (take n widths)) (rw (length-take n widths) (omega arith))
 
--- A one shifted by a width, in 16 bits
-pub shifted-one : (w : ℕ) → w ≤ 8 → 1 * 2 ^ w % 65536 ≡ 2 ^ w
-shifted-one w h = rw (one-mul (2 ^ w)) (mod-eq-of-lt (lt-of-le-of-lt (pow-mono h) (lit< tt)))
-
+-- A one shifted by less than the number of bits
+pub shifted-one : (k w : ℕ) → w < k → 1 * 2 ^ w % 2 ^ k ≡ 2 ^ w
+shifted-one k w h = ap (λ (n : ℕ). n % 2 ^ k) (one-mul (2 ^ w)) ∙ mod-eq-of-lt (pow-lt h)
 
 module _ (n : ℕ) (widths : List ℕ) (good : goodRelations n widths ≡ true) where
   -- There are 1 to 8 relations

@@ -1,8 +1,9 @@
 -- How a variable is looked for: in a row's cells, in the rows, and for each entry of a head. One law for every width and row count.
+-- A variable stands in neither of two lists exactly when not in the first and not in the second
 use mathlib.Core.Path.{_≡_, refl, sym, ap, _∙_}
 use mathlib.Core.Bool.{Bool, true, false, cond, not, _&&_}
 use mathlib.Core.List.{List, [], _∷_, _++_}
-use Prim.Native.Nat.{ℕ, zero, suc, _+_, _*_}
+use Prim.Native.Nat.{ℕ, suc, _+_, _*_}
 use native.Mathlib.Omega.{arith}
 use lib.Dec.{eqb}
 use lib.ListN.{take, drop, getD}
@@ -14,11 +15,10 @@ use Rattle.record.specs.declared.Entry.{Entry}
 use Rattle.record.specs.declared.Entry.the-variants.{Constant, Variable}
 use Rattle.record.specs.declared.Cell.{Cell}
 use Rattle.record.specs.declared.Query.{Query}
-use Rattle.record.specs.View.{entryOf, entriesOf, rowsOf, queryOf}
+use Rattle.record.specs.View.{entryOf, entriesOf, rowsOf}
 use Rattle.record.specs.Rule.{every, isVariable, namesVariable, safeEntry, safeCell, headSafe}
-use Rattle.record.proofs.Tail.{and-assoc, everyAt, every-at, Remains, Sought, every-start}
+use Rattle.record.proofs.Tail.{and-assoc, everyAt, Sought}
 
--- A variable stands in neither of two lists exactly when not in the first and not in the second
 not-cond : (t m : Bool) → not (cond t true m) ≡ not t && not m
 not-cond true m = refl
 not-cond false m = refl
@@ -66,7 +66,7 @@ absent-rows schema cells v i (r ∷ rs) =
     let here : drop 8 (drop (8 * i) cells) ≡ drop (8 * suc i) cells = drop-drop 8 (8 * i) cells ∙ ap (λ (k : ℕ). drop k cells) next in
     absent-append v (entriesOf (take (getD schema r 0) (drop (8 * i) cells))) (rowEntries (rowsOf schema rs (drop 8 (drop (8 * i) cells))))
     ∙ ap (λ (t : Bool). not (rowHas schema cells v i r) && t)
-      (ap (λ (cs : List Cell). not (member v (variablesOf (rowEntries (rowsOf schema rs cs))))) here ∙ absent-rows schema cells v (suc i) rs)
+    (ap (λ (cs : List Cell). not (member v (variablesOf (rowEntries (rowsOf schema rs cs))))) here ∙ absent-rows schema cells v (suc i) rs)
 
 -- A loop that looks for a variable in rows starts so
 pub rows-start : (schema : List ℕ) (cells : List Cell) (v : ℕ) (rs : List ℕ)

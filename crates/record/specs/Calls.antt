@@ -2,9 +2,10 @@
 use mathlib.Core.Bool.{Bool, true, false, cond, not, _&&_}
 use mathlib.Core.List.{List, [], _∷_, _++_}
 use mathlib.Core.Option.{Option, none, some}
-use Prim.Native.Nat.{ℕ, _+_, _-_}
+use Prim.Native.Nat.{ℕ, _+_, _-_, _^_}
 use lib.Dec.{eqb, ltb, leb}
 use lib.ListN.{length, getD, set, replicate}
+use Rattle.theory.specs.Determined.{determined}
 use Rattle.record.specs.declared.Query.{Query}
 use Rattle.record.specs.declared.Dependency.{Dependency}
 use Rattle.record.specs.declared.Place.{Place}
@@ -14,8 +15,10 @@ use Rattle.record.specs.declared.Answer.the-variants as answer
 use Rattle.record.specs.declared.Outcome.{Outcome}
 use Rattle.record.specs.declared.Lookup.{Lookup}
 use Rattle.record.specs.declared.Lookup.the-variants as lookup
-use Rattle.record.specs.View.{schemaOf}
-use Rattle.record.specs.Rule.{between, every, goodDependency, goodQuery, headSafe, goodRecord, noDependency, noPlace, blankRecord}
+use Rattle.record.specs.declared.Columns.{Columns}
+use Rattle.record.specs.declared.Columns.the-variants as columns
+use Rattle.record.specs.View.{columnsOf, schemaOf, dependenciesOf}
+use Rattle.record.specs.Rule.{between, every, goodSet, goodDependency, goodQuery, headSafe, goodRecord, noDependency, noPlace, blankRecord}
 
 -- ---- refusals
 
@@ -78,6 +81,11 @@ abbrev pub withPlace : Record → ℕ → Place → Record
 withPlace r place p =
     record { relations = r .relations; widths = r .widths; held = r .held; dependencies = r .dependencies; places = set (r .places) place p }
 
+-- The record with one dependency more, after those held
+abbrev pub withDependency : Record → Dependency → Record
+withDependency r d =
+    record { relations = r .relations; widths = r .widths; held = r .held + 1; dependencies = set (r .dependencies) (r .held) d; places = r .places }
+
 -- ---- the calls
 
 -- A record of the given relations, no dependencies, all places vacant
@@ -95,7 +103,7 @@ openRecord widths =
 unfoldable pub addDependency : Record → Dependency → Outcome
 addDependency r d =
     concluded (firstHolding (broken r ∷ (not (goodDependency (schemaOf r) d), 4) ∷ (eqb (r .held) 32, 13) ∷ [])) r
-    (record { relations = r .relations; widths = r .widths; held = r .held + 1; dependencies = set (r .dependencies) (r .held) d; places = r .places })
+    (withDependency r d)
 
 -- Put a query into a vacant place: 14; 7; 5 unless it keeps the limits and holds nothing where it is not in use; 6 where a head variable is in no row; 12
 unfoldable pub putQuery : Record → ℕ → Query → Outcome
@@ -107,3 +115,19 @@ putQuery r place q =
 -- Drop a filled place: 14; 7; 11
 unfoldable pub dropQuery : Record → ℕ → Outcome
 dropQuery r place = concluded (firstHolding (broken r ∷ above place ∷ vacant r place ∷ [])) r (withPlace r place noPlace)
+
+-- The mask of a set of columns: bit c for column c
+unfoldable pub maskOf : List ℕ → ℕ
+maskOf [] = 0
+maskOf (c ∷ cs) = 2 ^ c + maskOf cs
+
+-- The answer about determined columns: refused with a number, or the set of columns and how many they are
+abbrev pub columnsAnswer : Option ℕ → List ℕ → Columns
+columnsAnswer none cs = columns.Determined (maskOf cs) (length cs)
+columnsAnswer (some n) cs = columns.Refused n
+
+-- The columns of a relation that a left set determines: 14; 4 unless the relation is known and the set is a nonempty set of its columns
+unfoldable pub determinedColumns : Record → ℕ → ℕ → Columns
+determinedColumns r relation left =
+    columnsAnswer (firstHolding (broken r ∷ (not (goodSet (schemaOf r) relation left), 4) ∷ []))
+    (determined (dependenciesOf r) relation (getD (schemaOf r) relation 0) (columnsOf left))

@@ -2,3 +2,4 @@
 pub mod View
 pub mod Rule
 pub mod Calls
+pub mod Closure

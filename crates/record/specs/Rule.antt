@@ -67,6 +67,10 @@ goodDependency schema d =
     ltb (d .relation) (length schema) && not (eqb (d .left) 0) && ltb (d .left) (2 ^ getD schema (d .relation) 0)
     && ltb (d .right) (getD schema (d .relation) 0)
 
+-- The right column of a dependency is one of 8
+abbrev pub rightNarrow : Dependency → Bool
+rightNarrow d = ltb (d .right) 8
+
 -- 0 to 32 dependencies
 unfoldable pub goodDependencies : List ℕ → ℕ → List Dependency → Bool
 goodDependencies schema held dependencies = leb held 32 && inUse held (goodDependency schema) blankDependency dependencies

@@ -1,6 +1,7 @@
 // The calls that change or ask the record alone. Each takes the record by value and hands it back with the answer; a refused call hands it back unchanged.
 use crate::Answer;
 use crate::Cell;
+use crate::Columns;
 use crate::Dependency;
 use crate::Entry;
 use crate::Lookup;
@@ -9,14 +10,17 @@ use crate::Place;
 use crate::Query;
 use crate::Record;
 use crate::rule;
-
 ghost use mathlib.Core.Path.{_≡_};
 ghost use mathlib.Core.Option.{none, some};
-ghost use mathlib.Core.List.{_++_};
-ghost use Prim.Native.Nat.{_-_, _≤_};
-ghost use lib.ListN.{length, replicate};
-ghost use Rattle.record.specs.Rule.{noQuery, noPlace, blankRecord};
-ghost use Rattle.record.specs.Calls.{concluded, placeAt, filledPlace, vacantPlace, emptyRecord, openRecord, addDependency, putQuery, dropQuery, numberOf};
+ghost use mathlib.Core.Bool.{true};
+ghost use mathlib.Core.List.{_++_, map};
+ghost use Prim.Native.Nat.{_-_, _<_, _≤_};
+ghost use lib.ListN.{length, take, replicate};
+ghost use Rattle.theory.specs.Determined.{adds};
+ghost use Rattle.record.specs.View.{columnsOf, dependencyOf};
+ghost use Rattle.record.specs.Closure.{nextMask, growMask};
+ghost use Rattle.record.specs.Rule.{every, rightNarrow, noQuery, noPlace, blankRecord};
+ghost use Rattle.record.specs.Calls.{concluded, placeAt, filledPlace, vacantPlace, emptyRecord, openRecord, addDependency, putQuery, dropQuery, determinedColumns, numberOf};
 
 // A call is done.
 fn done(after: Record) -> Outcome
@@ -121,6 +125,49 @@ fn padded_widths(widths: &[u8]) -> [u8; 8]
         padded[i] = widths[i];
     }
     padded
+}
+
+// Whether a dependency adds its right column to the known columns of a relation.
+fn adds_column(d: Dependency, relation: u8, mask: u8) -> bool
+    requires { ⌜ d .right < 8 ⌝ }
+    ensures { λ r. ⌜ r ≡ adds relation (columnsOf mask) (dependencyOf d) ⌝ }
+{
+    let left = d.left;
+    let right = d.right;
+    if d.relation != relation {
+        return false;
+    }
+    if left & mask != left {
+        return false;
+    }
+    (mask >> right) % 2 != 1
+}
+
+// The known columns with the right column of the first dependency that adds one.
+fn next_columns(held: usize, dependencies: [Dependency; 32], relation: u8, mask: u8) -> u8
+    requires { ⌜ (held ≤ 32) × (every rightNarrow (take held dependencies) ≡ true) ⌝ }
+    ensures { λ r. ⌜ r ≡ nextMask (map dependencyOf (take held dependencies)) relation mask ⌝ }
+{
+    for i in 0..held {
+        let d = dependencies[i];
+        if adds_column(d, relation, mask) {
+            let right = d.right;
+            return mask | (1 << right);
+        }
+    }
+    mask
+}
+
+// The columns that a set of columns determines: each dependency adds at most once.
+fn closed_columns(held: usize, dependencies: [Dependency; 32], relation: u8, left: u8) -> u8
+    requires { ⌜ (held ≤ 32) × (every rightNarrow (take held dependencies) ≡ true) ⌝ }
+    ensures { λ r. ⌜ r ≡ growMask held (map dependencyOf (take held dependencies)) relation left ⌝ }
+{
+    let mut mask = left;
+    for _ in 0..held {
+        mask = next_columns(held, dependencies, relation, mask);
+    }
+    mask
 }
 
 impl Record {
@@ -238,5 +285,23 @@ impl Record {
         next.dependencies[held as usize] = d;
         next.held = held + 1;
         done(next)
+    }
+
+    // The columns of a relation that a set of its columns determines.
+    pub fn determined(self, relation: u8, left: u8) -> Columns
+        ensures { λ r. ⌜ r ≡ determinedColumns self relation left ⌝ }
+    {
+        let relations = self.relations;
+        let widths = self.widths;
+        let held = self.held;
+        let dependencies = self.dependencies;
+        if !self.whole() {
+            return Columns::Refused(14);
+        }
+        if !rule::set_good(relations, widths, relation, left) {
+            return Columns::Refused(4);
+        }
+        let mask = closed_columns(held as usize, dependencies, relation, left);
+        Columns::Determined(mask, u8::count_ones(mask) as u8)
     }
 }

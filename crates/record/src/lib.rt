@@ -62,3 +62,9 @@ pub enum Lookup {
     At(usize),
     Refused(u8),
 }
+
+// What a question about determined columns answers: their set, bit c for column c, with their number; or document 01's number of the refusal.
+pub enum Columns {
+    Determined(u8, u8),
+    Refused(u8),
+}

@@ -6,7 +6,6 @@ use crate::Entry;
 use crate::Place;
 use crate::Query;
 use crate::Record;
-
 ghost use mathlib.Core.Bool.{true, cond, _&&_};
 ghost use mathlib.Core.Path.{_≡_};
 ghost use Prim.Native.Nat.{_+_, _*_, _≤_};
@@ -72,11 +71,7 @@ pub fn relations_good(relations: u8, widths: [u8; 8]) -> bool
 fn cell_fits(c: Cell, used: bool) -> bool
     ensures { λ r. ⌜ r ≡ cond used (goodCell c) (blankCell c) ⌝ }
 {
-    if used {
-        cell_good(c)
-    } else {
-        cell_blank(c)
-    }
+    if used { cell_good(c) } else { cell_blank(c) }
 }
 
 // Whether a query's head has the given number of entries in use, all good.
@@ -156,7 +151,12 @@ fn dependency_fits(relations: u8, widths: [u8; 8], d: Dependency, used: bool) ->
 }
 
 // Whether at most 32 dependencies are held, each good, and no slot beyond them is in use.
-pub fn dependencies_good(relations: u8, widths: [u8; 8], held: u8, dependencies: [Dependency; 32]) -> bool
+pub fn dependencies_good(
+    relations: u8,
+    widths: [u8; 8],
+    held: u8,
+    dependencies: [Dependency; 32],
+) -> bool
     requires { ⌜ goodRelations relations widths ≡ true ⌝ }
     ensures { λ r. ⌜ r ≡ goodDependencies (take relations widths) held dependencies ⌝ }
 {
@@ -186,7 +186,13 @@ pub fn row_good(cells: [Cell; 96], start: usize, used: usize) -> bool
 }
 
 // Whether each of the first rows names a known relation and has good entries, one a column.
-pub fn rows_good(relations: u8, widths: [u8; 8], size: usize, named: [u8; 12], cells: [Cell; 96]) -> bool
+pub fn rows_good(
+    relations: u8,
+    widths: [u8; 8],
+    size: usize,
+    named: [u8; 12],
+    cells: [Cell; 96],
+) -> bool
     requires { ⌜ (goodRelations relations widths ≡ true) × (size ≤ 12) ⌝ }
     ensures { λ r. ⌜ r ≡ goodRows (take relations widths) (take size named) cells ⌝ }
 {
@@ -231,11 +237,7 @@ pub fn cells_blank(cells: [Cell; 96], from: usize) -> bool
 pub fn head_in_use(arity: u8, size: u8) -> usize
     ensures { λ r. ⌜ r ≡ cond (eqb size 0) 0 arity ⌝ }
 {
-    if size == 0 {
-        0
-    } else {
-        arity as usize
-    }
+    if size == 0 { 0 } else { arity as usize }
 }
 
 // Whether a query keeps the limits and holds nothing where it is not in use: what refusal 5 asks.
@@ -314,7 +316,14 @@ pub fn row_has(cells: [Cell; 96], start: usize, width: usize, v: u8) -> bool
 }
 
 // Whether a variable stands in one of the first rows.
-pub fn rows_have(relations: u8, widths: [u8; 8], size: usize, named: [u8; 12], cells: [Cell; 96], v: u8) -> bool
+pub fn rows_have(
+    relations: u8,
+    widths: [u8; 8],
+    size: usize,
+    named: [u8; 12],
+    cells: [Cell; 96],
+    v: u8,
+) -> bool
     requires { ⌜ (goodRelations relations widths ≡ true) × (size ≤ 12) ⌝ }
     ensures { λ r. ⌜ r ≡ member v (variablesOf (rowEntries (rowsOf (take relations widths) (take size named) cells))) ⌝ }
 {
@@ -328,7 +337,14 @@ pub fn rows_have(relations: u8, widths: [u8; 8], size: usize, named: [u8; 12], c
 }
 
 // Whether an entry of the head is a constant or stands in a row.
-fn head_cell_safe(relations: u8, widths: [u8; 8], size: usize, named: [u8; 12], cells: [Cell; 96], c: Cell) -> bool
+fn head_cell_safe(
+    relations: u8,
+    widths: [u8; 8],
+    size: usize,
+    named: [u8; 12],
+    cells: [Cell; 96],
+    c: Cell,
+) -> bool
     requires { ⌜ (goodRelations relations widths ≡ true) × (size ≤ 12) ⌝ }
     ensures { λ r. ⌜ r ≡ safeCell (variablesOf (rowEntries (rowsOf (take relations widths) (take size named) cells))) c ⌝ }
 {

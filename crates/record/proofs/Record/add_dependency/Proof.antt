@@ -1,21 +1,14 @@
+-- `record::Record::add_dependency` meets its contract, by `Outcomes`: each answer follows the test that decides it in `addDependency`.
+-- Assumes nothing.
+use mathlib.Core.Path.{sym, _∙_}
+use Prim.Native.Nat.{_≤_}
+use native.Mathlib.Omega.{arith}
 use borrow.Author.Tests.{not-true, not-false}
+use borrow.Author.Needs.{needs}
 use Rattle.record.proofs.Good.{good-record}
 use Rattle.record.proofs.Outcomes.{add-broken, add-unfit, add-full, add-done}
-use mathlib.Core.Path.{_≡_, refl, sym, ap, _∙_}
-use mathlib.Core.Bool.{Bool, true, false, cond, not, _&&_}
-use Prim.Native.Nat.{ℕ, zero, suc, _+_, _*_, _-_, _≤_, _<_}
-use lib.Dec.{eqb, ltb, leb}
-use lib.ListN.{length, take, drop, getD}
-use native.Mathlib.Omega.{arith}
-use borrow.Author.Needs.{needs}
 use Rattle.record.proofs.Record.add_dependency.Statement.{statement}
 use Rattle.record.proofs.Record.add_dependency.Tie as tie
-use Rattle.record.proofs.Record.add_dependency.Reads as reads
-use Rattle.record.proofs.Record.add_dependency.Lts as lts
-use Rattle.record.proofs.Record.whole.Reads as whole-reads
-use Rattle.record.proofs.calls.done.Reads as done-reads
-use Rattle.record.proofs.calls.refused.Reads as refused-reads
-use Rattle.record.proofs.rule.dependency_good.Reads as dependency-good-reads
 
 whole-requires : tie.Need-whole-requires
 whole-requires c κs = search needs

@@ -1,28 +1,20 @@
+-- `record::Record::drop_query` meets its contract, by `Outcomes`: each answer follows the test that decides it in `dropQuery`.
+-- Assumes nothing.
+use mathlib.Core.Path.{_≡_, sym, ap, _∙_}
+use mathlib.Core.Bool.{true}
 use mathlib.Core.Option.{none, some}
+use Prim.Native.Nat.{ℕ, _<_}
+use native.Mathlib.Omega.{arith}
 use borrow.Author.Tests.{not-true, not-false}
+use borrow.Author.Needs.{needs}
 use Rattle.record.specs.declared.Record.{Record}
 use Rattle.record.specs.declared.Lookup.the-variants as lookup
 use Rattle.record.specs.Rule.{goodRecord, noPlace}
 use Rattle.record.specs.Calls.{concluded, numberOf, filledPlace, withPlace}
 use Rattle.record.proofs.Refusals.{filled-at}
 use Rattle.record.proofs.Outcomes.{drop-broken, drop-refused, drop-done}
-use mathlib.Core.Path.{_≡_, refl, sym, ap, _∙_}
-use mathlib.Core.Bool.{Bool, true, false, cond, not, _&&_}
-use Prim.Native.Nat.{ℕ, zero, suc, _+_, _*_, _-_, _≤_, _<_}
-use lib.Dec.{eqb, ltb, leb}
-use lib.ListN.{length, take, drop, getD}
-use native.Mathlib.Omega.{arith}
-use borrow.Author.Needs.{needs}
 use Rattle.record.proofs.Record.drop_query.Statement.{statement}
 use Rattle.record.proofs.Record.drop_query.Tie as tie
-use Rattle.record.proofs.Record.drop_query.Reads as reads
-use Rattle.record.proofs.Record.drop_query.Lts as lts
-use Rattle.record.proofs.Record.filled_place.Reads as filled-place-reads
-use Rattle.record.proofs.Record.whole.Reads as whole-reads
-use Rattle.record.proofs.calls.done.Reads as done-reads
-use Rattle.record.proofs.calls.no_place.Reads as no-place-reads
-use Rattle.record.proofs.calls.number.Reads as number-reads
-use Rattle.record.proofs.calls.refused.Reads as refused-reads
 
 whole-requires : tie.Need-whole-requires
 whole-requires c κs = search needs

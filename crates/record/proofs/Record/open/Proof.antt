@@ -1,27 +1,17 @@
-use Rattle.record.specs.Rule.{goodRelations}
-use mathlib.Core.Option.{none, some}
-use borrow.Author.Tests.{not-true, not-false}
+-- `record::Record::open` meets its contract, by `Outcomes`: padded widths are good exactly when the widths given are.
+-- Assumes nothing.
+use mathlib.Core.Path.{sym, ap, _∙_}
+use mathlib.Core.Option.{some}
+use lib.ListN.{length}
 use denote.Ref.{now}
+use borrow.Author.Tests.{not-true, not-false}
+use borrow.Author.Needs.{needs}
 use Rattle.record.specs.declared.Record.{Record}
+use Rattle.record.specs.Rule.{goodRelations}
 use Rattle.record.specs.Calls.{concluded, emptyRecord}
 use Rattle.record.proofs.Outcomes.{open-many, open-unfit, open-done}
-use mathlib.Core.Path.{_≡_, refl, sym, ap, _∙_}
-use mathlib.Core.Bool.{Bool, true, false, cond, not, _&&_}
-use Prim.Native.Nat.{ℕ, zero, suc, _+_, _*_, _-_, _≤_, _<_}
-use lib.Dec.{eqb, ltb, leb}
-use lib.ListN.{length, take, drop, getD}
-use native.Mathlib.Omega.{arith}
-use borrow.Author.Needs.{needs}
 use Rattle.record.proofs.Record.open.Statement.{statement}
 use Rattle.record.proofs.Record.open.Tie as tie
-use Rattle.record.proofs.Record.open.Reads as reads
-use Rattle.record.proofs.Record.open.Lts as lts
-use Rattle.record.proofs.calls.blank_record.Reads as blank-record-reads
-use Rattle.record.proofs.calls.done.Reads as done-reads
-use Rattle.record.proofs.calls.opened.Reads as opened-reads
-use Rattle.record.proofs.calls.padded_widths.Reads as padded-widths-reads
-use Rattle.record.proofs.calls.refused.Reads as refused-reads
-use Rattle.record.proofs.rule.relations_good.Reads as relations-good-reads
 
 blank-record-requires : tie.Need-blank-record-requires
 blank-record-requires c κs = search needs

@@ -1,5 +1,12 @@
-use mathlib.Core.Option.{none, some}
+-- `record::Record::put` meets its contract, by `Outcomes`: each answer follows the test that decides it in `putQuery`.
+-- Assumes nothing.
+use mathlib.Core.Path.{_≡_, sym, ap, _∙_}
+use mathlib.Core.Bool.{true}
+use mathlib.Core.Option.{some}
+use Prim.Native.Nat.{ℕ, _<_}
+use native.Mathlib.Omega.{arith}
 use borrow.Author.Tests.{not-true, not-false}
+use borrow.Author.Needs.{needs}
 use Rattle.record.specs.declared.Lookup.the-variants as lookup
 use Rattle.record.specs.View.{schemaOf}
 use Rattle.record.specs.Rule.{goodRecord, goodQuery, headSafe}
@@ -7,25 +14,8 @@ use Rattle.record.specs.Calls.{concluded, numberOf, vacantPlace}
 use Rattle.record.proofs.Good.{good-record, good-query}
 use Rattle.record.proofs.Refusals.{place-at, vacant-at}
 use Rattle.record.proofs.Outcomes.{put-broken, put-high, put-unfit, put-unsafe, put-filled, put-done}
-use mathlib.Core.Path.{_≡_, refl, sym, ap, _∙_}
-use mathlib.Core.Bool.{Bool, true, false, cond, not, _&&_}
-use Prim.Native.Nat.{ℕ, zero, suc, _+_, _*_, _-_, _≤_, _<_}
-use lib.Dec.{eqb, ltb, leb}
-use lib.ListN.{length, take, drop, getD}
-use native.Mathlib.Omega.{arith}
-use borrow.Author.Needs.{needs}
 use Rattle.record.proofs.Record.put.Statement.{statement}
 use Rattle.record.proofs.Record.put.Tie as tie
-use Rattle.record.proofs.Record.put.Reads as reads
-use Rattle.record.proofs.Record.put.Lts as lts
-use Rattle.record.proofs.Record.vacant_place.Reads as vacant-place-reads
-use Rattle.record.proofs.Record.whole.Reads as whole-reads
-use Rattle.record.proofs.calls.done.Reads as done-reads
-use Rattle.record.proofs.calls.number.Reads as number-reads
-use Rattle.record.proofs.calls.place_at.Reads as place-at-reads
-use Rattle.record.proofs.calls.refused.Reads as refused-reads
-use Rattle.record.proofs.rule.head_safe.Reads as head-safe-reads
-use Rattle.record.proofs.rule.query_good.Reads as query-good-reads
 
 whole-requires : tie.Need-whole-requires
 whole-requires c κs = search needs
@@ -96,7 +86,7 @@ returns-4 : tie.Need-returns-4
 returns-4 c =
     c .refused4 .ensures
     ∙ put-unsafe (c .before .before .before .before .before .before .before .before .before .before .before .args .self) (c .before .before .before .before .before .before .before .before .before .before .before .args .place) (c .before .before .before .before .before .before .before .before .before .before .before .args .q) (good (c .before .before .before .before .before .before .before .before)) (low (c .before .before .before .before .before)) (fit (c .before .before .before))
-      (sym (c .before .before .head-safe .ensures) ∙ not-true _ (c .before .if3 .taken))
+    (sym (c .before .before .head-safe .ensures) ∙ not-true _ (c .before .if3 .taken))
 
 vacant-place-requires : tie.Need-vacant-place-requires
 vacant-place-requires c κs = search needs
@@ -120,7 +110,7 @@ returns-5 c =
     let number : c .before .number2 .result ≡ told .0 .0 = c .before .number2 .ensures ∙ ap numberOf (told .1) in
     c .refused5 .ensures ∙ ap (λ (n : ℕ). concluded (some n) self self) number
     ∙ put-filled (c .before .before .before .before .before .before .before .before .before .before .before .before .before .before .before .args .self) (c .before .before .before .before .before .before .before .before .before .before .before .before .before .before .before .args .place) (c .before .before .before .before .before .before .before .before .before .before .before .before .before .before .before .args .q) (good (c .before .before .before .before .before .before .before .before .before .before .before .before)) (low (c .before .before .before .before .before .before .before .before .before)) (fit (c .before .before .before .before .before .before .before)) (safe (c .before .before .before .before .before)) (told .0 .0)
-      (sym (c .before .before .before .before .vacant-place .ensures) ∙ told .1)
+    (sym (c .before .before .before .before .vacant-place .ensures) ∙ told .1)
 
 mul-t15 : tie.Need-mul-t15
 mul-t15 c =

@@ -1,19 +1,17 @@
+-- `record::Record::vacant_place` meets its contract, by `Refusals`: each test taken is one of the conditions of `vacantPlace`.
+-- Assumes nothing.
+use mathlib.Core.Path.{_≡_, ap, _∙_}
+use Prim.Native.Nat.{_<_}
+use native.Mathlib.Omega.{arith}
+use lib.ListN.{length, getD}
+use borrow.Author.Needs.{needs}
 use Rattle.record.specs.declared.Place.{Place}
 use Rattle.record.specs.Rule.{noPlace}
 use Rattle.record.specs.Calls.{isFilled}
 use Rattle.record.proofs.Tail.{mapped-length, getD-any, pastPlace}
 use Rattle.record.proofs.Refusals.{vacant-high, vacant-no, vacant-yes}
-use mathlib.Core.Path.{_≡_, refl, sym, ap, _∙_}
-use mathlib.Core.Bool.{Bool, true, false, cond, not, _&&_}
-use Prim.Native.Nat.{ℕ, zero, suc, _+_, _*_, _-_, _≤_, _<_}
-use lib.Dec.{eqb, ltb, leb}
-use lib.ListN.{length, take, drop, getD}
-use native.Mathlib.Omega.{arith}
-use borrow.Author.Needs.{needs}
 use Rattle.record.proofs.Record.vacant_place.Statement.{statement}
 use Rattle.record.proofs.Record.vacant_place.Tie as tie
-use Rattle.record.proofs.Record.vacant_place.Reads as reads
-use Rattle.record.proofs.Record.vacant_place.Lts as lts
 
 returns : tie.Need-returns
 returns c = vacant-high (c .before .before .args .self) (c .before .before .args .place) (c .if1 .taken)
@@ -31,7 +29,7 @@ returns-2 c =
     let long : length (self .places) ≡ 8 = search (mapped-length, needs) in
     let below : place < 8 = search needs in
     let same : isFilled self place ≡ getD (self .places) place pastPlace .filled =
-        ap (λ (p : Place). p .filled) (getD-any (self .places) place noPlace pastPlace (omega arith))
+    ap (λ (p : Place). p .filled) (getD-any (self .places) place noPlace pastPlace (omega arith))
     in
     vacant-no self place below (same ∙ c .if2 .taken)
 
@@ -42,7 +40,7 @@ returns-3 c =
     let long : length (self .places) ≡ 8 = search (mapped-length, needs) in
     let below : place < 8 = search needs in
     let same : isFilled self place ≡ getD (self .places) place pastPlace .filled =
-        ap (λ (p : Place). p .filled) (getD-any (self .places) place noPlace pastPlace (omega arith))
+    ap (λ (p : Place). p .filled) (getD-any (self .places) place noPlace pastPlace (omega arith))
     in
     vacant-yes self place below (same ∙ c .if2 .left)
 

@@ -1,21 +1,14 @@
+-- `record::Record::whole` meets its contract: the tests are those of `goodRecord` in its order, and the first that fails decides.
+-- Assumes nothing.
+use mathlib.Core.Path.{_≡_, sym, _∙_}
+use mathlib.Core.Bool.{true, false}
 use borrow.Author.Tests.{not-true, not-false}
+use borrow.Author.Needs.{needs}
 use Rattle.record.specs.declared.Record.{Record}
 use Rattle.record.specs.View.{schemaOf}
 use Rattle.record.specs.Rule.{every, goodRelations, goodDependencies, goodPlace, goodRecord}
-use mathlib.Core.Path.{_≡_, refl, sym, ap, _∙_}
-use mathlib.Core.Bool.{Bool, true, false, cond, not, _&&_}
-use Prim.Native.Nat.{ℕ, zero, suc, _+_, _*_, _-_, _≤_, _<_}
-use lib.Dec.{eqb, ltb, leb}
-use lib.ListN.{length, take, drop, getD}
-use native.Mathlib.Omega.{arith}
-use borrow.Author.Needs.{needs}
 use Rattle.record.proofs.Record.whole.Statement.{statement}
 use Rattle.record.proofs.Record.whole.Tie as tie
-use Rattle.record.proofs.Record.whole.Reads as reads
-use Rattle.record.proofs.Record.whole.Lts as lts
-use Rattle.record.proofs.rule.dependencies_good.Reads as dependencies-good-reads
-use Rattle.record.proofs.rule.places_good.Reads as places-good-reads
-use Rattle.record.proofs.rule.relations_good.Reads as relations-good-reads
 
 module _ (r : Record) where
   stops-1 : goodRelations (r .relations) (r .widths) ≡ false → false ≡ goodRecord r

@@ -1,17 +1,15 @@
+-- `record::calls::padded_widths` meets its contract. Invariant: the first i widths are stored, and 0 stands after them.
+-- Assumes nothing.
+use mathlib.Core.Path.{_≡_, refl, ap, _∙_}
 use mathlib.Core.List.{List, _++_}
-use lib.Seq.{take-length}
-use Rattle.record.proofs.Tail.{filledTo, filled-next}
-use borrow.Author.Needs.{needs}
-use mathlib.Core.Path.{_≡_, refl, sym, ap, _∙_}
-use mathlib.Core.Bool.{Bool, true, false, cond, not, _&&_}
-use Prim.Native.Nat.{ℕ, zero, suc, _+_, _*_, _-_, _≤_, _<_}
-use lib.Dec.{eqb, ltb, leb}
-use lib.ListN.{length, getD, set, replicate}
+use Prim.Native.Nat.{ℕ, _-_, _≤_}
 use native.Mathlib.Omega.{arith}
+use lib.Seq.{take-length}
+use lib.ListN.{length, getD, set, replicate}
+use borrow.Author.Needs.{needs}
+use Rattle.record.proofs.Tail.{filledTo, filled-next}
 use Rattle.record.proofs.calls.padded_widths.Statement.{statement}
 use Rattle.record.proofs.calls.padded_widths.Tie as tie
-use Rattle.record.proofs.calls.padded_widths.Reads as reads
-use Rattle.record.proofs.calls.padded_widths.Lts as lts
 
 abbrev Inv-loop : tie.InvT-loop
 Inv-loop widths padded₀ i₀ i-end padded i = (i ≤ length widths) × (i-end ≡ length widths) × (padded ≡ filledTo 8 0 widths i)
@@ -41,7 +39,7 @@ loop-again c =
     (search needs, search needs, ap (λ (l : List ℕ). set l i (getD widths i 0)) (c .before .before .loop .inv .2) ∙ filled-next 8 0 widths i (search needs) (search needs))
 
 returns : tie.Need-returns Inv-loop μ-loop
-returns c = 
+returns c =
     let widths = c .before .before .args .widths .now in
     let all : c .before .loop .i ≡ length widths = omega arith in
     c .before .loop .inv .2 ∙ ap (filledTo 8 0 widths) all ∙ ap (λ (l : List ℕ). l ++ replicate (8 - length widths) 0) (take-length widths)

@@ -1,24 +1,20 @@
-use borrow.Author.Needs.{needs}
+-- `record::rule::cell_good` meets its contract: in each arm the entry is the constructor at the number that the arm binds.
+-- Assumes nothing.
 use mathlib.Core.Path.{ap, sym}
+use borrow.Author.Needs.{needs}
 use Rattle.record.specs.Rule.{goodEntry}
 use Rattle.record.proofs.rule.cell_good.Statement.{statement}
 use Rattle.record.proofs.rule.cell_good.Tie as tie
-use Rattle.record.proofs.rule.cell_good.Reads as reads
-use Rattle.record.proofs.rule.cell_good.Lts as lts
 
--- src/rule.rt:22:25
 enum-known-e : tie.Need-enum-known-e
 enum-known-e c = search needs
 
--- src/rule.rt:23:25
 enum-known-e-2 : tie.Need-enum-known-e-2
 enum-known-e-2 c = search needs
 
--- src/rule.rt:17:1
 returns : tie.Need-returns
 returns c = ap goodEntry (sym (c .before .e .given .1))
 
--- src/rule.rt:17:1
 returns-2 : tie.Need-returns-2
 returns-2 c = ap goodEntry (sym (c .before .e2 .given .1))
 

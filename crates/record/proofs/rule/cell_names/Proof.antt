@@ -1,15 +1,10 @@
-use Rattle.record.specs.Rule.{isVariable}
-use mathlib.Core.Path.{_≡_, refl, sym, ap, _∙_}
-use mathlib.Core.Bool.{Bool, true, false, cond, not, _&&_}
-use Prim.Native.Nat.{ℕ, zero, suc, _+_, _*_, _-_, _≤_, _<_}
-use lib.Dec.{eqb, ltb, leb}
-use lib.ListN.{length, take, drop, getD}
-use native.Mathlib.Omega.{arith}
+-- `record::rule::cell_names` meets its contract: in each arm the entry is the constructor at the number that the arm binds.
+-- Assumes nothing.
+use mathlib.Core.Path.{sym, ap}
 use borrow.Author.Needs.{needs}
+use Rattle.record.specs.Rule.{isVariable}
 use Rattle.record.proofs.rule.cell_names.Statement.{statement}
 use Rattle.record.proofs.rule.cell_names.Tie as tie
-use Rattle.record.proofs.rule.cell_names.Reads as reads
-use Rattle.record.proofs.rule.cell_names.Lts as lts
 
 enum-told : tie.Need-enum-told
 enum-told c = search needs

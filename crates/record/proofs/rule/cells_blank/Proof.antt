@@ -1,17 +1,13 @@
+-- `record::rule::cells_blank` meets its contract. Invariant: the answer is that of the cells from i on.
+-- Assumes nothing.
+use mathlib.Core.Path.{_≡_}
+use Prim.Native.Nat.{_-_}
+use lib.ListN.{length, drop}
+use borrow.Author.Needs.{needs}
 use Rattle.record.specs.Rule.{every, blankCell, noCell}
 use Rattle.record.proofs.Tail.{Remains, turn-passes, turn-fails, turns-end, every-start}
-use borrow.Author.Needs.{needs}
-use mathlib.Core.Path.{_≡_, refl, sym, ap, _∙_}
-use mathlib.Core.Bool.{Bool, true, false, cond, not, _&&_}
-use Prim.Native.Nat.{ℕ, zero, suc, _+_, _*_, _-_, _≤_, _<_}
-use lib.Dec.{eqb, ltb, leb}
-use lib.ListN.{length, take, drop, getD}
-use native.Mathlib.Omega.{arith}
 use Rattle.record.proofs.rule.cells_blank.Statement.{statement}
 use Rattle.record.proofs.rule.cells_blank.Tie as tie
-use Rattle.record.proofs.rule.cells_blank.Reads as reads
-use Rattle.record.proofs.rule.cells_blank.Lts as lts
-use Rattle.record.proofs.rule.cell_blank.Reads as cell-blank-reads
 
 abbrev Inv-loop : tie.InvT-loop
 Inv-loop from cells i₀ i = (length cells ≡ 96) × Remains (λ _. blankCell) cells (every blankCell (drop from cells)) i

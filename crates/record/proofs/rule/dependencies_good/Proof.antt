@@ -1,20 +1,17 @@
+-- `record::rule::dependencies_good` meets its contract. Invariant: the answer is that of the slots from i on.
+-- Assumes nothing.
+use mathlib.Core.Path.{_≡_, _∙_}
+use mathlib.Core.Bool.{false}
 use mathlib.Core.List.{List}
+use Prim.Native.Nat.{ℕ, _-_, _≤_, _<_}
+use lib.ListN.{length, take}
 use borrow.Author.Tests.{le-leb, lt-leb}
+use borrow.Author.Needs.{needs}
 use Rattle.record.specs.declared.Dependency.{Dependency}
 use Rattle.record.specs.Rule.{goodDependencies, goodDependency, blankDependency, inUse, noDependency}
 use Rattle.record.proofs.Tail.{Remains, usedTest, turn-passes, turn-fails, turns-end, used-start}
-use borrow.Author.Needs.{needs}
-use mathlib.Core.Path.{_≡_, refl, sym, ap, _∙_}
-use mathlib.Core.Bool.{Bool, true, false, cond, not, _&&_}
-use Prim.Native.Nat.{ℕ, zero, suc, _+_, _*_, _-_, _≤_, _<_}
-use lib.Dec.{eqb, ltb, leb}
-use lib.ListN.{length, take, drop, getD}
-use native.Mathlib.Omega.{arith}
 use Rattle.record.proofs.rule.dependencies_good.Statement.{statement}
 use Rattle.record.proofs.rule.dependencies_good.Tie as tie
-use Rattle.record.proofs.rule.dependencies_good.Reads as reads
-use Rattle.record.proofs.rule.dependencies_good.Lts as lts
-use Rattle.record.proofs.rule.dependency_fits.Reads as dependency-fits-reads
 
 many : (schema : List ℕ) (held : ℕ) (dependencies : List Dependency) → 32 < held → false ≡ goodDependencies schema held dependencies
 unfolding goodDependencies
@@ -38,13 +35,15 @@ returns c = many (take (c .before .args .relations) (c .before .args .widths)) (
 
 loop-holds : tie.Need-loop-holds Inv-loop μ-loop
 loop-holds c =
-    let schema = take (c .before .args .relations) (c .before .args .widths) in
-    (search needs, search needs,
-    record {
-      rest =
-          few schema (c .before .args .held) (c .before .args .t4) (c .if1 .left)
-          ∙ used-start (goodDependency schema) blankDependency (c .before .args .held) (c .before .args .t4) .rest;
-    })
+    let schema = take (c .before .args .relations) (c .before .args .widths) in (
+      search needs,
+      search needs,
+      record {
+        rest =
+            few schema (c .before .args .held) (c .before .args .t4) (c .if1 .left)
+            ∙ used-start (goodDependency schema) blankDependency (c .before .args .held) (c .before .args .t4) .rest;
+      },
+    )
 
 mul-dependency-fits : tie.Need-mul-dependency-fits Inv-loop μ-loop
 mul-dependency-fits c = search needs

@@ -1,16 +1,12 @@
+-- `record::rule::dependency_blank` meets its contract: the tests taken are those of `blankDependency`.
+-- Assumes nothing.
+use mathlib.Core.Path.{_≡_}
+use lib.Dec.{eqb}
+use borrow.Author.Tests.{eq-eqb, ne-eqb}
 use Rattle.record.specs.declared.Dependency.{Dependency}
 use Rattle.record.specs.Rule.{blankDependency}
-use borrow.Author.Tests.{eq-eqb, ne-eqb}
-use mathlib.Core.Path.{_≡_, refl, sym, ap, _∙_}
-use mathlib.Core.Bool.{Bool, true, false, cond, not, _&&_}
-use Prim.Native.Nat.{ℕ, zero, suc, _+_, _*_, _-_, _≤_, _<_}
-use lib.Dec.{eqb, ltb, leb}
-use lib.ListN.{length, take, drop, getD}
-use native.Mathlib.Omega.{arith}
 use Rattle.record.proofs.rule.dependency_blank.Statement.{statement}
 use Rattle.record.proofs.rule.dependency_blank.Tie as tie
-use Rattle.record.proofs.rule.dependency_blank.Reads as reads
-use Rattle.record.proofs.rule.dependency_blank.Lts as lts
 
 last : (d : Dependency) → d .relation ≡ 0 → d .left ≡ 0 → eqb (d .right) 0 ≡ blankDependency d
 last d relation left = rw (eq-eqb (d .relation) 0 relation, eq-eqb (d .left) 0 left)

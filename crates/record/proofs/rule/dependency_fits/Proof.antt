@@ -1,16 +1,8 @@
-use mathlib.Core.Path.{_≡_, refl, sym, ap, _∙_}
-use mathlib.Core.Bool.{Bool, true, false, cond, not, _&&_}
-use Prim.Native.Nat.{ℕ, zero, suc, _+_, _*_, _-_, _≤_, _<_}
-use lib.Dec.{eqb, ltb, leb}
-use lib.ListN.{length, take, drop, getD}
-use native.Mathlib.Omega.{arith}
+-- `record::rule::dependency_fits` meets its contract, by the contracts of the two tests that it chooses from.
+-- Assumes nothing.
 use borrow.Author.Needs.{needs}
 use Rattle.record.proofs.rule.dependency_fits.Statement.{statement}
 use Rattle.record.proofs.rule.dependency_fits.Tie as tie
-use Rattle.record.proofs.rule.dependency_fits.Reads as reads
-use Rattle.record.proofs.rule.dependency_fits.Lts as lts
-use Rattle.record.proofs.rule.dependency_blank.Reads as dependency-blank-reads
-use Rattle.record.proofs.rule.dependency_good.Reads as dependency-good-reads
 
 dependency-good-requires : tie.Need-dependency-good-requires
 dependency-good-requires c κs = search needs

@@ -1,22 +1,18 @@
+-- `record::rule::dependency_good` meets its contract: a dependency is good where its relation and left set are, and its right column is a column.
+-- Assumes nothing.
+use mathlib.Core.Path.{_≡_, refl, sym, _∙_}
+use mathlib.Core.Bool.{true, false, _&&_}
 use mathlib.Core.List.{List}
+use Prim.Native.Nat.{ℕ}
+use lib.Dec.{ltb}
+use lib.ListN.{take, getD}
 use borrow.Author.Tests.{not-true, not-false}
+use borrow.Author.Needs.{needs}
 use Rattle.record.specs.declared.Dependency.{Dependency}
 use Rattle.record.specs.Rule.{goodDependency, goodSet}
-use mathlib.Core.Path.{_≡_, refl, sym, ap, _∙_}
-use mathlib.Core.Bool.{Bool, true, false, cond, not, _&&_}
-use Prim.Native.Nat.{ℕ, zero, suc, _+_, _*_, _-_, _≤_, _<_}
-use lib.Dec.{eqb, ltb, leb}
-use lib.ListN.{length, take, drop, getD}
-use native.Mathlib.Omega.{arith}
-use borrow.Author.Needs.{needs}
 use Rattle.record.proofs.rule.dependency_good.Statement.{statement}
 use Rattle.record.proofs.rule.dependency_good.Tie as tie
-use Rattle.record.proofs.rule.dependency_good.Reads as reads
-use Rattle.record.proofs.rule.dependency_good.Lts as lts
-use Rattle.record.proofs.rule.set_good.Reads as set-good-reads
-use Rattle.record.proofs.rule.width_of.Reads as width-of-reads
 
--- a dependency is good where its relation and left set are, and its right column is a column
 parts : (schema : List ℕ) (d : Dependency) → goodDependency schema d ≡ goodSet schema (d .relation) (d .left) && ltb (d .right) (getD schema (d .relation) 0)
 unfolding goodDependency goodSet
 parts schema d = refl

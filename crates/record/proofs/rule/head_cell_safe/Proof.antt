@@ -1,18 +1,13 @@
-use Rattle.record.specs.Rule.{safeEntry}
+-- `record::rule::head_cell_safe` meets its contract: in each arm the entry is the constructor at the number that the arm binds.
+-- Assumes nothing.
+use mathlib.Core.Path.{sym, ap, _∙_}
+use lib.ListN.{take}
+use borrow.Author.Needs.{needs}
 use Rattle.theory.specs.Query.{variablesOf, rowEntries}
 use Rattle.record.specs.View.{rowsOf}
-use mathlib.Core.Path.{_≡_, refl, sym, ap, _∙_}
-use mathlib.Core.Bool.{Bool, true, false, cond, not, _&&_}
-use Prim.Native.Nat.{ℕ, zero, suc, _+_, _*_, _-_, _≤_, _<_}
-use lib.Dec.{eqb, ltb, leb}
-use lib.ListN.{length, take, drop, getD}
-use native.Mathlib.Omega.{arith}
-use borrow.Author.Needs.{needs}
+use Rattle.record.specs.Rule.{safeEntry}
 use Rattle.record.proofs.rule.head_cell_safe.Statement.{statement}
 use Rattle.record.proofs.rule.head_cell_safe.Tie as tie
-use Rattle.record.proofs.rule.head_cell_safe.Reads as reads
-use Rattle.record.proofs.rule.head_cell_safe.Lts as lts
-use Rattle.record.proofs.rule.rows_have.Reads as rows-have-reads
 
 enum-told : tie.Need-enum-told
 enum-told c = search needs

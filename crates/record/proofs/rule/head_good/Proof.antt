@@ -1,17 +1,13 @@
+-- `record::rule::head_good` meets its contract. Invariant: the answer is that of the entries from i on.
+-- Assumes nothing.
+use mathlib.Core.Path.{_≡_}
+use Prim.Native.Nat.{_-_, _≤_}
+use lib.ListN.{length}
+use borrow.Author.Needs.{needs}
 use Rattle.record.specs.Rule.{inUse, goodCell, blankCell, noCell}
 use Rattle.record.proofs.Tail.{Remains, usedTest, turn-passes, turn-fails, turns-end, used-start}
-use borrow.Author.Needs.{needs}
-use mathlib.Core.Path.{_≡_, refl, sym, ap, _∙_}
-use mathlib.Core.Bool.{Bool, true, false, cond, not, _&&_}
-use Prim.Native.Nat.{ℕ, zero, suc, _+_, _*_, _-_, _≤_, _<_}
-use lib.Dec.{eqb, ltb, leb}
-use lib.ListN.{length, take, drop, getD}
-use native.Mathlib.Omega.{arith}
 use Rattle.record.proofs.rule.head_good.Statement.{statement}
 use Rattle.record.proofs.rule.head_good.Tie as tie
-use Rattle.record.proofs.rule.head_good.Reads as reads
-use Rattle.record.proofs.rule.head_good.Lts as lts
-use Rattle.record.proofs.rule.cell_fits.Reads as cell-fits-reads
 
 abbrev Inv-loop : tie.InvT-loop
 Inv-loop used head i₀ i = (i ≤ 8) × (length head ≡ 8) × Remains (usedTest used goodCell blankCell) head (inUse used goodCell blankCell head) i

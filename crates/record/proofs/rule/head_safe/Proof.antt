@@ -1,24 +1,18 @@
-use Rattle.record.proofs.Tail.{mapped-length}
-use mathlib.Core.List.{List}
-use borrow.Author.Tests.{not-true, not-false}
+-- `record::rule::head_safe` meets its contract. Invariant: the answer is that of the head entries from i on.
+-- Assumes nothing.
+use mathlib.Core.Path.{_≡_, sym, ap, _∙_}
+use Prim.Native.Nat.{_-_, _≤_, _<_}
+use native.Mathlib.Omega.{arith}
+use lib.Seq.{getD-take, length-take-le}
+use lib.ListN.{length, take, getD, length-take}
+use borrow.Author.Needs.{needs}
 use Rattle.theory.specs.Query.{variablesOf, rowEntries}
 use Rattle.record.specs.View.{rowsOf}
 use Rattle.record.specs.Rule.{every, safeCell, noCell}
-use Rattle.record.proofs.Tail.{Remains, turn-passes, turn-fails, turns-end, every-start}
+use Rattle.record.proofs.Tail.{mapped-length, Remains, turn-passes, turn-fails, turns-end, every-start}
 use Rattle.record.proofs.Variables.{rowVariables, head-safe-is}
-use lib.Seq.{getD-take, length-take-le}
-use borrow.Author.Needs.{needs}
-use mathlib.Core.Path.{_≡_, refl, sym, ap, _∙_}
-use mathlib.Core.Bool.{Bool, true, false, cond, not, _&&_}
-use Prim.Native.Nat.{ℕ, zero, suc, _+_, _*_, _-_, _≤_, _<_}
-use lib.Dec.{eqb, ltb, leb}
-use lib.ListN.{length, take, drop, getD, length-take}
-use native.Mathlib.Omega.{arith}
 use Rattle.record.proofs.rule.head_safe.Statement.{statement}
 use Rattle.record.proofs.rule.head_safe.Tie as tie
-use Rattle.record.proofs.rule.head_safe.Reads as reads
-use Rattle.record.proofs.rule.head_safe.Lts as lts
-use Rattle.record.proofs.rule.head_cell_safe.Reads as head-cell-safe-reads
 
 abbrev Inv-loop : tie.InvT-loop
 Inv-loop relations widths head named cells arity size i₀ i =
@@ -57,7 +51,7 @@ returns c =
     let variables = rowVariables (take (c .before .before .before .before .before .before .before .before .before .before .args .relations) (c .before .before .before .before .before .before .before .before .before .before .args .widths)) q in
     let inside : at < length (take (q .arity) (q .head)) = rw (length-take-le (q .arity) (q .head) (omega arith)) (search needs) in
     let seen : c .before .head-cell-safe .result ≡ safeCell variables (getD (take (q .arity) (q .head)) at noCell) =
-        c .before .head-cell-safe .ensures ∙ ap (safeCell variables) (sym (getD-take (q .arity) (q .head) at noCell (search needs)))
+    c .before .head-cell-safe .ensures ∙ ap (safeCell variables) (sym (getD-take (q .arity) (q .head) at noCell (search needs)))
     in
     turn-fails (c .before .before .before .before .loop .inv .2) noCell inside seen (c .if1 .taken) ∙ sym (head-safe-is (take (c .before .before .before .before .before .before .before .before .before .before .args .relations) (c .before .before .before .before .before .before .before .before .before .before .args .widths)) q)
 
@@ -74,7 +68,7 @@ loop-again c =
     let variables = rowVariables (take (c .before .before .before .before .before .before .before .before .before .before .args .relations) (c .before .before .before .before .before .before .before .before .before .before .args .widths)) q in
     let inside : at < length (take (q .arity) (q .head)) = rw (length-take-le (q .arity) (q .head) (omega arith)) (search needs) in
     let seen : c .before .head-cell-safe .result ≡ safeCell variables (getD (take (q .arity) (q .head)) at noCell) =
-        c .before .head-cell-safe .ensures ∙ ap (safeCell variables) (sym (getD-take (q .arity) (q .head) at noCell (search needs)))
+    c .before .head-cell-safe .ensures ∙ ap (safeCell variables) (sym (getD-take (q .arity) (q .head) at noCell (search needs)))
     in
     (search needs, search needs, turn-passes (c .before .before .before .before .loop .inv .2) noCell inside seen (c .if1 .left))
 

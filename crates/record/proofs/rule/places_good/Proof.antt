@@ -1,17 +1,13 @@
+-- `record::rule::places_good` meets its contract. Invariant: the answer is that of the places from i on.
+-- Assumes nothing.
+use mathlib.Core.Path.{_≡_}
+use Prim.Native.Nat.{_-_, _≤_}
+use lib.ListN.{length, take}
+use borrow.Author.Needs.{needs}
 use Rattle.record.specs.Rule.{every, goodPlace}
 use Rattle.record.proofs.Tail.{Remains, turn-passes, turn-fails, turns-end, every-start, pastPlace}
-use borrow.Author.Needs.{needs}
-use mathlib.Core.Path.{_≡_, refl, sym, ap, _∙_}
-use mathlib.Core.Bool.{Bool, true, false, cond, not, _&&_}
-use Prim.Native.Nat.{ℕ, zero, suc, _+_, _*_, _-_, _≤_, _<_}
-use lib.Dec.{eqb, ltb, leb}
-use lib.ListN.{length, take, drop, getD}
-use native.Mathlib.Omega.{arith}
 use Rattle.record.proofs.rule.places_good.Statement.{statement}
 use Rattle.record.proofs.rule.places_good.Tie as tie
-use Rattle.record.proofs.rule.places_good.Reads as reads
-use Rattle.record.proofs.rule.places_good.Lts as lts
-use Rattle.record.proofs.rule.place_good.Reads as place-good-reads
 
 abbrev Inv-loop : tie.InvT-loop
 Inv-loop relations widths places i₀ i =

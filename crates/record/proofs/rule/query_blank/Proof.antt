@@ -1,21 +1,14 @@
-use Rattle.record.proofs.Tail.{none-used}
+-- `record::rule::query_blank` meets its contract: the tests are those of `blankQuery` in its order, and the first that fails decides.
+-- Assumes nothing.
+use mathlib.Core.Path.{_≡_, sym, _∙_}
+use mathlib.Core.Bool.{true, false}
 use borrow.Author.Tests.{eq-eqb, ne-eqb, not-true, not-false}
+use borrow.Author.Needs.{needs}
 use Rattle.record.specs.declared.Query.{Query}
 use Rattle.record.specs.Rule.{every, inUse, blankQuery, goodCell, blankCell, isZero}
-use mathlib.Core.Path.{_≡_, refl, sym, ap, _∙_}
-use mathlib.Core.Bool.{Bool, true, false, cond, not, _&&_}
-use Prim.Native.Nat.{ℕ, zero, suc, _+_, _*_, _-_, _≤_, _<_}
-use lib.Dec.{eqb, ltb, leb}
-use lib.ListN.{length, take, drop, getD}
-use native.Mathlib.Omega.{arith}
-use borrow.Author.Needs.{needs}
+use Rattle.record.proofs.Tail.{none-used}
 use Rattle.record.proofs.rule.query_blank.Statement.{statement}
 use Rattle.record.proofs.rule.query_blank.Tie as tie
-use Rattle.record.proofs.rule.query_blank.Reads as reads
-use Rattle.record.proofs.rule.query_blank.Lts as lts
-use Rattle.record.proofs.rule.cells_blank.Reads as cells-blank-reads
-use Rattle.record.proofs.rule.head_good.Reads as head-good-reads
-use Rattle.record.proofs.rule.named_blank.Reads as named-blank-reads
 
 module _ (q : Query) where
   stops-1 : (q .arity ≡ 0 → ⊥) → false ≡ blankQuery q

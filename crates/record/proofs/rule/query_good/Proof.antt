@@ -1,23 +1,16 @@
+-- `record::rule::query_good` meets its contract: the tests are those of `goodQuery` in its order, and the first that fails decides.
+-- Assumes nothing.
+use mathlib.Core.Path.{_≡_, sym, _∙_}
+use mathlib.Core.Bool.{Bool, true, false}
 use mathlib.Core.List.{List}
+use Prim.Native.Nat.{ℕ, _*_, _≤_, _<_}
+use lib.ListN.{take, drop}
 use borrow.Author.Tests.{le-leb, lt-leb, not-true, not-false}
+use borrow.Author.Needs.{needs}
 use Rattle.record.specs.declared.Query.{Query}
 use Rattle.record.specs.Rule.{every, inUse, isZero, goodCell, blankCell, goodRows, goodQuery, headInUse}
-use mathlib.Core.Path.{_≡_, refl, sym, ap, _∙_}
-use mathlib.Core.Bool.{Bool, true, false, cond, not, _&&_}
-use Prim.Native.Nat.{ℕ, zero, suc, _+_, _*_, _-_, _≤_, _<_}
-use lib.Dec.{eqb, ltb, leb}
-use lib.ListN.{length, take, drop, getD}
-use native.Mathlib.Omega.{arith}
-use borrow.Author.Needs.{needs}
 use Rattle.record.proofs.rule.query_good.Statement.{statement}
 use Rattle.record.proofs.rule.query_good.Tie as tie
-use Rattle.record.proofs.rule.query_good.Reads as reads
-use Rattle.record.proofs.rule.query_good.Lts as lts
-use Rattle.record.proofs.rule.cells_blank.Reads as cells-blank-reads
-use Rattle.record.proofs.rule.head_good.Reads as head-good-reads
-use Rattle.record.proofs.rule.head_in_use.Reads as head-in-use-reads
-use Rattle.record.proofs.rule.named_blank.Reads as named-blank-reads
-use Rattle.record.proofs.rule.rows_good.Reads as rows-good-reads
 
 head-by : (q : Query) {used : ℕ} {r t : Bool} → used ≡ headInUse q → r ≡ inUse used goodCell blankCell (q .head) → r ≡ t
     → inUse (headInUse q) goodCell blankCell (q .head) ≡ t
@@ -101,9 +94,9 @@ returns-6 : tie.Need-returns-6
 returns-6 c =
     c .cells-blank .ensures
     ∙ goes (take (c .before .before .before .before .before .before .before .before .before .before .before .before .before .args .relations) (c .before .before .before .before .before .before .before .before .before .before .before .before .before .args .widths)) (c .before .before .before .before .before .before .before .before .before .before .before .before .before .args .q) (c .before .before .before .before .before .before .before .before .before .if1 .left) (c .before .before .before .before .before .before .before .before .if2 .left)
-      (head-by (c .before .before .before .before .before .before .before .before .before .before .before .before .before .args .q) (c .before .before .before .before .before .before .before .head-in-use .ensures) (c .before .before .before .before .before .before .head-good .ensures) (not-false _ (c .before .before .before .before .before .if3 .left)))
-      (sym (c .before .before .before .before .rows-good .ensures) ∙ not-false _ (c .before .before .before .if4 .left))
-      (sym (c .before .before .named-blank .ensures) ∙ not-false _ (c .before .if5 .left))
+    (head-by (c .before .before .before .before .before .before .before .before .before .before .before .before .before .args .q) (c .before .before .before .before .before .before .before .head-in-use .ensures) (c .before .before .before .before .before .before .head-good .ensures) (not-false _ (c .before .before .before .before .before .if3 .left)))
+    (sym (c .before .before .before .before .rows-good .ensures) ∙ not-false _ (c .before .before .before .if4 .left))
+    (sym (c .before .before .named-blank .ensures) ∙ not-false _ (c .before .if5 .left))
 
 pub query-good-spec : {M : Type 1} → statement M
 query-good-spec =

@@ -1,19 +1,15 @@
+-- `record::rule::relations_good` meets its contract. Invariant: the answer is that of the widths from i on.
+-- Assumes nothing.
+use mathlib.Core.Path.{_≡_, _∙_}
+use mathlib.Core.List.{List}
+use Prim.Native.Nat.{ℕ, _-_, _≤_}
+use lib.ListN.{length}
 use borrow.Author.Tests.{le-leb, lt-leb}
+use borrow.Author.Needs.{needs}
 use Rattle.record.specs.Rule.{goodRelations, between, isZero, inUse}
 use Rattle.record.proofs.Tail.{Remains, usedTest, turn-passes, turn-fails, turns-end, used-start}
-use borrow.Author.Needs.{needs}
-use mathlib.Core.Path.{_≡_, refl, sym, ap, _∙_}
-use mathlib.Core.Bool.{Bool, true, false, cond, not, _&&_}
-use Prim.Native.Nat.{ℕ, zero, suc, _+_, _*_, _-_, _≤_, _<_}
-use mathlib.Core.List.{List}
-use lib.Dec.{eqb, ltb, leb}
-use lib.ListN.{length, take, drop, getD}
-use native.Mathlib.Omega.{arith}
 use Rattle.record.proofs.rule.relations_good.Statement.{statement}
 use Rattle.record.proofs.rule.relations_good.Tie as tie
-use Rattle.record.proofs.rule.relations_good.Reads as reads
-use Rattle.record.proofs.rule.relations_good.Lts as lts
-use Rattle.record.proofs.rule.width_fits.Reads as width-fits-reads
 
 starts : (relations : ℕ) (widths : List ℕ) → 1 ≤ relations → relations ≤ 8 → goodRelations relations widths ≡ inUse relations (between 1 8) isZero widths
 unfolding goodRelations
@@ -36,9 +32,11 @@ returns-2 c = simp (le-leb 1 (c .before .before .args .relations) (c .before .if
 loop-holds : tie.Need-loop-holds Inv-loop μ-loop
 loop-holds c =
     let relations = c .before .before .args .relations in
-    let widths = c .before .before .args .t2 in
-    (search needs, search needs,
-    record { rest = starts relations widths (c .before .if1 .left) (c .if2 .left) ∙ used-start (between 1 8) isZero relations widths .rest })
+    let widths = c .before .before .args .t2 in (
+      search needs,
+      search needs,
+      record { rest = starts relations widths (c .before .if1 .left) (c .if2 .left) ∙ used-start (between 1 8) isZero relations widths .rest },
+    )
 
 array-read-width-fits : tie.Need-array-read-width-fits Inv-loop μ-loop
 array-read-width-fits c = search needs

@@ -1,17 +1,14 @@
+-- `record::rule::row_good` meets its contract. Invariant: the answer is that of the cells of the row from i on.
+-- Assumes nothing.
+use mathlib.Core.Path.{_≡_, sym, ap, _∙_}
+use Prim.Native.Nat.{_+_, _-_, _≤_, _<_}
+use native.Mathlib.Omega.{arith}
+use lib.ListN.{length, take, drop, getD}
+use borrow.Author.Needs.{needs}
 use Rattle.record.specs.Rule.{inUse, goodCell, blankCell, noCell}
 use Rattle.record.proofs.Tail.{Remains, usedTest, turn-passes, turn-fails, turns-end, used-start, stretch-length, stretch-getD}
-use borrow.Author.Needs.{needs}
-use mathlib.Core.Path.{_≡_, refl, sym, ap, _∙_}
-use mathlib.Core.Bool.{Bool, true, false, cond, not, _&&_}
-use Prim.Native.Nat.{ℕ, zero, suc, _+_, _*_, _-_, _≤_, _<_}
-use lib.Dec.{eqb, ltb, leb}
-use lib.ListN.{length, take, drop, getD}
-use native.Mathlib.Omega.{arith}
 use Rattle.record.proofs.rule.row_good.Statement.{statement}
 use Rattle.record.proofs.rule.row_good.Tie as tie
-use Rattle.record.proofs.rule.row_good.Reads as reads
-use Rattle.record.proofs.rule.row_good.Lts as lts
-use Rattle.record.proofs.rule.cell_fits.Reads as cell-fits-reads
 
 abbrev Inv-loop : tie.InvT-loop
 Inv-loop start used cells i₀ i =
@@ -45,7 +42,7 @@ returns c =
     let below : at < 8 = search needs in
     let inside : at < length (take 8 (drop start cells)) = rw (stretch-length start 8 cells room) below in
     let seen : c .before .cell-fits .result ≡ usedTest (c .before .before .before .before .before .args .used) goodCell blankCell at (getD (take 8 (drop start cells)) at noCell) =
-        c .before .cell-fits .ensures ∙ ap (usedTest (c .before .before .before .before .before .args .used) goodCell blankCell at) (sym (stretch-getD start 8 cells at noCell below))
+    c .before .cell-fits .ensures ∙ ap (usedTest (c .before .before .before .before .before .args .used) goodCell blankCell at) (sym (stretch-getD start 8 cells at noCell below))
     in
     turn-fails (c .before .before .before .before .loop .inv .2) noCell inside seen (c .if1 .taken)
 
@@ -64,7 +61,7 @@ loop-again c =
     let below : at < 8 = search needs in
     let inside : at < length (take 8 (drop start cells)) = rw (stretch-length start 8 cells room) below in
     let seen : c .before .cell-fits .result ≡ usedTest (c .before .before .before .before .before .args .used) goodCell blankCell at (getD (take 8 (drop start cells)) at noCell) =
-        c .before .cell-fits .ensures ∙ ap (usedTest (c .before .before .before .before .before .args .used) goodCell blankCell at) (sym (stretch-getD start 8 cells at noCell below))
+    c .before .cell-fits .ensures ∙ ap (usedTest (c .before .before .before .before .before .args .used) goodCell blankCell at) (sym (stretch-getD start 8 cells at noCell below))
     in
     (search needs, search needs, turn-passes (c .before .before .before .before .loop .inv .2) noCell inside seen (c .if1 .left))
 

@@ -1,20 +1,17 @@
+-- `record::rule::row_has` meets its contract. Invariant: whether the variable stands in the row is decided by the cells from i on.
+-- Assumes nothing.
+use mathlib.Core.Path.{_≡_, sym, ap, _∙_}
+use Prim.Native.Nat.{_-_, _≤_, _<_}
+use native.Mathlib.Omega.{arith}
+use lib.ListN.{length, take, drop, getD}
+use borrow.Author.Needs.{needs}
 use Rattle.theory.specs.Query.{member, variablesOf}
 use Rattle.record.specs.View.{entriesOf}
 use Rattle.record.specs.Rule.{namesVariable, noCell}
 use Rattle.record.proofs.Tail.{Sought, search-finds, search-passes, search-ends, stretch-length, stretch-getD}
 use Rattle.record.proofs.Variables.{cells-start}
-use borrow.Author.Needs.{needs}
-use mathlib.Core.Path.{_≡_, refl, sym, ap, _∙_}
-use mathlib.Core.Bool.{Bool, true, false, cond, not, _&&_}
-use Prim.Native.Nat.{ℕ, zero, suc, _+_, _*_, _-_, _≤_, _<_}
-use lib.Dec.{eqb, ltb, leb}
-use lib.ListN.{length, take, drop, getD}
-use native.Mathlib.Omega.{arith}
 use Rattle.record.proofs.rule.row_has.Statement.{statement}
 use Rattle.record.proofs.rule.row_has.Tie as tie
-use Rattle.record.proofs.rule.row_has.Reads as reads
-use Rattle.record.proofs.rule.row_has.Lts as lts
-use Rattle.record.proofs.rule.cell_names.Reads as cell-names-reads
 
 abbrev Inv-loop : tie.InvT-loop
 Inv-loop start width v cells i₀ i =
@@ -48,7 +45,7 @@ returns c =
     let below : at < width = search needs in
     let inside : at < length (take width (drop start cells)) = rw (stretch-length start width cells (omega arith)) below in
     let seen : c .before .cell-names .result ≡ namesVariable (c .before .before .before .before .before .args .v) (getD (take width (drop start cells)) at noCell) =
-        c .before .cell-names .ensures ∙ ap (namesVariable (c .before .before .before .before .before .args .v)) (sym (stretch-getD start width cells at noCell below))
+    c .before .cell-names .ensures ∙ ap (namesVariable (c .before .before .before .before .before .args .v)) (sym (stretch-getD start width cells at noCell below))
     in
     search-finds (c .before .before .before .before .loop .inv .2) noCell inside seen (c .if1 .taken)
 
@@ -67,7 +64,7 @@ loop-again c =
     let below : at < width = search needs in
     let inside : at < length (take width (drop start cells)) = rw (stretch-length start width cells (omega arith)) below in
     let seen : c .before .cell-names .result ≡ namesVariable (c .before .before .before .before .before .args .v) (getD (take width (drop start cells)) at noCell) =
-        c .before .cell-names .ensures ∙ ap (namesVariable (c .before .before .before .before .before .args .v)) (sym (stretch-getD start width cells at noCell below))
+    c .before .cell-names .ensures ∙ ap (namesVariable (c .before .before .before .before .before .args .v)) (sym (stretch-getD start width cells at noCell below))
     in
     (search needs, search needs, search-passes (c .before .before .before .before .loop .inv .2) noCell inside seen (c .if1 .left))
 

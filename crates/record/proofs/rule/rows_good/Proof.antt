@@ -1,22 +1,20 @@
+-- `record::rule::rows_good` meets its contract. Invariant: the answer is that of the rows from the present one on.
+-- Assumes nothing.
+use mathlib.Core.Path.{_≡_, refl, sym, ap, _∙_}
+use mathlib.Core.Bool.{Bool, true, false}
 use mathlib.Core.List.{List}
+use Prim.Native.Nat.{ℕ, _*_, _-_, _≤_, _<_}
+use native.Mathlib.Omega.{arith}
+use lib.Seq.{getD-take, length-take-le}
+use lib.Dec.{ltb}
+use lib.ListN.{length, take, drop, getD, length-take}
+use borrow.Author.Needs.{needs}
 use Rattle.record.specs.declared.Cell.{Cell}
 use Rattle.record.specs.Rule.{inUse, goodRow, goodRows, goodCell, blankCell}
 use Rattle.record.proofs.Tail.{Remains, rowTest, rows-start, turn-passes, turn-fails, turns-end}
-use Rattle.record.proofs.Tests.{known-relation, unknown-relation, relations-bounds, width-le}
-use lib.Seq.{getD-take, length-take-le}
-use borrow.Author.Needs.{needs}
-use mathlib.Core.Path.{_≡_, refl, sym, ap, _∙_}
-use mathlib.Core.Bool.{Bool, true, false, cond, not, _&&_}
-use Prim.Native.Nat.{ℕ, zero, suc, _+_, _*_, _-_, _≤_, _<_}
-use lib.Dec.{eqb, ltb, leb}
-use lib.ListN.{length, take, drop, getD, length-take}
-use native.Mathlib.Omega.{arith}
+use Rattle.record.proofs.Tests.{known-relation, unknown-relation, relations-bounds}
 use Rattle.record.proofs.rule.rows_good.Statement.{statement}
 use Rattle.record.proofs.rule.rows_good.Tie as tie
-use Rattle.record.proofs.rule.rows_good.Reads as reads
-use Rattle.record.proofs.rule.rows_good.Lts as lts
-use Rattle.record.proofs.rule.row_good.Reads as row-good-reads
-use Rattle.record.proofs.rule.width_of.Reads as width-of-reads
 
 unknown-row : (schema : List ℕ) (relation : ℕ) (cells : List Cell) → ltb relation (length schema) ≡ false → false ≡ goodRow schema relation cells
 unknown-row schema relation cells e = rw e
@@ -34,9 +32,13 @@ abbrev μ-loop : tie.MeasureT-loop
 μ-loop relations widths size cells named row₀ row = size - row
 
 loop-holds : tie.Need-loop-holds Inv-loop μ-loop
-loop-holds c =
-    (search needs, search needs, search needs, search needs,
-    rows-start (take (c .args .relations) (c .args .widths)) (c .args .cells) (take (c .args .size) (c .args .t4)))
+loop-holds c = (
+  search needs,
+  search needs,
+  search needs,
+  search needs,
+  rows-start (take (c .args .relations) (c .args .widths)) (c .args .cells) (take (c .args .size) (c .args .t4)),
+)
 
 array-read-relation : tie.Need-array-read-relation Inv-loop μ-loop
 array-read-relation c = search needs
@@ -51,8 +53,8 @@ returns c =
     let inside : row < length (take size named) = rw (length-take-le size named (omega arith)) (search needs) in
     let read : getD (take size named) row 0 ≡ getD named row 0 = getD-take size named row 0 (search needs) in
     let seen : false ≡ rowTest schema cells row (getD (take size named) row 0) =
-        unknown-row schema (getD named row 0) (take 8 (drop (8 * row) cells)) (unknown-relation (c .before .before .before .args .relations) (c .before .before .before .args .widths) (getD named row 0) (c .if1 .taken))
-        ∙ ap (rowTest schema cells row) (sym read)
+    unknown-row schema (getD named row 0) (take 8 (drop (8 * row) cells)) (unknown-relation (c .before .before .before .args .relations) (c .before .before .before .args .widths) (getD named row 0) (c .if1 .taken))
+    ∙ ap (rowTest schema cells row) (sym read)
     in
     turn-fails (c .before .before .loop .inv .4) 0 inside seen refl
 
@@ -78,11 +80,11 @@ returns-2 c =
     let inside : row < length (take size named) = rw (length-take-le size named (omega arith)) (search needs) in
     let read : getD (take size named) row 0 ≡ getD named row 0 = getD-take size named row 0 (search needs) in
     let known : ltb (getD named row 0) (length schema) ≡ true =
-        known-relation (c .before .before .before .before .before .before .args .relations) (c .before .before .before .before .before .before .args .widths) (getD named row 0) (omega (arith, relations-bounds _ _ (c .before .before .before .before .before .before .pre .0) .1)) (c .before .before .before .if1 .left)
+    known-relation (c .before .before .before .before .before .before .args .relations) (c .before .before .before .before .before .before .args .widths) (getD named row 0) (omega (arith, relations-bounds _ _ (c .before .before .before .before .before .before .pre .0) .1)) (c .before .before .before .if1 .left)
     in
     let seen : c .before .row-good .result ≡ rowTest schema cells row (getD (take size named) row 0) =
-        known-row schema (getD named row 0) (take 8 (drop (8 * row) cells)) known (c .before .before .width-of .ensures) (c .before .row-good .ensures)
-        ∙ ap (rowTest schema cells row) (sym read)
+    known-row schema (getD named row 0) (take 8 (drop (8 * row) cells)) known (c .before .before .width-of .ensures) (c .before .row-good .ensures)
+    ∙ ap (rowTest schema cells row) (sym read)
     in
     turn-fails (c .before .before .before .before .before .loop .inv .4) 0 inside seen (c .if2 .taken)
 
@@ -102,11 +104,11 @@ loop-again c =
     let inside : row < length (take size named) = rw (length-take-le size named (omega arith)) (search needs) in
     let read : getD (take size named) row 0 ≡ getD named row 0 = getD-take size named row 0 (search needs) in
     let known : ltb (getD named row 0) (length schema) ≡ true =
-        known-relation (c .before .before .before .before .before .before .args .relations) (c .before .before .before .before .before .before .args .widths) (getD named row 0) (omega (arith, relations-bounds _ _ (c .before .before .before .before .before .before .pre .0) .1)) (c .before .before .before .if1 .left)
+    known-relation (c .before .before .before .before .before .before .args .relations) (c .before .before .before .before .before .before .args .widths) (getD named row 0) (omega (arith, relations-bounds _ _ (c .before .before .before .before .before .before .pre .0) .1)) (c .before .before .before .if1 .left)
     in
     let seen : c .before .row-good .result ≡ rowTest schema cells row (getD (take size named) row 0) =
-        known-row schema (getD named row 0) (take 8 (drop (8 * row) cells)) known (c .before .before .width-of .ensures) (c .before .row-good .ensures)
-        ∙ ap (rowTest schema cells row) (sym read)
+    known-row schema (getD named row 0) (take 8 (drop (8 * row) cells)) known (c .before .before .width-of .ensures) (c .before .row-good .ensures)
+    ∙ ap (rowTest schema cells row) (sym read)
     in
     (search needs, search needs, search needs, search needs, turn-passes (c .before .before .before .before .before .loop .inv .4) 0 inside seen (c .if2 .left))
 

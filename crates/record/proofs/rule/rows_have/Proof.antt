@@ -1,23 +1,18 @@
-use mathlib.Core.List.{List}
+-- `record::rule::rows_have` meets its contract. Invariant: whether the variable stands in a row is decided by the rows from the present one on.
+-- Assumes nothing.
+use mathlib.Core.Path.{_≡_, sym, ap, _∙_}
+use Prim.Native.Nat.{ℕ, _*_, _-_, _≤_, _<_}
+use native.Mathlib.Omega.{arith}
+use lib.Seq.{getD-take, length-take-le}
+use lib.ListN.{length, take, drop, getD, length-take}
+use borrow.Author.Needs.{needs}
 use Rattle.theory.specs.Query.{member, variablesOf, rowEntries}
 use Rattle.record.specs.View.{entriesOf, rowsOf}
 use Rattle.record.proofs.Tail.{Sought, search-finds, search-passes, search-ends}
 use Rattle.record.proofs.Variables.{rowHas, rows-start}
 use Rattle.record.proofs.Tests.{width-le}
-use lib.Seq.{getD-take, length-take-le}
-use borrow.Author.Needs.{needs}
-use mathlib.Core.Path.{_≡_, refl, sym, ap, _∙_}
-use mathlib.Core.Bool.{Bool, true, false, cond, not, _&&_}
-use Prim.Native.Nat.{ℕ, zero, suc, _+_, _*_, _-_, _≤_, _<_}
-use lib.Dec.{eqb, ltb, leb}
-use lib.ListN.{length, take, drop, getD, length-take}
-use native.Mathlib.Omega.{arith}
 use Rattle.record.proofs.rule.rows_have.Statement.{statement}
 use Rattle.record.proofs.rule.rows_have.Tie as tie
-use Rattle.record.proofs.rule.rows_have.Reads as reads
-use Rattle.record.proofs.rule.rows_have.Lts as lts
-use Rattle.record.proofs.rule.row_has.Reads as row-has-reads
-use Rattle.record.proofs.rule.width_of.Reads as width-of-reads
 
 abbrev Inv-loop : tie.InvT-loop
 Inv-loop relations widths size cells v named row₀ row =
@@ -57,9 +52,9 @@ returns c =
     let inside : row < length (take size named) = rw (length-take-le size named (omega arith)) (search needs) in
     let read : getD (take size named) row 0 ≡ getD named row 0 = getD-take size named row 0 (search needs) in
     let seen : c .before .row-has .result ≡ rowHas schema cells v row (getD (take size named) row 0) =
-        c .before .row-has .ensures
-        ∙ ap (λ (w : ℕ). member v (variablesOf (entriesOf (take w (drop (8 * row) cells))))) (c .before .before .width-of .ensures)
-        ∙ ap (rowHas schema cells v row) (sym read)
+    c .before .row-has .ensures
+    ∙ ap (λ (w : ℕ). member v (variablesOf (entriesOf (take w (drop (8 * row) cells))))) (c .before .before .width-of .ensures)
+    ∙ ap (rowHas schema cells v row) (sym read)
     in
     search-finds (c .before .before .before .before .loop .inv .2) 0 inside seen (c .if1 .taken)
 
@@ -80,9 +75,9 @@ loop-again c =
     let inside : row < length (take size named) = rw (length-take-le size named (omega arith)) (search needs) in
     let read : getD (take size named) row 0 ≡ getD named row 0 = getD-take size named row 0 (search needs) in
     let seen : c .before .row-has .result ≡ rowHas schema cells v row (getD (take size named) row 0) =
-        c .before .row-has .ensures
-        ∙ ap (λ (w : ℕ). member v (variablesOf (entriesOf (take w (drop (8 * row) cells))))) (c .before .before .width-of .ensures)
-        ∙ ap (rowHas schema cells v row) (sym read)
+    c .before .row-has .ensures
+    ∙ ap (λ (w : ℕ). member v (variablesOf (entriesOf (take w (drop (8 * row) cells))))) (c .before .before .width-of .ensures)
+    ∙ ap (rowHas schema cells v row) (sym read)
     in
     (search needs, search needs, search-passes (c .before .before .before .before .loop .inv .2) 0 inside seen (c .if1 .left))
 

@@ -1,24 +1,24 @@
+-- `record::rule::set_good` meets its contract: the tests taken are those of `goodSet`; the shift does not wrap, since no relation has more than 8 columns.
+-- Assumes nothing.
+use mathlib.Core.Path.{_≡_}
+use mathlib.Core.Bool.{true, false}
+use mathlib.Core.List.{List}
+use Prim.Native.Nat.{ℕ, _*_, _%_, _^_, _≤_}
+use native.Mathlib.Nat.{lt-of-le-of-lt}
+use native.Mathlib.Omega.{arith}
+use lib.Dec.{lit<, eqb, ltb}
+use lib.ListN.{length, take, getD}
 use borrow.Author.Tests.{eq-eqb, ne-eqb}
+use borrow.Author.Needs.{needs}
 use Rattle.record.specs.Rule.{goodSet}
 use Rattle.record.proofs.Tests.{known-relation, unknown-relation, relations-bounds, width-le, shifted-one}
-use mathlib.Core.Path.{_≡_, refl, sym, ap, _∙_}
-use mathlib.Core.Bool.{Bool, true, false, cond, not, _&&_}
-use Prim.Native.Nat.{ℕ, zero, suc, _+_, _*_, _-_, _%_, _^_, _≤_, _<_}
-use mathlib.Core.List.{List}
-use lib.Dec.{eqb, ltb, leb}
-use lib.ListN.{length, take, drop, getD}
-use native.Mathlib.Omega.{arith}
-use borrow.Author.Needs.{needs}
 use Rattle.record.proofs.rule.set_good.Statement.{statement}
 use Rattle.record.proofs.rule.set_good.Tie as tie
-use Rattle.record.proofs.rule.set_good.Reads as reads
-use Rattle.record.proofs.rule.set_good.Lts as lts
-use Rattle.record.proofs.rule.width_of.Reads as width-of-reads
 
 within : (schema : List ℕ) (relation left width : ℕ) → ltb relation (length schema) ≡ true → eqb left 0 ≡ false → width ≡ getD schema relation 0
     → getD schema relation 0 ≤ 8 → ltb left (1 * 2 ^ width % 65536) ≡ goodSet schema relation left
 unfolding goodSet
-within schema relation left width known nonempty e narrow = rw (known, nonempty, e, shifted-one _ narrow)
+within schema relation left width known nonempty e narrow = rw (known, nonempty, e, shifted-one 16 _ (lt-of-le-of-lt narrow (lit< tt)))
 
 returns : tie.Need-returns
 unfolding goodSet

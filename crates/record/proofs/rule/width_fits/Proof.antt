@@ -1,14 +1,8 @@
+-- `record::rule::width_fits` meets its contract: the tests taken are those of `between`.
+-- Assumes nothing.
 use borrow.Author.Tests.{le-leb, lt-leb}
-use mathlib.Core.Path.{_≡_, refl, sym, ap, _∙_}
-use mathlib.Core.Bool.{Bool, true, false, cond, not, _&&_}
-use Prim.Native.Nat.{ℕ, zero, suc, _+_, _*_, _-_, _≤_, _<_}
-use lib.Dec.{eqb, ltb, leb}
-use lib.ListN.{length, take, drop, getD}
-use native.Mathlib.Omega.{arith}
 use Rattle.record.proofs.rule.width_fits.Statement.{statement}
 use Rattle.record.proofs.rule.width_fits.Tie as tie
-use Rattle.record.proofs.rule.width_fits.Reads as reads
-use Rattle.record.proofs.rule.width_fits.Lts as lts
 
 returns : tie.Need-returns
 returns c = rw (c .before .if1 .taken, le-leb _ _ (c .if2 .taken))

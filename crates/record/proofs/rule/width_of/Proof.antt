@@ -1,16 +1,13 @@
-use lib.Seq.{getD-take}
-use Rattle.record.proofs.Tests.{relations-bounds}
-use borrow.Author.Needs.{needs}
-use mathlib.Core.Path.{_≡_, refl, sym, ap, _∙_}
-use mathlib.Core.Bool.{Bool, true, false, cond, not, _&&_}
-use Prim.Native.Nat.{ℕ, zero, suc, _+_, _*_, _-_, _≤_, _<_}
-use lib.Dec.{eqb, ltb, leb}
-use lib.ListN.{length, take, getD, length-take, List·getD-eq-default}
+-- `record::rule::width_of` meets its contract: the width stands in the schema, or past its end.
+-- Assumes nothing.
+use mathlib.Core.Path.{sym}
+use Prim.Native.Nat.{_≤_}
 use native.Mathlib.Omega.{arith}
+use lib.Seq.{getD-take}
+use lib.ListN.{length, take, length-take, List·getD-eq-default}
+use Rattle.record.proofs.Tests.{relations-bounds}
 use Rattle.record.proofs.rule.width_of.Statement.{statement}
 use Rattle.record.proofs.rule.width_of.Tie as tie
-use Rattle.record.proofs.rule.width_of.Reads as reads
-use Rattle.record.proofs.rule.width_of.Lts as lts
 
 array-read-result : tie.Need-array-read-result
 array-read-result c = omega (arith, relations-bounds _ _ (c .before .pre) .1)

@@ -1,0 +1,71 @@
+-- The calls keep the rule: a good record with another content of a place, with one dependency more, and a record just opened are good.
+-- A place that holds a good query with a safe head is good, and so is a vacant one
+use mathlib.Core.Path.{_≡_, refl}
+use mathlib.Core.Bool.{true}
+use mathlib.Core.List.{List}
+use Prim.Native.Nat.{ℕ, _<_}
+use native.Mathlib.Omega.{arith}
+use lib.ListN.{length, take, getD}
+use lib.Seq.{getD-set-same, getD-set-other}
+use Rattle.record.specs.declared.Query.{Query}
+use Rattle.record.specs.declared.Dependency.{Dependency}
+use Rattle.record.specs.declared.Place.{Place}
+use Rattle.record.specs.declared.Record.{Record}
+use Rattle.record.specs.View.{schemaOf}
+use Rattle.record.specs.Rule.{every, goodRelations, goodDependency, blankDependency, goodQuery, headSafe, blankQuery, goodPlace, goodRecord, noPlace}
+use Rattle.record.specs.Calls.{withPlace, withDependency, emptyRecord}
+use Rattle.record.proofs.Tests.{and-both, every-set, every-replicate, used-more}
+use Rattle.record.proofs.Good.{good-record, make-record}
+
+pub filled-place : (schema : List ℕ) (q : Query) → goodQuery schema q ≡ true → headSafe schema q ≡ true
+    → goodPlace schema (record { filled = true; query = q }) ≡ true
+filled-place schema q good safe = and-both (goodQuery schema q) (headSafe schema q) good safe
+
+pub empty-place : (schema : List ℕ) → goodPlace schema noPlace ≡ true
+unfolding blankQuery every
+empty-place schema = refl
+
+-- Another content of a place
+pub place-kept : (r : Record) (place : ℕ) (p : Place) → goodRecord r ≡ true → goodPlace (schemaOf r) p ≡ true → goodRecord (withPlace r place p) ≡ true
+place-kept r place p good fits =
+    let g = good-record r good in
+    make-record (withPlace r place p)
+    (record {
+      relations = g .relations;
+      held = g .held;
+      dependencies = g .dependencies;
+      places = every-set (goodPlace (schemaOf r)) (r .places) place p (g .places) fits;
+    })
+
+-- One dependency more
+pub dependency-kept : (r : Record) (d : Dependency) → goodRecord r ≡ true → goodDependency (schemaOf r) d ≡ true → r .held < 32
+    → length (r .dependencies) ≡ 32 → goodRecord (withDependency r d) ≡ true
+dependency-kept r d good fits room long =
+    let g = good-record r good in
+    make-record (withDependency r d)
+    (record {
+      relations = g .relations;
+      held = omega arith;
+      dependencies =
+          used-more (r .held) (goodDependency (schemaOf r)) blankDependency (r .dependencies) d (omega arith) fits (g .dependencies);
+      places = g .places;
+    })
+
+-- A record just opened
+pub opened-good : (relations : ℕ) (widths : List ℕ) → goodRelations relations widths ≡ true → goodRecord (emptyRecord relations widths) ≡ true
+unfolding every
+opened-good relations widths good =
+    make-record (emptyRecord relations widths)
+    (record {
+      relations = good;
+      held = omega arith;
+      dependencies = refl;
+      places = every-replicate (goodPlace (take relations widths)) 8 noPlace (empty-place (take relations widths));
+    })
+
+-- What a place holds afterwards, and what another place does
+pub place-read : (r : Record) (place : ℕ) (p z : Place) → place < length (r .places) → getD (withPlace r place p .places) place z ≡ p
+place-read r place p z h = getD-set-same (r .places) place p z h
+
+pub place-other : (r : Record) (place other : ℕ) (p z : Place) → (other ≡ place → ⊥) → getD (withPlace r place p .places) other z ≡ getD (r .places) other z
+place-other r place other p z h = getD-set-other (r .places) place other p z h
