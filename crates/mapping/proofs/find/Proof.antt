@@ -191,7 +191,7 @@ slice-aggregate-solve-2 c = search needs
 
 -- src/lib.rt:51:9
 solve-requires : tie.Need-solve-requires
-solve-requires c κs = (sized (c .before .before), ?stub)
+solve-requires c κs = sized (c .before .before)
 
 -- src/lib.rt:53:9
 returns-2 : tie.Need-returns-2
