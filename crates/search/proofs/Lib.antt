@@ -1,6 +1,4 @@
--- Laws shared by several proofs.
-pub mod Sets
-pub mod Explain
-pub mod Choice
-pub mod Refute
-pub mod Backtrack
+-- Laws that several proofs share: of masks, of the search's steps, and of the calls of the two functions that call each other.
+pub mod Masks
+pub mod Steps
+pub mod Calls

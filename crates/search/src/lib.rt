@@ -1,289 +1,319 @@
-// A search for a choice of one candidate for each row, such that every two choices go together: backtracking, fewest candidates first, where a failure
-// names the rows to blame and a row that is not among them tries no other candidate. At most 13 rows with at most 12 candidates each.
+// The backtracking search for a choice of one candidate a row, any two of which go together.
 //
-// `place` and `try_next` call each other. `work` falls with each call and bounds how deep they go: at most 14 calls a row, 183 in all, each with a
-// frame of some 200 bytes.
-
+// Forward checking with conflict-directed backjumping: each row keeps the candidates that are still possible and the placed
+// rows that removed the others; the row with the fewest is placed next; a failure names rows to blame, and a row that is not
+// among them hands the failure on at once. First what stays the same during a search, then one step of it, then the two
+// functions that call each other, and last the call for other crates.
+//
+// There are at most 13 rows with at most 12 candidates each, by number. A mask has bit i for row or candidate i. Entry
+// (r * 12 + d) * 13 + q of a table is the mask of the candidates of row q that go together with candidate d of row r.
 ghost use mathlib.Core.Path.{_≡_};
-ghost use mathlib.Core.List.{List};
-ghost use Prim.Native.Nat.{ℕ, _+_, _*_, _≤_, _<_};
-ghost use lib.ListN.{length, getD};
-ghost use Rattle.search.specs.Solution.{Has, Tells, Adds, Within, Sized, goes, Explained, PickedBefore, Verdict, Solved, Remains, missing};
+ghost use mathlib.Core.Bool.{true, false};
+ghost use Prim.Native.Nat.{ℕ, _<_, _≤_};
+ghost use lib.ListN.{getD};
+ghost use Rattle.search.specs.Solution.{Solution};
+ghost use Rattle.search.specs.Invariant.{Below, IsEarlier, IsNext, IsCandidate, Blamed, After, RowFits, Tested, Attempted, Placeable, Tryable};
 
-// What is left of a row's candidates, and the placed rows that took the others away.
-pub struct Narrowed {
-    pub mask: u16,
-    pub blame: u16,
-}
-
-// What a search came to: a solution, or the placed rows to blame.
+// Whether there is a solution, and one. Without one, chosen means nothing.
 pub struct Outcome {
     pub found: bool,
     pub chosen: [u8; 13],
-    pub blame: u16,
 }
 
-// Whether i is in a set of bits.
-fn has(mask: u16, i: usize) -> bool
-    ensures { λ b. ⌜ Tells b (Has mask i) ⌝ }
-{
-    if i < 16 { (mask >> i) % 2 == 1 } else { false }
-}
-
-// A set of bits with i.
-fn with(mask: u16, i: usize) -> u16
-    requires { ⌜ i < 16 ⌝ }
-    ensures { λ m. ⌜ Adds mask i m ⌝ }
-{
-    mask | (1 << i)
-}
-
-// What is left of row r's candidates once row q is looked at: if it is placed, those that go together with what is chosen for it.
-fn narrow(
-    table: &[u16],
+// The rows of placed have the candidate that chosen says. Row q has the candidates of current[q] left, and the placed rows of
+// culprits[q] removed the others.
+struct State {
     chosen: [u8; 13],
     placed: u16,
-    r: usize,
-    q: usize,
-    left: Narrowed,
-) -> Narrowed
-    requires { ⌜ (length (now table) ≡ 2028) × (r < 13) × (q < 13) ⌝ }
-    ensures { λ n. ⌜ ((rows : ℕ) (domain : List ℕ) → q < rows → r < rows → Explained rows domain (now (table .entry)) chosen placed r left → Explained rows domain (now (table .entry)) chosen placed r n) ⌝ }
-{
-    let d = chosen[q] as usize;
-    if !has(placed, q) {
-        return left;
-    }
-    if 12 <= d {
-        return left;
-    }
-    let mask = left.mask;
-    let blame = left.blame;
-    let fewer = mask & table[(q * 12 + d) * 13 + r];
-    if fewer == mask {
-        return left;
-    }
-    Narrowed {
-        mask: fewer,
-        blame: with(blame, q),
-    }
+    current: [u16; 13],
+    culprits: [u16; 13],
 }
 
-// The candidates of row r that go together with what is chosen for the placed rows.
-fn candidates(
-    rows: usize,
-    domain: &[u16],
-    table: &[u16],
+// A solution, or the rows to blame: no solution has what is chosen at the placed ones of them.
+struct Attempt {
+    found: bool,
     chosen: [u8; 13],
-    placed: u16,
-    r: usize,
-) -> Narrowed
-    requires { ⌜ Sized rows (now domain) (now table) × (r < rows) ⌝ }
-    ensures { λ n. ⌜ Explained rows (now (domain .entry)) (now (table .entry)) chosen placed r n ⌝ }
+    blame: u16,
+}
+
+// What a test of choices finds: nothing, or rows whose choices are in no solution.
+enum Clash {
+    Nothing,
+    Rows(u16),
+}
+
+// The best row to be placed next of those seen, with its rank. No row yet: as many as there are rows.
+struct Best {
+    row: usize,
+    rank: u32,
+}
+
+// Whether some candidate of row r excludes some candidate of row q.
+fn restricts(domain: &[u16; 13], table: &[u16; 2028], r: usize, q: usize) -> bool
+    requires { ⌜ (r < 13) × (q < 13) ⌝ }
 {
-    let mut left = Narrowed {
-        mask: domain[r],
-        blame: 0,
-    };
+    let own = domain[r];
+    let other = domain[q];
+    for d in 0..12 {
+        if (own >> d) % 2 == 1 {
+            if (table[(r * 12 + d) * 13 + q] & other) != other {
+                return true;
+            }
+        }
+    }
+    false
+}
+
+// How many rows have candidates that some candidate of row r excludes.
+fn degree(domain: &[u16; 13], table: &[u16; 2028], rows: usize, r: usize) -> u8
+    requires { ⌜ (rows ≤ 13) × (r < rows) ⌝ }
+    ensures { λ n. ⌜ n ≤ 13 ⌝ }
+{
+    let mut n: u8 = 0;
     for q in 0..rows {
-        left = narrow(table, chosen, placed, r, q, left);
+        if restricts(domain, table, r, q) {
+            n += 1;
+        }
     }
-    left
+    n
 }
 
-// A row to place next, with the number of its candidates.
-pub struct Next {
-    pub row: usize,
-    pub count: u32,
-}
-
-// The better of the row found so far, `rows` standing for none, and row r: of two rows that are not placed the one with fewer candidates.
-fn better(
-    rows: usize,
-    domain: &[u16],
-    table: &[u16],
-    chosen: [u8; 13],
-    placed: u16,
-    r: usize,
-    best: Next,
-) -> Next
-    requires { ⌜ Sized rows (now domain) (now table) × (r < rows) ⌝ }
-    ensures { λ n. ⌜ (PickedBefore rows placed r (best .row) → PickedBefore rows placed (r + 1) (n .row)) ⌝ }
+// The degree of each row.
+fn degrees(domain: &[u16; 13], table: &[u16; 2028], rows: usize) -> [u8; 13]
+    requires { ⌜ rows ≤ 13 ⌝ }
 {
-    if has(placed, r) {
+    let mut all = [0u8; 13];
+    for r in 0..rows {
+        all[r] = degree(domain, table, rows, r);
+    }
+    all
+}
+
+// How late a row is placed: the fewest candidates first, and of two with as many the one of higher degree.
+fn rank(candidates: u16, degree: u8) -> u32 {
+    u16::count_ones(candidates) * 16 + (15 - (degree % 16) as u32)
+}
+
+// Of row q with its rank and the best row so far, the one to be placed first. A placed row is passed over.
+fn earlier(best: Best, rows: usize, placed: u16, q: usize, late: u32) -> Best
+    requires { ⌜ q < 13 ⌝ }
+    ensures { λ b. ⌜ IsEarlier rows placed q (best .row) (b .row) ⌝ }
+{
+    if (placed >> q) % 2 == 1 {
         return best;
     }
-    let left = candidates(rows, domain, table, chosen, placed, r);
-    let mask = left.mask;
-    let count = u16::count_ones(mask);
     let row = best.row;
+    let least = best.rank;
     if row < rows {
-        if best.count <= count {
+        if least <= late {
             return best;
         }
     }
-    Next {
-        row: r,
-        count: count,
-    }
+    Best { row: q, rank: late }
 }
 
-// A row that is not placed, with the fewest candidates, or `rows` where each is placed.
-fn pick(rows: usize, domain: &[u16], table: &[u16], chosen: [u8; 13], placed: u16) -> usize
-    requires { ⌜ Sized rows (now domain) (now table) ⌝ }
-    ensures { λ r. ⌜ PickedBefore rows placed rows r ⌝ }
+// The row to be placed next, or `rows` where all are placed.
+fn next_row(degrees: &[u8; 13], rows: usize, state: State) -> usize
+    requires { ⌜ rows ≤ 13 ⌝ }
+    ensures { λ r. ⌜ IsNext rows (state .placed) r ⌝ }
 {
-    let mut best = Next {
-        row: rows,
-        count: 0,
-    };
-    for r in 0..rows {
-        best = better(rows, domain, table, chosen, placed, r, best);
+    let placed = state.placed;
+    let mut best = Best { row: rows, rank: 0 };
+    for q in 0..rows {
+        let late = rank(state.current[q], degrees[q]);
+        best = earlier(best, rows, placed, q, late);
     }
     best.row
 }
 
-// The first row whose choice does not go together with that of row r, whose candidate is d, or `rows` where each does.
-fn parts(rows: usize, table: &[u16], chosen: [u8; 13], r: usize, d: usize) -> usize
-    requires { ⌜ (rows ≤ 13) × (length (now table) ≡ 2028) × (r < rows) × (d < 12) ⌝ }
-    ensures { λ q. ⌜ (q ≤ rows) × (q < rows → Has (goes (now (table .entry)) r d q) (getD chosen q 0) → ⊥) × ((p : ℕ) → p < q → Has (goes (now (table .entry)) r d p) (getD chosen p 0)) ⌝ }
+// The first candidate of the mask from c on, or 12.
+fn next_candidate(mask: u16, c: usize) -> usize
+    requires { ⌜ c ≤ 12 ⌝ }
+    ensures { λ d. ⌜ IsCandidate mask c d ⌝ }
 {
-    for q in 0..rows {
-        if !has(table[(r * 12 + d) * 13 + q], chosen[q] as usize) {
-            return q;
+    let mut d = c;
+    while d < 12 {
+        if (mask >> d) % 2 == 1 {
+            return d;
         }
+        d += 1;
     }
-    rows
+    12
 }
 
-// Whether what is chosen for all rows is a solution, and if not, one or two rows to blame.
-fn verify(rows: usize, domain: &[u16], table: &[u16], chosen: [u8; 13], placed: u16) -> Outcome
-    requires { ⌜ Sized rows (now domain) (now table) × ((q : ℕ) → q < rows → Has placed q) ⌝ }
-    ensures { λ o. ⌜ Verdict rows (now (domain .entry)) (now (table .entry)) chosen placed o ⌝ }
+// The culprits of a row whose candidates were `old` and are `left` by the choice of row r.
+fn blamed(culprits: u16, old: u16, left: u16, r: usize) -> u16
+    requires { ⌜ r < 13 ⌝ }
+    ensures { λ n. ⌜ Blamed culprits old left r n ⌝ }
+{
+    if left == old {
+        culprits
+    } else {
+        culprits | (1 << r)
+    }
+}
+
+// The state after the choice of candidate d for row r.
+fn narrowed(table: &[u16; 2028], rows: usize, state: State, r: usize, d: usize) -> State
+    requires { ⌜ (rows ≤ 13) × (r < rows) × (d < 12) ⌝ }
+    ensures { λ next. ⌜ After rows (now (table .entry)) state next r d ⌝ }
+{
+    let mut next = state;
+    next.chosen[r] = d as u8;
+    next.placed = state.placed | (1 << r);
+    for q in 0..rows {
+        let old = state.current[q];
+        let left = old & table[(r * 12 + d) * 13 + q];
+        next.current[q] = left;
+        next.culprits[q] = blamed(state.culprits[q], old, left, r);
+    }
+    next
+}
+
+// Whether row r has one of its candidates and goes together with every row.
+fn test_row(
+    domain: &[u16; 13],
+    table: &[u16; 2028],
+    rows: usize,
+    chosen: [u8; 13],
+    r: usize,
+) -> Clash
+    requires { ⌜ (rows ≤ 13) × (r < rows) × Below chosen ⌝ }
+    ensures { λ c. ⌜ Tested rows (now (domain .entry)) (now (table .entry)) chosen (RowFits rows (now (domain .entry)) (now (table .entry)) chosen r) c ⌝ }
+{
+    let d = chosen[r] as usize;
+    if (domain[r] >> d) % 2 == 0 {
+        return Clash::Rows(1 << r);
+    }
+    for q in 0..rows {
+        if (table[(r * 12 + d) * 13 + q] >> chosen[q]) % 2 == 0 {
+            return Clash::Rows((1 << r) | (1 << q));
+        }
+    }
+    Clash::Nothing
+}
+
+// Whether the choices are a solution.
+fn test_choices(domain: &[u16; 13], table: &[u16; 2028], rows: usize, chosen: [u8; 13]) -> Clash
+    requires { ⌜ (rows ≤ 13) × Below chosen ⌝ }
+    ensures { λ c. ⌜ Tested rows (now (domain .entry)) (now (table .entry)) chosen (Solution rows (now (domain .entry)) (now (table .entry)) (λ q. getD chosen q 0)) c ⌝ }
 {
     for r in 0..rows {
-        let d = chosen[r] as usize;
-        if !has(domain[r], d) {
-            return Outcome {
-                found: false,
-                chosen: chosen,
-                blame: with(0, r),
-            };
-        }
-        let q = parts(rows, table, chosen, r, d);
-        if q < rows {
-            return Outcome {
-                found: false,
-                chosen: chosen,
-                blame: with(with(0, r), q),
-            };
+        let at = test_row(domain, table, rows, chosen, r);
+        if let Clash::Rows(mask) = at {
+            return Clash::Rows(mask);
         }
     }
-    Outcome {
-        found: true,
-        chosen: chosen,
-        blame: 0,
-    }
+    Clash::Nothing
 }
 
-// Place the next row.
-fn place(
+// Place the next row, or test the choices where all rows are placed. (Where the table says the same both ways round, and each
+// candidate goes together with itself, the test finds nothing.)
+//
+// The work left falls with each call, and a row takes at most 14 of it. Calls go at most 170 deep: for each of 13 rows one that
+// places it and 12 that try a candidate, and the last. Compiled, each takes some 0.5 KB, so 85 KB of stack at the deepest.
+fn place_row(
+    domain: &[u16; 13],
+    table: &[u16; 2028],
+    degrees: &[u8; 13],
     rows: usize,
-    domain: &[u16],
-    table: &[u16],
-    chosen: [u8; 13],
-    placed: u16,
+    state: State,
     work: usize,
-) -> Outcome
-    requires { ⌜ Sized rows (now domain) (now table) × (14 * missing rows placed < work) ⌝ }
-    ensures { λ o. ⌜ Verdict rows (now (domain .entry)) (now (table .entry)) chosen placed o ⌝ }
+) -> Attempt
+    requires { ⌜ Placeable rows (now domain) (now table) state work ⌝ }
+    ensures { λ a. ⌜ Attempted rows (now (domain .entry)) (now (table .entry)) state a ⌝ }
 {
-    let r = pick(rows, domain, table, chosen, placed);
-    if r == rows {
-        return verify(rows, domain, table, chosen, placed);
+    let row = next_row(degrees, rows, state);
+    let chosen = state.chosen;
+    if row == rows {
+        let tested = test_choices(domain, table, rows, chosen);
+        match tested {
+            Clash::Nothing => return Attempt {
+                found: true,
+                chosen,
+                blame: 0,
+            },
+            Clash::Rows(mask) => return Attempt {
+                found: false,
+                chosen,
+                blame: mask,
+            },
+        }
     }
-    let left = candidates(rows, domain, table, chosen, placed, r);
-    let mask = left.mask;
-    let blame = left.blame;
-    try_next(
-        rows,
-        domain,
-        table,
-        chosen,
-        placed,
-        r,
-        mask,
-        blame,
-        0,
-        work - 1,
-    )
+    let blame = state.culprits[row];
+    try_candidate(domain, table, degrees, rows, state, work - 1, row, 0, blame)
 }
 
-// Try the next candidate of row r, from d on.
-fn try_next(
+// Try the next candidate of the row, from c on. The placed rows of `blame` exclude each one before c and each that is not current.
+fn try_candidate(
+    domain: &[u16; 13],
+    table: &[u16; 2028],
+    degrees: &[u8; 13],
     rows: usize,
-    domain: &[u16],
-    table: &[u16],
-    chosen: [u8; 13],
-    placed: u16,
-    r: usize,
-    mask: u16,
+    state: State,
+    work: usize,
+    row: usize,
+    c: usize,
     blame: u16,
-    d: u8,
-    work: usize,
-) -> Outcome
-    requires { ⌜ Sized rows (now domain) (now table) × (r < rows) × (Has placed r → ⊥) × (d ≤ 12) × (14 * missing rows placed ≤ work + d) × Remains rows (now domain) (now table) chosen blame mask r d × Within blame placed ⌝ }
-    ensures { λ o. ⌜ Verdict rows (now (domain .entry)) (now (table .entry)) chosen placed o ⌝ }
+) -> Attempt
+    requires { ⌜ Tryable rows (now domain) (now table) state work row c blame ⌝ }
+    ensures { λ a. ⌜ Attempted rows (now (domain .entry)) (now (table .entry)) state a ⌝ }
 {
+    let d = next_candidate(state.current[row], c);
+    let chosen = state.chosen;
     if d == 12 {
-        return Outcome {
+        return Attempt {
             found: false,
-            chosen: chosen,
-            blame: blame,
+            chosen,
+            blame,
         };
     }
-    if !has(mask, d as usize) {
-        return try_next(
-            rows,
-            domain,
-            table,
-            chosen,
-            placed,
-            r,
-            mask,
-            blame,
-            d + 1,
-            work - 1,
-        );
+    let next = narrowed(table, rows, state, row, d);
+    let deeper = place_row(domain, table, degrees, rows, next, work - 1);
+    if deeper.found {
+        return deeper;
     }
-    let mut next = chosen;
-    next[r] = d;
-    let outcome = place(rows, domain, table, next, with(placed, r), work - 1);
-    let blamed = outcome.blame;
-    if outcome.found {
-        return outcome;
+    if (deeper.blame >> row) % 2 == 0 {
+        return deeper;
     }
-    if !has(blamed, r) {
-        return outcome;
-    }
-    try_next(
-        rows,
+    try_candidate(
         domain,
         table,
-        chosen,
-        placed,
-        r,
-        mask,
-        blame | (blamed & placed),
-        d + 1,
+        degrees,
+        rows,
+        state,
         work - 1,
+        row,
+        d + 1,
+        blame | deeper.blame,
     )
 }
 
-// A solution, if there is one.
-pub fn solve(rows: usize, domain: &[u16], table: &[u16]) -> Outcome
-    requires { ⌜ Sized rows (now domain) (now table) ⌝ }
-    ensures { λ o. ⌜ Solved rows (now (domain .entry)) (now (table .entry)) o ⌝ }
+// The state in which no row is placed.
+fn start(domain: &[u16; 13]) -> State
+    ensures { λ s. ⌜ (s .placed ≡ 0) × (s .current ≡ now (domain .entry)) × Below (s .chosen) ⌝ }
 {
-    place(rows, domain, table, [0u8; 13], 0, 14 * rows + 1)
+    let current = *domain;
+    State {
+        chosen: [0u8; 13],
+        placed: 0,
+        current,
+        culprits: [0u16; 13],
+    }
+}
+
+// A solution, where there is one; found says whether. Candidates from 12 on are passed over.
+pub fn solve(domain: &[u16; 13], table: &[u16; 2028], rows: usize) -> Outcome
+    requires { ⌜ rows ≤ 13 ⌝ }
+    ensures found { λ o. ⌜ (o .found ≡ true → Solution rows (now (domain .entry)) (now (table .entry)) (λ r. getD (o .chosen) r 0)) ⌝ }
+    ensures none { λ o. ⌜ (o .found ≡ false → (f : ℕ → ℕ) → Solution rows (now (domain .entry)) (now (table .entry)) f → ⊥) ⌝ }
+{
+    let degrees = degrees(domain, table, rows);
+    let state = start(domain);
+    let last = place_row(domain, table, &degrees, rows, state, 14 * rows + 1);
+    let chosen = last.chosen;
+    Outcome {
+        found: last.found,
+        chosen,
+    }
 }

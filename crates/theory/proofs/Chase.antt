@@ -5,12 +5,12 @@
 --   3. Each replacement is a mapping, and keeps the answers on every database that obeys the dependencies: an assignment into such a database
 --      gives the two entries the same value. A clash asks two different constants to be equal, so there was no answer.
 --   4. Where the chase rests no dependency is broken, so its result, read as a database, obeys them.
---   5. What the chase keeps: well-formed queries, the head's length, constants below a base, the set of variables.
+--   5. What the chase keeps: well-formed queries, the head's length, the number of rows, constants below a base; it makes no variable and no entry.
 -- Sections 2 to 5 are inductions on `Chases`; each law is stated of any chase first and then of `chase`. The survivor of a replacement is
 -- document 01's, and no law depends on which of the two it is. Assumes nothing.
 use mathlib.Core.Path.{_≡_, refl, sym, _∙_, ap}
-use mathlib.Core.Logic.{_≢_, _↔_, ⊎-elim, Iff·rfl, Iff·trans}
-use mathlib.Core.List.{List, [], _++_, List·Memᴰ·not-nil, List·Memᴰ·append-cases, Memᴰ·append-left, Memᴰ·append-right, Memᴰ·cast, Memᴰ·of-map}
+use mathlib.Core.Logic.{_≢_, _↔_, _⊎_, inl, inr, ⊎-elim, Iff·rfl, Iff·trans}
+use mathlib.Core.List.{List, [], _∷_, _++_, cons-ne-nil, List·Memᴰ·not-nil, List·Memᴰ·append-cases, Memᴰ·append-left, Memᴰ·append-right, Memᴰ·cast, Memᴰ·of-map}
 use mathlib.Core.Option.{Option, none, some}
 use Prim.Native.Nat.{ℕ, zero, suc, _+_, _≤_, _<_}
 use native.Mathlib.Omega.{arith}
@@ -23,7 +23,7 @@ use Rattle.theory.specs.Containment.{ConstantsBelow, freeze, frozenRows}
 use Rattle.theory.proofs.Lists.{replicate-mem}
 use Rattle.theory.proofs.Entries.{constant-same, constant-variable, variablesOf-mem, mem-variablesOf, column-rowEntries}
 use Rattle.theory.proofs.Step.{step-never, step-clash, step-replace, step-nothing, firstBroken-nothing}
-use Rattle.theory.proofs.Replacement.{step-count, replace-carries, some-mapQuery, replace-answers, clash-answers, mapQuery-rows-fit, replace-head-safe, forced-constants, forced-variables}
+use Rattle.theory.proofs.Replacement.{step-count, replace-carries, some-mapQuery, replace-answers, clash-answers, mapQuery-rows-fit, replace-head-safe, forced-constants, forced-variables, forced-entries}
 use Rattle.theory.proofs.Carry.{mapping-of, mapping-compose, mapping-self}
 
 -- ---- 1. the chase ends, and is one
@@ -291,3 +291,33 @@ chases-variables {ds} {q} (replaces {v = w} {e} is c) v at = forced-variables q 
 
 pub chase-variables : (ds : List Dependency) (q : Query) (v : ℕ) → v ∈ variables (chase ds q .query) → v ∈ variables q
 chase-variables ds q v at = chases-variables (chase-chases ds q) v at
+
+-- nor any entry, but for the constant 0 of never and of a missing column
+pub chases-entries : {ds : List Dependency} {q result : Query} {count : ℕ} → Chases ds q result count
+    → (x : Entry) → x ∈ result .head ++ rowEntries (result .rows) → (x ≡ constant 0) ⊎ (x ∈ q .head ++ rowEntries (q .rows))
+chases-entries (rests is) x at = inr at
+chases-entries {q} (clashes is) x at = inl (never-entry (length (q .head)) x at)
+chases-entries {ds} {q} (replaces {v} {e} is c) x at =
+    ⊎-elim inl (forced-entries q (step-replace ds q v e is .0) x) (chases-entries c x at)
+
+pub chase-entries : (ds : List Dependency) (q : Query) (x : Entry) → x ∈ chase ds q .query .head ++ rowEntries (chase ds q .query .rows)
+    → (x ≡ constant 0) ⊎ (x ∈ q .head ++ rowEntries (q .rows))
+chase-entries ds q x at = chases-entries (chase-chases ds q) x at
+
+-- The number of rows: without a clash it stays,
+pub chases-length : {ds : List Dependency} {q result : Query} {count : ℕ} → Chases ds q result count
+    → result .rows ≢ [] → length (result .rows) ≡ length (q .rows)
+chases-length (rests is) nonempty = refl
+chases-length (clashes is) nonempty = absurd (nonempty refl)
+chases-length {q} (replaces {v} {e} is c) nonempty = chases-length c nonempty ∙ length-map (q .rows) (mapRow (substitute v e))
+
+pub chase-length : (ds : List Dependency) (q : Query) → chase ds q .query .rows ≢ [] → length (chase ds q .query .rows) ≡ length (q .rows)
+chase-length ds q nonempty = chases-length (chase-chases ds q) nonempty
+
+-- and it never grows
+pub chase-length-le : (ds : List Dependency) (q : Query) → length (chase ds q .query .rows) ≤ length (q .rows)
+chase-length-le ds q = go (chase ds q .query .rows) refl
+  where
+    go : (rows : List (Row Entry)) → chase ds q .query .rows ≡ rows → length (chase ds q .query .rows) ≤ length (q .rows)
+    go [] empty = omega (arith, ap length empty)
+    go (r ∷ rows) same = let kept = chase-length ds q (λ empty. cons-ne-nil r rows (sym same ∙ empty)) in omega arith

@@ -1,12 +1,12 @@
 -- Determined columns: the closure of a set of columns is exact (Armstrong 1974; the two-row database is the standard one).
 -- Plan. 1. The test of inclusion. 2. Sound: rows that agree on the known columns agree on each added one.
 -- 3. The additions end: each one lowers the number of dependencies whose right column is not known, so the closure is closed.
--- 4. Complete: a row of zeros and a row with zero at the closure's columns and one elsewhere obey the dependencies. 5. `determined` lists the set, ascending.
+-- 4. Complete: a row of zeros and a row with zero at the closure's columns and one elsewhere obey the dependencies. 5. `determined` lists the set, ascending, and no other list does.
 -- No law asks that a left set is nonempty. Assumes nothing.
-use mathlib.Core.Path.{_≡_, refl, sym, _∙_, ap}
+use mathlib.Core.Path.{_≡_, refl, sym, _∙_, ap, ap₂}
 use mathlib.Core.Logic.{_↔_, _⊎_, inl, inr}
 use mathlib.Core.Bool.{Bool, true, false, cond, not, _&&_, true≢false}
-use mathlib.Core.List.{List, [], _∷_, List·Memᴰ·head, List·Memᴰ·tail, Memᴰ·cast}
+use mathlib.Core.List.{List, [], _∷_, List·Memᴰ·head, List·Memᴰ·tail, List·Memᴰ·not-nil, Memᴰ·cast}
 use mathlib.Core.Option.{Option, none, some}
 use Prim.Native.Nat.{ℕ, zero, suc, _+_, _≤_, _<_}
 use native.Mathlib.Omega.{arith}
@@ -17,8 +17,9 @@ use borrow.Author.Tests.{eqb-true, eq-eqb, not-true}
 use Rattle.theory.specs.Query.{Row, column, member, _∈_}
 use Rattle.theory.specs.Database.{Database, Dependency, Agree, Obeys, Sound}
 use Rattle.theory.specs.Chase.{firstPassing}
-use Rattle.theory.specs.Determined.{Determines, FitsColumns, subset, adds, growOn, growFor, closure, columnsIn, determined}
-use Rattle.theory.proofs.Lists.{and-left, and-right, member-mem, mem-member, member-not-mem}
+use Rattle.theory.specs.Determined.{Determines, FitsColumns, Ascending, subset, adds, growOn, growFor, closure, columnsIn, determined}
+use Rattle.theory.proofs.Lists.{and-left, and-right, mem-cases, member-mem, mem-member, member-not-mem}
+use Rattle.theory.proofs.Members.{_⊆_}
 use Rattle.theory.proofs.Step.{firstPassing-found, firstPassing-nothing}
 
 -- ---- 1. tests
@@ -338,11 +339,6 @@ closure-exact widths ds fits relation held left c less =
 
 -- ---- 5. the determined columns
 
--- Each number is less than all that follow it
-abbrev pub Ascending : List ℕ → Type 0
-Ascending [] = Unit {0}
-Ascending (n ∷ ns) = ((m : ℕ) → m ∈ ns → n < m) × Ascending ns
-
 -- `columnsIn` has the numbers of the list in its range
 columnsIn-from : (known : List ℕ) (start n c : ℕ) → c ∈ columnsIn known start n → (start ≤ c) × (c < start + n) × (c ∈ known)
 unfolding columnsIn
@@ -391,3 +387,19 @@ determined-exact widths ds fits relation held left width same c = (
 pub determined-ascending : (ds : List Dependency) (relation width : ℕ) (left : List ℕ) → Ascending (determined ds relation width left)
 unfolding determined
 determined-ascending ds relation width left = columnsIn-ascending (closure ds relation left) 0 width
+
+-- Two ascending lists with the same numbers are the same
+pub ascending-unique : (xs ys : List ℕ) → Ascending xs → Ascending ys → xs ⊆ ys → ys ⊆ xs → xs ≡ ys
+ascending-unique [] [] up up' into back = refl
+ascending-unique [] (y ∷ ys) up up' into back = absurd (List·Memᴰ·not-nil (back y (List·Memᴰ·head refl)))
+ascending-unique (x ∷ xs) [] up up' into back = absurd (List·Memᴰ·not-nil (into x (List·Memᴰ·head refl)))
+ascending-unique (x ∷ xs) (y ∷ ys) up up' into back =
+    let same : x ≡ y = first in
+    let into' : xs ⊆ ys = λ n at. mem-cases (into n (List·Memᴰ·tail at)) (λ is. absurd (let more = up .0 n at in omega arith)) (λ there. there) in
+    let back' : ys ⊆ xs = λ n at. mem-cases (back n (List·Memᴰ·tail at)) (λ is. absurd (let more = up' .0 n at in omega arith)) (λ there. there) in
+    ap₂ _∷_ same (ascending-unique xs ys (up .1) (up' .1) into' back')
+  where
+    first : x ≡ y
+    first =
+        mem-cases (into x (List·Memᴰ·head refl)) (λ is. is)
+        (λ at. mem-cases (back y (List·Memᴰ·head refl)) (λ is. sym is) (λ at'. absurd (let more = up' .0 x at in let more' = up .0 y at' in omega arith)))

@@ -1,56 +1,33 @@
--- The examples hold, by computation, and what that says of each.
+-- Each example of the table holds, by computation, and so means what it says.
 -- Assumes nothing.
-use mathlib.Core.Path.{_≡_, refl, sym, _∙_}
-use mathlib.Core.Logic.{_↔_}
+use mathlib.Core.Path.{_≡_, refl, sym, _∙_, ap₂, subst₂}
 use mathlib.Core.Bool.{Bool, true, false, _&&_, Bool·beq, true≢false}
 use mathlib.Core.List.{List, [], _∷_, List·Memᴰ·head, List·Memᴰ·tail}
-use Prim.Native.Nat.{ℕ, _≤_, _<_}
+use Prim.Native.Nat.{ℕ}
 use lib.Dec.{eqb, ltb}
 use lib.ListN.{length, getD}
 use borrow.Author.Tests.{ltb-true, eqb-true}
 use Rattle.theory.specs.Query.{Entry, Row, Query, FitsSchema, _∈_}
 use Rattle.theory.specs.Database.{Dependency}
-use Rattle.theory.specs.Containment.{Contained}
-use Rattle.theory.specs.Reduction.{Reduction, Rival}
 use Rattle.theory.specs.Query.{sameEntry, variablesOf, rowEntries, member, distinct}
-use Rattle.theory.specs.Chase.{orElse, mapFound, firstPassing, firstPair, firstFound, agree, breaks, firstBroken, survives, resolve, substitute, step, chaseOn, chaseFor, chase}
-use Rattle.theory.specs.Determined.{Determines, FitsColumns, subset, adds, growOn, growFor, closure, columnsIn, determined}
+use Rattle.theory.specs.Chase.{orElse, mapFound, firstPassing, firstPair, firstFound, agree, breaks, firstBroken, survives, resolve, substitute, step, Chases, chaseOn, chaseFor, chase}
+use Rattle.theory.specs.Determined.{FitsColumns, subset, adds, growOn, growFor, closure, columnsIn, determined}
 use Rattle.theory.specs.Search.{lookup, andThen, assignTo, matchEntry, matchEntries, matchRow, tryRows, placeRows, placeQuery, mappable, containedOn, contained, prune, reduce}
-use Rattle.theory.specs.Examples.{Example, reduces, compares, determines, schema, sameEntries, allPass, fitsColumns, fitsSchema, holds, examples}
+use Rattle.theory.specs.Examples.{Example, reduces, chasesTo, compares, determines, schema, Meaning, sameLists, sameRow, sameQuery, allPass, fitsColumns, fitsSchema, overSchema, holds, examples}
 use Rattle.theory.proofs.Lists.{and-left, and-right}
 use Rattle.theory.proofs.Entries.{sameEntry-eq}
+use Rattle.theory.proofs.Chase.{chase-chases}
 use Rattle.theory.proofs.Reduction.{reduction-same-size, reduction-minimal}
-use Rattle.theory.proofs.Determined.{Ascending, determined-exact, determined-ascending}
-use Rattle.theory.proofs.Search.{contained-exact}
+use Rattle.theory.proofs.Determined.{determined-exact, determined-ascending}
+use Rattle.theory.proofs.Search.{contained-exact, contained-false}
 use Rattle.theory.proofs.Reduce.{reduce-reduction}
 
 -- Every example of the table holds
 pub examples-hold : allPass holds examples ≡ true
-unfolding sameEntry variablesOf rowEntries member distinct orElse mapFound firstPassing firstPair firstFound agree breaks firstBroken survives resolve substitute step chaseOn chaseFor chase subset adds growOn growFor closure columnsIn determined lookup andThen assignTo matchEntry matchEntries matchRow tryRows placeRows placeQuery mappable containedOn contained prune reduce sameEntries allPass fitsColumns fitsSchema holds
+unfolding sameEntry variablesOf rowEntries member distinct orElse mapFound firstPassing firstPair firstFound agree breaks firstBroken survives resolve substitute step chaseOn chaseFor chase subset adds growOn growFor closure columnsIn determined lookup andThen assignTo matchEntry matchEntries matchRow tryRows placeRows placeQuery mappable containedOn contained prune reduce sameLists sameRow sameQuery allPass fitsColumns fitsSchema overSchema holds
 examples-hold = refl
 
 -- ---- what they mean
-
--- A query reduces to one with this head and so many rows, after so many replacements: it has a result, each result is so, and no query with the same answers has fewer rows
-pub record Reduces (ds : List Dependency) (q : Query) (head : List Entry) (rows count : ℕ) : Type 0 where
-  pub result : (T : Query) × Reduction ds q T
-  pub each : (T : Query) → Reduction ds q T → (T .head ≡ head) × (length (T .rows) ≡ rows)
-  pub least : (U : Query) → Rival schema ds q U → rows ≤ length (U .rows)
-  pub counted : chase ds q .count ≡ count
-
--- The left set determines so many columns: those that it determines, in ascending order, are so many
-pub record Counts (ds : List Dependency) (relation : ℕ) (left : List ℕ) (columns : ℕ) : Type 0 where
-  pub set : List ℕ
-  pub ascending : Ascending set
-  pub size : length set ≡ columns
-  pub exact : (c : ℕ) → (c ∈ set) ↔ ((c < getD schema relation 0) × Determines schema ds relation left c)
-
--- What an example says, over all databases
-abbrev pub Meaning : Example → Type 0
-Meaning (reduces ds q head rows count) = Reduces ds q head rows count
-Meaning (compares ds p q true) = Contained schema ds p q
-Meaning (compares ds p q false) = Contained schema ds p q → ⊥
-Meaning (determines ds relation left columns) = Counts ds relation left columns
 
 -- Each test of `holds` gives its fact
 and-three : (a b c : Bool) → (a && b && c) ≡ true → (a ≡ true) × (b ≡ true) × (c ≡ true)
@@ -61,15 +38,31 @@ unfolding allPass
 allPass-true test (y ∷ xs) e x (List·Memᴰ·head same) = rw same (and-left (test y) (allPass test xs) e)
 allPass-true test (y ∷ xs) e x (List·Memᴰ·tail at) = allPass-true test xs (and-right (test y) (allPass test xs) e) x at
 
-sameEntries-true : (ds es : List Entry) → sameEntries ds es ≡ true → ds ≡ es
-unfolding sameEntries
-sameEntries-true [] [] e = refl
-sameEntries-true [] (d ∷ es) e = absurd (true≢false (sym e))
-sameEntries-true (d ∷ ds) [] e = absurd (true≢false (sym e))
-sameEntries-true (d ∷ ds) (c ∷ es) e =
-    let first = sameEntry-eq d c (and-left (sameEntry d c) (sameEntries ds es) e) in
-    let rest = sameEntries-true ds es (and-right (sameEntry d c) (sameEntries ds es) e) in
-    cc
+sameLists-true : {A : Type 0} (same : A → A → Bool) → ((x y : A) → same x y ≡ true → x ≡ y) → (xs ys : List A) → sameLists same xs ys ≡ true → xs ≡ ys
+unfolding sameLists
+sameLists-true same exact [] [] e = refl
+sameLists-true same exact [] (y ∷ ys) e = absurd (true≢false (sym e))
+sameLists-true same exact (x ∷ xs) [] e = absurd (true≢false (sym e))
+sameLists-true same exact (x ∷ xs) (y ∷ ys) e =
+    ap₂ _∷_ (exact x y (and-left (same x y) (sameLists same xs ys) e)) (sameLists-true same exact xs ys (and-right (same x y) (sameLists same xs ys) e))
+
+sameRow-true : (r s : Row Entry) → sameRow r s ≡ true → r ≡ s
+unfolding sameRow
+sameRow-true r s e =
+    let one = eqb (r .relation) (s .relation) in
+    let all = sameLists sameEntry (r .values) (s .values) in
+    let relation : r .relation ≡ s .relation = eqb-true (r .relation) (s .relation) (and-left one all e) in
+    let values : r .values ≡ s .values = sameLists-true sameEntry sameEntry-eq (r .values) (s .values) (and-right one all e) in
+    λ i. record { relation = relation i; values = values i }
+
+sameQuery-true : (p q : Query) → sameQuery p q ≡ true → p ≡ q
+unfolding sameQuery
+sameQuery-true p q e =
+    let heads = sameLists sameEntry (p .head) (q .head) in
+    let bodies = sameLists sameRow (p .rows) (q .rows) in
+    let head : p .head ≡ q .head = sameLists-true sameEntry sameEntry-eq (p .head) (q .head) (and-left heads bodies e) in
+    let rows : p .rows ≡ q .rows = sameLists-true sameRow sameRow-true (p .rows) (q .rows) (and-right heads bodies e) in
+    λ i. record { head = head i; rows = rows i }
 
 fitsColumns-true : (widths : List ℕ) (d : Dependency) → fitsColumns widths d ≡ true → FitsColumns widths d
 unfolding fitsColumns
@@ -96,34 +89,37 @@ fitsSchema-true widths r e =
     let full = eqb (length (r .values)) (getD widths (r .relation) 0) in
     (ltb-true (r .relation) (length widths) (and-left known full e), eqb-true (length (r .values)) (getD widths (r .relation) 0) (and-right known full e))
 
-rows-fit : (rows : List (Row Entry)) → allPass (fitsSchema schema) rows ≡ true → (r : Row Entry) → r ∈ rows → FitsSchema schema r
-rows-fit rows e r at = fitsSchema-true schema r (allPass-true (fitsSchema schema) rows e r at)
+rows-fit : (ds : List Dependency) (q : Query) → overSchema ds q ≡ true → (r : Row Entry) → r ∈ q .rows → FitsSchema schema r
+unfolding overSchema
+rows-fit ds q e r at =
+    fitsSchema-true schema r
+    (allPass-true (fitsSchema schema) (q .rows) (and-right (allPass (fitsColumns schema) ds) (allPass (fitsSchema schema) (q .rows)) e) r at)
 
 -- An example that holds means what it says
 pub holds-meaning : (x : Example) → holds x ≡ true → Meaning x
 unfolding holds
 holds-meaning (reduces ds q head rows count) e =
-    let fit = allPass (fitsSchema schema) (q .rows) in
-    let facts = and-three (fit && sameEntries (reduce ds q .head) head) (eqb (length (reduce ds q .rows)) rows) (eqb (chase ds q .count) count) e in
+    let heads = sameLists sameEntry (reduce ds q .head) head in
+    let facts = and-three (overSchema ds q && heads) (eqb (length (reduce ds q .rows)) rows) (eqb (chase ds q .count) count) e in
+    let fit = rows-fit ds q (and-left (overSchema ds q) heads (facts .0)) in
+    let same : reduce ds q .head ≡ head = sameLists-true sameEntry sameEntry-eq (reduce ds q .head) head (and-right (overSchema ds q) heads (facts .0)) in
     let size : length (reduce ds q .rows) ≡ rows = eqb-true (length (reduce ds q .rows)) rows (facts .1) in
-    let same : reduce ds q .head ≡ head = sameEntries-true (reduce ds q .head) head (and-right fit (sameEntries (reduce ds q .head) head) (facts .0)) in
+    let number : chase ds q .count ≡ count = eqb-true (chase ds q .count) count (facts .2) in
     record {
       result = (reduce ds q, reduce-reduction ds q);
       each = λ T r. (r .head ∙ sym (reduce-reduction ds q .head) ∙ same, reduction-same-size ds q T (reduce ds q) r (reduce-reduction ds q) ∙ size);
-      least = λ U rival.
-          rw size at
-          (reduction-minimal schema ds q (reduce ds q) (rows-fit (q .rows) (and-left fit (sameEntries (reduce ds q .head) head) (facts .0))) (reduce-reduction ds q) U rival);
-      counted = eqb-true (chase ds q .count) count (facts .2);
+      least = λ U rival. rw size at (reduction-minimal schema ds q (reduce ds q) fit (reduce-reduction ds q) U rival);
+      counted = (chase ds q .query, rw number at (chase-chases ds q));
     }
+holds-meaning (chasesTo ds q result count) e =
+    let facts = and-three (overSchema ds q) (sameQuery (chase ds q .query) result) (eqb (chase ds q .count) count) e in
+    subst₂ (λ chased n. Chases ds q chased n) (sameQuery-true (chase ds q .query) result (facts .1)) (eqb-true (chase ds q .count) count (facts .2)) (chase-chases ds q)
 holds-meaning (compares ds p q true) e =
-    let fit = allPass (fitsSchema schema) (p .rows) in
-    contained-exact schema ds p q (rows-fit (p .rows) (and-left fit (Bool·beq (contained ds p q) true) e)) .0
-    (beq-true (contained ds p q) true (and-right fit (Bool·beq (contained ds p q) true) e))
+    let facts = and-three (overSchema ds p) (overSchema ds q) (Bool·beq (contained ds p q) true) e in
+    contained-exact schema ds p q (rows-fit ds p (facts .0)) .0 (beq-true (contained ds p q) true (facts .2))
 holds-meaning (compares ds p q false) e =
-    let fit = allPass (fitsSchema schema) (p .rows) in
-    λ c. true≢false
-    (sym (contained-exact schema ds p q (rows-fit (p .rows) (and-left fit (Bool·beq (contained ds p q) false) e)) .1 c)
-    ∙ beq-true (contained ds p q) false (and-right fit (Bool·beq (contained ds p q) false) e))
+    let facts = and-three (overSchema ds p) (overSchema ds q) (Bool·beq (contained ds p q) false) e in
+    contained-false schema ds p q (rows-fit ds p (facts .0)) (beq-true (contained ds p q) false (facts .2))
 holds-meaning (determines ds relation left columns) e =
     let facts =
     and-three (ltb relation (length schema)) (allPass (fitsColumns schema) ds)

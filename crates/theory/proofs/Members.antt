@@ -4,6 +4,7 @@ use mathlib.Core.Path.{refl, sym, subst}
 use mathlib.Core.Logic.{_≢_, _⊎_, inl, inr}
 use mathlib.Core.List.{List, [], _∷_, _++_, map, List·Memᴰ·head, List·Memᴰ·tail, List·Memᴰ·not-nil, List·Memᴰ·append-cases, Memᴰ·cast, Memᴰ·map, Memᴰ·of-map}
 use Rattle.theory.specs.Query.{Entry, Row, rowEntries, _∈_}
+use Rattle.theory.proofs.Entries.{row-rowEntries}
 
 infix 25 _⊆_
 -- Each element of one list stands in another
@@ -43,3 +44,9 @@ row-of-entry {e} (s ∷ rows) at = go (row-of-entry rows) (List·Memᴰ·append-
         → (r : Row Entry) × r ∈ s ∷ rows × e ∈ r .values
     go later (inl here) = (s, List·Memᴰ·head refl, here)
     go later (inr there) = let found = later there in (found .0, List·Memᴰ·tail (found .1), found .2)
+
+-- Fewer rows have no new entries
+pub rowEntries-part : {rows' rows : List (Row Entry)} → rows' ⊆ rows → rowEntries rows' ⊆ rowEntries rows
+rowEntries-part {rows'} {rows} part e at =
+    let found = row-of-entry rows' at in
+    row-rowEntries rows (found .0) e (part (found .0) (found .1)) (found .2)

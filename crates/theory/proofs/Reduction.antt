@@ -6,19 +6,20 @@
 --   3. Minimality. Freeze the result T. Its head is an answer of T there, so of a rival R, by some α. The α-images of R's rows are a part of the frozen T, so they obey the
 --      dependencies; the head is an answer of R on them alone, so of T, by some β. Thawed, β maps T into as many of its rows as R has. By 1, R has no fewer rows than T.
 --      R is not chased, and its constants may be any.
---   4. Well-formedness. A mapping that fixes the head keeps each head variable in a row.
+--   4. What a result keeps. It has at most as many rows as the source, and its variables and constants. A mapping that fixes the head keeps each head variable in a row.
 --   5. One pass. Once a row cannot go, it cannot go later either: so trying each row once gives a core.
 --   6. Losing rows one at a time leads to every result, up to the order of rows.
 -- Assumes nothing.
 use mathlib.Core.Path.{_≡_, refl, sym, _∙_, ap, subst, subst₂}
-use mathlib.Core.Logic.{_≢_, _↔_, Iff·symm, Iff·trans, _⊎_, inl, inr}
+use mathlib.Core.Logic.{_≢_, _↔_, Iff·symm, Iff·trans, Iff·trunc, ∥∥₁-elim, _⊎_, inl, inr, ⊎-elim}
 use mathlib.Core.List.{List, [], _∷_, _++_, map, append-nil, cons-ne-nil, List·Memᴰ·head, List·Memᴰ·tail, List·Memᴰ·not-nil, List·Memᴰ·append-cases, Memᴰ·append-left, Memᴰ·append-right, Memᴰ·map, Memᴰ·of-map, Memᴰ·cast}
 use Prim.Native.Nat.{ℕ, zero, suc, _+_, _≤_, _<_}
 use native.Mathlib.Omega.{arith}
+use native.Mathlib.Bridge.{le-prop}
 use native.Mathlib.Decide.{decLe}
 use lib.ListN.{length, length-map}
 use lib.Seq.{append-snoc}
-use Rattle.theory.specs.Query.{Entry, constant, variable, Row, Query, mapRow, rowEntries, variablesOf, FitsSchema, WellFormed, _∈_}
+use Rattle.theory.specs.Query.{Entry, constant, variable, Row, Query, mapRow, rowEntries, variablesOf, variables, FitsSchema, WellFormed, _∈_}
 use Rattle.theory.specs.Database.{Database, Dependency, Obeys, Sound}
 use Rattle.theory.specs.Answer.{valueOf, itself, Carries, Answer, Mapping}
 use Rattle.theory.specs.Chase.{chase}
@@ -26,10 +27,10 @@ use Rattle.theory.specs.Containment.{Equivalent, freeze, frozenRows, fro
 use Rattle.theory.specs.Reduction.{without, dropRow, Core, Reduction, Shrinks, stays, loses, Minimal}
 use Rattle.theory.proofs.Lists.{Nodup, without-length, nodup-length-le}
 use Rattle.theory.proofs.Entries.{constant-variable, variablesOf-mem, mem-variablesOf, row-rowEntries}
-use Rattle.theory.proofs.Members.{_⊆_, insert-part, append-part, map-part, some-of-member, member-of-some, row-of-entry}
+use Rattle.theory.proofs.Members.{_⊆_, insert-part, append-part, map-part, some-of-member, member-of-some, row-of-entry, rowEntries-part}
 use Rattle.theory.proofs.Without.{without-part, without-cases, without-append, without-singleton, pigeonhole, nodup-of, nodup-fills}
 use Rattle.theory.proofs.Carry.{carries-fewer, mapping-of, mapping-compose, mapping-self, mapping-part, mapping-inclusion, mapping-target}
-use Rattle.theory.proofs.Chase.{chase-answers, chase-mapping, chase-obeys, chase-rows-fit, chase-wellformed, chase-head-length}
+use Rattle.theory.proofs.Chase.{chase-answers, chase-mapping, chase-obeys, chase-rows-fit, chase-wellformed, chase-head-length, chase-entries, chase-variables, chase-constants, chase-length-le}
 use Rattle.theory.proofs.Containment.{answer-along, frozen-answer, frozen-sound, thaw, thaw-rows, thaw-head, thaw-carries}
 
 -- ---- 1. Cores
@@ -106,6 +107,10 @@ module _ (ds : List Dependency) (S T : Query) (result : Reduction ds S T) where
 
       from : Answer D T t → Answer D (chase ds S .query) t
       from answer = answer-along D (chase ds S .query) T (result .receives (reduction-some-chased (answer .1 .not-never))) t answer
+
+  -- so the two have the same answers on every sound database that obeys
+  pub reduction-equivalent : (widths : List ℕ) → Equivalent widths ds S T
+  reduction-equivalent widths D sound obeys t = Iff·trunc (reduction-answers D obeys t)
 
   -- Unless the result is never, there is a mapping from the source query to it
   pub reduction-mapping : T .rows ≢ [] → Mapping S T
@@ -192,47 +197,48 @@ obeys-part ds D E part obeys d held r s atR atS = obeys d held r s (part r atR) 
 below-part : (base : ℕ) (q q' : Query) → q' .head ≡ q .head → q' .rows ⊆ q .rows → ConstantsBelow base q → ConstantsBelow base q'
 below-part base q q' same part below = record {
   of-head = λ n at. below .of-head n (subst (λ es. constant n ∈ es) same at);
-  of-rows = λ n at. let found = row-of-entry (q' .rows) at in below .of-rows n (row-rowEntries (q .rows) (found .0) (constant n) (part (found .0) (found .1)) (found .2));
+  of-rows = λ n at. below .of-rows n (rowEntries-part part (constant n) at);
 }
 
--- If on every sound database that obeys, R has exactly the answers of T, and T is a core of which the frozen rows are sound and obey, then R has at least as many rows as T
+-- The images of a query's rows under an assignment
+abbrev images : (ℕ → ℕ) → Query → Database
+images assign R = map (mapRow (valueOf itself assign)) (R .rows)
+
+-- A rival R has the frozen head of T as an answer on the frozen T, by an assignment α
+module _ (T R : Query) (base : ℕ) (rival : Answer (frozenRows base T) R (frozenHead base T)) where
+  -- The α-images of its rows are a part of the frozen T,
+  images-part : images (rival .0) R ⊆ frozenRows base T
+  images-part r at =
+      let found = Memᴰ·of-map (mapRow (valueOf itself (rival .0))) (R .rows) at in
+      Memᴰ·cast (sym (found .2)) (rival .1 .to-rows (found .0) (found .1))
+
+  -- R still has that answer there,
+  images-answer : Answer (images (rival .0) R) R (frozenHead base T)
+  images-answer =
+      (rival .0, record { not-never = rival .1 .not-never; to-head = rival .1 .to-head; to-rows = λ r at. Memᴰ·map (mapRow (valueOf itself (rival .0))) at })
+
+  -- and if T has it there too, by β, then β, thawed, maps T into as many of its rows as R has
+  images-length : ConstantsBelow base T → Core T → Answer (images (rival .0) R) T (frozenHead base T) → length (T .rows) ≤ length (R .rows)
+  images-length below core again =
+      let P : Query = record { head = T .head; rows = map (mapRow (thaw base)) (images (rival .0) R) } in
+      let part : P .rows ⊆ T .rows = λ s at. subst (λ rows. s ∈ rows) (thaw-rows base T below) (map-part (mapRow (thaw base)) images-part s at) in
+      let onto : Mapping T P =
+      mapping-of T P (λ v. thaw base (again .0 v))
+      (subst (λ head. Carries constant (λ v. thaw base (again .0 v)) T (P .rows) head) (thaw-head base T below)
+      (thaw-carries base T below (again .0) (images (rival .0) R) (frozenHead base T) (again .1))) in
+      let small : length (T .rows) ≤ length (P .rows) = core-least T P core refl part onto in
+      omega (arith, small, length-map (images (rival .0) R) (mapRow (thaw base)), length-map (R .rows) (mapRow (valueOf itself (rival .0))))
+
+-- If on every sound database that obeys, R has exactly the answers of T, and T is a core of which the frozen rows are sound and obey, then R has at least as many rows as T.
+-- The conclusion is a proposition, so α and β may be taken from the truncations
 core-minimal : (widths : List ℕ) (ds : List Dependency) (T R : Query) (base : ℕ) → ConstantsBelow base T → Core T
     → Sound widths (frozenRows base T) → Obeys ds (frozenRows base T) → Equivalent widths ds T R → T .rows ≢ [] → length (T .rows) ≤ length (R .rows)
 core-minimal widths ds T R base below core sound obeys same some =
-    let small : length (T .rows) ≤ length (P .rows) = core-least T P core refl P-part P-mapping in
-    omega (arith, small, length-map E (mapRow (thaw base)), length-map (R .rows) (mapRow (valueOf itself (rival .0))))
-  where
-    -- the rival's assignment α on the frozen T
-    rival : Answer (frozenRows base T) R (frozenHead base T)
-    rival = same (frozenRows base T) sound obeys (frozenHead base T) .0 (frozen-answer base T some)
-
-    -- the α-images of its rows
-    E : Database
-    E = map (mapRow (valueOf itself (rival .0))) (R .rows)
-
-    E-part : E ⊆ frozenRows base T
-    E-part r at =
-        let found = Memᴰ·of-map (mapRow (valueOf itself (rival .0))) (R .rows) at in
-        Memᴰ·cast (sym (found .2)) (rival .1 .to-rows (found .0) (found .1))
-
-    -- the core's assignment β on them
-    again : Answer E T (frozenHead base T)
-    again =
-        same E (sound-part widths (frozenRows base T) E E-part sound) (obeys-part ds (frozenRows base T) E E-part obeys) (frozenHead base T) .1
-        (rival .0, record { not-never = rival .1 .not-never; to-head = rival .1 .to-head; to-rows = λ r at. Memᴰ·map (mapRow (valueOf itself (rival .0))) at })
-
-    -- and what β maps the core to, thawed
-    P : Query
-    P = record { head = T .head; rows = map (mapRow (thaw base)) E }
-
-    P-part : P .rows ⊆ T .rows
-    P-part s at = subst (λ rows. s ∈ rows) (thaw-rows base T below) (map-part (mapRow (thaw base)) E-part s at)
-
-    P-mapping : Mapping T P
-    P-mapping =
-        mapping-of T P (λ v. thaw base (again .0 v))
-        (subst (λ head. Carries constant (λ v. thaw base (again .0 v)) T (P .rows) head) (thaw-head base T below)
-        (thaw-carries base T below (again .0) E (frozenHead base T) (again .1)))
+    ∥∥₁-elim (same (frozenRows base T) sound obeys (frozenHead base T) .0 ∣ frozen-answer base T some ∣₁) le-prop (λ rival.
+    let part : images (rival .0) R ⊆ frozenRows base T = images-part T R base rival in
+    ∥∥₁-elim (same (images (rival .0) R) (sound-part widths (frozenRows base T) (images (rival .0) R) part sound)
+    (obeys-part ds (frozenRows base T) (images (rival .0) R) part obeys) (frozenHead base T) .1 ∣ images-answer T R base rival ∣₁)
+    le-prop (images-length T R base rival below core))
 
 -- Every query with the source's answers on all sound databases that obey has at least as many rows as a result, whatever its variables and constants
 pub reduction-minimal : (widths : List ℕ) (ds : List Dependency) (S T : Query) → ((r : Row Entry) → r ∈ S .rows → FitsSchema widths r)
@@ -250,7 +256,7 @@ reduction-minimal widths ds S T fit result R rival = go (T .rows) refl
 
     same : Equivalent widths ds T R
     same D sound obeys t =
-        Iff·trans (Iff·symm (reduction-answers ds S T result D obeys t)) (rival .same D sound obeys t)
+        Iff·trans (Iff·symm (reduction-equivalent ds S T result widths D sound obeys t)) (rival .same D sound obeys t)
 
     go : (rows : List (Row Entry)) → T .rows ≡ rows → length (T .rows) ≤ length (R .rows)
     go [] none = omega (arith, ap length none)
@@ -260,7 +266,37 @@ reduction-minimal widths ds S T fit result R rival = go (T .rows) refl
         (obeys-part ds (frozenRows base (chase ds S .query)) (frozenRows base T) frozen-part (chase-obeys ds S base (some-base (chase ds S .query) .1) below))
         same (λ none. cons-ne-nil r rows (sym rest ∙ none))
 
--- ---- 4. Well-formedness
+-- ---- 4. What a result keeps
+
+module _ (ds : List Dependency) (S T : Query) (result : Reduction ds S T) where
+  -- A result has at most as many rows as its source,
+  pub reduction-length : length (T .rows) ≤ length (S .rows)
+  reduction-length =
+      let some-rows = nodup-length-le (T .rows) (chase ds S .query .rows) (core-nodup T (result .core)) (result .rows) in
+      omega (arith, some-rows, chase-length-le ds S)
+
+  -- no entry that the chased query has not,
+  result-entries : (x : Entry) → x ∈ T .head ++ rowEntries (T .rows) → x ∈ chase ds S .query .head ++ rowEntries (chase ds S .query .rows)
+  result-entries x at =
+      ⊎-elim
+      (λ there. Memᴰ·append-left (rowEntries (chase ds S .query .rows)) (subst (λ es. x ∈ es) (result .head) there))
+      (λ there. Memᴰ·append-right (chase ds S .query .head) (rowEntries-part (result .rows) x there))
+      (List·Memᴰ·append-cases (T .head) at)
+
+  -- so none that the source has not, but for constant 0,
+  pub reduction-entries : (x : Entry) → x ∈ T .head ++ rowEntries (T .rows) → (x ≡ constant 0) ⊎ (x ∈ S .head ++ rowEntries (S .rows))
+  reduction-entries x at = chase-entries ds S x (result-entries x at)
+
+  -- no variable that the source has not,
+  pub reduction-variables : (v : ℕ) → v ∈ variables T → v ∈ variables S
+  reduction-variables v at =
+      chase-variables ds S v
+      (mem-variablesOf v (chase ds S .query .head ++ rowEntries (chase ds S .query .rows))
+      (result-entries (variable v) (variablesOf-mem v (T .head ++ rowEntries (T .rows)) at)))
+
+  -- and constants below the base that the source's are below
+  pub reduction-constants : (base : ℕ) → 0 < base → ConstantsBelow base S → ConstantsBelow base T
+  reduction-constants base positive below = below-part base (chase ds S .query) T (result .head) (result .rows) (chase-constants ds S base positive below)
 
 -- A map that keeps a list keeps each of its elements
 map-fixes : {A : Type 0} (f : A → A) (xs : List A) → map f xs ≡ xs → (x : A) → x ∈ xs → f x ≡ x

@@ -2,7 +2,7 @@
 -- forced entries the same value; it takes away exactly one variable and brings none; it keeps constants below a base, and well-formed queries.
 -- Substitution by itself is in `Entries`, what forces a replacement in `Step`. Assumes nothing.
 use mathlib.Core.Path.{_≡_, sym, _∙_, ap}
-use mathlib.Core.Logic.{_≢_, _↔_, ⊎-elim}
+use mathlib.Core.Logic.{_≢_, _↔_, _⊎_, inl, inr, ⊎-elim}
 use mathlib.Core.Option.{some}
 use mathlib.Core.List.{List, [], _++_, map, Memᴰ·cast, Memᴰ·map, Memᴰ·of-map, Memᴰ·append-right}
 use Prim.Native.Nat.{ℕ, suc, _<_}
@@ -132,6 +132,19 @@ forced-variables {e} {v} q f w at =
     (λ c. forced-known-second q f w (sym (c .0)))
     (λ c. mem-variablesOf w es (c .1))
     (substitute-mem v e (variable w) es (rw (entries-map (substitute v e) q) at (variablesOf-mem w after at)))
+
+-- nor any entry, but for the constant 0 that stands in for a missing column
+pub forced-entries : {ds : List Dependency} {e : Entry} {v : ℕ} (q : Query) → Forced ds (q .rows) (variable v) e
+    → (x : Entry) → x ∈ mapQuery (substitute v e) q .head ++ rowEntries (mapQuery (substitute v e) q .rows)
+    → (x ≡ constant 0) ⊎ (x ∈ q .head ++ rowEntries (q .rows))
+forced-entries {e} {v} q f x at =
+    ⊎-elim
+    (λ c. ⊎-elim
+    (λ default. inl (c .0 ∙ default))
+    (λ there. inr (Memᴰ·append-right (q .head) (Memᴰ·cast (c .0) there)))
+    (forced-entry (forced-swap f)))
+    (λ c. inr (c .1))
+    (substitute-mem v e x (q .head ++ rowEntries (q .rows)) (rw (entries-map (substitute v e) q) at at))
 
 -- A replacement keeps the constants below a base
 pub forced-constants : {ds : List Dependency} {e : Entry} {v : ℕ} (q : Query) (base : ℕ) → 0 < base → Forced ds (q .rows) (variable v) e

@@ -1,9 +1,8 @@
 -- Containment of queries over all databases that obey the dependencies (demand 2), and a query read as a database.
-use mathlib.Core.Path.{_≡_}
 use mathlib.Core.Logic.{_↔_}
 use mathlib.Core.List.{List, map}
 use Prim.Native.Nat.{ℕ, _+_, _<_}
-use Rattle.theory.specs.Query.{Entry, constant, variable, Row, Query, mapRow, rowEntries, _∈_}
+use Rattle.theory.specs.Query.{Entry, constant, Query, mapRow, rowEntries, _∈_}
 use Rattle.theory.specs.Database.{Database, Dependency, Obeys, Sound}
 use Rattle.theory.specs.Answer.{Answer, valueOf, itself}
 
@@ -18,9 +17,10 @@ pub record Counterexample (widths : List ℕ) (ds : List Dependency) (p q : Quer
   pub answer : Answer D p t
   pub no-answer : Answer D q t → ⊥
 
--- p and q have the same answers on every sound database that obeys the dependencies
+-- p and q have the same answers on every sound database that obeys the dependencies: t is an answer of the one exactly when it is one of the other.
+-- `∥ ∥₁` asks only that there is an assignment, not which
 abbrev pub Equivalent : List ℕ → List Dependency → Query → Query → Type 0
-Equivalent widths ds p q = (D : Database) → Sound widths D → Obeys ds D → (t : List ℕ) → Answer D p t ↔ Answer D q t
+Equivalent widths ds p q = (D : Database) → Sound widths D → Obeys ds D → (t : List ℕ) → ∥ Answer D p t ∥₁ ↔ ∥ Answer D q t ∥₁
 
 -- An entry read as a number: a constant as itself, variable v as base + v
 abbrev pub freeze : ℕ → Entry → ℕ

@@ -1,6 +1,6 @@
 -- The columns that a set of columns determines: what it means over all databases, and the closure that computes it.
 use mathlib.Core.Path.{_≡_}
-use mathlib.Core.Bool.{Bool, true, false, cond, not, _&&_}
+use mathlib.Core.Bool.{Bool, true, cond, not, _&&_}
 use mathlib.Core.List.{List, [], _∷_}
 use mathlib.Core.Option.{Option, none, some}
 use Prim.Native.Nat.{ℕ, zero, suc, _<_}
@@ -21,6 +21,11 @@ pub record FitsColumns (widths : List ℕ) (d : Dependency) : Type 0 where
   pub relation : d .relation < length widths
   pub left : (c : ℕ) → c ∈ d .left → c < getD widths (d .relation) 0
   pub right : d .right < getD widths (d .relation) 0
+
+-- Each number is less than all that follow it
+abbrev pub Ascending : List ℕ → Type 0
+Ascending [] = Unit {0}
+Ascending (n ∷ ns) = ((m : ℕ) → m ∈ ns → n < m) × Ascending ns
 
 -- Whether each number of the first list stands in the second
 unfoldable pub subset : List ℕ → List ℕ → Bool
@@ -45,7 +50,7 @@ growFor (suc n) ds relation known = growOn (growFor n ds relation) known (firstP
 unfoldable pub closure : List Dependency → ℕ → List ℕ → List ℕ
 closure ds relation left = growFor (length ds) ds relation left
 
--- The numbers of a list below n, ascending from a start: columns start, start + 1, .. of which those in the list are kept
+-- Of the n columns from `start` on, those in the list, ascending
 unfoldable pub columnsIn : List ℕ → ℕ → ℕ → List ℕ
 columnsIn known start zero = []
 columnsIn known start (suc n) = cond (member start known) (start ∷ columnsIn known (suc start) n) (columnsIn known (suc start) n)

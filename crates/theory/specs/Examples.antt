@@ -1,31 +1,76 @@
--- The reference examples that document 01 marks P1 to P11, the worked examples of source document 000, and a few that single out a rule: one table.
--- `holds` computes an example; that all of them hold, and what that means, is in `proofs/Examples`.
+-- The reference examples that document 01 marks P1 to P11, worked examples of the literature on tableaux and the chase, and some that single out a rule: one table.
+-- First what an example says (`Meaning`), then how it is computed (`holds`), then the table. That each example holds, and so means what it says, is in `proofs/Examples`.
+use mathlib.Core.Path.{_≡_}
+use mathlib.Core.Logic.{_↔_}
 use mathlib.Core.Bool.{Bool, true, false, _&&_, Bool·beq}
 use mathlib.Core.List.{List, [], _∷_, _++_}
-use Prim.Native.Nat.{ℕ}
+use Prim.Native.Nat.{ℕ, _≤_, _<_}
 use lib.Dec.{eqb, ltb}
 use lib.ListN.{length, getD}
-use Rattle.theory.specs.Query.{Entry, constant, variable, Row, Query, sameEntry}
-use Rattle.theory.specs.Database.{Dependency}
-use Rattle.theory.specs.Chase.{chase}
-use Rattle.theory.specs.Determined.{determined}
+use Rattle.theory.specs.Query.{Entry, constant, variable, Row, Query, sameEntry, _∈_}
+use Rattle.theory.specs.Database.{Database, Dependency}
+use Rattle.theory.specs.Chase.{Chases, chase}
+use Rattle.theory.specs.Containment.{Contained, Counterexample}
+use Rattle.theory.specs.Reduction.{Reduction, Rival}
+use Rattle.theory.specs.Determined.{Determines, Ascending, determined}
 use Rattle.theory.specs.Search.{contained, reduce}
 
 -- An example: what a call with these arguments gives
 pub data Example : Type 0 where
   -- under these dependencies the query reduces to one with this head and so many rows, after so many replacements. Never has 0 rows
   reduces : List Dependency → Query → List Entry → ℕ → ℕ → Example
+  -- under these dependencies the chase of the first query ends in the second, row by row, after so many replacements
+  chasesTo : List Dependency → Query → Query → ℕ → Example
   -- under these dependencies the first query is contained in the second, or it is not
   compares : List Dependency → Query → Query → Bool → Example
   -- under these dependencies the left set determines so many columns of the relation
   determines : List Dependency → ℕ → List ℕ → ℕ → Example
 
--- Whether two lists have the same entries, position by position
-unfoldable pub sameEntries : List Entry → List Entry → Bool
-sameEntries [] [] = true
-sameEntries [] (e ∷ es) = false
-sameEntries (d ∷ ds) [] = false
-sameEntries (d ∷ ds) (e ∷ es) = sameEntry d e && sameEntries ds es
+-- ---- what an example says
+
+-- The relations of the examples: R has columns a and b, S has a, b and c, B has a and b
+abbrev pub schema : List ℕ
+schema = 2 ∷ 3 ∷ 2 ∷ []
+
+-- A query reduces to one with this head and so many rows, after so many replacements: it has a result, each result is so, no query with the same answers has fewer rows,
+-- and the chase makes so many replacements
+pub record Reduces (ds : List Dependency) (q : Query) (head : List Entry) (rows count : ℕ) : Type 0 where
+  pub result : (T : Query) × Reduction ds q T
+  pub each : (T : Query) → Reduction ds q T → (T .head ≡ head) × (length (T .rows) ≡ rows)
+  pub least : (U : Query) → Rival schema ds q U → rows ≤ length (U .rows)
+  pub counted : (chased : Query) × Chases ds q chased count
+
+-- The left set determines so many columns: those that it determines, in ascending order, are so many
+pub record Counts (ds : List Dependency) (relation : ℕ) (left : List ℕ) (columns : ℕ) : Type 0 where
+  pub set : List ℕ
+  pub ascending : Ascending set
+  pub size : length set ≡ columns
+  pub exact : (c : ℕ) → (c ∈ set) ↔ ((c < getD schema relation 0) × Determines schema ds relation left c)
+
+-- What an example says, over all databases. Where the first query is not contained in the second, a database shows it
+abbrev pub Meaning : Example → Type 0
+Meaning (reduces ds q head rows count) = Reduces ds q head rows count
+Meaning (chasesTo ds q result count) = Chases ds q result count
+Meaning (compares ds p q true) = Contained schema ds p q
+Meaning (compares ds p q false) = (D : Database) × (t : List ℕ) × Counterexample schema ds p q D t
+Meaning (determines ds relation left columns) = Counts ds relation left columns
+
+-- ---- how it is computed
+
+-- Whether two lists are the same position by position, where `same` tells whether two elements are
+unfoldable pub sameLists : {A : Type 0} → (A → A → Bool) → List A → List A → Bool
+sameLists same [] [] = true
+sameLists same [] (y ∷ ys) = false
+sameLists same (x ∷ xs) [] = false
+sameLists same (x ∷ xs) (y ∷ ys) = same x y && sameLists same xs ys
+
+-- Whether two rows have the same relation and entries
+unfoldable pub sameRow : Row Entry → Row Entry → Bool
+sameRow r s = eqb (r .relation) (s .relation) && sameLists sameEntry (r .values) (s .values)
+
+-- Whether two queries have the same head and the same rows in the same order
+unfoldable pub sameQuery : Query → Query → Bool
+sameQuery p q = sameLists sameEntry (p .head) (q .head) && sameLists sameRow (p .rows) (q .rows)
 
 -- Whether all elements of a list pass a test
 unfoldable pub allPass : {A : Type 0} → (A → Bool) → List A → Bool
@@ -41,15 +86,16 @@ fitsColumns widths d =
 unfoldable pub fitsSchema : List ℕ → Row Entry → Bool
 fitsSchema widths r = ltb (r .relation) (length widths) && eqb (length (r .values)) (getD widths (r .relation) 0)
 
--- The relations of the examples: R has columns a and b, S has a, b and c, B has a and b
-abbrev pub schema : List ℕ
-schema = 2 ∷ 3 ∷ 2 ∷ []
+-- Whether the dependencies and the rows of a query are over the relations of the examples
+unfoldable pub overSchema : List Dependency → Query → Bool
+overSchema ds q = allPass (fitsColumns schema) ds && allPass (fitsSchema schema) (q .rows)
 
--- Whether an example is as the definitions compute it, over the schema
+-- Whether an example is over the schema and as the definitions compute it
 unfoldable pub holds : Example → Bool
 holds (reduces ds q head rows count) =
-    allPass (fitsSchema schema) (q .rows) && sameEntries (reduce ds q .head) head && eqb (length (reduce ds q .rows)) rows && eqb (chase ds q .count) count
-holds (compares ds p q answer) = allPass (fitsSchema schema) (p .rows) && Bool·beq (contained ds p q) answer
+    overSchema ds q && sameLists sameEntry (reduce ds q .head) head && eqb (length (reduce ds q .rows)) rows && eqb (chase ds q .count) count
+holds (chasesTo ds q result count) = overSchema ds q && sameQuery (chase ds q .query) result && eqb (chase ds q .count) count
+holds (compares ds p q answer) = overSchema ds p && overSchema ds q && Bool·beq (contained ds p q) answer
 holds (determines ds relation left columns) =
     ltb relation (length schema) && allPass (fitsColumns schema) ds && eqb (length (determined ds relation (getD schema relation 0) left)) columns
 
@@ -115,14 +161,14 @@ reference =
     ∷ determines (from 1 0 1 ∷ from 1 1 2 ∷ []) 1 (2 ∷ []) 1
     ∷ []
 
--- The two queries with which source document 000 begins, with x = v0 and y = v1: R(y,x), R(x,z) and R(y,x), R(w,x), R(x,u)
+-- Two queries that are often shown first, with x = v0 and y = v1: R(y,x), R(x,z) and R(y,x), R(w,x), R(x,u)
 abbrev twoJoins : Query
 twoJoins = query (v 0 ∷ v 1 ∷ []) (R (v 1) (v 0) ∷ R (v 0) (v 2) ∷ [])
 
 abbrev threeJoins : Query
 threeJoins = query (v 0 ∷ v 1 ∷ []) (R (v 1) (v 0) ∷ R (v 2) (v 0) ∷ R (v 0) (v 3) ∷ [])
 
--- The worked examples of source document 000, in order: equivalence, minimisation, several relations, and the four with a dependency.
+-- Worked examples of the literature on tableaux and the chase: equivalence, minimisation, several relations, and those with a dependency.
 -- x, y and z have higher numbers than the other variables where a dependency is used: a head variable survives all the same
 abbrev pub worked : List Example
 worked =
@@ -140,7 +186,8 @@ worked =
     ∷ []
 
 -- Further: the query of document 01's listing; a dependency of R says nothing of B; a clash that comes after a replacement;
--- p is chased before it is compared, q is not; never is contained in all and contains no other
+-- the first is chased, not the second in its place; never is contained in all and contains no other;
+-- both left columns must agree; a row that stands there twice, with a constant that is no clash; a row of B is none of R; the closure in the other held order
 abbrev pub further : List Example
 further =
     reduces (from 1 0 1 ∷ []) (query (v 0 ∷ v 1 ∷ v 2 ∷ []) (S (v 0) (v 1) (v 2) ∷ S (v 0) (k 7) (v 3) ∷ [])) (v 0 ∷ k 7 ∷ v 2 ∷ []) 1 1
@@ -150,8 +197,40 @@ further =
     ∷ compares [] (query (v 0 ∷ []) (R (v 0) (v 1) ∷ R (v 0) (v 2) ∷ B (v 1) (v 2) ∷ [])) (query (v 0 ∷ []) (R (v 0) (v 1) ∷ B (v 1) (v 1) ∷ [])) false
     ∷ compares R·a→b (query [] (R (v 0) (k 3) ∷ R (v 0) (k 4) ∷ [])) (query [] []) true
     ∷ compares [] (query [] (R (v 0) (v 0) ∷ [])) (query [] []) false
+    ∷ reduces (record { relation = 1; left = 0 ∷ 1 ∷ []; right = 2 } ∷ []) (query (v 2 ∷ v 4 ∷ []) (S (v 0) (v 1) (v 2) ∷ S (v 0) (v 3) (v 4) ∷ [])) (v 2 ∷ v 4 ∷ []) 2 0
+    ∷ reduces R·a→b (query (v 0 ∷ []) (R (v 0) (k 3) ∷ R (v 0) (k 3) ∷ [])) (v 0 ∷ []) 1 0
+    ∷ reduces R·a→b (query (v 0 ∷ []) (R (v 0) (v 1) ∷ B (v 0) (v 2) ∷ [])) (v 0 ∷ []) 2 0
+    ∷ determines (from 1 1 2 ∷ from 1 0 1 ∷ []) 1 (0 ∷ []) 3
+    ∷ []
+
+-- The survivor of a replacement: of two variables outside the head the lower, in whichever row it stands; the one in the head, though its number is the higher;
+-- of two in the head the lower
+abbrev pub survivors : List Example
+survivors =
+    chasesTo R·a→b (query (v 0 ∷ []) (R (v 0) (v 5) ∷ R (v 0) (v 3) ∷ B (v 5) (v 3) ∷ [])) (query (v 0 ∷ []) (R (v 0) (v 3) ∷ R (v 0) (v 3) ∷ B (v 3) (v 3) ∷ [])) 1
+    ∷ chasesTo R·a→b (query (v 0 ∷ []) (R (v 0) (v 3) ∷ R (v 0) (v 5) ∷ B (v 5) (v 3) ∷ [])) (query (v 0 ∷ []) (R (v 0) (v 3) ∷ R (v 0) (v 3) ∷ B (v 3) (v 3) ∷ [])) 1
+    ∷ reduces (from 1 0 1 ∷ []) (query (v 7 ∷ v 8 ∷ v 9 ∷ []) (S (v 7) (v 2) (v 9) ∷ S (v 7) (v 8) (v 1) ∷ [])) (v 7 ∷ v 8 ∷ v 9 ∷ []) 1 1
+    ∷ reduces R·a→b (query (v 0 ∷ v 1 ∷ v 2 ∷ []) (R (v 0) (v 2) ∷ R (v 0) (v 1) ∷ [])) (v 0 ∷ v 1 ∷ v 1 ∷ []) 1 1
+    ∷ []
+
+-- The order of search, each time shown by how many replacements come before a clash
+abbrev pub searchOrder : List Example
+searchOrder =
+    -- by i and then j: the pair (0, 3) comes before (1, 2)
+    reduces R·a→b (query [] (R (v 0) (v 1) ∷ R (v 2) (k 3) ∷ R (v 2) (k 4) ∷ R (v 0) (v 3) ∷ [])) [] 0 1
+    -- j ascends: (0, 1) comes before (0, 2)
+    ∷ reduces R·a→b (query [] (R (v 0) (k 3) ∷ R (v 0) (v 1) ∷ R (v 0) (k 4) ∷ [])) [] 0 1
+    -- i ascends: (0, 1) comes before (2, 3)
+    ∷ reduces R·a→b (query [] (R (v 0) (k 3) ∷ R (v 0) (k 4) ∷ R (v 1) (v 2) ∷ R (v 1) (v 3) ∷ [])) [] 0 0
+    -- dependencies in held order: a→b before a→c, and the other way round
+    ∷ reduces (from 1 0 1 ∷ from 1 0 2 ∷ []) (query [] (S (v 0) (v 1) (k 3) ∷ S (v 0) (v 2) (k 4) ∷ [])) [] 0 1
+    ∷ reduces (from 1 0 2 ∷ from 1 0 1 ∷ []) (query [] (S (v 0) (v 1) (k 3) ∷ S (v 0) (v 2) (k 4) ∷ [])) [] 0 0
+    -- dependencies outermost: (2, 3) for a→b before (0, 1) for a→c
+    ∷ reduces (from 1 0 1 ∷ from 1 0 2 ∷ []) (query [] (S (v 0) (v 1) (k 3) ∷ S (v 0) (v 1) (k 4) ∷ S (v 5) (v 6) (k 7) ∷ S (v 5) (v 8) (k 7) ∷ [])) [] 0 1
+    -- after a replacement from the first dependency on: b→c clashes before a→b goes on to (2, 3)
+    ∷ reduces (from 1 1 2 ∷ from 1 0 1 ∷ []) (query [] (S (v 0) (v 1) (k 3) ∷ S (v 0) (v 2) (k 4) ∷ S (v 5) (v 6) (k 7) ∷ S (v 5) (v 8) (k 7) ∷ [])) [] 0 1
     ∷ []
 
 -- The whole table
 abbrev pub examples : List Example
-examples = reference ++ worked ++ further
+examples = reference ++ worked ++ further ++ survivors ++ searchOrder

@@ -1,4 +1,4 @@
--- The definitions that a reader must believe, in the order in which to read them.
+-- The definitions that a reader must believe, in the order in which to read them. `Search` only computes, for the examples: theorems tie it to the definitions before it.
 pub mod Query
 pub mod Database
 pub mod Answer

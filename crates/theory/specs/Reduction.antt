@@ -37,7 +37,8 @@ pub data Shrinks : Query → Query → Type 0 where
   stays : {q : Query} → Core q → Shrinks q q
   loses : {q T : Query} {r : Row Entry} (at : r ∈ q .rows) → Mapping q (dropRow q at) → Shrinks (dropRow q at) T → Shrinks q T
 
--- R is a rival of S: a query of the same head length with the same answers on every sound database that obeys the dependencies, whatever its rows, variables and constants
+-- R is a rival of S: a query of the same head length with the same answers on every sound database that obeys the dependencies, whatever its rows, variables and constants.
+-- `width` is document 01's word on rivals; no proof needs it
 pub record Rival (widths : List ℕ) (ds : List Dependency) (S R : Query) : Type 0 where
   pub width : length (R .head) ≡ length (S .head)
   pub same : Equivalent widths ds S R

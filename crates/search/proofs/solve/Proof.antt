@@ -1,26 +1,42 @@
--- `solve` starts with no row placed, so that a failure has no row to blame: no choice is a solution.
--- Assumes nothing.
+-- `search::solve` meets its contract: no row is placed at the start, so a failure of the first call blames none. Assumes nothing.
 use borrow.Author.Needs.{needs}
-use native.Mathlib.Omega.{arith}
-use Rattle.search.proofs.Sets.{has-none}
-use Rattle.search.proofs.Backtrack.{missing-le}
+use Rattle.search.proofs.Calls.{placeable-start, no-solution}
 use Rattle.search.proofs.solve.Statement.{statement}
 use Rattle.search.proofs.solve.Tie as tie
 
-mul-place : tie.Need-mul-place
-mul-place c = search needs
+degrees-requires : tie.Need-degrees-requires
+degrees-requires c κs = search needs
 
-add-place : tie.Need-add-place
-add-place c = search needs
+start-requires : tie.Need-start-requires
+start-requires c κs = search needs
 
-place-requires : tie.Need-place-requires
-place-requires c κs = (c .before .before .pre, omega (arith, missing-le (c .before .before .args .rows) 0))
+mul-place-row : tie.Need-mul-place-row
+mul-place-row c = search needs
+
+add-place-row : tie.Need-add-place-row
+add-place-row c = search needs
+
+place-row-requires : tie.Need-place-row-requires
+place-row-requires c κs =
+    let s = c .before .before .before in
+    let e = c .before .start .ensures in
+    placeable-start (s .args .rows) (s .args .domain .now) (s .args .table .now) _ (s .pre) (e .0) (e .1) (e .2)
 
 returns : tie.Need-returns
-returns c = record {
-  solved = c .place .ensures .solved;
-  none = λ e choice s. c .place .ensures .refuted e choice s (λ q h k. absurd (has-none q (c .place .ensures .placed-only e q k)));
-}
+returns c =
+    let s = c .before .before .before .before .before in
+    let a = c .before .place-row .ensures in (
+      a .solved,
+      λ p. no-solution (s .args .rows) (s .args .domain .now) (s .args .table .now) (c .before .before .before .start .result) (c .before .before .before .start .ensures .0) _ (a .failed p),
+    )
 
 pub solve-spec : {M : Type 1} → statement M
-solve-spec = tie.close (tie.spec mul-place add-place place-requires returns)
+solve-spec =
+    tie.close
+    (tie.spec
+    degrees-requires
+    start-requires
+    mul-place-row
+    add-place-row
+    place-row-requires
+    returns)

@@ -1,0 +1,115 @@
+-- What a caller of the chase has to show, from document 01's rule for the record: good relations, dependencies and query; and what it can conclude
+-- besides: the count is at most the number of different variables, and a safe head stays safe. Assumes nothing.
+use mathlib.Core.Path.{_≡_, refl, sym, subst}
+use mathlib.Core.Bool.{true, not, _&&_}
+use mathlib.Core.List.{List}
+use Prim.Native.Nat.{ℕ, _^_, _≤_, _<_}
+use native.Mathlib.Omega.{arith}
+use borrow.Author.Tests.{leb-true, ltb-true, lt-ltb}
+use lib.Dec.{eqb, leb, ltb}
+use lib.ListN.{length, take, drop, getD, replicate}
+use lib.Seq.{getD-take}
+use Rattle.record.specs.declared.Query.{Query}
+use Rattle.record.specs.declared.Dependency.{Dependency}
+use Rattle.record.specs.View.{queryOf}
+use Rattle.record.specs.Rule.{every, between, isZero, blankDependency, inUse, goodRelations, goodDependency, goodDependencies, goodQuery, headSafe}
+use Rattle.chase.specs.declared.Chased.{Chased}
+use Rattle.chase.specs.Wide.{heldOf}
+use Rattle.chase.specs.Outcome.{noDependency, Chasable, IsChased}
+use Rattle.chase.proofs.Good.{every-getD, every-weaken, good-parts}
+use Rattle.theory.specs.Query as theory
+use Rattle.theory.specs.Query.{constant, variable, rowEntries, variablesOf, variableCount, _∈_}
+use Rattle.theory.specs.Database as database
+use Rattle.theory.specs.Determined.{subset}
+use Rattle.theory.specs.Chase.{Chases, rests, clashes, replaces}
+use Rattle.theory.proofs.Lists.{and-left, and-right, replicate-mem}
+use Rattle.theory.proofs.Entries.{constant-variable, variablesOf-mem}
+use Rattle.theory.proofs.Replacement.{replace-head-safe}
+use Rattle.theory.proofs.Chase.{chase-chases, chase-count-le}
+use Rattle.theory.proofs.Determined.{subset-true, subset-of}
+
+-- The widths that good relations give are 1 to 8
+pub good-widths : (relations : ℕ) (widths : List ℕ) → goodRelations relations widths ≡ true → every (between 1 8) (take relations widths) ≡ true
+unfolding goodRelations
+good-widths relations widths good =
+    and-left
+    (every (between 1 8) (take relations widths))
+    (every isZero (drop relations widths))
+    (and-right (between 1 8 relations) (inUse relations (between 1 8) isZero widths) good)
+
+-- No relation is wider than 8, also one that is not there
+pub width-le : (schema : List ℕ) → every (between 1 8) schema ≡ true → (r : ℕ) → getD schema r 0 ≤ 8
+width-le schema widths r =
+    leb-true
+    (getD schema r 0)
+    8
+    (every-getD (λ n. leb n 8) schema r 0 (every-weaken (between 1 8) (λ n. leb n 8) (λ n p. and-right (leb 1 n) (leb n 8) p) schema widths) refl)
+
+-- The right column of a good dependency is below 8
+good-right : (schema : List ℕ) → every (between 1 8) schema ≡ true → (d : Dependency) → goodDependency schema d ≡ true → ltb (d .right) 8 ≡ true
+unfolding goodDependency
+good-right schema widths d good =
+    let right : d .right < getD schema (d .relation) 0
+    = ltb-true
+    (d .right)
+    (getD schema (d .relation) 0)
+    (and-right
+    (ltb (d .relation) (length schema) && not (eqb (d .left) 0) && ltb (d .left) (2 ^ getD schema (d .relation) 0))
+    (ltb (d .right) (getD schema (d .relation) 0))
+    good) in
+    lt-ltb (d .right) 8 (omega (arith, width-le schema widths (d .relation)))
+
+-- A good query and good dependencies can be chased
+pub chasable : (schema : List ℕ) (held : ℕ) (dependencies : List Dependency) (q : Query) → every (between 1 8) schema ≡ true
+    → goodDependencies schema held dependencies ≡ true → goodQuery schema q ≡ true → Chasable q dependencies held
+unfolding goodDependencies
+chasable schema held dependencies q widths good good-q =
+    let p = good-parts schema q good-q in
+    let used = inUse held (goodDependency schema) blankDependency dependencies in
+    let each : every (goodDependency schema) (take held dependencies) ≡ true
+    = and-left
+    (every (goodDependency schema) (take held dependencies))
+    (every blankDependency (drop held dependencies))
+    (and-right (leb held 32) used good) in
+    let rights = every-weaken (goodDependency schema) (λ d. ltb (d .right) 8) (good-right schema widths) (take held dependencies) each in
+    record {
+      arity-fits = leb-true (q .arity) 8 (p .arity-fits);
+      size-fits = leb-true (q .size) 12 (p .size-fits);
+      held-fits = leb-true held 32 (and-left (leb held 32) used good);
+      right-fits =
+          λ d h.
+          let at : getD (take held dependencies) d noDependency ≡ getD dependencies d noDependency = getD-take held dependencies d noDependency h in
+          rw at at (ltb-true (getD (take held dependencies) d noDependency .right) 8 (every-getD (λ x. ltb (x .right) 8) (take held dependencies) d noDependency rights refl));
+    }
+
+-- ---- what follows of the result
+
+-- The count is at most the number of different variables of the query
+pub chased-count : {schema : List ℕ} {dependencies : List Dependency} {held : ℕ} {q : Query} {r : Chased} → IsChased schema dependencies held q r
+    → r .count ≤ variableCount (queryOf schema q)
+chased-count {schema} {dependencies} {held} {q} c = rw (c .count-is) (chase-count-le (heldOf dependencies held) (queryOf schema q))
+
+-- The chase keeps each head variable in a row
+chases-safe : {ds : List database.Dependency} {q result : theory.Query} {count : ℕ} → Chases ds q result count
+    → ((v : ℕ) → v ∈ variablesOf (q .head) → v ∈ variablesOf (rowEntries (q .rows)))
+    → (v : ℕ) → v ∈ variablesOf (result .head) → v ∈ variablesOf (rowEntries (result .rows))
+chases-safe (rests is) safe = safe
+chases-safe {q} (clashes is) safe =
+    λ v at.
+    let n = length (q .head) in
+    absurd (constant-variable 0 v (sym (replicate-mem n (constant 0) (variable v) (variablesOf-mem v (replicate n (constant 0)) at))))
+chases-safe {q} (replaces {v = v} {e = e} is later) safe = chases-safe later (replace-head-safe v e q safe)
+
+-- so the head of a safe query stays safe
+pub chased-safe : {schema : List ℕ} {dependencies : List Dependency} {held : ℕ} {q : Query} {r : Chased} → IsChased schema dependencies held q r
+    → headSafe schema q ≡ true → headSafe schema (r .query) ≡ true
+unfolding headSafe
+chased-safe {schema} {dependencies} {held} {q} c safe =
+    let view = queryOf schema q in
+    subst
+    (λ (x : theory.Query). subset (variablesOf (x .head)) (variablesOf (rowEntries (x .rows))) ≡ true)
+    (sym (c .query-is))
+    (subset-of
+    _
+    _
+    (chases-safe (chase-chases (heldOf dependencies held) view) (subset-true (variablesOf (view .head)) (variablesOf (rowEntries (view .rows))) safe)))

@@ -1,0 +1,3 @@
+-- What the chase of a stored query promises.
+pub mod Wide
+pub mod Outcome

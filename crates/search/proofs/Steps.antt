@@ -1,0 +1,145 @@
+-- Why the search may do what it does: what a choice leaves true, and what a failure after a choice says before it.
+-- First choices below 12, then the state after a choice, then the ways to go on after a failure. Assumes nothing.
+use mathlib.Core.Path.{_≡_, refl, sym, ap, _∙_, subst, subst⁻¹}
+use mathlib.Core.Logic.{_⊎_, inl, inr}
+use mathlib.Core.List.{List, [], _∷_}
+use Prim.Native.Nat.{ℕ, zero, suc, _+_, _^_, _<_, _≤_}
+use native.Mathlib.Omega.{arith}
+use native.Mathlib.Decide.{decLt, ℕ-discrete}
+use lib.ListN.{getD, set, length, replicate}
+use lib.Seq.{getD-set-same, getD-set-other}
+use lib.Bits.{bitOr}
+use Rattle.search.specs.Solution.{Bit, together, Solution}
+use Rattle.search.specs.Invariant.{NoBit, Below, Agrees, Refuted, Left, Sound, IsCandidate, After, Excluded}
+use Rattle.search.specs.declared.State.{State}
+use Rattle.search.proofs.Masks.{bit-and, bit-or-left, bit-or-right, bit-or-other, bit-one}
+
+-- ---- choices below 12
+pub below-zeros : (n : ℕ) → Below (replicate n 0)
+below-zeros zero q = omega arith
+below-zeros (suc n) zero = omega arith
+below-zeros (suc n) (suc q) = below-zeros n q
+
+pub below-set : (l : List ℕ) (r d : ℕ) → Below l → d < 12 → Below (set l r d)
+below-set [] r d b h q = omega arith
+below-set (x ∷ xs) zero d b h zero = h
+below-set (x ∷ xs) zero d b h (suc q) = b (suc q)
+below-set (x ∷ xs) (suc r) d b h zero = b zero
+below-set (x ∷ xs) (suc r) d b h (suc q) = below-set xs r d (λ k. b (suc k)) h q
+
+-- a member of a mask is no number that is none
+apart : (m q r : ℕ) → Bit m q → NoBit m r → q ≡ r → ⊥
+apart m q r b n e = let b′ : Bit m r = subst (Bit m) e b in omega arith
+
+-- ---- the state after the choice of candidate d for row r
+module _ (rows : ℕ) (domain table : List ℕ) (s t : State) (r d : ℕ) (after : After rows table s t r d) (long : r < length (s .chosen))
+    (free : NoBit (s .placed) r) where
+  chosen-same : getD (t .chosen) r 0 ≡ d
+  chosen-same = ap (λ (l : List ℕ). getD l r 0) (after .chosen) ∙ getD-set-same (s .chosen) r d 0 long
+
+  chosen-other : (q : ℕ) → (q ≡ r → ⊥) → getD (t .chosen) q 0 ≡ getD (s .chosen) q 0
+  chosen-other q n = ap (λ (l : List ℕ). getD l q 0) (after .chosen) ∙ getD-set-other (s .chosen) r q d 0 n
+
+  placed-still : (q : ℕ) → Bit (s .placed) q → Bit (t .placed) q
+  placed-still q b = subst⁻¹ (λ (m : ℕ). Bit m q) (after .placed) (bit-or-left (s .placed) (2 ^ r) q b)
+
+  placed-now : Bit (t .placed) r
+  placed-now = subst⁻¹ (λ (m : ℕ). Bit m r) (after .placed) (bit-or-right (s .placed) (2 ^ r) r (bit-one r))
+
+  placed-before : (q : ℕ) → (q ≡ r → ⊥) → Bit (t .placed) q → Bit (s .placed) q
+  placed-before q n b = bit-or-other (s .placed) r q n (subst (λ (m : ℕ). Bit m q) (after .placed) b)
+
+  -- what agrees after the choice, at more rows, agreed before it
+  agrees-before : (m n : ℕ) (f : ℕ → ℕ) → ((q : ℕ) → Bit m q → Bit n q) → Agrees (t .placed) n (t .chosen) f → Agrees (s .placed) m (s .chosen) f
+  agrees-before m n f sub ag q p b =
+      ag q (placed-still q p) (sub q b) ∙ chosen-other q (apart (s .placed) q r p free)
+
+  -- what agrees before the choice, and has the choice if row r counts, agrees after it
+  agrees-after : (m : ℕ) (f : ℕ → ℕ) → (Bit m r → f r ≡ d) → Agrees (s .placed) m (s .chosen) f → Agrees (t .placed) m (t .chosen) f
+  agrees-after m f at ag q p b = go (ℕ-discrete q r)
+    where
+      go : Dec (q ≡ r) → f q ≡ getD (t .chosen) q 0
+      go (yes e) =
+          subst⁻¹ (λ (x : ℕ). f x ≡ getD (t .chosen) x 0) e (at (subst (Bit m) e b) ∙ sym chosen-same)
+      go (no n) = ag q (placed-before q n p) b ∙ sym (chosen-other q n)
+
+  pub sound-after : r < rows → Sound rows domain table s → Sound rows domain table t
+  sound-after h sound q k f sol ag = go (after .each q k .blamed)
+    where
+      kept : ((m : ℕ) → Bit (getD (s .culprits) q 0) m → Bit (getD (t .culprits) q 0) m) → Bit (getD (s .current) q 0) (f q)
+      kept sub = sound q k f sol (agrees-before (getD (s .culprits) q 0) (getD (t .culprits) q 0) f sub ag)
+
+      go : ((getD (t .current) q 0 ≡ getD (s .current) q 0) × (getD (t .culprits) q 0 ≡ getD (s .culprits) q 0))
+          ⊎ (getD (t .culprits) q 0 ≡ bitOr (getD (s .culprits) q 0) (2 ^ r)) → Bit (getD (t .current) q 0) (f q)
+      go (inl e) = subst⁻¹ (λ (m : ℕ). Bit m (f q)) (e .0) (kept (λ x b. subst⁻¹ (λ (m : ℕ). Bit m x) (e .1) b))
+      go (inr e) =
+          let own : Bit (getD (t .culprits) q 0) r = subst⁻¹ (λ (m : ℕ). Bit m r) e (bit-or-right (getD (s .culprits) q 0) (2 ^ r) r (bit-one r)) in
+          let chose : f r ≡ d = ag r placed-now own ∙ chosen-same in
+          let goes : Bit (together table r d q) (f q) = subst (λ (x : ℕ). Bit (together table r x q) (f q)) chose (sol .joined r q h k) in
+          let old : Bit (getD (s .current) q 0) (f q) =
+          kept (λ x b. subst⁻¹ (λ (m : ℕ). Bit m x) e (bit-or-left (getD (s .culprits) q 0) (2 ^ r) x b)) in
+          subst⁻¹ (λ (m : ℕ). Bit m (f q)) (after .each q k .candidates) (bit-and (getD (s .current) q 0) (together table r d q) (f q) old goes)
+
+  -- ---- after a failure
+  -- a failure that does not blame row r is one without it
+  pub jump : (m : ℕ) → NoBit m r → Refuted rows domain table (t .placed) m (t .chosen) → Refuted rows domain table (s .placed) m (s .chosen)
+  jump m no-r fails f sol ag = fails f sol (agrees-after m f (λ b. absurd (apart m r r b no-r refl)) ag)
+
+  -- otherwise candidate d of row r is excluded by the placed rows to blame
+  pub excludes : (m : ℕ) → Refuted rows domain table (t .placed) m (t .chosen)
+      → (f : ℕ → ℕ) → Solution rows domain table f → Agrees (s .placed) m (s .chosen) f → f r ≡ d → ⊥
+  excludes m fails f sol ag e = fails f sol (agrees-after m f (λ b. e) ag)
+
+-- ---- the candidates of a row, from c on
+agrees-part : (placed a b : ℕ) (chosen : List ℕ) (f : ℕ → ℕ) → ((q : ℕ) → Bit a q → Bit b q) → Agrees placed b chosen f → Agrees placed a chosen f
+agrees-part placed a b chosen f sub ag q p m = ag q p (sub q m)
+
+module _ (rows : ℕ) (domain table : List ℕ) (placed blame : ℕ) (chosen : List ℕ) (row left c d : ℕ) (is : IsCandidate left c d)
+    (bits : Left rows domain table placed blame chosen row left)
+    (from : (f : ℕ → ℕ) → Solution rows domain table f → Agrees placed blame chosen f → c ≤ f row) where
+  -- no candidate is left out before d
+  pub reaches : (f : ℕ → ℕ) → Solution rows domain table f → Agrees placed blame chosen f → d ≤ f row
+  reaches f sol ag = go (decLt (f row) d)
+    where
+      go : Dec (f row < d) → d ≤ f row
+      go (yes less) = absurd (is .first (f row) (from f sol ag) less (bits f sol ag))
+      go (no more) = omega arith
+
+  -- where none is left, the rows to blame exclude all
+  pub exhausted : row < rows → d ≡ 12 → Refuted rows domain table placed blame chosen
+  exhausted h e f sol ag =
+      let far : d ≤ f row = reaches f sol ag in
+      let near : f row < 12 = sol .below row h in
+      omega arith
+
+  module _ (m : ℕ) (excluded : (f : ℕ → ℕ) → Solution rows domain table f → Agrees placed m chosen f → f row ≡ d → ⊥) where
+    pub left-next : Left rows domain table placed (bitOr blame m) chosen row left
+    left-next f sol ag = bits f sol (agrees-part placed blame (bitOr blame m) chosen f (λ q b. bit-or-left blame m q b) ag)
+
+    pub from-next : (f : ℕ → ℕ) → Solution rows domain table f → Agrees placed (bitOr blame m) chosen f → d + 1 ≤ f row
+    from-next f sol ag = go (ℕ-discrete (f row) d)
+      where
+        far : d ≤ f row
+        far = reaches f sol (agrees-part placed blame (bitOr blame m) chosen f (λ q b. bit-or-left blame m q b) ag)
+
+        go : Dec (f row ≡ d) → d + 1 ≤ f row
+        go (yes e) = absurd (excluded f sol (agrees-part placed m (bitOr blame m) chosen f (λ q b. bit-or-right blame m q b) ag) e)
+        go (no n) = omega (arith, far)
+
+-- ---- choices in no solution
+module _ (rows : ℕ) (domain table chosen : List ℕ) (m r : ℕ) (h : r < rows) (own : Bit m r) where
+  -- row r has no candidate that it may have
+  pub excluded-one : NoBit (getD domain r 0) (getD chosen r 0) → Excluded rows domain table m chosen
+  excluded-one n f sol ag = apart (getD domain r 0) (f r) (getD chosen r 0) (sol .held r h) n (ag r h own)
+
+  -- row r and row q do not go together
+  pub excluded-two : (q : ℕ) → q < rows → Bit m q → NoBit (together table r (getD chosen r 0) q) (getD chosen q 0) → Excluded rows domain table m chosen
+  excluded-two q k other n f sol ag =
+      let goes : Bit (together table r (getD chosen r 0) q) (f q) =
+      subst (λ (x : ℕ). Bit (together table r x q) (f q)) (ag r h own) (sol .joined r q h k) in
+      apart (together table r (getD chosen r 0) q) (f q) (getD chosen q 0) goes n (ag q k other)
+
+-- ---- all rows placed
+pub excluded-refuted : (rows : ℕ) (domain table : List ℕ) (placed mask : ℕ) (chosen : List ℕ) → ((q : ℕ) → q < rows → Bit placed q)
+    → Excluded rows domain table mask chosen → Refuted rows domain table placed mask chosen
+excluded-refuted rows domain table placed mask chosen full ex f sol ag = ex f sol (λ q h b. ag q (full q h) b)

@@ -1,0 +1,42 @@
+-- `text::put_head_line` meets its contract: its parts one after another. Assumes nothing.
+use borrow.Author.Needs.{needs}
+use mathlib.Core.Path.{refl}
+use lib.ListN.{take}
+use Rattle.record.specs.View.{entriesOf}
+use Rattle.text.specs.Text.{entriesText, headWord, headLine}
+use Rattle.text.proofs.Writing.{started, part-fits, rest-fits, wrote, wrote-rest}
+use Rattle.text.proofs.put_head_line.Statement.{statement}
+use Rattle.text.proofs.put_head_line.Tie as tie
+
+slice-aggregate-put : tie.Need-slice-aggregate-put
+slice-aggregate-put c = search needs
+
+put-requires : tie.Need-put-requires
+unfolding headLine
+put-requires c κs = part-fits (started (c .before .before .before .pre .0)) (headWord) _ refl
+
+put-entries-requires : tie.Need-put-entries-requires
+unfolding headLine
+put-entries-requires c κs = (part-fits (wrote (started (c .before .before .before .before .before .before .before .pre .0)) _ refl (c .before .before .before .put .ensures)) (entriesText (entriesOf (take (c .before .before .before .before .before .before .before .args .n) (c .before .before .before .before .before .before .before .args .cells)))) _ refl, c .before .before .before .before .before .before .before .pre .1)
+
+put-byte-requires : tie.Need-put-byte-requires
+unfolding headLine
+put-byte-requires c κs = rest-fits (wrote (wrote (started (c .before .before .before .before .before .before .before .before .before .before .before .pre .0)) _ refl (c .before .before .before .before .before .before .before .put .ensures)) _ refl (c .before .before .before .put-entries .ensures))
+
+same-length : tie.Need-same-length
+same-length c = search needs
+
+returns : tie.Need-returns
+unfolding headLine
+returns c = wrote-rest (wrote (wrote (started (c .before .before .before .before .before .before .before .before .before .before .before .before .before .before .pre .0)) _ refl (c .before .before .before .before .before .before .before .before .before .before .put .ensures)) _ refl (c .before .before .before .before .before .before .put-entries .ensures)) (c .before .before .put-byte .ensures)
+
+pub put-head-line-spec : {M : Type 1} → statement M
+put-head-line-spec =
+    tie.close
+    (tie.spec
+    slice-aggregate-put
+    put-requires
+    put-entries-requires
+    put-byte-requires
+    same-length
+    returns)
