@@ -1,11 +1,11 @@
 -- How images are collected: column by column of a row, then row by row.
 -- Assumes nothing.
-use mathlib.Core.Path.{_≡_, refl, sym, _∙_, ap, subst, subst₂}
+use mathlib.Core.Path.{_≡_, refl, sym, _∙_, ap, subst}
 use mathlib.Core.Logic.{_⊎_, inl, inr, ⊎-elim}
 use mathlib.Core.List.{List}
-use Prim.Native.Nat.{ℕ, suc, _+_, _≤_, _<_}
+use Prim.Native.Nat.{ℕ, _+_, _<_}
 use native.Mathlib.Nat.{not-suc-le-zero}
-use native.Mathlib.Decide.{decLt, ℕ-discrete}
+use native.Mathlib.Decide.{ℕ-discrete}
 use native.Mathlib.Omega.{arith}
 use borrow.Author.Count.{below-more}
 use lib.ListN.{getD, length, set, replicate, getD-replicate}
@@ -37,22 +37,26 @@ module _ (before : List Cell) (source : List ℕ) (target : List Cell) (row imag
       go : Dec (v ≡ x)
           → (((k : ℕ) → k < i + 1 → getD source (row + k) 0 ≡ 2147483648 + v → ⊥) × (getD (set out x (getD target (image + i) noCell)) v noCell ≡ getD before v noCell))
           ⊎ ((k : ℕ) × (k < i + 1) × (getD source (row + k) 0 ≡ 2147483648 + v)
-            × (getD (set out x (getD target (image + i) noCell)) v noCell ≡ getD target (image + k) noCell))
+          × (getD (set out x (getD target (image + i) noCell)) v noCell ≡ getD target (image + k) noCell))
       go (yes same) =
-          inr
-          (i, omega arith, (here ∙ ap (λ (y : ℕ). 2147483648 + y) (sym same)),
-          (ap (λ (y : ℕ). getD (set out x (getD target (image + i) noCell)) y noCell) same
-          ∙ getD-set-same out x (getD target (image + i) noCell) noCell (omega arith)))
+          inr (
+            i,
+            omega arith,
+            (here ∙ ap (λ (y : ℕ). 2147483648 + y) (sym same)),
+            (ap (λ (y : ℕ). getD (set out x (getD target (image + i) noCell)) y noCell) same
+                ∙ getD-set-same out x (getD target (image + i) noCell) noCell (omega arith)),
+          )
       go (no other) =
           let kept : getD (set out x (getD target (image + i) noCell)) v noCell ≡ getD out v noCell =
-              getD-set-other out x v (getD target (image + i) noCell) noCell other
+          getD-set-other out x v (getD target (image + i) noCell) noCell other
           in
           ⊎-elim
           (λ w.
-            inl
-            (below-more (λ (k : ℕ). getD source (row + k) 0 ≡ 2147483648 + v → ⊥) i (w .0)
-            (λ e. let z : getD source (row + i) 0 ≡ 2147483648 + v = e in other (omega arith)),
-            kept ∙ w .1))
+          inl (
+            below-more (λ (k : ℕ). getD source (row + k) 0 ≡ 2147483648 + v → ⊥) i (w .0)
+                (λ e. let z : getD source (row + i) 0 ≡ 2147483648 + v = e in other (omega arith)),
+            kept ∙ w .1,
+          ))
           (λ w. let l : w .0 < i = w .1 in inr (w .0, omega arith, w .2, kept ∙ w .3))
           (was v h)
 
@@ -69,17 +73,23 @@ pub rows-more : (source : List ℕ) (target : List Cell) (size : ℕ) (choice : 
 rows-more source target size choice n row image before out at-row at-image was now v h =
     ⊎-elim
     (λ w.
-      ⊎-elim
-      (λ u.
-        inl
-        ((λ r i l k.
+    ⊎-elim
+    (λ u.
+    inl (
+      (λ r i l k.
           below-more (λ (r : ℕ). (i : ℕ) → i < 8 → getD source (rowStart size r + i) 0 ≡ 2147483648 + v → ⊥) n (λ r' l' i'. u .0 r' i' l')
           (subst (λ (s : ℕ). (i : ℕ) → i < 8 → getD source (s + i) 0 ≡ 2147483648 + v → ⊥) at-row (w .0)) r l i k),
-        w .1 ∙ u .1))
-      (λ u. let l : u .0 < n = u .2 in inr (u .0, u .1, omega arith, u .3, u .4, w .1 ∙ u .5))
-      (was v h))
+      w .1 ∙ u .1,
+    ))
+    (λ u. let l : u .0 < n = u .2 in inr (u .0, u .1, omega arith, u .3, u .4, w .1 ∙ u .5))
+    (was v h))
     (λ w.
-      inr
-      (n, w .0, omega arith, w .1, subst (λ (s : ℕ). getD source (s + w .0) 0 ≡ 2147483648 + v) at-row (w .2),
-      subst (λ (s : ℕ). getD out v noCell ≡ getD target (s + w .0) noCell) at-image (w .3)))
+    inr (
+      n,
+      w .0,
+      omega arith,
+      w .1,
+      subst (λ (s : ℕ). getD source (s + w .0) 0 ≡ 2147483648 + v) at-row (w .2),
+      subst (λ (s : ℕ). getD out v noCell ≡ getD target (s + w .0) noCell) at-image (w .3),
+    ))
     (now v h)

@@ -3,31 +3,31 @@
 -- The lengths of arrays are the types', so the laws ask them.
 use mathlib.Core.Path.{_≡_, refl, sym, _∙_, ap, subst}
 use mathlib.Core.Bool.{Bool, true, false, cond}
-use mathlib.Core.Logic.{_≢_, _⊎_, inl, inr, ⊎-elim, _↔_}
+use mathlib.Core.Logic.{_⊎_, ⊎-elim}
 use mathlib.Core.List.{List, [], _∷_, _++_, map, List·Memᴰ·head, List·Memᴰ·tail, List·Memᴰ·append-cases, Memᴰ·cast, Memᴰ·append-left, Memᴰ·append-right}
 use Prim.Native.Nat.{ℕ, zero, suc, _+_, _*_, _-_, _/_, _%_, _≤_, _<_}
 use native.Mathlib.Nat.{not-suc-le-zero, le-of-suc-le-suc}
 use native.Mathlib.Decide.{decLt}
 use native.Mathlib.Omega.{arith}
 use borrow.Author.Tests.{lt-ltb, le-ltb}
-use lib.Dec.{eqb, ltb, lit<}
-use lib.ListN.{getD, length, take, drop, length-map, length-take, length-drop, List·getD-map, List·getD-eq-default}
+use lib.Dec.{eqb, lit<}
+use lib.ListN.{getD, length, take, drop, length-map, length-drop, List·getD-map, List·getD-eq-default}
 use lib.Seq.{length-take-le, getD-take, getD-drop, ext-getD}
 use Rattle.theory.specs.Query as theory
-use Rattle.theory.specs.Query.{constant, variable, mapRow, variables, variablesOf, rowEntries, _∈_}
+use Rattle.theory.specs.Query.{constant, variable, mapRow, variables, rowEntries, _∈_}
 use Rattle.theory.specs.Answer.{valueOf, IsMapping}
 use Rattle.theory.proofs.Lists.{getD-mem}
 use Rattle.theory.proofs.Members.{row-of-entry}
 use Rattle.theory.proofs.Entries.{constant-variable, variablesOf-mem, mem-variablesOf, row-rowEntries}
 use Rattle.record.specs.declared.Cell.{Cell}
 use Rattle.record.specs.declared.Query.{Query}
-use Rattle.record.specs.View.{entryOf, entriesOf, queryOf}
+use Rattle.record.specs.View.{entryOf, queryOf}
 use Rattle.record.specs.Rule.{every, inUse, goodCell, blankCell, headInUse, goodQuery, noCell}
-use Rattle.record.proofs.Tests.{below-or-past, every-getD, used-good, used-blank, used-all}
+use Rattle.record.proofs.Tests.{below-or-past, every-getD, used-blank, used-all}
 use Rattle.record.proofs.Good.{GoodQuery, good-query}
 use Rattle.record.proofs.Stored.{Within, entry-within, row-at, row-parts}
 use Rattle.record.proofs.Shape.{head-length, row-count, rowFrom, row-is, column-is, head-is, blank-cell}
-use Rattle.mapping.specs.Mapped.{cellAt, entryAt, entryIn, Narrow}
+use Rattle.mapping.specs.Mapped.{cellAt, entryAt, Narrow}
 use Rattle.mapping.proofs.Wide.{Wide}
 
 -- ---- 1. members by position
@@ -77,10 +77,6 @@ module _ (schema : List ℕ) (q : Query) (good : goodQuery schema q ≡ true) (s
   parts : GoodQuery schema q
   parts = good-query schema q good
 
-  -- The relation of row r, and the row
-  relation : ℕ → ℕ
-  relation r = getD (q .relations) r 0
-
   taken : (r : ℕ) → r < q .size → getD (take (q .size) (q .relations)) r 0 ≡ getD (q .relations) r 0
   taken r h = getD-take (q .size) (q .relations) r 0 h
 
@@ -106,7 +102,7 @@ module _ (schema : List ℕ) (q : Query) (good : goodQuery schema q ≡ true) (s
       ap (λ (c : Cell). entryOf (c .entry))
       (cell-row q (8 * r + i) (omega (arith, parts .size)) ∙ sym (stretch-at r i k)
       ∙ blank-at (take 8 (drop (8 * r) (q .cells))) w i (used-blank w goodCell blankCell (take 8 (drop (8 * r) (q .cells))) (row-used r h)) past
-        (rw (stretch r h) k))
+      (rw (stretch r h) k))
 
   -- Past the rows, all is blank
   pub cells-blank : (k : ℕ) → 8 * q .size ≤ k → k < 96 → entryAt q k ≡ constant 0
@@ -126,7 +122,7 @@ module _ (schema : List ℕ) (q : Query) (good : goodQuery schema q ≡ true) (s
       ap (λ (c : Cell). entryOf (c .entry))
       (cell-head q i
       ∙ blank-at (q .head) (headInUse q) i (used-blank (headInUse q) goodCell blankCell (q .head) (parts .head)) (omega (arith, used-head))
-        (omega (arith, sizes .head)))
+      (omega (arith, sizes .head)))
 
   -- Every entry is within the limits
   row-within : (r i : ℕ) → r < q .size → i < 8 → Within (entryAt q (8 * r + i))
@@ -155,9 +151,6 @@ module _ (schema : List ℕ) (q : Query) (good : goodQuery schema q ≡ true) (s
 
   module _ (narrow : Narrow schema) where
     -- Row r as the theory has it
-    pub rowOf : ℕ → theory.Row theory.Entry
-    rowOf r = rowFrom schema (q .cells) (8 * r) (getD (q .relations) r 0)
-
     pub row-stored : (r : ℕ) (z : theory.Row theory.Entry) → r < q .size
         → getD (queryOf schema q .rows) r z ≡ rowFrom schema (q .cells) (8 * r) (getD (q .relations) r 0)
     row-stored r z h =
@@ -176,11 +169,11 @@ module _ (schema : List ℕ) (q : Query) (good : goodQuery schema q ≡ true) (s
         → getD (rowFrom schema (q .cells) (8 * r) (getD (q .relations) r 0) .values) i (constant 0) ≡ entryAt q (8 * r + i)
     row-entry r i h k = ⊎-elim
         (λ l.
-          column-is (getD schema (getD (q .relations) r 0) 0) (8 * r) (q .cells) i l
-          ∙ ap (λ (c : Cell). entryOf (c .entry)) (sym (cell-row q (8 * r + i) (omega (arith, parts .size)))))
+        column-is (getD schema (getD (q .relations) r 0) 0) (8 * r) (q .cells) i l
+        ∙ ap (λ (c : Cell). entryOf (c .entry)) (sym (cell-row q (8 * r + i) (omega (arith, parts .size)))))
         (λ l.
-          List·getD-eq-default (rowFrom schema (q .cells) (8 * r) (getD (q .relations) r 0) .values) (constant 0) {n = i} (rw (row-long r h) l)
-          ∙ sym (row-blank r i h l k))
+        List·getD-eq-default (rowFrom schema (q .cells) (8 * r) (getD (q .relations) r 0) .values) (constant 0) {n = i} (rw (row-long r h) l)
+        ∙ sym (row-blank r i h l k))
         (below-or-past i (getD schema (getD (q .relations) r 0) 0))
 
     pub count-rows : length (queryOf schema q .rows) ≡ q .size
@@ -200,21 +193,21 @@ module _ (schema : List ℕ) (q : Query) (good : goodQuery schema q ≡ true) (s
     variable-placed v none at =
         ⊎-elim
         (λ m.
-          let w = in-getD (queryOf schema q .head) (constant 0) m in
-          let l : w .0 < q .arity = rw long-head at (w .1) in
-          none (96 + w .0) (omega (arith, parts .arity)) (sym (head-entry (w .0) (omega (arith, parts .arity))) ∙ w .2))
+        let w = in-getD (queryOf schema q .head) (constant 0) m in
+        let l : w .0 < q .arity = rw long-head at (w .1) in
+        none (96 + w .0) (omega (arith, parts .arity)) (sym (head-entry (w .0) (omega (arith, parts .arity))) ∙ w .2))
         (λ m.
-          let u = row-of-entry (queryOf schema q .rows) m in
-          let x = in-getD (queryOf schema q .rows) (rowOf 0) (u .1) in
-          let r : x .0 < q .size = rw count-rows at (x .1) in
-          let same : u .0 ≡ rowFrom schema (q .cells) (8 * x .0) (getD (q .relations) (x .0) 0) = sym (x .2) ∙ row-stored (x .0) (rowOf 0) r in
-          let y =
-              in-getD (rowFrom schema (q .cells) (8 * x .0) (getD (q .relations) (x .0) 0) .values) (constant 0)
-              (subst (λ (row : theory.Row theory.Entry). variable v ∈ row .values) same (u .2))
-          in
-          let c : y .0 < getD schema (getD (q .relations) (x .0) 0) 0 = rw (row-long (x .0) r) at (y .1) in
-          let c8 : y .0 < 8 = omega (arith, narrow (getD (q .relations) (x .0) 0)) in
-          none (8 * x .0 + y .0) (omega (arith, parts .size)) (sym (row-entry (x .0) (y .0) r c8) ∙ y .2))
+        let u = row-of-entry (queryOf schema q .rows) m in
+        let x = in-getD (queryOf schema q .rows) (rowFrom schema [] 0 0) (u .1) in
+        let r : x .0 < q .size = rw count-rows at (x .1) in
+        let same : u .0 ≡ rowFrom schema (q .cells) (8 * x .0) (getD (q .relations) (x .0) 0) = sym (x .2) ∙ row-stored (x .0) (rowFrom schema [] 0 0) r in
+        let y =
+        in-getD (rowFrom schema (q .cells) (8 * x .0) (getD (q .relations) (x .0) 0) .values) (constant 0)
+        (subst (λ (row : theory.Row theory.Entry). variable v ∈ row .values) same (u .2))
+        in
+        let c : y .0 < getD schema (getD (q .relations) (x .0) 0) 0 = rw (row-long (x .0) r) at (y .1) in
+        let c8 : y .0 < 8 = omega (arith, narrow (getD (q .relations) (x .0) 0)) in
+        none (8 * x .0 + y .0) (omega (arith, parts .size)) (sym (row-entry (x .0) (y .0) r c8) ∙ y .2))
         (List·Memᴰ·append-cases (queryOf schema q .head)
         (variablesOf-mem v (queryOf schema q .head ++ rowEntries (queryOf schema q .rows)) at))
 
@@ -224,6 +217,7 @@ module _ (schema : List ℕ) (q : Query) (good : goodQuery schema q ≡ true) (s
       where
         zero-not : entryAt q k ≡ constant 0 → ⊥
         zero-not e = constant-variable 0 v (sym e ∙ is)
+
         go : Dec (k < 8 * q .size) → Dec (k < 96) → variable v ∈ (queryOf schema q .head ++ rowEntries (queryOf schema q .rows))
         go (yes l) t =
             let r : k / 8 < q .size = omega arith in
@@ -231,12 +225,12 @@ module _ (schema : List ℕ) (q : Query) (good : goodQuery schema q ≡ true) (s
             let row : theory.Row theory.Entry = rowFrom schema (q .cells) (8 * (k / 8)) (getD (q .relations) (k / 8) 0) in
             let here : getD (row .values) (k % 8) (constant 0) ≡ entryAt q k = row-entry (k / 8) (k % 8) r (omega arith) ∙ ap (entryAt q) e in
             let there : row ∈ queryOf schema q .rows =
-                Memᴰ·cast (sym (row-stored (k / 8) (rowOf 0) r)) (getD-in (queryOf schema q .rows) (k / 8) (rowOf 0) (rw count-rows r))
+            Memᴰ·cast (sym (row-stored (k / 8) (rowFrom schema [] 0 0) r)) (getD-in (queryOf schema q .rows) (k / 8) (rowFrom schema [] 0 0) (rw count-rows r))
             in
             ⊎-elim (λ z. absurd (zero-not (sym here ∙ z)))
             (λ m.
-              Memᴰ·append-right (queryOf schema q .head)
-              (row-rowEntries (queryOf schema q .rows) row (variable v) there (Memᴰ·cast (sym (here ∙ is)) m)))
+            Memᴰ·append-right (queryOf schema q .head)
+            (row-rowEntries (queryOf schema q .rows) row (variable v) there (Memᴰ·cast (sym (here ∙ is)) m)))
             (getD-mem (row .values) (k % 8) (constant 0))
         go (no l) (yes m) = absurd (zero-not (cells-blank k (omega arith) m))
         go (no l) (no m) =
@@ -249,7 +243,7 @@ module _ (schema : List ℕ) (q : Query) (good : goodQuery schema q ≡ true) (s
 -- ---- 3. rows of two queries
 
 module _ (schema : List ℕ) (narrow : Narrow schema) (source target : Query) (good : goodQuery schema source ≡ true) (good' : goodQuery schema target ≡ true)
-  (sizes : Sizes source) (sizes' : Sizes target) where
+    (sizes : Sizes source) (sizes' : Sizes target) where
   -- Row r of the source and row d of the target
   abbrev sourceRow : ℕ → theory.Row theory.Entry
   sourceRow r = rowFrom schema (source .cells) (8 * r) (getD (source .relations) r 0)
@@ -270,15 +264,15 @@ module _ (schema : List ℕ) (narrow : Narrow schema) (source target : Query) (g
       → mapRow (valueOf constant f) (sourceRow r) ≡ targetRow d
   places-row f r d h k same at =
       let long : length (map (valueOf constant f) (sourceRow r .values)) ≡ getD schema (getD (source .relations) r 0) 0 =
-          length-map (sourceRow r .values) (valueOf constant f) ∙ row-long schema source good sizes narrow r h
+      length-map (sourceRow r .values) (valueOf constant f) ∙ row-long schema source good sizes narrow r h
       in
       let values : map (valueOf constant f) (sourceRow r .values) ≡ targetRow d .values =
-          ext-getD (constant 0) (map (valueOf constant f) (sourceRow r .values)) (targetRow d .values)
-          (long ∙ ap (λ (n : ℕ). getD schema n 0) same ∙ sym (row-long schema target good' sizes' narrow d k))
-          (λ i l.
-            let l8 : i < 8 = omega (arith, narrow (getD (source .relations) r 0), long) in
-            List·getD-map (valueOf constant f) (sourceRow r .values) i (constant 0) ∙ ap (valueOf constant f) (row-entry schema source good sizes narrow r i h l8)
-            ∙ at i l8 ∙ sym (row-entry schema target good' sizes' narrow d i k l8))
+      ext-getD (constant 0) (map (valueOf constant f) (sourceRow r .values)) (targetRow d .values)
+      (long ∙ ap (λ (n : ℕ). getD schema n 0) same ∙ sym (row-long schema target good' sizes' narrow d k))
+      (λ i l.
+      let l8 : i < 8 = omega (arith, narrow (getD (source .relations) r 0), long) in
+      List·getD-map (valueOf constant f) (sourceRow r .values) i (constant 0) ∙ ap (valueOf constant f) (row-entry schema source good sizes narrow r i h l8)
+      ∙ at i l8 ∙ sym (row-entry schema target good' sizes' narrow d i k l8))
       in
       λ t. record { relation = same t; values = values t }
 
@@ -292,19 +286,19 @@ module _ (schema : List ℕ) (narrow : Narrow schema) (source target : Query) (g
       record {
         some-row = some (decLt 0 (source .size));
         rows = λ r h.
-          let z : theory.Row theory.Entry = sourceRow 0 in
-          let at : sourceRow r ∈ queryOf schema source .rows =
-              Memᴰ·cast (sym (row-stored schema source good sizes narrow r z h))
-              (getD-in (queryOf schema source .rows) r z (rw (count-rows schema source good sizes narrow) h))
-          in
-          let w = in-getD (queryOf schema target .rows) z (m .carries .to-rows (sourceRow r) at) in
-          let k : w .0 < target .size = rw (count-rows schema target good' sizes' narrow) at (w .1) in
-          let same : mapRow (valueOf constant f) (sourceRow r) ≡ targetRow (w .0) = sym (w .2) ∙ row-stored schema target good' sizes' narrow (w .0) z k in
-          (w .0, k, ap (λ (row : theory.Row theory.Entry). row .relation) same, row-places f r (w .0) h k same);
+            let z : theory.Row theory.Entry = sourceRow 0 in
+            let at : sourceRow r ∈ queryOf schema source .rows =
+            Memᴰ·cast (sym (row-stored schema source good sizes narrow r z h))
+            (getD-in (queryOf schema source .rows) r z (rw (count-rows schema source good sizes narrow) h))
+            in
+            let w = in-getD (queryOf schema target .rows) z (m .carries .to-rows (sourceRow r) at) in
+            let k : w .0 < target .size = rw (count-rows schema target good' sizes' narrow) at (w .1) in
+            let same : mapRow (valueOf constant f) (sourceRow r) ≡ targetRow (w .0) = sym (w .2) ∙ row-stored schema target good' sizes' narrow (w .0) z k in
+            (w .0, k, ap (λ (row : theory.Row theory.Entry). row .relation) same, row-places f r (w .0) h k same);
         head = λ i l.
-          ap (valueOf constant f) (sym (head-entry schema source good sizes narrow i l))
-          ∙ sym (List·getD-map (valueOf constant f) (queryOf schema source .head) i (constant 0))
-          ∙ ap (λ (es : List theory.Entry). getD es i (constant 0)) (m .carries .to-head) ∙ head-entry schema target good' sizes' narrow i l;
+            ap (valueOf constant f) (sym (head-entry schema source good sizes narrow i l))
+            ∙ sym (List·getD-map (valueOf constant f) (queryOf schema source .head) i (constant 0))
+            ∙ ap (λ (es : List theory.Entry). getD es i (constant 0)) (m .carries .to-head) ∙ head-entry schema target good' sizes' narrow i l;
         elsewhere = λ v none. m .elsewhere v (variable-placed schema source good sizes narrow v none);
       }
     where
@@ -317,35 +311,38 @@ module _ (schema : List ℕ) (narrow : Narrow schema) (source target : Query) (g
   wide-mapping f arity w =
       record {
         carries =
-          record {
-            not-never = λ e.
-              let none : source .size ≡ 0 = sym (count-rows schema source good sizes narrow) ∙ ap length e in
-              omega (arith, w .some-row);
-            to-head =
-              ext-getD (constant 0) (map (valueOf constant f) (queryOf schema source .head)) (queryOf schema target .head)
-              (length-map (queryOf schema source .head) (valueOf constant f) ∙ long-head schema source good sizes narrow ∙ arity
-              ∙ sym (long-head schema target good' sizes' narrow))
-              (λ i l.
-                let l8 : i < 8 =
-                    omega
-                    (arith, length-map (queryOf schema source .head) (valueOf constant f), long-head schema source good sizes narrow,
-                    good-query schema source good .arity)
-                in
-                List·getD-map (valueOf constant f) (queryOf schema source .head) i (constant 0)
-                ∙ ap (valueOf constant f) (head-entry schema source good sizes narrow i l8) ∙ w .head i l8
-                ∙ sym (head-entry schema target good' sizes' narrow i l8));
-            to-rows = λ row at.
-              let z : theory.Row theory.Entry = sourceRow 0 in
-              let u = in-getD (queryOf schema source .rows) z at in
-              let h : u .0 < source .size = rw (count-rows schema source good sizes narrow) at (u .1) in
-              let here : row ≡ sourceRow (u .0) = sym (u .2) ∙ row-stored schema source good sizes narrow (u .0) z h in
-              let x = w .rows (u .0) h in
-              let there : targetRow (x .0) ∈ queryOf schema target .rows =
+            record {
+              not-never = λ e.
+                  let none : source .size ≡ 0 = sym (count-rows schema source good sizes narrow) ∙ ap length e in
+                  omega (arith, w .some-row);
+              to-head =
+                  ext-getD (constant 0) (map (valueOf constant f) (queryOf schema source .head)) (queryOf schema target .head)
+                  (length-map (queryOf schema source .head) (valueOf constant f) ∙ long-head schema source good sizes narrow ∙ arity
+                  ∙ sym (long-head schema target good' sizes' narrow))
+                  (λ i l.
+                  let l8 : i < 8 =
+                  omega (
+                    arith,
+                    length-map (queryOf schema source .head) (valueOf constant f),
+                    long-head schema source good sizes narrow,
+                    good-query schema source good .arity,
+                  )
+                  in
+                  List·getD-map (valueOf constant f) (queryOf schema source .head) i (constant 0)
+                  ∙ ap (valueOf constant f) (head-entry schema source good sizes narrow i l8) ∙ w .head i l8
+                  ∙ sym (head-entry schema target good' sizes' narrow i l8));
+              to-rows = λ row at.
+                  let z : theory.Row theory.Entry = sourceRow 0 in
+                  let u = in-getD (queryOf schema source .rows) z at in
+                  let h : u .0 < source .size = rw (count-rows schema source good sizes narrow) at (u .1) in
+                  let here : row ≡ sourceRow (u .0) = sym (u .2) ∙ row-stored schema source good sizes narrow (u .0) z h in
+                  let x = w .rows (u .0) h in
+                  let there : targetRow (x .0) ∈ queryOf schema target .rows =
                   Memᴰ·cast (sym (row-stored schema target good' sizes' narrow (x .0) z (x .1)))
                   (getD-in (queryOf schema target .rows) (x .0) z (rw (count-rows schema target good' sizes' narrow) (x .1)))
-              in
-              Memᴰ·cast (ap (mapRow (valueOf constant f)) here ∙ places-row f (u .0) (x .0) h (x .1) (x .2) (x .3)) there;
-          };
+                  in
+                  Memᴰ·cast (ap (mapRow (valueOf constant f)) here ∙ places-row f (u .0) (x .0) h (x .1) (x .2) (x .3)) there;
+            };
         elsewhere = λ v out. w .elsewhere v (λ k h is. out (placed-variable schema source good sizes narrow v k h is));
       }
 

@@ -30,7 +30,7 @@ doubled-lt : (n m b : ℕ) → m < 2 ^ n → b < 2 → m * 2 + b < 2 ^ suc n
 doubled-lt n m b h k = subst (λ (x : ℕ). m * 2 + b < x) (sym (pow-succ' 2 n)) (omega arith)
 
 cons-bits : (n m b : ℕ) (P : ℕ → Type 0) → b < 2 → ((b ≡ 1) ↔ P 0) → ((e : ℕ) → e < n → (Has m e ↔ P (suc e)))
-  → (e : ℕ) → e < suc n → (Has (m * 2 + b) e ↔ P e)
+    → (e : ℕ) → e < suc n → (Has (m * 2 + b) e ↔ P e)
 cons-bits n m b P h first later zero k = ((λ x. first .0 (sym (has-lowest m b h) ∙ x)), (λ p. has-lowest m b h ∙ first .1 p))
 cons-bits n m b P h first later (suc e) k =
     ((λ x. later e (le-of-suc-le-suc k) .0 (sym (has-higher m b e h) ∙ x)), (λ p. has-higher m b e h ∙ later e (le-of-suc-le-suc k) .1 p))
@@ -52,6 +52,7 @@ has-below n m e h has = go (below-or-not e n)
   where
     gone : n ≤ e → _≡_ {A = ℕ} 0 1
     gone k = sym (ap (λ (x : ℕ). x % 2) (div-eq-of-lt (le-trans h (pow-mono k)))) ∙ has
+
     go : (e < n) ⊎ (n ≤ e) → e < n
     go (inl k) = k
     go (inr k) = let z : _≡_ {A = ℕ} 0 1 = gone k in absurd (omega arith)
@@ -66,11 +67,12 @@ marks-down P c e m b pos le small first later =
     let front : e - 1 ≡ e - 1 + 0 = omega arith in
     subst (λ (n : ℕ). Marks n (m * 2 + b) (λ i. P (e - 1 + i))) longer
     (marks-more (c - e) m b (λ i. P (e - 1 + i)) small
-    ((λ x. subst P front (first .0 x)), (λ p. first .1 (subst P (sym front) p)))
-    (later .0,
-    (λ i h.
-      let step : e + i ≡ e - 1 + suc i = omega arith in
-      ((λ x. subst P step (later .1 i h .0 x)), (λ p. later .1 i h .1 (subst P (sym step) p))))))
+    ((λ x. subst P front (first .0 x)), (λ p. first .1 (subst P (sym front) p))) (
+      later .0,
+      (λ i h.
+          let step : e + i ≡ e - 1 + suc i = omega arith in
+          ((λ x. subst P step (later .1 i h .0 x)), (λ p. later .1 i h .1 (subst P (sym step) p)))),
+    ))
 
 -- Where the next number is marked, and where it is not
 pub marks-one : (P : ℕ → Type 0) (c e m : ℕ) → 0 < e → e ≤ c → P (e - 1) → Marks (c - e) m (λ i. P (e + i))

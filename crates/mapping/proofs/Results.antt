@@ -3,23 +3,23 @@
 use mathlib.Core.Path.{_≡_, refl, sym, _∙_, ap, subst}
 use mathlib.Core.Bool.{Bool, true, false, true≢false, false≢true}
 use mathlib.Core.List.{List}
-use Prim.Native.Nat.{ℕ, suc, _+_, _*_, _≤_, _<_}
+use Prim.Native.Nat.{ℕ, _+_, _*_, _≤_, _<_}
 use native.Mathlib.Decide.{decLt}
 use native.Mathlib.Omega.{arith}
 use lib.ListN.{getD, length, replicate, List·getD-eq-default}
 use Rattle.theory.specs.Query.{Entry, constant, variable}
-use Rattle.theory.specs.Answer.{valueOf, IsMapping, Mapping}
+use Rattle.theory.specs.Answer.{valueOf}
 use Rattle.theory.specs.Containment.{freeze}
 use Rattle.record.specs.declared.Cell.{Cell}
 use Rattle.record.specs.declared.Query.{Query}
-use Rattle.record.specs.View.{entryOf, queryOf}
-use Rattle.record.specs.Rule.{goodQuery, noCell}
+use Rattle.record.specs.View.{entryOf}
+use Rattle.record.specs.Rule.{noCell}
 use Rattle.record.proofs.Good.{good-query}
 use Rattle.record.proofs.Stored.{Within}
-use Rattle.search.specs.Solution.{Tells, Solution, Sized}
+use Rattle.search.specs.Solution.{Tells, Solution}
 use Rattle.mapping.specs.declared.Mapped.{Mapped}
 use Rattle.mapping.specs.Agree.{IsDomain, IsTable}
-use Rattle.mapping.specs.Mapped.{cellAt, entryAt, entryIn, imagesOf, Storable, Narrow, Carried, Lands, Stands, RestBlank, Assigned, IsMapped, Finds, Checks}
+use Rattle.mapping.specs.Mapped.{cellAt, entryAt, entryIn, imagesOf, Storable, Carried, Lands, RestBlank, Assigned, Finds, Checks}
 use Rattle.mapping.proofs.Tells.{tells-false}
 use Rattle.mapping.proofs.Wide.{Wide, wide-solution, solution-wide}
 use Rattle.mapping.proofs.Lines.{Sizes, all-within, mapping-wide, wide-mapping, mapping-arity}
@@ -72,9 +72,10 @@ module _ (source target : Query) (images : List Cell) (sizes : Sizes source) (si
 
   -- And else what a test of a mapping by positions says
   pub check-tells : (b : Bool) → source .arity ≡ target .arity → Tells b Good → Checks source target images b
-  check-tells b same tells schema narrow good good' =
-      ((λ e. wide-mapping schema narrow source target good good' sizes sizes' (imagesOf images) same (tells .0 e)),
-      (λ m. tells .1 (mapping-wide schema narrow source target good good' sizes sizes' (imagesOf images) m)))
+  check-tells b same tells schema narrow good good' = (
+    (λ e. wide-mapping schema narrow source target good good' sizes sizes' (imagesOf images) same (tells .0 e)),
+    (λ m. tells .1 (mapping-wide schema narrow source target good good' sizes sizes' (imagesOf images) m)),
+  )
 
   module _ (few : source .size ≤ 12) (few' : target .size ≤ 12) (from to : List Cell) (line : InLine source from) (line' : InLine target to) where
     same-places : (row image : ℕ) → row + 8 ≤ 104 → image + 8 ≤ 104
@@ -109,9 +110,9 @@ module _ (source target : Query) (images : List Cell) (sizes : Sizes source) (si
         record {
           some-row = some;
           rows = λ r h.
-            let x = rows r h in
-            let l : x .0 < target .size = x .1 in
-            (x .0, x .1, x .2, carried-places (8 * r) (8 * x .0) (omega arith) (omega arith) (x .3));
+              let x = rows r h in
+              let l : x .0 < target .size = x .1 in
+              (x .0, x .1, x .2, carried-places (8 * r) (8 * x .0) (omega arith) (omega arith) (x .3));
           head = carried-places 96 96 (omega arith) (omega arith) head;
           elsewhere = λ v none. blank v none (decLt v 96);
         }
@@ -141,21 +142,21 @@ module _ (source target : Query) (sizes : Sizes source) (sizes' : Sizes target) 
   none-size none = none-found (λ f w. let h : 0 < source .size = w .some-row in omega arith)
 
   module _ (storable : Storable source) (storable' : Storable target) (cells : List Cell) (from to domain table : List ℕ)
-    (from-is : (k : ℕ) → k < 104 → getD from k 0 ≡ freeze 2147483648 (entryAt source k)) (line : InLine target cells)
-    (to-is : (k : ℕ) → k < 104 → getD to k 0 ≡ freeze 2147483648 (entryAt target k))
-    (is-domain : IsDomain from to (source .relations) (target .relations) (source .size) (target .size) domain)
-    (is-table : IsTable from to (source .size) (target .size) table) where
+      (from-is : (k : ℕ) → k < 104 → getD from k 0 ≡ freeze 2147483648 (entryAt source k)) (line : InLine target cells)
+      (to-is : (k : ℕ) → k < 104 → getD to k 0 ≡ freeze 2147483648 (entryAt target k))
+      (is-domain : IsDomain from to (source .relations) (target .relations) (source .size) (target .size) domain)
+      (is-table : IsTable from to (source .size) (target .size) table) where
     -- There is none where the search has no solution
     pub none-solution : ((choice : ℕ → ℕ) → Solution (source .size + 1) domain table choice → ⊥) → Finds source target nothing
     none-solution out =
         none-found
         (λ f w.
-          let s =
-              wide-solution (entryAt source) (entryAt target) from to (source .relations) (target .relations) (source .size) (target .size)
-              (storable-size source storable) (storable-size target storable') from-is to-is (all-within (storable .0) source (storable .1) sizes)
-              (all-within (storable' .0) target (storable' .1) sizes') domain table is-domain is-table f w
-          in
-          out (s .0) (s .1))
+        let s =
+        wide-solution (entryAt source) (entryAt target) from to (source .relations) (target .relations) (source .size) (target .size)
+        (storable-size source storable) (storable-size target storable') from-is to-is (all-within (storable .0) source (storable .1) sizes)
+        (all-within (storable' .0) target (storable' .1) sizes') domain table is-domain is-table f w
+        in
+        out (s .0) (s .1))
 
     -- A solution's images are a mapping
     pub found-solution : (choice : ℕ → ℕ) (images : List Cell) → 0 < source .size → Solution (source .size + 1) domain table choice → length images ≡ 96
@@ -163,11 +164,11 @@ module _ (source target : Query) (sizes : Sizes source) (sizes' : Sizes target) 
     found-solution choice images some solution long assigned schema narrow good good' same =
         record {
           mapping = λ e.
-            wide-mapping schema narrow source target good good' sizes sizes' (imagesOf images) same
-            (solution-wide (entryAt source) (entryAt target) from to (source .relations) (target .relations) (source .size) (target .size)
-            (storable-size source storable) (storable-size target storable') from-is to-is (all-within (storable .0) source (storable .1) sizes)
-            (all-within (storable' .0) target (storable' .1) sizes') domain table is-domain is-table choice solution cells images
-            (line-entry target cells line) long assigned some);
+              wide-mapping schema narrow source target good good' sizes sizes' (imagesOf images) same
+              (solution-wide (entryAt source) (entryAt target) from to (source .relations) (target .relations) (source .size) (target .size)
+              (storable-size source storable) (storable-size target storable') from-is to-is (all-within (storable .0) source (storable .1) sizes)
+              (all-within (storable' .0) target (storable' .1) sizes') domain table is-domain is-table choice solution cells images
+              (line-entry target cells line) long assigned some);
           none = λ e. absurd (true≢false e);
           blank = λ e. absurd (true≢false e);
         }

@@ -1,7 +1,7 @@
 -- A test that tells whether P holds: how a result `true` or `false` is shown to be right.
 -- Assumes nothing.
-use mathlib.Core.Path.{_≡_, refl}
-use mathlib.Core.Bool.{Bool, true, false, false≢true}
+use mathlib.Core.Path.{refl}
+use mathlib.Core.Bool.{true, false, false≢true}
 use Rattle.search.specs.Solution.{Tells}
 
 pub tells-true : {P : Type 0} → P → Tells true P

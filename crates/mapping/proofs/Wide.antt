@@ -2,15 +2,14 @@
 -- Here: 1. what a mapping is by positions, 2. numbers that stand for entries, 3. a solution of the search is a mapping, 4. a mapping is a solution.
 -- Assumes nothing.
 use mathlib.Core.Path.{_≡_, refl, sym, _∙_, ap, subst}
-use mathlib.Core.Bool.{Bool, true, false, cond}
-use mathlib.Core.Logic.{_⊎_, inl, inr, ⊎-elim, _↔_}
+use mathlib.Core.Bool.{Bool, cond}
+use mathlib.Core.Logic.{_⊎_, inl, inr, ⊎-elim}
 use mathlib.Core.List.{List}
-use Prim.Native.Nat.{ℕ, suc, _+_, _*_, _≤_, _<_}
-use native.Mathlib.Nat.{le-trans, not-le-of-lt}
+use Prim.Native.Nat.{ℕ, _+_, _*_, _≤_, _<_}
+use native.Mathlib.Nat.{le-trans}
 use native.Mathlib.Decide.{decLt}
 use native.Mathlib.Omega.{arith}
-use borrow.Author.Tests.{eqb-true, eqb-false, eq-eqb, ne-eqb}
-use lib.Dec.{eqb}
+use borrow.Author.Tests.{eq-eqb, ne-eqb}
 use lib.ListN.{getD, length, List·getD-eq-default}
 use Rattle.theory.specs.Query.{Entry, constant, variable}
 use Rattle.theory.specs.Answer.{valueOf}
@@ -19,7 +18,7 @@ use Rattle.record.specs.declared.Cell.{Cell}
 use Rattle.record.specs.View.{entryOf}
 use Rattle.record.specs.Rule.{noCell}
 use Rattle.record.proofs.Stored.{Within}
-use Rattle.search.specs.Solution.{Has, Solution}
+use Rattle.search.specs.Solution.{Solution}
 use Rattle.mapping.specs.Agree.{rowStart, imageStart, candidatesOf, Together, Possible, IsDomain, IsTable}
 use Rattle.mapping.specs.Mapped.{entryIn, imagesOf, Assigned}
 use Rattle.mapping.proofs.Masks.{has-below}
@@ -79,9 +78,9 @@ image-inside size r d i h small k =
     (λ same. let e : imageStart size r d ≡ 96 = ap (λ (x : ℕ). imageStart size x d) same ∙ head-image size d in omega arith) (row-cases size r h)
 
 module _ (source target : ℕ → Entry) (from to named offered : List ℕ) (size count : ℕ) (few : size ≤ 12) (few' : count ≤ 12)
-  (from-is : (k : ℕ) → k < 104 → getD from k 0 ≡ freeze 2147483648 (source k)) (to-is : (k : ℕ) → k < 104 → getD to k 0 ≡ freeze 2147483648 (target k))
-  (from-within : (k : ℕ) → k < 104 → Within (source k)) (to-within : (k : ℕ) → k < 104 → Within (target k))
-  (domain table : List ℕ) (is-domain : IsDomain from to named offered size count domain) (is-table : IsTable from to size count table) where
+    (from-is : (k : ℕ) → k < 104 → getD from k 0 ≡ freeze 2147483648 (source k)) (to-is : (k : ℕ) → k < 104 → getD to k 0 ≡ freeze 2147483648 (target k))
+    (from-within : (k : ℕ) → k < 104 → Within (source k)) (to-within : (k : ℕ) → k < 104 → Within (target k))
+    (domain table : List ℕ) (is-domain : IsDomain from to named offered size count domain) (is-table : IsTable from to size count table) where
   -- Equal numbers of the source, or of the target, are equal entries
   from-same : (j k : ℕ) → j < 104 → k < 104 → getD from j 0 ≡ getD from k 0 → source j ≡ source k
   from-same j k hj hk e = freeze-same (source j) (source k) (from-within j hj) (from-within k hk) (sym (from-is j hj) ∙ e ∙ from-is k hk)
@@ -111,9 +110,9 @@ module _ (source target : ℕ → Entry) (from to named offered : List ℕ) (siz
     lands-together r q hr hq i hi large j hj same =
         to-is (imageStart size q (choice q) + j) (at-image q j hq hj)
         ∙ ap (freeze 2147483648)
-          (sym (lands .carried q j hq hj)
-          ∙ ap (valueOf constant f) (from-same (rowStart size q + j) (rowStart size r + i) (at-row q j hq hj) (at-row r i hr hi) same)
-          ∙ lands .carried r i hr hi)
+        (sym (lands .carried q j hq hj)
+        ∙ ap (valueOf constant f) (from-same (rowStart size q + j) (rowStart size r + i) (at-row q j hq hj) (at-row r i hr hi) same)
+        ∙ lands .carried r i hr hi)
         ∙ sym (to-is (imageStart size r (choice r) + i) (at-image r i hr hi))
 
     lands-possible : (r : ℕ) → r ≤ size → Possible from to named offered size r (choice r)
@@ -121,12 +120,12 @@ module _ (source target : ℕ → Entry) (from to named offered : List ℕ) (siz
         record {
           relation = λ l. lands .same-relation r l;
           keeps = λ i k small.
-            let here : getD from (rowStart size r + i) 0 ≡ freeze 2147483648 (source (rowStart size r + i)) = from-is (rowStart size r + i) (at-row r i h k) in
-            to-is (imageStart size r (choice r) + i) (at-image r i h k)
-            ∙ ap (freeze 2147483648)
+              let here : getD from (rowStart size r + i) 0 ≡ freeze 2147483648 (source (rowStart size r + i)) = from-is (rowStart size r + i) (at-row r i h k) in
+              to-is (imageStart size r (choice r) + i) (at-image r i h k)
+              ∙ ap (freeze 2147483648)
               (sym (lands .carried r i h k)
               ∙ small-constant f (source (rowStart size r + i)) (subst (λ (n : ℕ). n < 2147483648) here small))
-            ∙ sym here;
+              ∙ sym here;
           agrees = lands-together r r h h;
         }
 
@@ -135,8 +134,8 @@ module _ (source target : ℕ → Entry) (from to named offered : List ℕ) (siz
         record {
           of-row = λ r h. is-domain r (omega arith) .1 (choice r) (lands .is-candidate r (omega arith)) .1 (lands-possible r (omega arith));
           together = λ r q h k.
-            is-table r (choice r) q (omega arith) (omega arith) (lands .is-candidate r (omega arith)) .1 (choice q) (lands .is-candidate q (omega arith)) .1
-            (lands-together r q (omega arith) (omega arith));
+              is-table r (choice r) q (omega arith) (omega arith) (lands .is-candidate r (omega arith)) .1 (choice q) (lands .is-candidate q (omega arith)) .1
+              (lands-together r q (omega arith) (omega arith));
         }
 
   -- A mapping lands on a choice
@@ -146,42 +145,47 @@ module _ (source target : ℕ → Entry) (from to named offered : List ℕ) (siz
       pick : (r : ℕ) → Dec (r < size) → ℕ
       pick r (yes h) = wide .rows r h .0
       pick r (no h) = 0
+
       choice : ℕ → ℕ
       choice r = pick r (decLt r size)
+
       body : (r d : ℕ) → Type 0
       body r d = (d < count) × (getD named r 0 ≡ getD offered d 0) × ((i : ℕ) → i < 8 → valueOf constant f (source (8 * r + i)) ≡ target (8 * d + i))
+
       picked : (r : ℕ) → r < size → body r (choice r)
       picked r h = go (decLt r size)
         where
           go : (t : Dec (r < size)) → body r (pick r t)
           go (yes l) = let w = wide .rows r l in (w .1, w .2, w .3)
           go (no l) = absurd (l h)
+
       last : choice size ≡ 0
       last = go (decLt size size)
         where
           go : (t : Dec (size < size)) → pick size t ≡ 0
           go (yes l) = absurd (omega arith)
           go (no l) = refl
+
       lands : Lands f choice
       lands =
           record {
             is-candidate = λ r h.
-              ⊎-elim
-              (λ l. subst (λ (t : Bool). choice r < cond t 1 count) (sym (ne-eqb r size (λ e. let z : r ≡ size = e in omega arith))) (picked r l .0))
-              (λ same.
+                ⊎-elim
+                (λ l. subst (λ (t : Bool). choice r < cond t 1 count) (sym (ne-eqb r size (λ e. let z : r ≡ size = e in omega arith))) (picked r l .0))
+                (λ same.
                 subst (λ (t : Bool). choice r < cond t 1 count) (sym (eq-eqb r size same))
                 (let z : choice r ≡ 0 = ap choice same ∙ last in omega arith))
-              (row-cases size r h);
+                (row-cases size r h);
             same-relation = λ r h. picked r h .1;
             carried = λ r i h k.
-              ⊎-elim
-              (λ l.
+                ⊎-elim
+                (λ l.
                 ap (λ (s : ℕ). valueOf constant f (source (s + i))) (row-start size r l) ∙ picked r l .2 i k
                 ∙ ap (λ (s : ℕ). target (s + i)) (sym (row-image size r (choice r) l)))
-              (λ same.
+                (λ same.
                 ap (λ (s : ℕ). valueOf constant f (source (s + i))) (ap (rowStart size) same ∙ head-start size) ∙ wide .head i k
                 ∙ ap (λ (s : ℕ). target (s + i)) (sym (ap (λ (x : ℕ). imageStart size x (choice r)) same ∙ head-image size (choice r))))
-              (row-cases size r h);
+                (row-cases size r h);
           }
 
   -- ---- 4. a solution gives images that are a mapping
@@ -202,7 +206,7 @@ module _ (source target : ℕ → Entry) (from to named offered : List ℕ) (siz
     chosen-small r h = few-choices choice chosen-candidate r h
 
     module _ (cells images : List Cell) (cells-are : (k : ℕ) → k < 104 → entryIn cells k ≡ target k) (long : length images ≡ 96)
-      (assigned : Assigned from cells size choice (size + 1) images) where
+        (assigned : Assigned from cells size choice (size + 1) images) where
       place : (r i : ℕ) → r ≤ size → i < 8 → rowStart size r + i < 104
       place r i h k = row-inside size r i few h k
 
@@ -218,12 +222,12 @@ module _ (source target : ℕ → Entry) (from to named offered : List ℕ) (siz
           ⊎-elim
           (λ w. absurd (w .0 r i (omega arith) k number))
           (λ w.
-            let l : w .0 ≤ size = let z : w .0 < size + 1 = w .2 in omega arith in
-            ap (λ (c : Cell). entryOf (c .entry)) (w .5) ∙ cells-are (imageStart size (w .0) (choice (w .0)) + w .1) (image-place (w .0) (w .1) l (w .3))
-            ∙ sym
-              (to-same (imageStart size r (choice r) + i) (imageStart size (w .0) (choice (w .0)) + w .1) (image-place r i h k) (image-place (w .0) (w .1) l (w .3))
-              (chosen-together (w .0) r l h (w .1) (w .3) (let z : getD from (rowStart size (w .0) + w .1) 0 ≡ 2147483648 + v = w .4 in omega arith) i k
-              (number ∙ sym (w .4)))))
+          let l : w .0 ≤ size = let z : w .0 < size + 1 = w .2 in omega arith in
+          ap (λ (c : Cell). entryOf (c .entry)) (w .5) ∙ cells-are (imageStart size (w .0) (choice (w .0)) + w .1) (image-place (w .0) (w .1) l (w .3))
+          ∙ sym
+          (to-same (imageStart size r (choice r) + i) (imageStart size (w .0) (choice (w .0)) + w .1) (image-place r i h k) (image-place (w .0) (w .1) l (w .3))
+          (chosen-together (w .0) r l h (w .1) (w .3) (let z : getD from (rowStart size (w .0) + w .1) 0 ≡ 2147483648 + v = w .4 in omega arith) i k
+          (number ∙ sym (w .4)))))
           (assigned v below)
 
       -- An entry goes to the entry in its place
@@ -234,7 +238,7 @@ module _ (source target : ℕ → Entry) (from to named offered : List ℕ) (siz
           let number : getD from (rowStart size r + i) 0 ≡ n = from-is (rowStart size r + i) (place r i h k) ∙ ap (freeze 2147483648) is in
           let below : n < 2147483648 = subst Within is (from-within (rowStart size r + i) (place r i h k)) in
           let kept : getD to (imageStart size r (choice r) + i) 0 ≡ n =
-              chosen-possible r h .keeps i k (omega arith) ∙ number
+          chosen-possible r h .keeps i k (omega arith) ∙ number
           in
           freeze-same (constant n) (target (imageStart size r (choice r) + i)) below (to-within (imageStart size r (choice r) + i) (image-place r i h k))
           (sym kept ∙ to-is (imageStart size r (choice r) + i) (image-place r i h k))
@@ -251,26 +255,27 @@ module _ (source target : ℕ → Entry) (from to named offered : List ℕ) (siz
               ⊎-elim
               (λ w. ap (λ (c : Cell). entryOf (c .entry)) (w .1))
               (λ w.
-                let l : w .0 ≤ size = let z : w .0 < size + 1 = w .2 in omega arith in
-                absurd
-                (none (rowStart size (w .0) + w .1) (place (w .0) (w .1) l (w .3))
-                (freeze-same (source (rowStart size (w .0) + w .1)) (variable v) (from-within (rowStart size (w .0) + w .1) (place (w .0) (w .1) l (w .3))) below
-                (sym (from-is (rowStart size (w .0) + w .1) (place (w .0) (w .1) l (w .3))) ∙ w .4))))
+              let l : w .0 ≤ size = let z : w .0 < size + 1 = w .2 in omega arith in
+              absurd
+              (none (rowStart size (w .0) + w .1) (place (w .0) (w .1) l (w .3))
+              (freeze-same (source (rowStart size (w .0) + w .1)) (variable v) (from-within (rowStart size (w .0) + w .1) (place (w .0) (w .1) l (w .3))) below
+              (sym (from-is (rowStart size (w .0) + w .1) (place (w .0) (w .1) l (w .3))) ∙ w .4))))
               (assigned v below)
 
       pub solution-wide : 0 < size → Wide source target named offered size count (imagesOf images)
       solution-wide some =
           record {
             some-row = some;
-            rows = λ r h.
-              (choice r,
+            rows = λ r h. (
+              choice r,
               subst (λ (t : Bool). choice r < cond t 1 count) (ne-eqb r size (λ e. let z : r ≡ size = e in omega arith)) (chosen-candidate r (omega arith)),
               chosen-possible r (omega arith) .relation h,
               (λ i k.
-                ap (λ (s : ℕ). valueOf constant (imagesOf images) (source (s + i))) (sym (row-start size r h)) ∙ carried r i (omega arith) k
-                ∙ ap (λ (s : ℕ). target (s + i)) (row-image size r (choice r) h)));
+                  ap (λ (s : ℕ). valueOf constant (imagesOf images) (source (s + i))) (sym (row-start size r h)) ∙ carried r i (omega arith) k
+                  ∙ ap (λ (s : ℕ). target (s + i)) (row-image size r (choice r) h)),
+            );
             head = λ i k.
-              ap (λ (s : ℕ). valueOf constant (imagesOf images) (source (s + i))) (sym (head-start size)) ∙ carried size i (omega arith) k
-              ∙ ap (λ (s : ℕ). target (s + i)) (head-image size (choice size));
+                ap (λ (s : ℕ). valueOf constant (imagesOf images) (source (s + i))) (sym (head-start size)) ∙ carried size i (omega arith) k
+                ∙ ap (λ (s : ℕ). target (s + i)) (head-image size (choice size));
             elsewhere = unused;
           }

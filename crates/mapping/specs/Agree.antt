@@ -17,6 +17,14 @@ abbrev pub Agrees : List ℕ → List ℕ → ℕ → ℕ → ℕ → ℕ → Ty
 Agrees source target r d q e =
     (i : ℕ) → i < 8 → 2147483648 ≤ getD source (r + i) 0 → Takes source target (getD source (r + i) 0) (getD target (d + i) 0) q e
 
+-- The number `value` stands in the row at q
+abbrev pub Holds : List ℕ → ℕ → ℕ → Type 0
+Holds source value q = (j : ℕ) × (j < 8) × (getD source (q + j) 0 ≡ value)
+
+-- The rows at r and q share a variable
+abbrev pub Shares : List ℕ → ℕ → ℕ → Type 0
+Shares source r q = (i : ℕ) × (i < 8) × (2147483648 ≤ getD source (r + i) 0) × Holds source (getD source (r + i) 0) q
+
 -- The image at d has each constant of the row at r in its place
 abbrev pub Keeps : List ℕ → List ℕ → ℕ → ℕ → Type 0
 Keeps source target r d = (i : ℕ) → i < 8 → getD source (r + i) 0 < 2147483648 → getD target (d + i) 0 ≡ getD source (r + i) 0

@@ -75,7 +75,7 @@ Assigned source target size choice n images =
     (v : ℕ) → v < 96
     → (((r i : ℕ) → r < n → i < 8 → getD source (rowStart size r + i) 0 ≡ 2147483648 + v → ⊥) × (getD images v noCell ≡ noCell))
     ⊎ ((r : ℕ) × (i : ℕ) × (r < n) × (i < 8) × (getD source (rowStart size r + i) 0 ≡ 2147483648 + v)
-      × (getD images v noCell ≡ getD target (imageStart size r (choice r) + i) noCell))
+    × (getD images v noCell ≡ getD target (imageStart size r (choice r) + i) noCell))
 
 -- What is found: the images are a mapping, or there is no mapping and they hold constant 0
 pub record IsMapped (schema : List ℕ) (source target : Query) (r : Mapped) : Type 0 where

@@ -2,7 +2,7 @@
 ghost use Prim.Native.Nat.{_+_, _≤_};
 ghost use lib.ListN.{length};
 ghost use Rattle.search.specs.Solution.{Tells};
-ghost use Rattle.mapping.specs.Agree.{Takes, Agrees, Keeps};
+ghost use Rattle.mapping.specs.Agree.{Takes, Agrees, Holds, Shares, Keeps};
 
 // Whether the row at q, with its image at e, takes the number `value` to `image` wherever it has it.
 pub fn takes(source: &[u32], target: &[u32], value: u32, image: u32, q: usize, e: usize) -> bool
@@ -33,6 +33,35 @@ pub fn agrees(source: &[u32], target: &[u32], r: usize, d: usize, q: usize, e: u
         }
     }
     true
+}
+
+// Whether the number `value` stands in the row at q.
+pub fn holds(source: &[u32], value: u32, q: usize) -> bool
+    requires { ⌜ q + 8 ≤ length (now source) ⌝ }
+    ensures { λ b. ⌜ Tells b (Holds (now (source .entry)) value q) ⌝ }
+{
+    for j in 0..8 {
+        if source[q + j] == value {
+            return true;
+        }
+    }
+    false
+}
+
+// Whether the rows at r and q share a variable. If not, all images of theirs agree.
+pub fn shares(source: &[u32], r: usize, q: usize) -> bool
+    requires { ⌜ (r + 8 ≤ length (now source)) × (q + 8 ≤ length (now source)) ⌝ }
+    ensures { λ b. ⌜ Tells b (Shares (now (source .entry)) r q) ⌝ }
+{
+    for i in 0..8 {
+        let value = source[r + i];
+        if 2147483648 <= value {
+            if holds(source, value, q) {
+                return true;
+            }
+        }
+    }
+    false
 }
 
 // Whether the image at d has each constant of the row at r in its place.

@@ -1,16 +1,21 @@
 // The images of a source's variables, from the images of its rows.
-use record::Cell;
-use record::Entry;
 use crate::table::image_at;
 use crate::table::row_at;
-
+use record::Cell;
+use record::Entry;
 ghost use Prim.Native.Nat.{ℕ, _+_, _≤_, _<_};
 ghost use lib.ListN.{getD};
 ghost use Rattle.search.specs.Solution.{choiceOf};
 ghost use Rattle.mapping.specs.Mapped.{RowAssigned, Assigned};
 
 // The images with those of the variables of one row, whose numbers start at `row`, from the cells that start at `image`.
-pub fn assign_row(images: [Cell; 96], source: [u32; 104], target: [Cell; 104], row: usize, image: usize) -> [Cell; 96]
+pub fn assign_row(
+    images: [Cell; 96],
+    source: [u32; 104],
+    target: [Cell; 104],
+    row: usize,
+    image: usize,
+) -> [Cell; 96]
     requires { ⌜ (row + 8 ≤ 104) × (image + 8 ≤ 104) × ((k : ℕ) → k < 104 → getD source k 0 < 2147483744) ⌝ }
     ensures { λ out. ⌜ RowAssigned images source target row image 8 out ⌝ }
 {
@@ -35,7 +40,13 @@ pub fn assign(source: [u32; 104], target: [Cell; 104], size: usize, chosen: [u8;
     }; 96];
     for r in 0..size + 1 {
         let d = chosen[r] as usize;
-        let next = assign_row(images, source, target, row_at(size, r), image_at(size, r, d));
+        let next = assign_row(
+            images,
+            source,
+            target,
+            row_at(size, r),
+            image_at(size, r, d),
+        );
         images = next;
     }
     images

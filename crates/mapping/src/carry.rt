@@ -1,7 +1,6 @@
 // Whether given images carry entries, rows and a head of a source to those of a target.
 use record::Cell;
 use record::Entry;
-
 ghost use mathlib.Core.Path.{_≡_};
 ghost use Prim.Native.Nat.{ℕ, _+_, _≤_, _<_};
 ghost use Rattle.theory.specs.Query.{constant, sameEntry};
@@ -44,7 +43,13 @@ pub fn image_of(images: [Cell; 96], e: Entry) -> Entry
 }
 
 // Whether the images carry the 8 entries from `row` on to those from `image` on.
-pub fn carries(source: [Cell; 104], target: [Cell; 104], images: [Cell; 96], row: usize, image: usize) -> bool
+pub fn carries(
+    source: [Cell; 104],
+    target: [Cell; 104],
+    images: [Cell; 96],
+    row: usize,
+    image: usize,
+) -> bool
     requires { ⌜ (row + 8 ≤ 104) × (image + 8 ≤ 104) ⌝ }
     ensures { λ b. ⌜ Tells b (Carried source target images row image) ⌝ }
 {
@@ -61,7 +66,15 @@ pub fn carries(source: [Cell; 104], target: [Cell; 104], images: [Cell; 96], row
 }
 
 // Whether the images carry row r to one of the target's rows, of which there are `count`, in the same relation.
-pub fn lands(source: [Cell; 104], target: [Cell; 104], images: [Cell; 96], named: [u8; 12], offered: [u8; 12], count: usize, r: usize) -> bool
+pub fn lands(
+    source: [Cell; 104],
+    target: [Cell; 104],
+    images: [Cell; 96],
+    named: [u8; 12],
+    offered: [u8; 12],
+    count: usize,
+    r: usize,
+) -> bool
     requires { ⌜ (count ≤ 12) × (r < 12) ⌝ }
     ensures { λ b. ⌜ Tells b (Lands source target images named offered count r) ⌝ }
 {
@@ -76,7 +89,15 @@ pub fn lands(source: [Cell; 104], target: [Cell; 104], images: [Cell; 96], named
 }
 
 // Whether the images carry each of the source's rows, of which there are `size`, to one of the target's.
-pub fn all_land(source: [Cell; 104], target: [Cell; 104], images: [Cell; 96], named: [u8; 12], offered: [u8; 12], size: usize, count: usize) -> bool
+pub fn all_land(
+    source: [Cell; 104],
+    target: [Cell; 104],
+    images: [Cell; 96],
+    named: [u8; 12],
+    offered: [u8; 12],
+    size: usize,
+    count: usize,
+) -> bool
     requires { ⌜ (size ≤ 12) × (count ≤ 12) ⌝ }
     ensures { λ b. ⌜ Tells b ((r : ℕ) → r < size → Lands source target images named offered count r) ⌝ }
 {

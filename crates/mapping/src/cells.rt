@@ -2,7 +2,6 @@
 use record::Cell;
 use record::Entry;
 use record::Query;
-
 ghost use mathlib.Core.Path.{_≡_};
 ghost use Prim.Native.Nat.{ℕ, _<_};
 ghost use lib.ListN.{getD};

@@ -5,9 +5,6 @@ mod carry; // carry.rt: whether given images carry entries, rows and a head
 mod cells; // cells.rt: a query in one line of cells, and as numbers
 mod table; // table.rt: what the search is given
 
-use record::Cell;
-use record::Entry;
-use record::Query;
 use crate::assign::assign;
 use crate::carry::all_land;
 use crate::carry::carries;
@@ -16,7 +13,9 @@ use crate::cells::flat;
 use crate::cells::numbers;
 use crate::table::domains;
 use crate::table::table;
-
+use record::Cell;
+use record::Entry;
+use record::Query;
 ghost use Rattle.mapping.specs.Mapped.{Storable, Finds, Checks};
 
 // A mapping that was looked for: whether there is one, and the image of each variable. Where there is none the images hold constant 0.

@@ -2,7 +2,7 @@
 // are the source's rows, whose candidates are the target's rows; row `size` is its head, whose one candidate is the target's head.
 use crate::agree::agrees;
 use crate::agree::keeps;
-
+use crate::agree::shares;
 ghost use mathlib.Core.Path.{_≡_};
 ghost use Prim.Native.Nat.{_+_, _≤_, _<_};
 ghost use Rattle.search.specs.Solution.{Tells};
@@ -33,7 +33,15 @@ pub fn candidates(size: usize, count: usize, r: usize) -> usize
 }
 
 // The candidates of row q that go together with candidate d of row r.
-pub fn together(source: &[u32], target: &[u32], size: usize, count: usize, r: usize, d: usize, q: usize) -> u16
+pub fn together(
+    source: &[u32],
+    target: &[u32],
+    size: usize,
+    count: usize,
+    r: usize,
+    d: usize,
+    q: usize,
+) -> u16
     requires { ⌜ Laid (now source) (now target) size count × (r ≤ size) × (d < 12) × (q ≤ size) ⌝ }
     ensures { λ m. ⌜ Marks (candidatesOf size count q) m (Together (now (source .entry)) (now (target .entry)) size r d q) ⌝ }
 {
@@ -54,7 +62,15 @@ pub fn together(source: &[u32], target: &[u32], size: usize, count: usize, r: us
 }
 
 // Whether row r can go to candidate d at all: a row of the same relation, with the row's constants in their places and one entry for each of its variables.
-pub fn possible(source: &[u32], target: &[u32], named: [u8; 12], offered: [u8; 12], size: usize, r: usize, d: usize) -> bool
+pub fn possible(
+    source: &[u32],
+    target: &[u32],
+    named: [u8; 12],
+    offered: [u8; 12],
+    size: usize,
+    r: usize,
+    d: usize,
+) -> bool
     requires { ⌜ Laid (now source) (now target) size 0 × (r ≤ size) × (d < 12) ⌝ }
     ensures { λ b. ⌜ Tells b (Possible (now (source .entry)) (now (target .entry)) named offered size r d) ⌝ }
 {
@@ -72,7 +88,15 @@ pub fn possible(source: &[u32], target: &[u32], named: [u8; 12], offered: [u8; 1
 }
 
 // The candidates of row r.
-pub fn domain(source: &[u32], target: &[u32], named: [u8; 12], offered: [u8; 12], size: usize, count: usize, r: usize) -> u16
+pub fn domain(
+    source: &[u32],
+    target: &[u32],
+    named: [u8; 12],
+    offered: [u8; 12],
+    size: usize,
+    count: usize,
+    r: usize,
+) -> u16
     requires { ⌜ Laid (now source) (now target) size count × (r ≤ size) ⌝ }
     ensures { λ m. ⌜ Marks (candidatesOf size count r) m (Possible (now (source .entry)) (now (target .entry)) named offered size r) ⌝ }
 {
@@ -90,7 +114,14 @@ pub fn domain(source: &[u32], target: &[u32], named: [u8; 12], offered: [u8; 12]
 }
 
 // The candidates of every row.
-pub fn domains(source: &[u32], target: &[u32], named: [u8; 12], offered: [u8; 12], size: usize, count: usize) -> [u16; 13]
+pub fn domains(
+    source: &[u32],
+    target: &[u32],
+    named: [u8; 12],
+    offered: [u8; 12],
+    size: usize,
+    count: usize,
+) -> [u16; 13]
     requires { ⌜ Laid (now source) (now target) size count ⌝ }
     ensures { λ all. ⌜ IsDomain (now (source .entry)) (now (target .entry)) named offered size count all ⌝ }
 {
@@ -99,6 +130,20 @@ pub fn domains(source: &[u32], target: &[u32], named: [u8; 12], offered: [u8; 12
         all[r] = domain(source, target, named, offered, size, count, r);
     }
     all
+}
+
+// A mask of the numbers below n.
+pub fn all_below(n: usize) -> u16
+    requires { ⌜ n ≤ 12 ⌝ }
+    ensures { λ m. ⌜ Marks n m (λ e. Unit {0}) ⌝ }
+{
+    let mut mask: u16 = 0;
+    let mut e = n;
+    while 0 < e {
+        e -= 1;
+        mask = mask * 2 + 1;
+    }
+    mask
 }
 
 // The table at k = (r * 12 + d) * 13 + q: the candidates of row q that go together with candidate d of row r, or 0 where there is no such row or candidate.
@@ -117,6 +162,9 @@ pub fn mask_at(source: &[u32], target: &[u32], size: usize, count: usize, k: usi
     }
     if candidates(size, count, r) <= d {
         return 0;
+    }
+    if !shares(source, row_at(size, r), row_at(size, q)) {
+        return all_below(candidates(size, count, q));
     }
     together(source, target, size, count, r, d, q)
 }

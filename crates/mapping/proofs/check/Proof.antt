@@ -21,9 +21,16 @@ use Rattle.mapping.proofs.cells.flat.Reads as flat-reads
 -- The lengths of the arrays are the types'
 abbrev Start : Type 0
 Start =
-    lts.Start
-    (flat-reads.Asked, flat-reads.Learnt, carries-reads.Asked, carries-reads.Learnt, all-land-reads.Asked, all-land-reads.Learnt, rest-blank-reads.Asked,
-    rest-blank-reads.Learnt) reads.Pre reads.Post
+    lts.Start (
+      flat-reads.Asked,
+      flat-reads.Learnt,
+      carries-reads.Asked,
+      carries-reads.Learnt,
+      all-land-reads.Asked,
+      all-land-reads.Learnt,
+      rest-blank-reads.Asked,
+      rest-blank-reads.Learnt,
+    ) reads.Pre reads.Post
 
 source-sizes : (c : Start) → Sizes (c .args .source)
 source-sizes c = record { head = search (mapped-length, needs); relations = search (mapped-length, needs); cells = search (mapped-length, needs) }
@@ -34,15 +41,12 @@ target-sizes c = record { head = search (mapped-length, needs); relations = sear
 images-long : (c : Start) → length (c .args .images) ≡ 96
 images-long c = search needs
 
--- src/lib.rt:71:16
 cast-size : tie.Need-cast-size
 cast-size c = search needs
 
--- src/lib.rt:72:17
 cast-count : tie.Need-cast-count
 cast-count c = search needs
 
--- src/lib.rt:74:9
 returns : tie.Need-returns
 returns c =
     let source = c .before .before .before .before .before .args .source in
@@ -51,7 +55,6 @@ returns c =
     let sizes' = target-sizes (c .before .before .before .before .before) in
     check-arity source target (c .before .before .before .before .before .args .images) sizes sizes' (c .if1 .taken)
 
--- src/lib.rt:77:9
 returns-2 : tie.Need-returns-2
 returns-2 c =
     let source = c .before .before .before .before .before .before .args .source in
@@ -60,19 +63,15 @@ returns-2 c =
     let sizes' = target-sizes (c .before .before .before .before .before .before) in
     check-size source target (c .before .before .before .before .before .before .args .images) sizes sizes' (c .if2 .taken)
 
--- src/lib.rt:79:9
 flat-requires : tie.Need-flat-requires
 flat-requires c κs = search needs
 
--- src/lib.rt:80:9
 flat-requires-2 : tie.Need-flat-requires-2
 flat-requires-2 c κs = search needs
 
--- src/lib.rt:83:9
 carries-requires : tie.Need-carries-requires
 carries-requires c κs = search needs
 
--- src/lib.rt:84:9
 returns-3 : tie.Need-returns-3
 returns-3 c =
     let source = c .before .before .before .before .before .before .before .before .before .before .before .before .args .source in
@@ -81,17 +80,15 @@ returns-3 c =
     let sizes' = target-sizes (c .before .before .before .before .before .before .before .before .before .before .before .before) in
     check-fails source target (c .before .before .before .before .before .before .before .before .before .before .before .before .args .images) sizes sizes'
     (λ w.
-      false≢true
-      (sym (not-true _ (c .if3 .taken))
-      ∙ c .before .carries .ensures .1
-        (good-head source target (c .before .before .before .before .before .before .before .before .before .before .before .before .args .images) sizes sizes' (storable-size source (c .before .before .before .before .before .before .before .before .before .before .before .before .pre .0)) (storable-size target (c .before .before .before .before .before .before .before .before .before .before .before .before .pre .1))
-        (c .before .before .before .before .before .flat .result) (c .before .before .before .before .flat2 .result) (c .before .before .before .before .before .flat .ensures) (c .before .before .before .before .flat2 .ensures) w)))
+    false≢true
+    (sym (not-true _ (c .if3 .taken))
+    ∙ c .before .carries .ensures .1
+    (good-head source target (c .before .before .before .before .before .before .before .before .before .before .before .before .args .images) sizes sizes' (storable-size source (c .before .before .before .before .before .before .before .before .before .before .before .before .pre .0)) (storable-size target (c .before .before .before .before .before .before .before .before .before .before .before .before .pre .1))
+    (c .before .before .before .before .before .flat .result) (c .before .before .before .before .flat2 .result) (c .before .before .before .before .before .flat .ensures) (c .before .before .before .before .flat2 .ensures) w)))
 
--- src/lib.rt:86:9
 all-land-requires : tie.Need-all-land-requires
 all-land-requires c κs = (storable-size _ (c .before .before .before .before .before .before .before .before .before .before .before .before .pre .0), storable-size _ (c .before .before .before .before .before .before .before .before .before .before .before .before .pre .1))
 
--- src/lib.rt:87:9
 returns-4 : tie.Need-returns-4
 returns-4 c =
     let source = c .before .before .before .before .before .before .before .before .before .before .before .before .before .before .args .source in
@@ -100,17 +97,15 @@ returns-4 c =
     let sizes' = target-sizes (c .before .before .before .before .before .before .before .before .before .before .before .before .before .before) in
     check-fails source target (c .before .before .before .before .before .before .before .before .before .before .before .before .before .before .args .images) sizes sizes'
     (λ w.
-      false≢true
-      (sym (not-true _ (c .if4 .taken))
-      ∙ c .before .all-land .ensures .1
-        (good-rows source target (c .before .before .before .before .before .before .before .before .before .before .before .before .before .before .args .images) sizes sizes' (storable-size source (c .before .before .before .before .before .before .before .before .before .before .before .before .before .before .pre .0)) (storable-size target (c .before .before .before .before .before .before .before .before .before .before .before .before .before .before .pre .1))
-        (c .before .before .before .before .before .before .before .flat .result) (c .before .before .before .before .before .before .flat2 .result) (c .before .before .before .before .before .before .before .flat .ensures) (c .before .before .before .before .before .before .flat2 .ensures) w)))
+    false≢true
+    (sym (not-true _ (c .if4 .taken))
+    ∙ c .before .all-land .ensures .1
+    (good-rows source target (c .before .before .before .before .before .before .before .before .before .before .before .before .before .before .args .images) sizes sizes' (storable-size source (c .before .before .before .before .before .before .before .before .before .before .before .before .before .before .pre .0)) (storable-size target (c .before .before .before .before .before .before .before .before .before .before .before .before .before .before .pre .1))
+    (c .before .before .before .before .before .before .before .flat .result) (c .before .before .before .before .before .before .flat2 .result) (c .before .before .before .before .before .before .before .flat .ensures) (c .before .before .before .before .before .before .flat2 .ensures) w)))
 
--- src/lib.rt:89:5
 rest-blank-requires : tie.Need-rest-blank-requires
 rest-blank-requires c κs = search needs
 
--- src/lib.rt:67:1
 returns-5 : tie.Need-returns-5
 returns-5 c =
     let source = c .before .before .before .before .before .before .before .before .before .before .before .before .before .before .before .args .source in
@@ -120,15 +115,16 @@ returns-5 c =
     let images = c .before .before .before .before .before .before .before .before .before .before .before .before .before .before .before .args .images in
     let long = images-long (c .before .before .before .before .before .before .before .before .before .before .before .before .before .before .before) in
     let some : 0 < source .size = search needs in
-    check-tells source target images sizes sizes' (c .rest-blank .result) (c .before .before .before .before .before .before .before .before .before .before .if1 .left)
-    ((λ e.
-      parts-good source target images sizes sizes' (storable-size source (c .before .before .before .before .before .before .before .before .before .before .before .before .before .before .before .pre .0)) (storable-size target (c .before .before .before .before .before .before .before .before .before .before .before .before .before .before .before .pre .1))
-      (c .before .before .before .before .before .before .before .before .flat .result) (c .before .before .before .before .before .before .before .flat2 .result) (c .before .before .before .before .before .before .before .before .flat .ensures) (c .before .before .before .before .before .before .before .flat2 .ensures) long some (c .before .before .before .before .carries .ensures .0 (not-false _ (c .before .before .before .if3 .left)))
-      (c .before .before .all-land .ensures .0 (not-false _ (c .before .if4 .left))) (c .rest-blank .ensures .0 e)),
-    (λ w.
-      c .rest-blank .ensures .1
-      (good-rest source target images sizes sizes' (storable-size source (c .before .before .before .before .before .before .before .before .before .before .before .before .before .before .before .pre .0)) (storable-size target (c .before .before .before .before .before .before .before .before .before .before .before .before .before .before .before .pre .1))
-      (c .before .before .before .before .before .before .before .before .flat .result) (c .before .before .before .before .before .before .before .flat2 .result) (c .before .before .before .before .before .before .before .before .flat .ensures) (c .before .before .before .before .before .before .before .flat2 .ensures) w)))
+    check-tells source target images sizes sizes' (c .rest-blank .result) (c .before .before .before .before .before .before .before .before .before .before .if1 .left) (
+      (λ e.
+          parts-good source target images sizes sizes' (storable-size source (c .before .before .before .before .before .before .before .before .before .before .before .before .before .before .before .pre .0)) (storable-size target (c .before .before .before .before .before .before .before .before .before .before .before .before .before .before .before .pre .1))
+          (c .before .before .before .before .before .before .before .before .flat .result) (c .before .before .before .before .before .before .before .flat2 .result) (c .before .before .before .before .before .before .before .before .flat .ensures) (c .before .before .before .before .before .before .before .flat2 .ensures) long some (c .before .before .before .before .carries .ensures .0 (not-false _ (c .before .before .before .if3 .left)))
+          (c .before .before .all-land .ensures .0 (not-false _ (c .before .if4 .left))) (c .rest-blank .ensures .0 e)),
+      (λ w.
+          c .rest-blank .ensures .1
+          (good-rest source target images sizes sizes' (storable-size source (c .before .before .before .before .before .before .before .before .before .before .before .before .before .before .before .pre .0)) (storable-size target (c .before .before .before .before .before .before .before .before .before .before .before .before .before .before .before .pre .1))
+          (c .before .before .before .before .before .before .before .before .flat .result) (c .before .before .before .before .before .before .before .flat2 .result) (c .before .before .before .before .before .before .before .before .flat .ensures) (c .before .before .before .before .before .before .before .flat2 .ensures) w)),
+    )
 
 pub check-spec : {M : Type 1} → statement M
 check-spec =

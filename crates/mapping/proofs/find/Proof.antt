@@ -107,8 +107,8 @@ sized c =
       domain-length = domain-long (c .before .before .before);
       table-length = table-long c;
       masks = λ r h.
-        marks-small _ (candidatesOf (source .size) (target .size) r) (getD (c .before .before .before .domains .result) r 0)
-        (few-candidates (source .size) (target .size) r (storable-size target (c .before .before .before .before .before .before .before .before .before .before .before .before .before .before .before .pre .1))) (c .before .before .before .domains .ensures r (omega arith));
+          marks-small _ (candidatesOf (source .size) (target .size) r) (getD (c .before .before .before .domains .result) r 0)
+          (few-candidates (source .size) (target .size) r (storable-size target (c .before .before .before .before .before .before .before .before .before .before .before .before .before .before .before .pre .1))) (c .before .before .before .domains .ensures r (omega arith));
     }
 
 -- A choice that solves it has candidates below 12
@@ -124,76 +124,58 @@ chosen-below c found =
 
 -- ---- the needs
 
--- src/lib.rt:36:16
 cast-size : tie.Need-cast-size
 cast-size c = search needs
 
--- src/lib.rt:37:17
 cast-count : tie.Need-cast-count
 cast-count c = search needs
 
--- src/lib.rt:39:9
 returns : tie.Need-returns
 returns c =
     none-size (c .before .before .before .args .source) (c .before .before .before .args .target) (source-sizes (c .before .before .before)) (target-sizes (c .before .before .before)) (c .if1 .taken)
 
--- src/lib.rt:44:9
 flat-requires : tie.Need-flat-requires
 flat-requires c κs = search needs
 
--- src/lib.rt:45:24
 flat-requires-2 : tie.Need-flat-requires-2
 flat-requires-2 c κs = search needs
 
--- src/lib.rt:45:16
 numbers-requires : tie.Need-numbers-requires
 numbers-requires c κs = search needs
 
--- src/lib.rt:46:14
 numbers-requires-2 : tie.Need-numbers-requires-2
 numbers-requires-2 c κs = search needs
 
--- src/lib.rt:49:26
 slice-aggregate-domains : tie.Need-slice-aggregate-domains
 slice-aggregate-domains c = search needs
 
--- src/lib.rt:49:33
 slice-aggregate-domains-2 : tie.Need-slice-aggregate-domains-2
 slice-aggregate-domains-2 c = search needs
 
--- src/lib.rt:49:18
 domains-requires : tie.Need-domains-requires
 domains-requires c κs = laid (c .before .before .before .before)
 
--- src/lib.rt:50:23
 slice-aggregate-table : tie.Need-slice-aggregate-table
 slice-aggregate-table c = search needs
 
--- src/lib.rt:50:30
 slice-aggregate-table-2 : tie.Need-slice-aggregate-table-2
 slice-aggregate-table-2 c = search needs
 
--- src/lib.rt:50:17
 table-requires : tie.Need-table-requires
 table-requires c κs = laid (c .before .before .before .before .before .before .before)
 
--- src/lib.rt:51:33
 add-solve : tie.Need-add-solve
 add-solve c = search needs
 
--- src/lib.rt:51:43
 slice-aggregate-solve : tie.Need-slice-aggregate-solve
 slice-aggregate-solve c = search needs
 
--- src/lib.rt:51:52
 slice-aggregate-solve-2 : tie.Need-slice-aggregate-solve-2
 slice-aggregate-solve-2 c = search needs
 
--- src/lib.rt:51:9
 solve-requires : tie.Need-solve-requires
 solve-requires c κs = sized (c .before .before)
 
--- src/lib.rt:53:9
 returns-2 : tie.Need-returns-2
 returns-2 c =
     none-solution (c .before .before .before .before .before .before .before .before .before .before .before .before .before .before .before .before .before .before .before .before .args .source) (c .before .before .before .before .before .before .before .before .before .before .before .before .before .before .before .before .before .before .before .before .args .target) (source-sizes (c .before .before .before .before .before .before .before .before .before .before .before .before .before .before .before .before .before .before .before .before)) (target-sizes (c .before .before .before .before .before .before .before .before .before .before .before .before .before .before .before .before .before .before .before .before)) (c .before .before .before .before .before .before .before .before .before .before .before .before .before .before .before .before .before .before .before .before .pre .0) (c .before .before .before .before .before .before .before .before .before .before .before .before .before .before .before .before .before .before .before .before .pre .1)
@@ -201,13 +183,13 @@ returns-2 c =
     (from-is (c .before .before .before .before .before .before .before .before .before .before .before .before .before)) (c .before .before .before .before .before .before .before .before .before .before .before .before .before .before .before .before .flat .ensures) (to-is (c .before .before .before .before .before .before .before .before .before .before .before .before .before)) (c .before .before .before .before .before .before .before .before .domains .ensures) (c .before .before .before .before .before .table .ensures)
     (c .before .before .solve .ensures .none (not-true _ (c .if2 .taken)))
 
--- src/lib.rt:59:9
 assign-requires : tie.Need-assign-requires
-assign-requires c κs =
-    (storable-size _ (c .before .before .before .before .before .before .before .before .before .before .before .before .before .before .before .before .before .before .before .before .before .pre .0), chosen-below (c .before .before .before) (not-false _ (c .before .if2 .left)),
-    number-small (c .before .before .before .before .before .before .before .before .before .before .before .before .before .before .before .before .before .before .before .before .before .args .source) (c .before .before .before .before .before .before .before .before .before .before .before .before .before .before .before .before .before .before .before .before .before .pre .0) (source-sizes (c .before .before .before .before .before .before .before .before .before .before .before .before .before .before .before .before .before .before .before .before .before)) (c .before .before .before .before .before .before .before .before .before .before .before .before .before .before .before .numbers .result) (from-is (c .before .before .before .before .before .before .before .before .before .before .before .before .before .before)))
+assign-requires c κs = (
+  storable-size _ (c .before .before .before .before .before .before .before .before .before .before .before .before .before .before .before .before .before .before .before .before .before .pre .0),
+  chosen-below (c .before .before .before) (not-false _ (c .before .if2 .left)),
+  number-small (c .before .before .before .before .before .before .before .before .before .before .before .before .before .before .before .before .before .before .before .before .before .args .source) (c .before .before .before .before .before .before .before .before .before .before .before .before .before .before .before .before .before .before .before .before .before .pre .0) (source-sizes (c .before .before .before .before .before .before .before .before .before .before .before .before .before .before .before .before .before .before .before .before .before)) (c .before .before .before .before .before .before .before .before .before .before .before .before .before .before .before .numbers .result) (from-is (c .before .before .before .before .before .before .before .before .before .before .before .before .before .before)),
+)
 
--- src/lib.rt:29:1
 returns-3 : tie.Need-returns-3
 returns-3 c =
     let some : 0 < c .before .before .before .before .before .before .before .before .before .before .before .before .before .before .before .before .before .before .before .before .before .before .args .source .size = search needs in

@@ -2,7 +2,7 @@
 -- Assumes nothing.
 use borrow.Author.Needs.{needs}
 use borrow.Author.Count.{below-more}
-use mathlib.Core.Path.{_≡_, sym, _∙_}
+use mathlib.Core.Path.{sym, _∙_}
 use mathlib.Core.Bool.{false≢true}
 use borrow.Author.Tests.{not-true, not-false}
 use Prim.Native.Nat.{ℕ, _+_, _-_, _≤_, _<_}
@@ -13,9 +13,6 @@ use Rattle.mapping.specs.Agree.{Takes}
 use Rattle.mapping.proofs.Tells.{tells-true, tells-false}
 use Rattle.mapping.proofs.agree.agrees.Statement.{statement}
 use Rattle.mapping.proofs.agree.agrees.Tie as tie
-use Rattle.mapping.proofs.agree.agrees.Reads as reads
-use Rattle.mapping.proofs.agree.agrees.Lts as lts
-use Rattle.mapping.proofs.agree.takes.Reads as takes-reads
 
 abbrev Inv-loop : tie.InvT-loop
 Inv-loop source target r d q e i₀ i =
@@ -25,59 +22,46 @@ Inv-loop source target r d q e i₀ i =
 abbrev μ-loop : tie.MeasureT-loop
 μ-loop source target r d q e i₀ i = 8 - i
 
--- src/agree.rt:26:5
 loop-holds : tie.Need-loop-holds Inv-loop μ-loop
 loop-holds c = search needs
 
--- src/agree.rt:27:28
 add-value : tie.Need-add-value Inv-loop μ-loop
 add-value c = search needs
 
--- src/agree.rt:27:21
 mul-value : tie.Need-mul-value Inv-loop μ-loop
 mul-value c = search needs
 
--- src/agree.rt:27:21
 shared-slice-read-value : tie.Need-shared-slice-read-value Inv-loop μ-loop
 shared-slice-read-value c = search needs
 
--- src/agree.rt:29:53
 add-takes : tie.Need-add-takes Inv-loop μ-loop
 add-takes c = search needs
 
--- src/agree.rt:29:46
 mul-takes : tie.Need-mul-takes Inv-loop μ-loop
 mul-takes c = search needs
 
--- src/agree.rt:29:46
 shared-slice-read-takes : tie.Need-shared-slice-read-takes Inv-loop μ-loop
 shared-slice-read-takes c = search needs
 
--- src/agree.rt:29:17
 takes-requires : tie.Need-takes-requires Inv-loop μ-loop
 takes-requires c κs = search needs
 
--- src/agree.rt:30:17
 returns : tie.Need-returns Inv-loop μ-loop
 returns c = tells-false (λ p. false≢true
     (sym (not-true _ (c .if2 .taken))
     ∙ c .before .takes .ensures .1
     (p (c .before .before .before .before .before .before .loop .i) (search needs) (c .before .before .before .if1 .taken))))
 
--- src/agree.rt:26:9
 add-i : tie.Need-add-i Inv-loop μ-loop
 add-i c = search needs
 
--- src/agree.rt:26:5
 loop-less : tie.Need-loop-less Inv-loop μ-loop
 loop-less c = search needs
 
--- src/agree.rt:26:5
 loop-again : tie.Need-loop-again Inv-loop μ-loop
 loop-again c =
     (search needs, below-more _ _ (c .before .before .before .loop .inv .1) (⊎-elim (λ w e. w .2 .ensures .0 (not-false _ (w .3 .left))) (λ w e. absurd (not-le-of-lt (w .left) e)) (c .if1 .came)))
 
--- src/agree.rt:22:1
 returns-2 : tie.Need-returns-2 Inv-loop μ-loop
 returns-2 c = tells-true (λ j h. c .before .loop .inv .1 j (search needs))
 

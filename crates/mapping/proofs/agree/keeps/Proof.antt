@@ -10,8 +10,6 @@ use lib.ListN.{getD}
 use Rattle.mapping.proofs.Tells.{tells-true, tells-false}
 use Rattle.mapping.proofs.agree.keeps.Statement.{statement}
 use Rattle.mapping.proofs.agree.keeps.Tie as tie
-use Rattle.mapping.proofs.agree.keeps.Reads as reads
-use Rattle.mapping.proofs.agree.keeps.Lts as lts
 
 abbrev Inv-loop : tie.InvT-loop
 Inv-loop source target r d i₀ i =
@@ -20,52 +18,40 @@ Inv-loop source target r d i₀ i =
 abbrev μ-loop : tie.MeasureT-loop
 μ-loop source target r d i₀ i = 8 - i
 
--- src/agree.rt:42:5
 loop-holds : tie.Need-loop-holds Inv-loop μ-loop
 loop-holds c = search needs
 
--- src/agree.rt:43:28
 add-value : tie.Need-add-value Inv-loop μ-loop
 add-value c = search needs
 
--- src/agree.rt:43:21
 mul-value : tie.Need-mul-value Inv-loop μ-loop
 mul-value c = search needs
 
--- src/agree.rt:43:21
 shared-slice-read-value : tie.Need-shared-slice-read-value Inv-loop μ-loop
 shared-slice-read-value c = search needs
 
--- src/agree.rt:45:23
 add-if2 : tie.Need-add-if2 Inv-loop μ-loop
 add-if2 c = search needs
 
--- src/agree.rt:45:16
 mul-if2 : tie.Need-mul-if2 Inv-loop μ-loop
 mul-if2 c = search needs
 
--- src/agree.rt:45:16
 shared-slice-read-if2 : tie.Need-shared-slice-read-if2 Inv-loop μ-loop
 shared-slice-read-if2 c = search needs
 
--- src/agree.rt:46:17
 returns : tie.Need-returns Inv-loop μ-loop
 returns c = tells-false (λ p. c .if2 .taken (p (c .before .before .before .before .before .loop .i) (search needs) (c .before .before .if1 .taken)))
 
--- src/agree.rt:42:9
 add-i : tie.Need-add-i Inv-loop μ-loop
 add-i c = search needs
 
--- src/agree.rt:42:5
 loop-less : tie.Need-loop-less Inv-loop μ-loop
 loop-less c = search needs
 
--- src/agree.rt:42:5
 loop-again : tie.Need-loop-again Inv-loop μ-loop
 loop-again c =
     (search needs, below-more _ _ (c .before .before .before .loop .inv .1) (⊎-elim (λ w e. w .2 .left) (λ w e. absurd (not-le-of-lt e (w .left))) (c .if1 .came)))
 
--- src/agree.rt:38:1
 returns-2 : tie.Need-returns-2 Inv-loop μ-loop
 returns-2 c = tells-true (λ j h. c .before .loop .inv .1 j (search needs))
 

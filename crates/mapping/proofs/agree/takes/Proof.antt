@@ -9,8 +9,6 @@ use lib.ListN.{getD}
 use Rattle.mapping.proofs.Tells.{tells-true, tells-false}
 use Rattle.mapping.proofs.agree.takes.Statement.{statement}
 use Rattle.mapping.proofs.agree.takes.Tie as tie
-use Rattle.mapping.proofs.agree.takes.Reads as reads
-use Rattle.mapping.proofs.agree.takes.Lts as lts
 
 abbrev Inv-loop : tie.InvT-loop
 Inv-loop source target value image q e j₀ j =
@@ -19,52 +17,40 @@ Inv-loop source target value image q e j₀ j =
 abbrev μ-loop : tie.MeasureT-loop
 μ-loop source target value image q e j₀ j = 8 - j
 
--- src/agree.rt:11:5
 loop-holds : tie.Need-loop-holds Inv-loop μ-loop
 loop-holds c = search needs
 
--- src/agree.rt:12:19
 add-if1 : tie.Need-add-if1 Inv-loop μ-loop
 add-if1 c = search needs
 
--- src/agree.rt:12:12
 mul-if1 : tie.Need-mul-if1 Inv-loop μ-loop
 mul-if1 c = search needs
 
--- src/agree.rt:12:12
 shared-slice-read-if1 : tie.Need-shared-slice-read-if1 Inv-loop μ-loop
 shared-slice-read-if1 c = search needs
 
--- src/agree.rt:13:23
 add-if2 : tie.Need-add-if2 Inv-loop μ-loop
 add-if2 c = search needs
 
--- src/agree.rt:13:16
 mul-if2 : tie.Need-mul-if2 Inv-loop μ-loop
 mul-if2 c = search needs
 
--- src/agree.rt:13:16
 shared-slice-read-if2 : tie.Need-shared-slice-read-if2 Inv-loop μ-loop
 shared-slice-read-if2 c = search needs
 
--- src/agree.rt:14:17
 returns : tie.Need-returns Inv-loop μ-loop
 returns c = tells-false (λ p. c .if2 .taken (p (c .before .before .before .before .before .loop .j) (search needs) (c .before .before .if1 .taken)))
 
--- src/agree.rt:11:9
 add-j : tie.Need-add-j Inv-loop μ-loop
 add-j c = search needs
 
--- src/agree.rt:11:5
 loop-less : tie.Need-loop-less Inv-loop μ-loop
 loop-less c = search needs
 
--- src/agree.rt:11:5
 loop-again : tie.Need-loop-again Inv-loop μ-loop
 loop-again c =
     (search needs, below-more _ _ (c .before .before .before .loop .inv .1) (⊎-elim (λ w e. w .2 .left) (λ w e. absurd (w .left e)) (c .if1 .came)))
 
--- src/agree.rt:7:1
 returns-2 : tie.Need-returns-2 Inv-loop μ-loop
 returns-2 c = tells-true (λ j h. c .before .loop .inv .1 j (search needs))
 

@@ -8,11 +8,6 @@ use Rattle.mapping.specs.Mapped.{Assigned}
 use Rattle.mapping.proofs.Images.{rows-start, rows-more}
 use Rattle.mapping.proofs.assign.assign.Statement.{statement}
 use Rattle.mapping.proofs.assign.assign.Tie as tie
-use Rattle.mapping.proofs.assign.assign.Reads as reads
-use Rattle.mapping.proofs.assign.assign.Lts as lts
-use Rattle.mapping.proofs.assign.assign_row.Reads as assign-row-reads
-use Rattle.mapping.proofs.table.image_at.Reads as image-at-reads
-use Rattle.mapping.proofs.table.row_at.Reads as row-at-reads
 
 abbrev Inv-loop : tie.InvT-loop
 Inv-loop source target size chosen images₀ r₀ r-end images r = (r ≤ r-end) × Assigned source target size (choiceOf chosen) r images
@@ -20,52 +15,42 @@ Inv-loop source target size chosen images₀ r₀ r-end images r = (r ≤ r-end)
 abbrev μ-loop : tie.MeasureT-loop
 μ-loop source target size chosen images₀ r₀ r-end images r = r-end - r
 
--- src/assign.rt:36:17
 add-r-end : tie.Need-add-r-end Inv-loop μ-loop
 add-r-end c = search needs
 
--- src/assign.rt:36:5
 loop-holds : tie.Need-loop-holds Inv-loop μ-loop
 loop-holds c = (search needs, rows-start (c .args .source) (c .args .target) (c .args .size) (choiceOf (c .args .t4)))
 
--- src/assign.rt:37:17
 array-read-d : tie.Need-array-read-d Inv-loop μ-loop
 array-read-d c = search needs
 
--- src/assign.rt:37:17
 cast-d : tie.Need-cast-d Inv-loop μ-loop
 cast-d c = search needs
 
--- src/assign.rt:38:55
 row-at-requires : tie.Need-row-at-requires Inv-loop μ-loop
 row-at-requires c κs = search needs
 
--- src/assign.rt:38:72
 image-at-requires : tie.Need-image-at-requires Inv-loop μ-loop
 image-at-requires c κs = c .before .before .before .pre .1 (c .before .before .loop .r) (search needs)
 
--- src/assign.rt:38:13
 assign-row-requires : tie.Need-assign-row-requires Inv-loop μ-loop
 assign-row-requires c κs = (search needs, search needs, c .before .before .before .before .pre .2)
 
--- src/assign.rt:36:9
 add-r : tie.Need-add-r Inv-loop μ-loop
 add-r c = search needs
 
--- src/assign.rt:36:5
 loop-less : tie.Need-loop-less Inv-loop μ-loop
 loop-less c = search needs
 
--- src/assign.rt:36:5
 loop-again : tie.Need-loop-again Inv-loop μ-loop
 loop-again c =
-    let args = c .before .before .before .before .before .args in
-    (search needs,
-    rows-more (args .source) (args .target) (args .size) (choiceOf (args .t4)) (c .before .before .before .before .loop .r) (c .before .before .row-at .result) (c .before .image-at .result)
-    (c .before .before .before .before .loop .images) (c .assign-row .result) (c .before .before .row-at .ensures .0) (c .before .image-at .ensures .0) (c .before .before .before .before .loop .inv .1)
-    (c .assign-row .ensures))
+    let args = c .before .before .before .before .before .args in (
+      search needs,
+      rows-more (args .source) (args .target) (args .size) (choiceOf (args .t4)) (c .before .before .before .before .loop .r) (c .before .before .row-at .result) (c .before .image-at .result)
+          (c .before .before .before .before .loop .images) (c .assign-row .result) (c .before .before .row-at .ensures .0) (c .before .image-at .ensures .0) (c .before .before .before .before .loop .inv .1)
+          (c .assign-row .ensures),
+    )
 
--- src/assign.rt:29:1
 returns : tie.Need-returns Inv-loop μ-loop
 returns c =
     let args = c .before .before .args in

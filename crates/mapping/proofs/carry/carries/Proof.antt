@@ -12,10 +12,6 @@ use Rattle.mapping.specs.Mapped.{entryIn, imagesOf}
 use Rattle.mapping.proofs.Tells.{tells-true, tells-false}
 use Rattle.mapping.proofs.carry.carries.Statement.{statement}
 use Rattle.mapping.proofs.carry.carries.Tie as tie
-use Rattle.mapping.proofs.carry.carries.Reads as reads
-use Rattle.mapping.proofs.carry.carries.Lts as lts
-use Rattle.mapping.proofs.carry.image_of.Reads as image-of-reads
-use Rattle.mapping.proofs.carry.same.Reads as same-reads
 
 abbrev Inv-loop : tie.InvT-loop
 Inv-loop images row image source target i₀ i =
@@ -24,64 +20,51 @@ Inv-loop images row image source target i₀ i =
 abbrev μ-loop : tie.MeasureT-loop
 μ-loop images row image source target i₀ i = 8 - i
 
--- src/carry.rt:51:5
 loop-holds : tie.Need-loop-holds Inv-loop μ-loop
 loop-holds c = (search needs, below-none _)
 
--- src/carry.rt:52:24
 add-c : tie.Need-add-c Inv-loop μ-loop
 add-c c = search needs
 
--- src/carry.rt:52:17
 mul-c : tie.Need-mul-c Inv-loop μ-loop
 mul-c c = search needs
 
--- src/carry.rt:52:17
 array-copy-out-c : tie.Need-array-copy-out-c Inv-loop μ-loop
 array-copy-out-c c = search needs
 
--- src/carry.rt:53:24
 add-d : tie.Need-add-d Inv-loop μ-loop
 add-d c = search needs
 
--- src/carry.rt:53:17
 mul-d : tie.Need-mul-d Inv-loop μ-loop
 mul-d c = search needs
 
--- src/carry.rt:53:17
 array-copy-out-d : tie.Need-array-copy-out-d Inv-loop μ-loop
 array-copy-out-d c = search needs
 
--- src/carry.rt:56:18
 image-of-requires : tie.Need-image-of-requires Inv-loop μ-loop
 image-of-requires c κs = search needs
 
--- src/carry.rt:56:13
 same-requires : tie.Need-same-requires Inv-loop μ-loop
 same-requires c κs = search needs
 
--- src/carry.rt:57:13
 returns : tie.Need-returns Inv-loop μ-loop
 returns c =
     tells-false
     (λ p. sameEntry-ne _ _ (sym (c .before .same .ensures) ∙ not-true _ (c .if1 .taken)) (c .before .before .image-of .ensures ∙ p (c .before .before .before .before .before .before .loop .i) (search needs)))
 
--- src/carry.rt:51:9
 add-i : tie.Need-add-i Inv-loop μ-loop
 add-i c = search needs
 
--- src/carry.rt:51:5
 loop-less : tie.Need-loop-less Inv-loop μ-loop
 loop-less c = search needs
 
--- src/carry.rt:51:5
 loop-again : tie.Need-loop-again Inv-loop μ-loop
-loop-again c =
-    (search needs,
-    below-more _ _ (c .before .before .before .before .before .before .loop .inv .1)
-    (sym (c .before .before .image-of .ensures) ∙ sameEntry-eq _ _ (sym (c .before .same .ensures) ∙ not-false _ (c .if1 .left))))
+loop-again c = (
+  search needs,
+  below-more _ _ (c .before .before .before .before .before .before .loop .inv .1)
+      (sym (c .before .before .image-of .ensures) ∙ sameEntry-eq _ _ (sym (c .before .same .ensures) ∙ not-false _ (c .if1 .left))),
+)
 
--- src/carry.rt:47:1
 returns-2 : tie.Need-returns-2 Inv-loop μ-loop
 returns-2 c = tells-true (λ k h. c .before .loop .inv .1 k (search needs))
 

@@ -8,41 +8,30 @@ use Rattle.theory.specs.Answer.{valueOf}
 use Rattle.record.specs.View.{entryOf}
 use Rattle.record.specs.Rule.{noCell}
 use Rattle.mapping.specs.Mapped.{imagesOf}
-
 use Rattle.mapping.proofs.carry.image_of.Statement.{statement}
 use Rattle.mapping.proofs.carry.image_of.Tie as tie
-use Rattle.mapping.proofs.carry.image_of.Reads as reads
-use Rattle.mapping.proofs.carry.image_of.Lts as lts
 
--- src/carry.rt:33:25
 enum-known-e : tie.Need-enum-known-e
 enum-known-e c = search needs
 
--- src/carry.rt:34:25
 enum-known-e-2 : tie.Need-enum-known-e-2
 enum-known-e-2 c = search needs
 
--- src/carry.rt:36:32
 cast-c : tie.Need-cast-c
 cast-c c = search needs
 
--- src/carry.rt:36:25
 mul-c : tie.Need-mul-c
 mul-c c = search needs
 
--- src/carry.rt:36:25
 array-copy-out-c : tie.Need-array-copy-out-c
 array-copy-out-c c = search needs
 
--- src/carry.rt:29:1
 returns : tie.Need-returns
 returns c = ap (λ e. valueOf constant (imagesOf (c .before .before .before .args .t1)) (entryOf e)) (sym (c .before .e .given .1))
 
--- src/carry.rt:29:1
 returns-2 : tie.Need-returns-2
 returns-2 c = ap (λ e. valueOf constant (imagesOf (c .before .before .before .before .before .args .t1)) (entryOf e)) (sym (c .before .before .before .e2 .given .1))
 
--- src/carry.rt:29:1
 returns-3 : tie.Need-returns-3
 returns-3 c =
     ap (λ x. entryOf (x .entry)) (sym (List·getD-eq-default (c .before .before .before .before .args .t1) noCell (search needs)))

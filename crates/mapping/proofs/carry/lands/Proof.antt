@@ -11,9 +11,6 @@ use Rattle.mapping.specs.Mapped.{Carried}
 use Rattle.mapping.proofs.Tells.{tells-true, tells-false}
 use Rattle.mapping.proofs.carry.lands.Statement.{statement}
 use Rattle.mapping.proofs.carry.lands.Tie as tie
-use Rattle.mapping.proofs.carry.lands.Reads as reads
-use Rattle.mapping.proofs.carry.lands.Lts as lts
-use Rattle.mapping.proofs.carry.carries.Reads as carries-reads
 
 abbrev Inv-loop : tie.InvT-loop
 Inv-loop source target images count r named offered d₀ d =
@@ -22,50 +19,40 @@ Inv-loop source target images count r named offered d₀ d =
 abbrev μ-loop : tie.MeasureT-loop
 μ-loop source target images count r named offered d₀ d = count - d
 
--- src/carry.rt:68:5
 loop-holds : tie.Need-loop-holds Inv-loop μ-loop
 loop-holds c = (search needs, below-none _)
 
--- src/carry.rt:69:12
 array-read-if1 : tie.Need-array-read-if1 Inv-loop μ-loop
 array-read-if1 c = search needs
 
--- src/carry.rt:69:24
 array-read-if1-2 : tie.Need-array-read-if1-2 Inv-loop μ-loop
 array-read-if1-2 c = search needs
 
--- src/carry.rt:70:48
 mul-carries : tie.Need-mul-carries Inv-loop μ-loop
 mul-carries c = search needs
 
--- src/carry.rt:70:55
 mul-carries-2 : tie.Need-mul-carries-2 Inv-loop μ-loop
 mul-carries-2 c = search needs
 
--- src/carry.rt:70:16
 carries-requires : tie.Need-carries-requires Inv-loop μ-loop
 carries-requires c κs = search needs
 
--- src/carry.rt:71:17
 returns : tie.Need-returns Inv-loop μ-loop
 returns c = tells-true (c .before .before .before .before .loop .d, search needs, c .before .before .if1 .taken, c .before .carries .ensures .0 (c .if2 .taken))
 
--- src/carry.rt:68:9
 add-d : tie.Need-add-d Inv-loop μ-loop
 add-d c = search needs
 
--- src/carry.rt:68:5
 loop-less : tie.Need-loop-less Inv-loop μ-loop
 loop-less c = search needs
 
--- src/carry.rt:68:5
 loop-again : tie.Need-loop-again Inv-loop μ-loop
-loop-again c =
-    (search needs,
-    below-more _ _ (c .before .before .loop .inv .1)
-    (⊎-elim (λ w e p. false≢true (sym (w .2 .left) ∙ w .1 .ensures .1 p)) (λ w e p. w .left e) (c .if1 .came)))
+loop-again c = (
+  search needs,
+  below-more _ _ (c .before .before .loop .inv .1)
+      (⊎-elim (λ w e p. false≢true (sym (w .2 .left) ∙ w .1 .ensures .1 p)) (λ w e p. w .left e) (c .if1 .came)),
+)
 
--- src/carry.rt:64:1
 returns-2 : tie.Need-returns-2 Inv-loop μ-loop
 returns-2 c = tells-false (λ w. c .before .loop .inv .1 (w .0) (let h : w .0 < c .before .before .args .count = w .1 in search needs) (w .2) (w .3))
 

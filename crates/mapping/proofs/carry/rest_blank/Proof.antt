@@ -13,10 +13,6 @@ use Rattle.mapping.specs.Mapped.{imagesOf, Stands}
 use Rattle.mapping.proofs.Tells.{tells-true, tells-false}
 use Rattle.mapping.proofs.carry.rest_blank.Statement.{statement}
 use Rattle.mapping.proofs.carry.rest_blank.Tie as tie
-use Rattle.mapping.proofs.carry.rest_blank.Reads as reads
-use Rattle.mapping.proofs.carry.rest_blank.Lts as lts
-use Rattle.mapping.proofs.carry.same.Reads as same-reads
-use Rattle.mapping.proofs.carry.stands.Reads as stands-reads
 
 abbrev Inv-loop : tie.InvT-loop
 Inv-loop cells images v₀ v = (v ≤ 96) × ((w : ℕ) → w < v → (Stands cells w → ⊥) → imagesOf images w ≡ constant 0)
@@ -24,55 +20,45 @@ Inv-loop cells images v₀ v = (v ≤ 96) × ((w : ℕ) → w < v → (Stands ce
 abbrev μ-loop : tie.MeasureT-loop
 μ-loop cells images v₀ v = 96 - v
 
--- src/carry.rt:109:5
 loop-holds : tie.Need-loop-holds Inv-loop μ-loop
 loop-holds c = (search needs, below-none _)
 
--- src/carry.rt:110:24
 cast-c : tie.Need-cast-c Inv-loop μ-loop
 cast-c c = search needs
 
--- src/carry.rt:110:17
 mul-c : tie.Need-mul-c Inv-loop μ-loop
 mul-c c = search needs
 
--- src/carry.rt:110:17
 array-copy-out-c : tie.Need-array-copy-out-c Inv-loop μ-loop
 array-copy-out-c c = search needs
 
--- src/carry.rt:112:13
 same-requires : tie.Need-same-requires Inv-loop μ-loop
 same-requires c κs = search needs
 
--- src/carry.rt:113:17
 stands-requires : tie.Need-stands-requires Inv-loop μ-loop
 stands-requires c κs = search needs
 
--- src/carry.rt:114:17
 returns : tie.Need-returns Inv-loop μ-loop
 returns c =
     tells-false
     (λ p.
-      sameEntry-ne _ _ (sym (c .before .before .before .same .ensures) ∙ not-true _ (c .before .before .if1 .taken))
-      (p (c .before .before .before .before .before .before .loop .v) (search needs) (λ s. false≢true (sym (not-true _ (c .if2 .taken)) ∙ c .before .stands .ensures .1 s))))
+    sameEntry-ne _ _ (sym (c .before .before .before .same .ensures) ∙ not-true _ (c .before .before .if1 .taken))
+    (p (c .before .before .before .before .before .before .loop .v) (search needs) (λ s. false≢true (sym (not-true _ (c .if2 .taken)) ∙ c .before .stands .ensures .1 s))))
 
--- src/carry.rt:109:9
 add-v : tie.Need-add-v Inv-loop μ-loop
 add-v c = search needs
 
--- src/carry.rt:109:5
 loop-less : tie.Need-loop-less Inv-loop μ-loop
 loop-less c = search needs
 
--- src/carry.rt:109:5
 loop-again : tie.Need-loop-again Inv-loop μ-loop
-loop-again c =
-    (search needs,
-    below-more _ _ (c .before .before .before .before .loop .inv .1)
-    (⊎-elim (λ w out. absurd (out (w .1 .ensures .0 (not-false _ (w .2 .left))))) (λ w out. sameEntry-eq _ _ (sym (c .before .same .ensures) ∙ not-false _ (w .left)))
-    (c .if1 .came)))
+loop-again c = (
+  search needs,
+  below-more _ _ (c .before .before .before .before .loop .inv .1)
+      (⊎-elim (λ w out. absurd (out (w .1 .ensures .0 (not-false _ (w .2 .left))))) (λ w out. sameEntry-eq _ _ (sym (c .before .same .ensures) ∙ not-false _ (w .left)))
+      (c .if1 .came)),
+)
 
--- src/carry.rt:106:1
 returns-2 : tie.Need-returns-2 Inv-loop μ-loop
 returns-2 c = tells-true (λ w h. c .before .loop .inv .1 w (search needs))
 

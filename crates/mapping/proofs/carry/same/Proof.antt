@@ -4,52 +4,39 @@ use borrow.Author.Needs.{needs}
 use mathlib.Core.Path.{ap₂, sym}
 use Rattle.theory.specs.Query.{sameEntry}
 use Rattle.record.specs.View.{entryOf}
-
 use Rattle.mapping.proofs.carry.same.Statement.{statement}
 use Rattle.mapping.proofs.carry.same.Tie as tie
-use Rattle.mapping.proofs.carry.same.Reads as reads
-use Rattle.mapping.proofs.carry.same.Lts as lts
 
--- src/carry.rt:17:25
 enum-known-a : tie.Need-enum-known-a
 enum-known-a c = search needs
 
--- src/carry.rt:18:29
 enum-known-b : tie.Need-enum-known-b
 enum-known-b c = search needs
 
--- src/carry.rt:19:35
 enum-told : tie.Need-enum-told
 enum-told c = search needs
 
--- src/carry.rt:21:25
 enum-known-a-2 : tie.Need-enum-known-a-2
 enum-known-a-2 c = search needs
 
--- src/carry.rt:22:35
 enum-told-2 : tie.Need-enum-told-2
 enum-told-2 c = search needs
 
--- src/carry.rt:23:29
 enum-known-b-2 : tie.Need-enum-known-b-2
 enum-known-b-2 c = search needs
 
--- src/carry.rt:13:1
 returns : tie.Need-returns
 unfolding sameEntry
 returns c = ap₂ (λ x y. sameEntry (entryOf x) (entryOf y)) (sym (c .before .before .before .before .a .given .1)) (sym (c .before .b .given .1))
 
--- src/carry.rt:13:1
 returns-2 : tie.Need-returns-2
 unfolding sameEntry
 returns-2 c = ap₂ (λ x y. sameEntry (entryOf x) (entryOf y)) (sym (c .before .before .before .a .given .1)) (sym (c .enum-told .given .1))
 
--- src/carry.rt:13:1
 returns-3 : tie.Need-returns-3
 unfolding sameEntry
 returns-3 c = ap₂ (λ x y. sameEntry (entryOf x) (entryOf y)) (sym (c .before .before .before .a2 .given .1)) (sym (c .enum-told2 .given .1))
 
--- src/carry.rt:13:1
 returns-4 : tie.Need-returns-4
 unfolding sameEntry
 returns-4 c = ap₂ (λ x y. sameEntry (entryOf x) (entryOf y)) (sym (c .before .before .before .before .a2 .given .1)) (sym (c .before .b2 .given .1))

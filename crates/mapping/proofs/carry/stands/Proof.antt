@@ -10,9 +10,6 @@ use Rattle.mapping.specs.Mapped.{entryIn}
 use Rattle.mapping.proofs.Tells.{tells-true, tells-false}
 use Rattle.mapping.proofs.carry.stands.Statement.{statement}
 use Rattle.mapping.proofs.carry.stands.Tie as tie
-use Rattle.mapping.proofs.carry.stands.Reads as reads
-use Rattle.mapping.proofs.carry.stands.Lts as lts
-use Rattle.mapping.proofs.carry.same.Reads as same-reads
 
 abbrev Inv-loop : tie.InvT-loop
 Inv-loop v cells k₀ k = (k ≤ 104) × ((j : ℕ) → j < k → entryIn cells j ≡ variable v → ⊥)
@@ -20,39 +17,30 @@ Inv-loop v cells k₀ k = (k ≤ 104) × ((j : ℕ) → j < k → entryIn cells 
 abbrev μ-loop : tie.MeasureT-loop
 μ-loop v cells k₀ k = 104 - k
 
--- src/carry.rt:95:5
 loop-holds : tie.Need-loop-holds Inv-loop μ-loop
 loop-holds c = (search needs, below-none _)
 
--- src/carry.rt:96:17
 mul-c : tie.Need-mul-c Inv-loop μ-loop
 mul-c c = search needs
 
--- src/carry.rt:96:17
 array-copy-out-c : tie.Need-array-copy-out-c Inv-loop μ-loop
 array-copy-out-c c = search needs
 
--- src/carry.rt:98:12
 same-requires : tie.Need-same-requires Inv-loop μ-loop
 same-requires c κs = search needs
 
--- src/carry.rt:99:13
 returns : tie.Need-returns Inv-loop μ-loop
 returns c = tells-true (c .before .before .before .before .loop .k, search needs, sameEntry-eq _ _ (sym (c .before .same .ensures) ∙ c .if1 .taken))
 
--- src/carry.rt:95:9
 add-k : tie.Need-add-k Inv-loop μ-loop
 add-k c = search needs
 
--- src/carry.rt:95:5
 loop-less : tie.Need-loop-less Inv-loop μ-loop
 loop-less c = search needs
 
--- src/carry.rt:95:5
 loop-again : tie.Need-loop-again Inv-loop μ-loop
 loop-again c = (search needs, below-more _ _ (c .before .before .before .before .loop .inv .1) (sameEntry-ne _ _ (sym (c .before .same .ensures) ∙ c .if1 .left)))
 
--- src/carry.rt:92:1
 returns-2 : tie.Need-returns-2 Inv-loop μ-loop
 returns-2 c = tells-false (λ w. c .before .loop .inv .1 (w .0) (let h : w .0 < 104 = w .1 in search needs) (w .2))
 

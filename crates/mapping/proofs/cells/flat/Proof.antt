@@ -2,11 +2,11 @@
 -- Assumes nothing.
 use borrow.Author.Needs.{needs}
 use borrow.Author.Count.{below-none}
-use mathlib.Core.Path.{_≡_, sym, ap, _∙_}
-use mathlib.Core.Bool.{Bool, cond}
+use mathlib.Core.Path.{_≡_, ap, _∙_}
+use mathlib.Core.Bool.{cond}
 use mathlib.Core.Logic.{⊎-elim}
 use borrow.Author.Tests.{lt-ltb, le-ltb}
-use Prim.Native.Nat.{ℕ, _+_, _-_, _≤_, _<_}
+use Prim.Native.Nat.{ℕ, _-_, _≤_, _<_}
 use lib.Dec.{ltb}
 use lib.ListN.{getD, length, length-set}
 use Rattle.record.specs.declared.Cell.{Cell}
@@ -16,8 +16,6 @@ use Rattle.mapping.specs.Mapped.{cellAt}
 use Rattle.mapping.proofs.Stores.{stored-into}
 use Rattle.mapping.proofs.cells.flat.Statement.{statement}
 use Rattle.mapping.proofs.cells.flat.Tie as tie
-use Rattle.mapping.proofs.cells.flat.Reads as reads
-use Rattle.mapping.proofs.cells.flat.Lts as lts
 
 abbrev Inv-loop : tie.InvT-loop
 Inv-loop cells head all₀ k₀ all k =
@@ -26,68 +24,56 @@ Inv-loop cells head all₀ k₀ all k =
 abbrev μ-loop : tie.MeasureT-loop
 μ-loop cells head all₀ k₀ all k = 104 - k
 
--- src/cells.rt:23:5
 loop-holds : tie.Need-loop-holds Inv-loop μ-loop
 loop-holds c = (search needs, search needs, below-none _)
 
--- src/cells.rt:25:22
 mul-all : tie.Need-mul-all Inv-loop μ-loop
 mul-all c = search needs
 
--- src/cells.rt:25:22
 array-copy-out-all : tie.Need-array-copy-out-all Inv-loop μ-loop
 array-copy-out-all c = search needs
 
--- src/cells.rt:25:13
 mul-all-2 : tie.Need-mul-all-2 Inv-loop μ-loop
 mul-all-2 c = search needs
 
--- src/cells.rt:25:13
 array-set-from-all : tie.Need-array-set-from-all Inv-loop μ-loop
 array-set-from-all c = search needs
 
--- src/cells.rt:27:22
 mul-all-3 : tie.Need-mul-all-3 Inv-loop μ-loop
 mul-all-3 c = search needs
 
--- src/cells.rt:27:22
 array-copy-out-all-2 : tie.Need-array-copy-out-all-2 Inv-loop μ-loop
 array-copy-out-all-2 c = search needs
 
--- src/cells.rt:27:13
 mul-all-4 : tie.Need-mul-all-4 Inv-loop μ-loop
 mul-all-4 c = search needs
 
--- src/cells.rt:27:13
 array-set-from-all-2 : tie.Need-array-set-from-all-2 Inv-loop μ-loop
 array-set-from-all-2 c = search needs
 
--- src/cells.rt:23:9
 add-k : tie.Need-add-k Inv-loop μ-loop
 add-k c = search needs
 
--- src/cells.rt:23:5
 loop-less : tie.Need-loop-less Inv-loop μ-loop
 loop-less c = search needs
 
--- src/cells.rt:23:5
 loop-again : tie.Need-loop-again Inv-loop μ-loop
 loop-again c =
     let q : Query = c .before .before .before .before .before .args .q in
     let all = c .before .before .loop .all in
     let k = c .before .before .loop .k in
     let long : k < length all = search needs in
-    let same : ℕ → Cell → Type 0 = λ j x. x ≡ cellAt q j in
-    (search needs,
-    ⊎-elim (λ w. ap length (w .2) ∙ simp length-set (c .before .before .loop .inv .1)) (λ w. ap length (w .2) ∙ simp length-set (c .before .before .loop .inv .1)) (c .if1 .came),
-    ⊎-elim
-    (λ w. stored-into same all (c .if1 .all) k (getD (q .cells) k noCell) noCell (w .2) long (c .before .before .loop .inv .2)
-    (simp (lt-ltb _ _ (w .0 .taken))))
-    (λ w. stored-into same all (c .if1 .all) k (getD (q .head) (k - 96) noCell) noCell (w .2) long (c .before .before .loop .inv .2)
-    (simp (le-ltb _ _ (w .0 .left))))
-    (c .if1 .came))
+    let same : ℕ → Cell → Type 0 = λ j x. x ≡ cellAt q j in (
+      search needs,
+      ⊎-elim (λ w. ap length (w .2) ∙ simp length-set (c .before .before .loop .inv .1)) (λ w. ap length (w .2) ∙ simp length-set (c .before .before .loop .inv .1)) (c .if1 .came),
+      ⊎-elim
+          (λ w. stored-into same all (c .if1 .all) k (getD (q .cells) k noCell) noCell (w .2) long (c .before .before .loop .inv .2)
+          (simp (lt-ltb _ _ (w .0 .taken))))
+          (λ w. stored-into same all (c .if1 .all) k (getD (q .head) (k - 96) noCell) noCell (w .2) long (c .before .before .loop .inv .2)
+          (simp (le-ltb _ _ (w .0 .left))))
+          (c .if1 .came),
+    )
 
--- src/cells.rt:15:1
 returns : tie.Need-returns Inv-loop μ-loop
 returns c k h = c .before .loop .inv .2 k (search needs)
 

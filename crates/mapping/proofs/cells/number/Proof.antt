@@ -6,30 +6,22 @@ use Rattle.theory.specs.Containment.{freeze}
 use Rattle.record.specs.View.{entryOf}
 use Rattle.mapping.proofs.cells.number.Statement.{statement}
 use Rattle.mapping.proofs.cells.number.Tie as tie
-use Rattle.mapping.proofs.cells.number.Reads as reads
-use Rattle.mapping.proofs.cells.number.Lts as lts
 
--- src/cells.rt:38:25
 enum-known-e : tie.Need-enum-known-e
 enum-known-e c = search needs
 
--- src/cells.rt:39:25
 enum-known-e-2 : tie.Need-enum-known-e-2
 enum-known-e-2 c = search needs
 
--- src/cells.rt:39:44
 cast-result : tie.Need-cast-result
 cast-result c = search needs
 
--- src/cells.rt:39:31
 add-result : tie.Need-add-result
 add-result c = search needs
 
--- src/cells.rt:34:1
 returns : tie.Need-returns
 returns c = ap (λ e. freeze 2147483648 (entryOf e)) (sym (c .before .e .given .1))
 
--- src/cells.rt:34:1
 returns-2 : tie.Need-returns-2
 returns-2 c = ap (λ e. freeze 2147483648 (entryOf e)) (sym (c .before .e2 .given .1))
 

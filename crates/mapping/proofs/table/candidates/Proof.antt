@@ -4,14 +4,10 @@ use borrow.Author.Needs.{needs}
 use borrow.Author.Tests.{eq-eqb, ne-eqb}
 use Rattle.mapping.proofs.table.candidates.Statement.{statement}
 use Rattle.mapping.proofs.table.candidates.Tie as tie
-use Rattle.mapping.proofs.table.candidates.Reads as reads
-use Rattle.mapping.proofs.table.candidates.Lts as lts
 
--- src/table.rt:28:1
 returns : tie.Need-returns
 returns c = (simp (eq-eqb _ _ (c .if1 .taken)), search needs)
 
--- src/table.rt:28:1
 returns-2 : tie.Need-returns-2
 returns-2 c = (simp (ne-eqb _ _ (c .if1 .left)), search needs)
 

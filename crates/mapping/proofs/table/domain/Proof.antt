@@ -1,17 +1,13 @@
 -- `domain` marks the possible candidates of a row. The invariant: those from d on are marked.
 -- Assumes nothing.
 use borrow.Author.Needs.{needs}
-use mathlib.Core.Path.{_≡_, sym, _∙_, subst}
+use mathlib.Core.Path.{sym, _∙_, subst}
 use mathlib.Core.Bool.{false≢true}
 use Prim.Native.Nat.{ℕ, _+_, _-_, _≤_, _<_}
 use Rattle.mapping.specs.Agree.{Marks, Possible}
 use Rattle.mapping.proofs.Masks.{marks-start, marks-one, marks-zero, marks-end, marks-room}
 use Rattle.mapping.proofs.table.domain.Statement.{statement}
 use Rattle.mapping.proofs.table.domain.Tie as tie
-use Rattle.mapping.proofs.table.domain.Reads as reads
-use Rattle.mapping.proofs.table.domain.Lts as lts
-use Rattle.mapping.proofs.table.candidates.Reads as candidates-reads
-use Rattle.mapping.proofs.table.possible.Reads as possible-reads
 
 abbrev Inv-loop : tie.InvT-loop
 Inv-loop source target named offered size count r mask₀ d₀ mask d =
@@ -20,76 +16,66 @@ Inv-loop source target named offered size count r mask₀ d₀ mask d =
 abbrev μ-loop : tie.MeasureT-loop
 μ-loop source target named offered size count r mask₀ d₀ mask d = d
 
--- src/table.rt:80:9
 candidates-requires : tie.Need-candidates-requires Inv-loop μ-loop
 candidates-requires c κs = search needs
 
--- src/table.rt:81:5
 loop-holds : tie.Need-loop-holds Inv-loop μ-loop
 loop-holds c =
     let args = c .before .before .before .args in
     let P : ℕ → Type 0 = Possible (args .source .now) (args .target .now) (args .named) (args .offered) (args .size) (args .r) in
     (search needs, marks-start P (c .candidates .result))
 
--- src/table.rt:82:9
 sub-d : tie.Need-sub-d Inv-loop μ-loop
 sub-d c = search needs
 
--- src/table.rt:83:12
 possible-requires : tie.Need-possible-requires Inv-loop μ-loop
 possible-requires c κs =
     let laid = c .before .before .before .before .before .pre .0 in
     (record { source-length = laid .source-length; target-length = laid .target-length; few-rows = laid .few-rows; few-images = search needs }, search needs, search needs)
 
--- src/table.rt:84:20
 mul-mask : tie.Need-mul-mask Inv-loop μ-loop
 mul-mask c =
     let room : c .before .before .before .loop .mask < 2048 = marks-room _ (c .before .before .before .before .candidates .result) (c .before .before .before .loop .d) (c .before .before .before .loop .mask) (c .before .before .before .before .candidates .ensures .1) (search needs) (c .before .before .before .loop .inv .0) (c .before .before .before .loop .inv .1) in
     search needs
 
--- src/table.rt:84:20
 add-mask : tie.Need-add-mask Inv-loop μ-loop
 add-mask c =
     let room : c .before .before .before .loop .mask < 2048 = marks-room _ (c .before .before .before .before .candidates .result) (c .before .before .before .loop .d) (c .before .before .before .loop .mask) (c .before .before .before .before .candidates .ensures .1) (search needs) (c .before .before .before .loop .inv .0) (c .before .before .before .loop .inv .1) in
     search needs
 
--- src/table.rt:81:5
 loop-less : tie.Need-loop-less Inv-loop μ-loop
 loop-less c = search needs
 
--- src/table.rt:81:5
 loop-again : tie.Need-loop-again Inv-loop μ-loop
 loop-again c =
     let args = c .before .before .before .before .before .before .before .args in
-    let P : ℕ → Type 0 = Possible (args .source .now) (args .target .now) (args .named) (args .offered) (args .size) (args .r) in
-    (search needs,
-    marks-one P (c .before .before .before .before .candidates .result) (c .before .before .before .loop .d) (c .before .before .before .loop .mask) (search needs) (c .before .before .before .loop .inv .0) (c .before .possible .ensures .0 (c .if1 .taken)) (c .before .before .before .loop .inv .1))
+    let P : ℕ → Type 0 = Possible (args .source .now) (args .target .now) (args .named) (args .offered) (args .size) (args .r) in (
+      search needs,
+      marks-one P (c .before .before .before .before .candidates .result) (c .before .before .before .loop .d) (c .before .before .before .loop .mask) (search needs) (c .before .before .before .loop .inv .0) (c .before .possible .ensures .0 (c .if1 .taken)) (c .before .before .before .loop .inv .1),
+    )
 
--- src/table.rt:86:20
 mul-mask-2 : tie.Need-mul-mask-2 Inv-loop μ-loop
 mul-mask-2 c =
     let room : c .before .before .before .loop .mask < 2048 = marks-room _ (c .before .before .before .before .candidates .result) (c .before .before .before .loop .d) (c .before .before .before .loop .mask) (c .before .before .before .before .candidates .ensures .1) (search needs) (c .before .before .before .loop .inv .0) (c .before .before .before .loop .inv .1) in
     search needs
 
--- src/table.rt:81:5
 loop-less-2 : tie.Need-loop-less-2 Inv-loop μ-loop
 loop-less-2 c = search needs
 
--- src/table.rt:81:5
 loop-again-2 : tie.Need-loop-again-2 Inv-loop μ-loop
 loop-again-2 c =
     let args = c .before .before .before .before .before .before .before .args in
-    let P : ℕ → Type 0 = Possible (args .source .now) (args .target .now) (args .named) (args .offered) (args .size) (args .r) in
-    (search needs,
-    marks-zero P (c .before .before .before .before .candidates .result) (c .before .before .before .loop .d) (c .before .before .before .loop .mask) (search needs) (c .before .before .before .loop .inv .0) (λ p. false≢true (sym (c .if1 .left) ∙ c .before .possible .ensures .1 p)) (c .before .before .before .loop .inv .1))
+    let P : ℕ → Type 0 = Possible (args .source .now) (args .target .now) (args .named) (args .offered) (args .size) (args .r) in (
+      search needs,
+      marks-zero P (c .before .before .before .before .candidates .result) (c .before .before .before .loop .d) (c .before .before .before .loop .mask) (search needs) (c .before .before .before .loop .inv .0) (λ p. false≢true (sym (c .if1 .left) ∙ c .before .possible .ensures .1 p)) (c .before .before .before .loop .inv .1),
+    )
 
--- src/table.rt:75:1
 returns : tie.Need-returns Inv-loop μ-loop
 returns c =
     let args = c .before .before .before .before .before .args in
     let P : ℕ → Type 0 = Possible (args .source .now) (args .target .now) (args .named) (args .offered) (args .size) (args .r) in
     let marks : Marks (c .before .before .candidates .result) (c .before .loop .mask) P =
-        marks-end P (c .before .before .candidates .result) (c .before .loop .d) (c .before .loop .mask) (search needs) (c .before .loop .inv .1)
+    marks-end P (c .before .before .candidates .result) (c .before .loop .d) (c .before .loop .mask) (search needs) (c .before .loop .inv .1)
     in
     subst (λ (n : ℕ). Marks n (c .before .loop .mask) P) (c .before .before .candidates .ensures .0) marks
 

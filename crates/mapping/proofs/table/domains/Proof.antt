@@ -9,9 +9,6 @@ use Rattle.mapping.specs.Agree.{Marks, candidatesOf, Possible}
 use Rattle.mapping.proofs.Stores.{stored-more}
 use Rattle.mapping.proofs.table.domains.Statement.{statement}
 use Rattle.mapping.proofs.table.domains.Tie as tie
-use Rattle.mapping.proofs.table.domains.Reads as reads
-use Rattle.mapping.proofs.table.domains.Lts as lts
-use Rattle.mapping.proofs.table.domain.Reads as domain-reads
 
 abbrev Inv-loop : tie.InvT-loop
 Inv-loop source target named offered size count all₀ r₀ r-end all r =
@@ -21,48 +18,40 @@ Inv-loop source target named offered size count all₀ r₀ r-end all r =
 abbrev μ-loop : tie.MeasureT-loop
 μ-loop source target named offered size count all₀ r₀ r-end all r = r-end - r
 
--- src/table.rt:98:17
 add-r-end : tie.Need-add-r-end Inv-loop μ-loop
 add-r-end c = search needs
 
--- src/table.rt:98:5
 loop-holds : tie.Need-loop-holds Inv-loop μ-loop
 loop-holds c = (search needs, search needs, below-none _)
 
--- src/table.rt:99:18
 domain-requires : tie.Need-domain-requires Inv-loop μ-loop
 domain-requires c κs = search needs
 
--- src/table.rt:99:9
 mul-all : tie.Need-mul-all Inv-loop μ-loop
 mul-all c = search needs
 
--- src/table.rt:99:9
 array-write-all : tie.Need-array-write-all Inv-loop μ-loop
 array-write-all c = search needs
 
--- src/table.rt:98:9
 add-r : tie.Need-add-r Inv-loop μ-loop
 add-r c = search needs
 
--- src/table.rt:98:5
 loop-less : tie.Need-loop-less Inv-loop μ-loop
 loop-less c = search needs
 
--- src/table.rt:98:5
 loop-again : tie.Need-loop-again Inv-loop μ-loop
 loop-again c =
     let args = c .before .before .before .before .before .args in
     let all = c .before .before .loop .all in
     let r = c .before .before .loop .r in
-    let long : r < length all = search needs in
-    (search needs,
-    search needs,
-    stored-more
-    (λ j m. Marks (candidatesOf (args .size) (args .count) j) m (Possible (args .source .now) (args .target .now) (args .named) (args .offered) (args .size) j)) all r
-    (c .domain .result) 0 long (c .before .before .loop .inv .2) (c .domain .ensures))
+    let long : r < length all = search needs in (
+      search needs,
+      search needs,
+      stored-more
+          (λ j m. Marks (candidatesOf (args .size) (args .count) j) m (Possible (args .source .now) (args .target .now) (args .named) (args .offered) (args .size) j)) all r
+          (c .domain .result) 0 long (c .before .before .loop .inv .2) (c .domain .ensures),
+    )
 
--- src/table.rt:93:1
 returns : tie.Need-returns Inv-loop μ-loop
 returns c r h = c .before .loop .inv .2 r (search needs)
 

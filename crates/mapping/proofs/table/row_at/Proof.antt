@@ -4,18 +4,13 @@ use borrow.Author.Needs.{needs}
 use borrow.Author.Tests.{eq-eqb, ne-eqb}
 use Rattle.mapping.proofs.table.row_at.Statement.{statement}
 use Rattle.mapping.proofs.table.row_at.Tie as tie
-use Rattle.mapping.proofs.table.row_at.Reads as reads
-use Rattle.mapping.proofs.table.row_at.Lts as lts
 
--- src/table.rt:16:32
 mul-result : tie.Need-mul-result
 mul-result c = search needs
 
--- src/table.rt:12:1
 returns : tie.Need-returns
 returns c = (simp (eq-eqb _ _ (c .if1 .taken)), search needs)
 
--- src/table.rt:12:1
 returns-2 : tie.Need-returns-2
 returns-2 c = (simp (ne-eqb _ _ (c .if1 .left)), search needs)
 

@@ -10,9 +10,6 @@ use Rattle.mapping.proofs.Stores.{stored-more}
 use Rattle.mapping.proofs.Candidates.{masks-table}
 use Rattle.mapping.proofs.table.table.Statement.{statement}
 use Rattle.mapping.proofs.table.table.Tie as tie
-use Rattle.mapping.proofs.table.table.Reads as reads
-use Rattle.mapping.proofs.table.table.Lts as lts
-use Rattle.mapping.proofs.table.mask_at.Reads as mask-at-reads
 
 abbrev Inv-loop : tie.InvT-loop
 Inv-loop source target size count all₀ k₀ all k =
@@ -21,43 +18,36 @@ Inv-loop source target size count all₀ k₀ all k =
 abbrev μ-loop : tie.MeasureT-loop
 μ-loop source target size count all₀ k₀ all k = 2028 - k
 
--- src/table.rt:130:5
 loop-holds : tie.Need-loop-holds Inv-loop μ-loop
 loop-holds c = (search needs, search needs, below-none _)
 
--- src/table.rt:131:18
 mask-at-requires : tie.Need-mask-at-requires Inv-loop μ-loop
 mask-at-requires c κs = search needs
 
--- src/table.rt:131:9
 mul-all : tie.Need-mul-all Inv-loop μ-loop
 mul-all c = search needs
 
--- src/table.rt:131:9
 array-write-all : tie.Need-array-write-all Inv-loop μ-loop
 array-write-all c = search needs
 
--- src/table.rt:130:9
 add-k : tie.Need-add-k Inv-loop μ-loop
 add-k c = search needs
 
--- src/table.rt:130:5
 loop-less : tie.Need-loop-less Inv-loop μ-loop
 loop-less c = search needs
 
--- src/table.rt:130:5
 loop-again : tie.Need-loop-again Inv-loop μ-loop
 loop-again c =
     let args = c .before .before .before .before .before .args in
     let all = c .before .before .loop .all in
     let k = c .before .before .loop .k in
-    let long : k < length all = search needs in
-    (search needs,
-    search needs,
-    stored-more (IsMask (args .source .now) (args .target .now) (args .size) (args .count)) all k (c .mask-at .result) 0 long (c .before .before .loop .inv .2)
-    (c .mask-at .ensures))
+    let long : k < length all = search needs in (
+      search needs,
+      search needs,
+      stored-more (IsMask (args .source .now) (args .target .now) (args .size) (args .count)) all k (c .mask-at .result) 0 long (c .before .before .loop .inv .2)
+          (c .mask-at .ensures),
+    )
 
--- src/table.rt:125:1
 returns : tie.Need-returns Inv-loop μ-loop
 returns c =
     let args = c .before .before .before .before .args in
