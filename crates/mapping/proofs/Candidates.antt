@@ -8,7 +8,8 @@ use native.Mathlib.Nat.{le-trans}
 use native.Mathlib.Omega.{arith}
 use lib.Dec.{eqb}
 use lib.ListN.{getD}
-use Rattle.search.specs.Solution.{Tells, goes}
+use Rattle.search.specs.Solution.{together as goes}
+use Rattle.mapping.specs.Tests.{Tells}
 use Rattle.mapping.specs.Agree.{Agrees, Keeps, Marks, rowStart, imageStart, candidatesOf, Shares, Together, Possible, IsMask, IsTable}
 
 module _ (source target named offered : List ℕ) (size r d row image : ℕ) (at-row : row ≡ rowStart size r) (at-image : image ≡ imageStart size r d) where

@@ -7,7 +7,7 @@ use native.Mathlib.Nat.{div-div-eq-div-mul, pow-succ', not-suc-le-zero, le-of-su
 use native.Mathlib.Decide.{decLt}
 use lib.Pow.{pow-mono}
 use native.Mathlib.Omega.{arith}
-use Rattle.search.specs.Solution.{Has}
+use Rattle.search.specs.Solution.{Bit as Has}
 use Rattle.mapping.specs.Agree.{Marks}
 
 -- The lowest bit of a doubled mask is the added one

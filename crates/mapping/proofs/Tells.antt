@@ -2,7 +2,7 @@
 -- Assumes nothing.
 use mathlib.Core.Path.{refl}
 use mathlib.Core.Bool.{true, false, false≢true}
-use Rattle.search.specs.Solution.{Tells}
+use Rattle.mapping.specs.Tests.{Tells}
 
 pub tells-true : {P : Type 0} → P → Tells true P
 tells-true p = ((λ e. p), (λ q. refl))

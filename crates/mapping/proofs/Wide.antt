@@ -132,8 +132,9 @@ module _ (source target : ℕ → Entry) (from to named offered : List ℕ) (siz
     pub lands-solution : Solution (size + 1) domain table choice
     lands-solution =
         record {
-          of-row = λ r h. is-domain r (omega arith) .1 (choice r) (lands .is-candidate r (omega arith)) .1 (lands-possible r (omega arith));
-          together = λ r q h k.
+          below = λ r h. few-choices choice (lands .is-candidate) r (omega arith);
+          held = λ r h. is-domain r (omega arith) .1 (choice r) (lands .is-candidate r (omega arith)) .1 (lands-possible r (omega arith));
+          joined = λ r q h k.
               is-table r (choice r) q (omega arith) (omega arith) (lands .is-candidate r (omega arith)) .1 (choice q) (lands .is-candidate q (omega arith)) .1
               (lands-together r q (omega arith) (omega arith));
         }
@@ -193,14 +194,14 @@ module _ (source target : ℕ → Entry) (from to named offered : List ℕ) (siz
   module _ (choice : ℕ → ℕ) (solution : Solution (size + 1) domain table choice) where
     -- A solution's choices are possible candidates that go together
     chosen-candidate : (r : ℕ) → r ≤ size → choice r < candidatesOf size count r
-    chosen-candidate r h = has-below (candidatesOf size count r) (getD domain r 0) (choice r) (is-domain r h .0) (solution .of-row r (omega arith))
+    chosen-candidate r h = has-below (candidatesOf size count r) (getD domain r 0) (choice r) (is-domain r h .0) (solution .held r (omega arith))
 
     chosen-possible : (r : ℕ) → r ≤ size → Possible from to named offered size r (choice r)
-    chosen-possible r h = is-domain r h .1 (choice r) (chosen-candidate r h) .0 (solution .of-row r (omega arith))
+    chosen-possible r h = is-domain r h .1 (choice r) (chosen-candidate r h) .0 (solution .held r (omega arith))
 
     chosen-together : (r q : ℕ) → r ≤ size → q ≤ size → Together from to size r (choice r) q (choice q)
     chosen-together r q h k =
-        is-table r (choice r) q h k (chosen-candidate r h) .1 (choice q) (chosen-candidate q k) .0 (solution .together r q (omega arith) (omega arith))
+        is-table r (choice r) q h k (chosen-candidate r h) .1 (choice q) (chosen-candidate q k) .0 (solution .joined r q (omega arith) (omega arith))
 
     pub chosen-small : (r : ℕ) → r ≤ size → choice r < 12
     chosen-small r h = few-choices choice chosen-candidate r h

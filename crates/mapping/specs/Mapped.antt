@@ -12,7 +12,7 @@ use Rattle.record.specs.declared.Cell.{Cell}
 use Rattle.record.specs.declared.Query.{Query}
 use Rattle.record.specs.View.{entryOf, queryOf}
 use Rattle.record.specs.Rule.{goodQuery, noCell}
-use Rattle.search.specs.Solution.{Tells}
+use Rattle.mapping.specs.Tests.{Tells}
 use Rattle.mapping.specs.declared.Mapped.{Mapped}
 use Rattle.mapping.specs.Agree.{rowStart, imageStart}
 

@@ -1,7 +1,7 @@
 // Whether a choice of images is consistent: rows as numbers, 8 to a row, a number from 2,147,483,648 on being a variable.
 ghost use Prim.Native.Nat.{_+_, _≤_};
 ghost use lib.ListN.{length};
-ghost use Rattle.search.specs.Solution.{Tells};
+ghost use Rattle.mapping.specs.Tests.{Tells};
 ghost use Rattle.mapping.specs.Agree.{Takes, Agrees, Holds, Shares, Keeps};
 
 // Whether the row at q, with its image at e, takes the number `value` to `image` wherever it has it.

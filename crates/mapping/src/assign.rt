@@ -5,7 +5,7 @@ use record::Cell;
 use record::Entry;
 ghost use Prim.Native.Nat.{ℕ, _+_, _≤_, _<_};
 ghost use lib.ListN.{getD};
-ghost use Rattle.search.specs.Solution.{choiceOf};
+ghost use Rattle.mapping.specs.Tests.{choiceOf};
 ghost use Rattle.mapping.specs.Mapped.{RowAssigned, Assigned};
 
 // The images with those of the variables of one row, whose numbers start at `row`, from the cells that start at `image`.

@@ -5,7 +5,7 @@ ghost use mathlib.Core.Path.{_≡_};
 ghost use Prim.Native.Nat.{ℕ, _+_, _≤_, _<_};
 ghost use Rattle.theory.specs.Query.{constant, sameEntry};
 ghost use Rattle.theory.specs.Answer.{valueOf};
-ghost use Rattle.search.specs.Solution.{Tells};
+ghost use Rattle.mapping.specs.Tests.{Tells};
 ghost use Rattle.record.specs.View.{entryOf};
 ghost use Rattle.mapping.specs.Mapped.{imagesOf, Carried, Lands, Stands, RestBlank};
 

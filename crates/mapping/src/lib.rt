@@ -47,7 +47,7 @@ pub fn find(source: Query, target: Query) -> Mapped
     let offered = target.relations;
     let domain = domains(&from, &to, named, offered, size, count);
     let pairs = table(&from, &to, size, count);
-    let outcome = search::solve(size + 1, &domain, &pairs);
+    let outcome = search::solve(&domain, &pairs, size + 1);
     if !outcome.found {
         return Mapped {
             found: false,

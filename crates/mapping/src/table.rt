@@ -5,7 +5,7 @@ use crate::agree::keeps;
 use crate::agree::shares;
 ghost use mathlib.Core.Path.{_≡_};
 ghost use Prim.Native.Nat.{_+_, _≤_, _<_};
-ghost use Rattle.search.specs.Solution.{Tells};
+ghost use Rattle.mapping.specs.Tests.{Tells};
 ghost use Rattle.mapping.specs.Agree.{Marks, rowStart, imageStart, candidatesOf, Laid, Together, Possible, IsDomain, IsMask, IsTable};
 
 // Where the numbers of row r start: the head's after those of 12 rows.

@@ -9,7 +9,7 @@ use native.Mathlib.Omega.{arith}
 use lib.ListN.{getD, length}
 use Rattle.theory.specs.Containment.{freeze}
 use Rattle.record.proofs.Tail.{mapped-length}
-use Rattle.search.specs.Solution.{Sized, choiceOf}
+use Rattle.mapping.specs.Tests.{choiceOf}
 use Rattle.mapping.specs.Agree.{candidatesOf, Laid}
 use Rattle.mapping.specs.Mapped.{entryAt}
 use Rattle.mapping.proofs.Masks.{marks-small}
@@ -96,20 +96,11 @@ from-is c =
 to-is : (c : After-numbers2) (k : ℕ) → k < 104 → getD (c .numbers2 .result) k 0 ≡ freeze 2147483648 (entryAt (c .before .before .before .before .before .before .before .args .target) k)
 to-is c = line-number (c .before .before .before .before .before .before .before .args .target) (c .before .before .before .flat .result) (c .numbers2 .result) (c .before .before .before .flat .ensures) (c .numbers2 .ensures)
 
--- The search is given what it asks for
-sized : (c : After-table) → Sized (c .before .before .before .before .before .before .before .before .before .before .before .before .before .before .before .args .source .size + 1) (c .before .before .before .domains .result) (c .table .result)
-sized c =
-    let source = c .before .before .before .before .before .before .before .before .before .before .before .before .before .before .before .args .source in
-    let target = c .before .before .before .before .before .before .before .before .before .before .before .before .before .before .before .args .target in
-    let few : source .size ≤ 12 = storable-size source (c .before .before .before .before .before .before .before .before .before .before .before .before .before .before .before .pre .0) in
-    record {
-      few = omega arith;
-      domain-length = domain-long (c .before .before .before);
-      table-length = table-long c;
-      masks = λ r h.
-          marks-small _ (candidatesOf (source .size) (target .size) r) (getD (c .before .before .before .domains .result) r 0)
-          (few-candidates (source .size) (target .size) r (storable-size target (c .before .before .before .before .before .before .before .before .before .before .before .before .before .before .before .pre .1))) (c .before .before .before .domains .ensures r (omega arith));
-    }
+-- The search is given few enough rows
+few-rows : (c : After-table) → c .before .before .before .before .before .before .before .before .before .before .before .before .before .before .before .args .source .size + 1 ≤ 13
+few-rows c =
+    let few : c .before .before .before .before .before .before .before .before .before .before .before .before .before .before .before .args .source .size ≤ 12 = storable-size (c .before .before .before .before .before .before .before .before .before .before .before .before .before .before .before .args .source) (c .before .before .before .before .before .before .before .before .before .before .before .before .before .before .before .pre .0) in
+    omega arith
 
 -- A choice that solves it has candidates below 12
 chosen-below : (c : After-solve) → c .solve .result .found ≡ true → (r : ℕ) → r ≤ c .before .before .before .before .before .before .before .before .before .before .before .before .before .before .before .before .before .before .args .source .size → getD (c .solve .result .chosen) r 0 < 12
@@ -120,7 +111,7 @@ chosen-below c found =
     (source .size) (target .size) (storable-size source (c .before .before .before .before .before .before .before .before .before .before .before .before .before .before .before .before .before .before .pre .0)) (storable-size target (c .before .before .before .before .before .before .before .before .before .before .before .before .before .before .before .before .before .before .pre .1)) (from-is (c .before .before .before .before .before .before .before .before .before .before .before))
     (to-is (c .before .before .before .before .before .before .before .before .before .before .before)) (all-within (c .before .before .before .before .before .before .before .before .before .before .before .before .before .before .before .before .before .before .pre .0 .0) source (c .before .before .before .before .before .before .before .before .before .before .before .before .before .before .before .before .before .before .pre .0 .1) (source-sizes (c .before .before .before .before .before .before .before .before .before .before .before .before .before .before .before .before .before .before)))
     (all-within (c .before .before .before .before .before .before .before .before .before .before .before .before .before .before .before .before .before .before .pre .1 .0) target (c .before .before .before .before .before .before .before .before .before .before .before .before .before .before .before .before .before .before .pre .1 .1) (target-sizes (c .before .before .before .before .before .before .before .before .before .before .before .before .before .before .before .before .before .before))) (c .before .before .before .before .before .before .domains .result) (c .before .before .before .table .result)
-    (c .before .before .before .before .before .before .domains .ensures) (c .before .before .before .table .ensures) (choiceOf (c .solve .result .chosen)) (c .solve .ensures .solved found)
+    (c .before .before .before .before .before .before .domains .ensures) (c .before .before .before .table .ensures) (choiceOf (c .solve .result .chosen)) (c .solve .ensures .0 found)
 
 -- ---- the needs
 
@@ -167,21 +158,15 @@ table-requires c κs = laid (c .before .before .before .before .before .before .
 add-solve : tie.Need-add-solve
 add-solve c = search needs
 
-slice-aggregate-solve : tie.Need-slice-aggregate-solve
-slice-aggregate-solve c = search needs
-
-slice-aggregate-solve-2 : tie.Need-slice-aggregate-solve-2
-slice-aggregate-solve-2 c = search needs
-
 solve-requires : tie.Need-solve-requires
-solve-requires c κs = sized (c .before .before)
+solve-requires c κs = few-rows (c .before .before)
 
 returns-2 : tie.Need-returns-2
 returns-2 c =
     none-solution (c .before .before .before .before .before .before .before .before .before .before .before .before .before .before .before .before .before .before .before .before .args .source) (c .before .before .before .before .before .before .before .before .before .before .before .before .before .before .before .before .before .before .before .before .args .target) (source-sizes (c .before .before .before .before .before .before .before .before .before .before .before .before .before .before .before .before .before .before .before .before)) (target-sizes (c .before .before .before .before .before .before .before .before .before .before .before .before .before .before .before .before .before .before .before .before)) (c .before .before .before .before .before .before .before .before .before .before .before .before .before .before .before .before .before .before .before .before .pre .0) (c .before .before .before .before .before .before .before .before .before .before .before .before .before .before .before .before .before .before .before .before .pre .1)
     (c .before .before .before .before .before .before .before .before .before .before .before .before .before .before .before .before .flat .result) (c .before .before .before .before .before .before .before .before .before .before .before .before .before .before .numbers .result) (c .before .before .before .before .before .before .before .before .before .before .before .before .before .numbers2 .result) (c .before .before .before .before .before .before .before .before .domains .result) (c .before .before .before .before .before .table .result)
     (from-is (c .before .before .before .before .before .before .before .before .before .before .before .before .before)) (c .before .before .before .before .before .before .before .before .before .before .before .before .before .before .before .before .flat .ensures) (to-is (c .before .before .before .before .before .before .before .before .before .before .before .before .before)) (c .before .before .before .before .before .before .before .before .domains .ensures) (c .before .before .before .before .before .table .ensures)
-    (c .before .before .solve .ensures .none (not-true _ (c .if2 .taken)))
+    (c .before .before .solve .ensures .1 (not-true _ (c .if2 .taken)))
 
 assign-requires : tie.Need-assign-requires
 assign-requires c κs = (
@@ -196,7 +181,7 @@ returns-3 c =
     found-solution (c .before .before .before .before .before .before .before .before .before .before .before .before .before .before .before .before .before .before .before .before .before .before .args .source) (c .before .before .before .before .before .before .before .before .before .before .before .before .before .before .before .before .before .before .before .before .before .before .args .target) (source-sizes (c .before .before .before .before .before .before .before .before .before .before .before .before .before .before .before .before .before .before .before .before .before .before)) (target-sizes (c .before .before .before .before .before .before .before .before .before .before .before .before .before .before .before .before .before .before .before .before .before .before)) (c .before .before .before .before .before .before .before .before .before .before .before .before .before .before .before .before .before .before .before .before .before .before .pre .0) (c .before .before .before .before .before .before .before .before .before .before .before .before .before .before .before .before .before .before .before .before .before .before .pre .1)
     (c .before .before .before .before .before .before .before .before .before .before .before .before .before .before .before .before .before .before .flat .result) (c .before .before .before .before .before .before .before .before .before .before .before .before .before .before .before .before .numbers .result) (c .before .before .before .before .before .before .before .before .before .before .before .before .before .before .before .numbers2 .result) (c .before .before .before .before .before .before .before .before .before .before .domains .result) (c .before .before .before .before .before .before .before .table .result)
     (from-is (c .before .before .before .before .before .before .before .before .before .before .before .before .before .before .before)) (c .before .before .before .before .before .before .before .before .before .before .before .before .before .before .before .before .before .before .flat .ensures) (to-is (c .before .before .before .before .before .before .before .before .before .before .before .before .before .before .before)) (c .before .before .before .before .before .before .before .before .before .before .domains .ensures) (c .before .before .before .before .before .before .before .table .ensures)
-    (choiceOf (c .before .before .before .before .solve .result .chosen)) (c .assign .result) some (c .before .before .before .before .solve .ensures .solved (not-false _ (c .before .before .if2 .left))) (images-long c)
+    (choiceOf (c .before .before .before .before .solve .result .chosen)) (c .assign .result) some (c .before .before .before .before .solve .ensures .0 (not-false _ (c .before .before .if2 .left))) (images-long c)
     (c .assign .ensures)
 
 pub find-spec : {M : Type 1} → statement M
@@ -217,8 +202,6 @@ find-spec =
     slice-aggregate-table-2
     table-requires
     add-solve
-    slice-aggregate-solve
-    slice-aggregate-solve-2
     solve-requires
     returns-2
     assign-requires

@@ -3,7 +3,7 @@
 use borrow.Author.Needs.{needs}
 use mathlib.Core.Path.{_≡_, subst}
 use Prim.Native.Nat.{ℕ, _+_, _-_, _≤_}
-use Rattle.search.specs.Solution.{choiceOf}
+use Rattle.mapping.specs.Tests.{choiceOf}
 use Rattle.mapping.specs.Mapped.{Assigned}
 use Rattle.mapping.proofs.Images.{rows-start, rows-more}
 use Rattle.mapping.proofs.assign.assign.Statement.{statement}

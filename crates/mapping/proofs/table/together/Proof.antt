@@ -4,7 +4,7 @@ use borrow.Author.Needs.{needs}
 use mathlib.Core.Path.{sym, _∙_, subst}
 use mathlib.Core.Bool.{false≢true}
 use Prim.Native.Nat.{ℕ, _+_, _-_, _≤_, _<_}
-use Rattle.search.specs.Solution.{Tells}
+use Rattle.mapping.specs.Tests.{Tells}
 use Rattle.mapping.specs.Agree.{Marks, Together}
 use Rattle.mapping.proofs.Masks.{marks-start, marks-one, marks-zero, marks-end, marks-room}
 use Rattle.mapping.proofs.Candidates.{together-when}
