@@ -1,0 +1,175 @@
+-- What finding and checking promise, from what their parts promise: 1. the lines of two good queries, 2. checking, 3. finding.
+-- Assumes nothing.
+use mathlib.Core.Path.{_≡_, refl, sym, _∙_, ap, subst}
+use mathlib.Core.Bool.{Bool, true, false, true≢false, false≢true}
+use mathlib.Core.List.{List}
+use Prim.Native.Nat.{ℕ, _+_, _*_, _≤_, _<_}
+use native.Mathlib.Decide.{decLt}
+use native.Mathlib.Omega.{arith}
+use lib.ListN.{getD, length, replicate, List·getD-eq-default}
+use Rattle.theory.specs.Query.{Entry, constant, variable}
+use Rattle.theory.specs.Answer.{valueOf}
+use Rattle.theory.specs.Containment.{freeze}
+use Rattle.record.specs.declared.Cell.{Cell}
+use Rattle.record.specs.declared.Query.{Query}
+use Rattle.record.specs.View.{entryOf}
+use Rattle.record.specs.Rule.{noCell}
+use Rattle.record.proofs.Good.{good-query}
+use Rattle.record.proofs.Stored.{Within}
+use Rattle.search.specs.Solution.{Solution}
+use Rattle.mapping.specs.Tests.{Tells}
+use Rattle.mapping.specs.declared.Mapped.{Mapped}
+use Rattle.mapping.specs.Agree.{IsDomain, IsTable}
+use Rattle.mapping.specs.Mapped.{cellAt, entryAt, entryIn, imagesOf, Storable, Carried, Lands, RestBlank, Assigned, Finds, Checks}
+use Rattle.mapping.proofs.Tells.{tells-false}
+use Rattle.mapping.proofs.Wide.{Wide, wide-solution, solution-wide}
+use Rattle.mapping.proofs.Lines.{Sizes, all-within, mapping-wide, wide-mapping, mapping-arity}
+
+-- ---- 1. the lines of two good queries
+
+-- A storable query has at most 12 rows
+pub storable-size : (q : Query) → Storable q → q .size ≤ 12
+storable-size q s = good-query (s .0) q (s .1) .size
+
+-- An array that has the cells of a query in one line
+abbrev pub InLine : Query → List Cell → Type 0
+InLine q cells = (k : ℕ) → k < 104 → getD cells k noCell ≡ cellAt q k
+
+line-entry : (q : Query) (cells : List Cell) → InLine q cells → (k : ℕ) → k < 104 → entryIn cells k ≡ entryAt q k
+line-entry q cells line k h = ap (λ (c : Cell). entryOf (c .entry)) (line k h)
+
+-- Its numbers
+pub line-number : (q : Query) (cells : List Cell) (numbers : List ℕ) → InLine q cells
+    → ((k : ℕ) → k < 104 → getD numbers k 0 ≡ freeze 2147483648 (entryIn cells k)) → (k : ℕ) → k < 104 → getD numbers k 0 ≡ freeze 2147483648 (entryAt q k)
+line-number q cells numbers line is k h = is k h ∙ ap (freeze 2147483648) (line-entry q cells line k h)
+
+freeze-small : (x : Entry) → Within x → freeze 2147483648 x < 2147483744
+freeze-small (constant n) h = omega arith
+freeze-small (variable v) h = omega arith
+
+pub number-small : (q : Query) → Storable q → Sizes q → (numbers : List ℕ)
+    → ((k : ℕ) → k < 104 → getD numbers k 0 ≡ freeze 2147483648 (entryAt q k)) → (k : ℕ) → k < 104 → getD numbers k 0 < 2147483744
+number-small q s sizes numbers is k h =
+    subst (λ (n : ℕ). n < 2147483744) (sym (is k h)) (freeze-small (entryAt q k) (all-within (s .0) q (s .1) sizes k h))
+
+-- ---- 2. checking
+
+module _ (source target : Query) (images : List Cell) (sizes : Sizes source) (sizes' : Sizes target) where
+  abbrev Good : Type 0
+  Good = Wide (entryAt source) (entryAt target) (source .relations) (target .relations) (source .size) (target .size) (imagesOf images)
+
+  -- No where the images are no mapping by positions
+  pub check-fails : (Good → ⊥) → Checks source target images false
+  check-fails out schema narrow good good' = tells-false (λ m. out (mapping-wide schema narrow source target good good' sizes sizes' (imagesOf images) m))
+
+  -- No where the arities differ
+  pub check-arity : (source .arity ≡ target .arity → ⊥) → Checks source target images false
+  check-arity other schema narrow good good' =
+      tells-false (λ m. other (mapping-arity schema narrow source target good good' sizes sizes' (imagesOf images) m))
+
+  -- No where the source has no rows
+  pub check-size : source .size ≡ 0 → Checks source target images false
+  check-size none = check-fails (λ w. let h : 0 < source .size = w .some-row in omega arith)
+
+  -- And else what a test of a mapping by positions says
+  pub check-tells : (b : Bool) → source .arity ≡ target .arity → Tells b Good → Checks source target images b
+  check-tells b same tells schema narrow good good' = (
+    (λ e. wide-mapping schema narrow source target good good' sizes sizes' (imagesOf images) same (tells .0 e)),
+    (λ m. tells .1 (mapping-wide schema narrow source target good good' sizes sizes' (imagesOf images) m)),
+  )
+
+  module _ (few : source .size ≤ 12) (few' : target .size ≤ 12) (from to : List Cell) (line : InLine source from) (line' : InLine target to) where
+    same-places : (row image : ℕ) → row + 8 ≤ 104 → image + 8 ≤ 104
+        → ((i : ℕ) → i < 8 → valueOf constant (imagesOf images) (entryAt source (row + i)) ≡ entryAt target (image + i)) → Carried from to images row image
+    same-places row image h k at i l =
+        ap (valueOf constant (imagesOf images)) (line-entry source from line (row + i) (omega arith)) ∙ at i l
+        ∙ sym (line-entry target to line' (image + i) (omega arith))
+
+    carried-places : (row image : ℕ) → row + 8 ≤ 104 → image + 8 ≤ 104 → Carried from to images row image
+        → (i : ℕ) → i < 8 → valueOf constant (imagesOf images) (entryAt source (row + i)) ≡ entryAt target (image + i)
+    carried-places row image h k at i l =
+        ap (valueOf constant (imagesOf images)) (sym (line-entry source from line (row + i) (omega arith))) ∙ at i l
+        ∙ line-entry target to line' (image + i) (omega arith)
+
+    -- A mapping by positions carries the head and each row, and the rest is blank
+    pub good-head : Good → Carried from to images 96 96
+    good-head w = same-places 96 96 (omega arith) (omega arith) (w .head)
+
+    pub good-rows : Good → (r : ℕ) → r < source .size → Lands from to images (source .relations) (target .relations) (target .size) r
+    good-rows w r h =
+        let x = w .rows r h in
+        let l : x .0 < target .size = x .1 in
+        (x .0, x .1, x .2, same-places (8 * r) (8 * x .0) (omega arith) (omega arith) (x .3))
+
+    pub good-rest : Good → RestBlank from images
+    good-rest w v h out = w .elsewhere v (λ k l is. out (k, l, line-entry source from line k l ∙ is))
+
+    -- and conversely
+    pub parts-good : length images ≡ 96 → 0 < source .size → Carried from to images 96 96
+        → ((r : ℕ) → r < source .size → Lands from to images (source .relations) (target .relations) (target .size) r) → RestBlank from images → Good
+    parts-good long some head rows rest =
+        record {
+          some-row = some;
+          rows = λ r h.
+              let x = rows r h in
+              let l : x .0 < target .size = x .1 in
+              (x .0, x .1, x .2, carried-places (8 * r) (8 * x .0) (omega arith) (omega arith) (x .3));
+          head = carried-places 96 96 (omega arith) (omega arith) head;
+          elsewhere = λ v none. blank v none (decLt v 96);
+        }
+      where
+        blank : (v : ℕ) → ((k : ℕ) → k < 104 → entryAt source k ≡ variable v → ⊥) → Dec (v < 96) → imagesOf images v ≡ constant 0
+        blank v none (yes h) = rest v h (λ s. none (s .0) (s .1) (sym (line-entry source from line (s .0) (s .1)) ∙ s .2))
+        blank v none (no h) = ap (λ (c : Cell). entryOf (c .entry)) (List·getD-eq-default images noCell {n = v} (omega arith))
+
+-- ---- 3. finding
+
+-- No mapping was found
+abbrev pub nothing : Mapped
+nothing = record { found = false; images = replicate 96 noCell }
+
+module _ (source target : Query) (sizes : Sizes source) (sizes' : Sizes target) where
+  -- There is none where no images are a mapping by positions
+  pub none-found : ((f : ℕ → Entry) → Wide (entryAt source) (entryAt target) (source .relations) (target .relations) (source .size) (target .size) f → ⊥)
+      → Finds source target nothing
+  none-found out schema narrow good good' same =
+      record {
+        mapping = λ e. absurd (false≢true e);
+        none = λ e m. out (m .0) (mapping-wide schema narrow source target good good' sizes sizes' (m .0) (m .1));
+        blank = λ e. refl;
+      }
+
+  pub none-size : source .size ≡ 0 → Finds source target nothing
+  none-size none = none-found (λ f w. let h : 0 < source .size = w .some-row in omega arith)
+
+  module _ (storable : Storable source) (storable' : Storable target) (cells : List Cell) (from to domain table : List ℕ)
+      (from-is : (k : ℕ) → k < 104 → getD from k 0 ≡ freeze 2147483648 (entryAt source k)) (line : InLine target cells)
+      (to-is : (k : ℕ) → k < 104 → getD to k 0 ≡ freeze 2147483648 (entryAt target k))
+      (is-domain : IsDomain from to (source .relations) (target .relations) (source .size) (target .size) domain)
+      (is-table : IsTable from to (source .size) (target .size) table) where
+    -- There is none where the search has no solution
+    pub none-solution : ((choice : ℕ → ℕ) → Solution (source .size + 1) domain table choice → ⊥) → Finds source target nothing
+    none-solution out =
+        none-found
+        (λ f w.
+        let s =
+        wide-solution (entryAt source) (entryAt target) from to (source .relations) (target .relations) (source .size) (target .size)
+        (storable-size source storable) (storable-size target storable') from-is to-is (all-within (storable .0) source (storable .1) sizes)
+        (all-within (storable' .0) target (storable' .1) sizes') domain table is-domain is-table f w
+        in
+        out (s .0) (s .1))
+
+    -- A solution's images are a mapping
+    pub found-solution : (choice : ℕ → ℕ) (images : List Cell) → 0 < source .size → Solution (source .size + 1) domain table choice → length images ≡ 96
+        → Assigned from cells (source .size) choice (source .size + 1) images → Finds source target (record { found = true; images = images })
+    found-solution choice images some solution long assigned schema narrow good good' same =
+        record {
+          mapping = λ e.
+              wide-mapping schema narrow source target good good' sizes sizes' (imagesOf images) same
+              (solution-wide (entryAt source) (entryAt target) from to (source .relations) (target .relations) (source .size) (target .size)
+              (storable-size source storable) (storable-size target storable') from-is to-is (all-within (storable .0) source (storable .1) sizes)
+              (all-within (storable' .0) target (storable' .1) sizes') domain table is-domain is-table choice solution cells images
+              (line-entry target cells line) long assigned some);
+          none = λ e. absurd (true≢false e);
+          blank = λ e. absurd (true≢false e);
+        }

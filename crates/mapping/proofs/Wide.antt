@@ -1,0 +1,282 @@
+-- A mapping by positions. Two queries are given by their entries in one line: row r has those from 8 * r on, the head those from 96 on, blanks included.
+-- Here: 1. what a mapping is by positions, 2. numbers that stand for entries, 3. a solution of the search is a mapping, 4. a mapping is a solution.
+-- Assumes nothing.
+use mathlib.Core.Path.{_≡_, refl, sym, _∙_, ap, subst}
+use mathlib.Core.Bool.{Bool, cond}
+use mathlib.Core.Logic.{_⊎_, inl, inr, ⊎-elim}
+use mathlib.Core.List.{List}
+use Prim.Native.Nat.{ℕ, _+_, _*_, _≤_, _<_}
+use native.Mathlib.Nat.{le-trans}
+use native.Mathlib.Decide.{decLt}
+use native.Mathlib.Omega.{arith}
+use borrow.Author.Tests.{eq-eqb, ne-eqb}
+use lib.ListN.{getD, length, List·getD-eq-default}
+use Rattle.theory.specs.Query.{Entry, constant, variable}
+use Rattle.theory.specs.Answer.{valueOf}
+use Rattle.theory.specs.Containment.{freeze}
+use Rattle.record.specs.declared.Cell.{Cell}
+use Rattle.record.specs.View.{entryOf}
+use Rattle.record.specs.Rule.{noCell}
+use Rattle.record.proofs.Stored.{Within}
+use Rattle.search.specs.Solution.{Solution}
+use Rattle.mapping.specs.Agree.{rowStart, imageStart, candidatesOf, Together, Possible, IsDomain, IsTable}
+use Rattle.mapping.specs.Mapped.{entryIn, imagesOf, Assigned}
+use Rattle.mapping.proofs.Masks.{has-below}
+use Rattle.mapping.proofs.Candidates.{few-candidates}
+
+-- ---- 1. a mapping by positions
+
+-- f carries each row of a source to a row of a target of the same relation and its head to the target's head. The source has a row
+pub record Wide (source target : ℕ → Entry) (named offered : List ℕ) (size count : ℕ) (f : ℕ → Entry) : Type 0 where
+  pub some-row : 0 < size
+  pub rows : (r : ℕ) → r < size
+      → (d : ℕ) × (d < count) × (getD named r 0 ≡ getD offered d 0) × ((i : ℕ) → i < 8 → valueOf constant f (source (8 * r + i)) ≡ target (8 * d + i))
+  pub head : (i : ℕ) → i < 8 → valueOf constant f (source (96 + i)) ≡ target (96 + i)
+  pub elsewhere : (v : ℕ) → ((k : ℕ) → k < 104 → source k ≡ variable v → ⊥) → f v ≡ constant 0
+
+-- ---- 2. numbers that stand for entries
+
+freeze-same : (x y : Entry) → Within x → Within y → freeze 2147483648 x ≡ freeze 2147483648 y → x ≡ y
+freeze-same (constant m) (constant n) h k e = ap constant e
+freeze-same (constant m) (variable w) h k e = let z : m ≡ 2147483648 + w = e in absurd (omega arith)
+freeze-same (variable v) (constant n) h k e = let z : 2147483648 + v ≡ n = e in absurd (omega arith)
+freeze-same (variable v) (variable w) h k e = let z : 2147483648 + v ≡ 2147483648 + w = e in ap variable (omega arith)
+
+small-constant : (f : ℕ → Entry) (x : Entry) → freeze 2147483648 x < 2147483648 → valueOf constant f x ≡ x
+small-constant f (constant n) h = refl
+small-constant f (variable v) h = let z : 2147483648 + v < 2147483648 = h in absurd (omega arith)
+
+-- Where a row's numbers and a candidate's numbers are
+head-start : (size : ℕ) → rowStart size size ≡ 96
+head-start size = ap (λ (t : Bool). cond t 96 (8 * size)) (eq-eqb size size refl)
+
+row-start : (size r : ℕ) → r < size → rowStart size r ≡ 8 * r
+row-start size r h = ap (λ (t : Bool). cond t 96 (8 * r)) (ne-eqb r size (λ e. let z : r ≡ size = e in omega arith))
+
+head-image : (size d : ℕ) → imageStart size size d ≡ 96
+head-image size d = ap (λ (t : Bool). cond t 96 (8 * d)) (eq-eqb size size refl)
+
+row-image : (size r d : ℕ) → r < size → imageStart size r d ≡ 8 * d
+row-image size r d h = ap (λ (t : Bool). cond t 96 (8 * d)) (ne-eqb r size (λ e. let z : r ≡ size = e in omega arith))
+
+-- A row is the head or not
+row-cases : (size r : ℕ) → r ≤ size → (r < size) ⊎ (r ≡ size)
+row-cases size r h = go (decLt r size)
+  where
+    go : Dec (r < size) → (r < size) ⊎ (r ≡ size)
+    go (yes l) = inl l
+    go (no l) = inr (omega arith)
+
+row-inside : (size r i : ℕ) → size ≤ 12 → r ≤ size → i < 8 → rowStart size r + i < 104
+row-inside size r i few h k =
+    ⊎-elim (λ l. let e : rowStart size r ≡ 8 * r = row-start size r l in omega arith)
+    (λ same. let e : rowStart size r ≡ 96 = ap (rowStart size) same ∙ head-start size in omega arith) (row-cases size r h)
+
+image-inside : (size r d i : ℕ) → r ≤ size → d < 12 → i < 8 → imageStart size r d + i < 104
+image-inside size r d i h small k =
+    ⊎-elim (λ l. let e : imageStart size r d ≡ 8 * d = row-image size r d l in omega arith)
+    (λ same. let e : imageStart size r d ≡ 96 = ap (λ (x : ℕ). imageStart size x d) same ∙ head-image size d in omega arith) (row-cases size r h)
+
+module _ (source target : ℕ → Entry) (from to named offered : List ℕ) (size count : ℕ) (few : size ≤ 12) (few' : count ≤ 12)
+    (from-is : (k : ℕ) → k < 104 → getD from k 0 ≡ freeze 2147483648 (source k)) (to-is : (k : ℕ) → k < 104 → getD to k 0 ≡ freeze 2147483648 (target k))
+    (from-within : (k : ℕ) → k < 104 → Within (source k)) (to-within : (k : ℕ) → k < 104 → Within (target k))
+    (domain table : List ℕ) (is-domain : IsDomain from to named offered size count domain) (is-table : IsTable from to size count table) where
+  -- Equal numbers of the source, or of the target, are equal entries
+  from-same : (j k : ℕ) → j < 104 → k < 104 → getD from j 0 ≡ getD from k 0 → source j ≡ source k
+  from-same j k hj hk e = freeze-same (source j) (source k) (from-within j hj) (from-within k hk) (sym (from-is j hj) ∙ e ∙ from-is k hk)
+
+  to-same : (j k : ℕ) → j < 104 → k < 104 → getD to j 0 ≡ getD to k 0 → target j ≡ target k
+  to-same j k hj hk e = freeze-same (target j) (target k) (to-within j hj) (to-within k hk) (sym (to-is j hj) ∙ e ∙ to-is k hk)
+
+  -- A choice of candidates that f lands on
+  pub record Lands (f : ℕ → Entry) (choice : ℕ → ℕ) : Type 0 where
+    pub is-candidate : (r : ℕ) → r ≤ size → choice r < candidatesOf size count r
+    pub same-relation : (r : ℕ) → r < size → getD named r 0 ≡ getD offered (choice r) 0
+    pub carried : (r i : ℕ) → r ≤ size → i < 8 → valueOf constant f (source (rowStart size r + i)) ≡ target (imageStart size r (choice r) + i)
+
+  few-choices : (choice : ℕ → ℕ) → ((r : ℕ) → r ≤ size → choice r < candidatesOf size count r) → (r : ℕ) → r ≤ size → choice r < 12
+  few-choices choice is r h = le-trans (is r h) (few-candidates size count r few')
+
+  -- ---- 3. a choice that f lands on is a solution
+
+  module _ (f : ℕ → Entry) (choice : ℕ → ℕ) (lands : Lands f choice) where
+    at-row : (r i : ℕ) → r ≤ size → i < 8 → rowStart size r + i < 104
+    at-row r i h k = row-inside size r i few h k
+
+    at-image : (r i : ℕ) → r ≤ size → i < 8 → imageStart size r (choice r) + i < 104
+    at-image r i h k = image-inside size r (choice r) i h (few-choices choice (lands .is-candidate) r h) k
+
+    lands-together : (r q : ℕ) → r ≤ size → q ≤ size → Together from to size r (choice r) q (choice q)
+    lands-together r q hr hq i hi large j hj same =
+        to-is (imageStart size q (choice q) + j) (at-image q j hq hj)
+        ∙ ap (freeze 2147483648)
+        (sym (lands .carried q j hq hj)
+        ∙ ap (valueOf constant f) (from-same (rowStart size q + j) (rowStart size r + i) (at-row q j hq hj) (at-row r i hr hi) same)
+        ∙ lands .carried r i hr hi)
+        ∙ sym (to-is (imageStart size r (choice r) + i) (at-image r i hr hi))
+
+    lands-possible : (r : ℕ) → r ≤ size → Possible from to named offered size r (choice r)
+    lands-possible r h =
+        record {
+          relation = λ l. lands .same-relation r l;
+          keeps = λ i k small.
+              let here : getD from (rowStart size r + i) 0 ≡ freeze 2147483648 (source (rowStart size r + i)) = from-is (rowStart size r + i) (at-row r i h k) in
+              to-is (imageStart size r (choice r) + i) (at-image r i h k)
+              ∙ ap (freeze 2147483648)
+              (sym (lands .carried r i h k)
+              ∙ small-constant f (source (rowStart size r + i)) (subst (λ (n : ℕ). n < 2147483648) here small))
+              ∙ sym here;
+          agrees = lands-together r r h h;
+        }
+
+    pub lands-solution : Solution (size + 1) domain table choice
+    lands-solution =
+        record {
+          below = λ r h. few-choices choice (lands .is-candidate) r (omega arith);
+          held = λ r h. is-domain r (omega arith) .1 (choice r) (lands .is-candidate r (omega arith)) .1 (lands-possible r (omega arith));
+          joined = λ r q h k.
+              is-table r (choice r) q (omega arith) (omega arith) (lands .is-candidate r (omega arith)) .1 (choice q) (lands .is-candidate q (omega arith)) .1
+              (lands-together r q (omega arith) (omega arith));
+        }
+
+  -- A mapping lands on a choice
+  pub wide-solution : (f : ℕ → Entry) → Wide source target named offered size count f → (choice : ℕ → ℕ) × Solution (size + 1) domain table choice
+  wide-solution f wide = (choice, lands-solution f choice lands)
+    where
+      pick : (r : ℕ) → Dec (r < size) → ℕ
+      pick r (yes h) = wide .rows r h .0
+      pick r (no h) = 0
+
+      choice : ℕ → ℕ
+      choice r = pick r (decLt r size)
+
+      body : (r d : ℕ) → Type 0
+      body r d = (d < count) × (getD named r 0 ≡ getD offered d 0) × ((i : ℕ) → i < 8 → valueOf constant f (source (8 * r + i)) ≡ target (8 * d + i))
+
+      picked : (r : ℕ) → r < size → body r (choice r)
+      picked r h = go (decLt r size)
+        where
+          go : (t : Dec (r < size)) → body r (pick r t)
+          go (yes l) = let w = wide .rows r l in (w .1, w .2, w .3)
+          go (no l) = absurd (l h)
+
+      last : choice size ≡ 0
+      last = go (decLt size size)
+        where
+          go : (t : Dec (size < size)) → pick size t ≡ 0
+          go (yes l) = absurd (omega arith)
+          go (no l) = refl
+
+      lands : Lands f choice
+      lands =
+          record {
+            is-candidate = λ r h.
+                ⊎-elim
+                (λ l. subst (λ (t : Bool). choice r < cond t 1 count) (sym (ne-eqb r size (λ e. let z : r ≡ size = e in omega arith))) (picked r l .0))
+                (λ same.
+                subst (λ (t : Bool). choice r < cond t 1 count) (sym (eq-eqb r size same))
+                (let z : choice r ≡ 0 = ap choice same ∙ last in omega arith))
+                (row-cases size r h);
+            same-relation = λ r h. picked r h .1;
+            carried = λ r i h k.
+                ⊎-elim
+                (λ l.
+                ap (λ (s : ℕ). valueOf constant f (source (s + i))) (row-start size r l) ∙ picked r l .2 i k
+                ∙ ap (λ (s : ℕ). target (s + i)) (sym (row-image size r (choice r) l)))
+                (λ same.
+                ap (λ (s : ℕ). valueOf constant f (source (s + i))) (ap (rowStart size) same ∙ head-start size) ∙ wide .head i k
+                ∙ ap (λ (s : ℕ). target (s + i)) (sym (ap (λ (x : ℕ). imageStart size x (choice r)) same ∙ head-image size (choice r))))
+                (row-cases size r h);
+          }
+
+  -- ---- 4. a solution gives images that are a mapping
+
+  module _ (choice : ℕ → ℕ) (solution : Solution (size + 1) domain table choice) where
+    -- A solution's choices are possible candidates that go together
+    chosen-candidate : (r : ℕ) → r ≤ size → choice r < candidatesOf size count r
+    chosen-candidate r h = has-below (candidatesOf size count r) (getD domain r 0) (choice r) (is-domain r h .0) (solution .held r (omega arith))
+
+    chosen-possible : (r : ℕ) → r ≤ size → Possible from to named offered size r (choice r)
+    chosen-possible r h = is-domain r h .1 (choice r) (chosen-candidate r h) .0 (solution .held r (omega arith))
+
+    chosen-together : (r q : ℕ) → r ≤ size → q ≤ size → Together from to size r (choice r) q (choice q)
+    chosen-together r q h k =
+        is-table r (choice r) q h k (chosen-candidate r h) .1 (choice q) (chosen-candidate q k) .0 (solution .joined r q (omega arith) (omega arith))
+
+    pub chosen-small : (r : ℕ) → r ≤ size → choice r < 12
+    chosen-small r h = few-choices choice chosen-candidate r h
+
+    module _ (cells images : List Cell) (cells-are : (k : ℕ) → k < 104 → entryIn cells k ≡ target k) (long : length images ≡ 96)
+        (assigned : Assigned from cells size choice (size + 1) images) where
+      place : (r i : ℕ) → r ≤ size → i < 8 → rowStart size r + i < 104
+      place r i h k = row-inside size r i few h k
+
+      image-place : (r i : ℕ) → r ≤ size → i < 8 → imageStart size r (choice r) + i < 104
+      image-place r i h k = image-inside size r (choice r) i h (chosen-small r h) k
+
+      -- A variable goes to its image in each row
+      variable-carried : (v r i : ℕ) → r ≤ size → i < 8 → source (rowStart size r + i) ≡ variable v
+          → imagesOf images v ≡ target (imageStart size r (choice r) + i)
+      variable-carried v r i h k is =
+          let below : v < 96 = subst Within is (from-within (rowStart size r + i) (place r i h k)) in
+          let number : getD from (rowStart size r + i) 0 ≡ 2147483648 + v = from-is (rowStart size r + i) (place r i h k) ∙ ap (freeze 2147483648) is in
+          ⊎-elim
+          (λ w. absurd (w .0 r i (omega arith) k number))
+          (λ w.
+          let l : w .0 ≤ size = let z : w .0 < size + 1 = w .2 in omega arith in
+          ap (λ (c : Cell). entryOf (c .entry)) (w .5) ∙ cells-are (imageStart size (w .0) (choice (w .0)) + w .1) (image-place (w .0) (w .1) l (w .3))
+          ∙ sym
+          (to-same (imageStart size r (choice r) + i) (imageStart size (w .0) (choice (w .0)) + w .1) (image-place r i h k) (image-place (w .0) (w .1) l (w .3))
+          (chosen-together (w .0) r l h (w .1) (w .3) (let z : getD from (rowStart size (w .0) + w .1) 0 ≡ 2147483648 + v = w .4 in omega arith) i k
+          (number ∙ sym (w .4)))))
+          (assigned v below)
+
+      -- An entry goes to the entry in its place
+      entry-carried : (r i : ℕ) → r ≤ size → i < 8 → (x : Entry) → source (rowStart size r + i) ≡ x
+          → valueOf constant (imagesOf images) x ≡ target (imageStart size r (choice r) + i)
+      entry-carried r i h k (variable v) is = variable-carried v r i h k is
+      entry-carried r i h k (constant n) is =
+          let number : getD from (rowStart size r + i) 0 ≡ n = from-is (rowStart size r + i) (place r i h k) ∙ ap (freeze 2147483648) is in
+          let below : n < 2147483648 = subst Within is (from-within (rowStart size r + i) (place r i h k)) in
+          let kept : getD to (imageStart size r (choice r) + i) 0 ≡ n =
+          chosen-possible r h .keeps i k (omega arith) ∙ number
+          in
+          freeze-same (constant n) (target (imageStart size r (choice r) + i)) below (to-within (imageStart size r (choice r) + i) (image-place r i h k))
+          (sym kept ∙ to-is (imageStart size r (choice r) + i) (image-place r i h k))
+
+      carried : (r i : ℕ) → r ≤ size → i < 8 → valueOf constant (imagesOf images) (source (rowStart size r + i)) ≡ target (imageStart size r (choice r) + i)
+      carried r i h k = entry-carried r i h k (source (rowStart size r + i)) refl
+
+      unused : (v : ℕ) → ((k : ℕ) → k < 104 → source k ≡ variable v → ⊥) → imagesOf images v ≡ constant 0
+      unused v none = go (decLt v 96)
+        where
+          go : Dec (v < 96) → imagesOf images v ≡ constant 0
+          go (no past) = ap (λ (c : Cell). entryOf (c .entry)) (List·getD-eq-default images noCell {n = v} (omega arith))
+          go (yes below) =
+              ⊎-elim
+              (λ w. ap (λ (c : Cell). entryOf (c .entry)) (w .1))
+              (λ w.
+              let l : w .0 ≤ size = let z : w .0 < size + 1 = w .2 in omega arith in
+              absurd
+              (none (rowStart size (w .0) + w .1) (place (w .0) (w .1) l (w .3))
+              (freeze-same (source (rowStart size (w .0) + w .1)) (variable v) (from-within (rowStart size (w .0) + w .1) (place (w .0) (w .1) l (w .3))) below
+              (sym (from-is (rowStart size (w .0) + w .1) (place (w .0) (w .1) l (w .3))) ∙ w .4))))
+              (assigned v below)
+
+      pub solution-wide : 0 < size → Wide source target named offered size count (imagesOf images)
+      solution-wide some =
+          record {
+            some-row = some;
+            rows = λ r h. (
+              choice r,
+              subst (λ (t : Bool). choice r < cond t 1 count) (ne-eqb r size (λ e. let z : r ≡ size = e in omega arith)) (chosen-candidate r (omega arith)),
+              chosen-possible r (omega arith) .relation h,
+              (λ i k.
+                  ap (λ (s : ℕ). valueOf constant (imagesOf images) (source (s + i))) (sym (row-start size r h)) ∙ carried r i (omega arith) k
+                  ∙ ap (λ (s : ℕ). target (s + i)) (row-image size r (choice r) h)),
+            );
+            head = λ i k.
+                ap (λ (s : ℕ). valueOf constant (imagesOf images) (source (s + i))) (sym (head-start size)) ∙ carried size i (omega arith) k
+                ∙ ap (λ (s : ℕ). target (s + i)) (head-image size (choice size));
+            elsewhere = unused;
+          }

@@ -1,0 +1,82 @@
+-- Rows as numbers, 8 to a row: a number from 2,147,483,648 on is a variable, a smaller one a constant. When images of rows are consistent.
+use mathlib.Core.Path.{_≡_}
+use mathlib.Core.Bool.{cond}
+use mathlib.Core.List.{List}
+use mathlib.Core.Logic.{_↔_}
+use Prim.Native.Nat.{ℕ, _+_, _*_, _/_, _%_, _^_, _≤_, _<_}
+use lib.Dec.{eqb}
+use lib.ListN.{getD, length}
+use Rattle.search.specs.Solution.{Bit as Has, together as goes}
+
+-- The row at q, with its image at e, takes the number `value` to `image` wherever it has it
+abbrev pub Takes : List ℕ → List ℕ → ℕ → ℕ → ℕ → ℕ → Type 0
+Takes source target value image q e = (j : ℕ) → j < 8 → getD source (q + j) 0 ≡ value → getD target (e + j) 0 ≡ image
+
+-- The rows at r and q, with their images at d and e, take each variable that they share to one number
+abbrev pub Agrees : List ℕ → List ℕ → ℕ → ℕ → ℕ → ℕ → Type 0
+Agrees source target r d q e =
+    (i : ℕ) → i < 8 → 2147483648 ≤ getD source (r + i) 0 → Takes source target (getD source (r + i) 0) (getD target (d + i) 0) q e
+
+-- The number `value` stands in the row at q
+abbrev pub Holds : List ℕ → ℕ → ℕ → Type 0
+Holds source value q = (j : ℕ) × (j < 8) × (getD source (q + j) 0 ≡ value)
+
+-- The rows at r and q share a variable
+abbrev pub Shares : List ℕ → ℕ → ℕ → Type 0
+Shares source r q = (i : ℕ) × (i < 8) × (2147483648 ≤ getD source (r + i) 0) × Holds source (getD source (r + i) 0) q
+
+-- The image at d has each constant of the row at r in its place
+abbrev pub Keeps : List ℕ → List ℕ → ℕ → ℕ → Type 0
+Keeps source target r d = (i : ℕ) → i < 8 → getD source (r + i) 0 < 2147483648 → getD target (d + i) 0 ≡ getD source (r + i) 0
+
+-- A mask of n bits that says of which numbers P holds
+abbrev pub Marks : ℕ → ℕ → (ℕ → Type 0) → Type 0
+Marks n mask P = (mask < 2 ^ n) × ((e : ℕ) → e < n → (Has mask e ↔ P e))
+
+-- ---- the rows of a source and their candidates in a target: rows 0 to size - 1 are the source's rows, row `size` is its head
+
+-- Where the numbers of row r start: the head's after those of 12 rows
+abbrev pub rowStart : ℕ → ℕ → ℕ
+rowStart size r = cond (eqb r size) 96 (8 * r)
+
+-- Where the numbers of candidate d of row r start: the head's one candidate is the target's head
+abbrev pub imageStart : ℕ → ℕ → ℕ → ℕ
+imageStart size r d = cond (eqb r size) 96 (8 * d)
+
+-- How many candidates row r has, of a target with `count` rows
+abbrev pub candidatesOf : ℕ → ℕ → ℕ → ℕ
+candidatesOf size count r = cond (eqb r size) 1 count
+
+-- A source and a target as 104 numbers each, with at most 12 rows
+pub record Laid (source target : List ℕ) (size count : ℕ) : Type 0 where
+  pub source-length : length source ≡ 104
+  pub target-length : length target ≡ 104
+  pub few-rows : size ≤ 12
+  pub few-images : count ≤ 12
+
+-- Candidate d of row r goes together with candidate e of row q
+abbrev pub Together : List ℕ → List ℕ → ℕ → ℕ → ℕ → ℕ → ℕ → Type 0
+Together source target size r d q e = Agrees source target (rowStart size r) (imageStart size r d) (rowStart size q) (imageStart size q e)
+
+-- Row r can go to candidate d: a row of the same relation, with the row's constants in their places and one number for each of its variables
+pub record Possible (source target named offered : List ℕ) (size r d : ℕ) : Type 0 where
+  pub relation : r < size → getD named r 0 ≡ getD offered d 0
+  pub keeps : Keeps source target (rowStart size r) (imageStart size r d)
+  pub agrees : Together source target size r d r d
+
+-- Masks of the possible candidates of each row
+abbrev pub IsDomain : List ℕ → List ℕ → List ℕ → List ℕ → ℕ → ℕ → List ℕ → Type 0
+IsDomain source target named offered size count domain =
+    (r : ℕ) → r ≤ size → Marks (candidatesOf size count r) (getD domain r 0) (Possible source target named offered size r)
+
+-- The mask at place k of the table: k stands for candidate k / 13 % 12 of row k / 156 and for row k % 13
+abbrev pub IsMask : List ℕ → List ℕ → ℕ → ℕ → ℕ → ℕ → Type 0
+IsMask source target size count k mask =
+    k / 156 ≤ size → k % 13 ≤ size → k / 13 % 12 < candidatesOf size count (k / 156)
+    → Marks (candidatesOf size count (k % 13)) mask (Together source target size (k / 156) (k / 13 % 12) (k % 13))
+
+-- Masks of the candidates of each row that go together with each candidate of each row
+abbrev pub IsTable : List ℕ → List ℕ → ℕ → ℕ → List ℕ → Type 0
+IsTable source target size count table =
+    (r d q : ℕ) → r ≤ size → q ≤ size → d < candidatesOf size count r
+    → Marks (candidatesOf size count q) (goes table r d q) (Together source target size r d q)

@@ -1,0 +1,53 @@
+// The images of a source's variables, from the images of its rows.
+use crate::table::image_at;
+use crate::table::row_at;
+use record::Cell;
+use record::Entry;
+ghost use Prim.Native.Nat.{ℕ, _+_, _≤_, _<_};
+ghost use lib.ListN.{getD};
+ghost use Rattle.mapping.specs.Tests.{choiceOf};
+ghost use Rattle.mapping.specs.Mapped.{RowAssigned, Assigned};
+
+// The images with those of the variables of one row, whose numbers start at `row`, from the cells that start at `image`.
+pub fn assign_row(
+    images: [Cell; 96],
+    source: [u32; 104],
+    target: [Cell; 104],
+    row: usize,
+    image: usize,
+) -> [Cell; 96]
+    requires { ⌜ (row + 8 ≤ 104) × (image + 8 ≤ 104) × ((k : ℕ) → k < 104 → getD source k 0 < 2147483744) ⌝ }
+    ensures { λ out. ⌜ RowAssigned images source target row image 8 out ⌝ }
+{
+    let mut out = images;
+    for i in 0..8 {
+        let value = source[row + i];
+        if 2147483648 <= value {
+            let v = (value - 2147483648) as usize;
+            out[v] = target[image + i];
+        }
+    }
+    out
+}
+
+// The images that a choice of a candidate for each row gives.
+pub fn assign(source: [u32; 104], target: [Cell; 104], size: usize, chosen: [u8; 13]) -> [Cell; 96]
+    requires { ⌜ (size ≤ 12) × ((r : ℕ) → r ≤ size → getD chosen r 0 < 12) × ((k : ℕ) → k < 104 → getD source k 0 < 2147483744) ⌝ }
+    ensures { λ images. ⌜ Assigned source target size (choiceOf chosen) (size + 1) images ⌝ }
+{
+    let mut images = [Cell {
+        entry: Entry::Constant(0),
+    }; 96];
+    for r in 0..size + 1 {
+        let d = chosen[r] as usize;
+        let next = assign_row(
+            images,
+            source,
+            target,
+            row_at(size, r),
+            image_at(size, r, d),
+        );
+        images = next;
+    }
+    images
+}

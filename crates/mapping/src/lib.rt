@@ -1,0 +1,89 @@
+// Mappings between stored queries: found by search, and checked. A query without rows has none.
+mod agree; // agree.rt: whether images of two rows are consistent
+mod assign; // assign.rt: the images of the variables, from the images of the rows
+mod carry; // carry.rt: whether given images carry entries, rows and a head
+mod cells; // cells.rt: a query in one line of cells, and as numbers
+mod table; // table.rt: what the search is given
+
+use crate::assign::assign;
+use crate::carry::all_land;
+use crate::carry::carries;
+use crate::carry::rest_blank;
+use crate::cells::flat;
+use crate::cells::numbers;
+use crate::table::domains;
+use crate::table::table;
+use record::Cell;
+use record::Entry;
+use record::Query;
+ghost use Rattle.mapping.specs.Mapped.{Storable, Finds, Checks};
+
+// A mapping that was looked for: whether there is one, and the image of each variable. Where there is none the images hold constant 0.
+pub struct Mapped {
+    pub found: bool,
+    pub images: [Cell; 96],
+}
+
+// A mapping from one query to another of the same arity, if there is one. Which one is free.
+pub fn find(source: Query, target: Query) -> Mapped
+    requires { ⌜ Storable source × Storable target ⌝ }
+    ensures { λ r. ⌜ Finds source target r ⌝ }
+{
+    let none = [Cell {
+        entry: Entry::Constant(0),
+    }; 96];
+    let size = source.size as usize;
+    let count = target.size as usize;
+    if size == 0 {
+        return Mapped {
+            found: false,
+            images: none,
+        };
+    }
+    let cells = flat(target);
+    let from = numbers(flat(source));
+    let to = numbers(cells);
+    let named = source.relations;
+    let offered = target.relations;
+    let domain = domains(&from, &to, named, offered, size, count);
+    let pairs = table(&from, &to, size, count);
+    let outcome = search::solve(&domain, &pairs, size + 1);
+    if !outcome.found {
+        return Mapped {
+            found: false,
+            images: none,
+        };
+    }
+    let chosen = outcome.chosen;
+    let images = assign(from, cells, size, chosen);
+    Mapped {
+        found: true,
+        images: images,
+    }
+}
+
+// Whether the images are a mapping from one query to another, as they stand. There is none from or to a query without rows.
+pub fn check(source: Query, target: Query, images: [Cell; 96]) -> bool
+    requires { ⌜ Storable source × Storable target ⌝ }
+    ensures { λ r. ⌜ Checks source target images r ⌝ }
+{
+    let size = source.size as usize;
+    let count = target.size as usize;
+    if source.arity != target.arity {
+        return false;
+    }
+    if size == 0 {
+        return false;
+    }
+    let from = flat(source);
+    let to = flat(target);
+    let named = source.relations;
+    let offered = target.relations;
+    if !carries(from, to, images, 96, 96) {
+        return false;
+    }
+    if !all_land(from, to, images, named, offered, size, count) {
+        return false;
+    }
+    rest_blank(from, images)
+}
