@@ -1,0 +1,192 @@
+-- What the code has shown when it answers, and the promise that follows: first for a comparison of two stored queries, then for the places that they come from,
+-- then for the checking of a mapping. The cases themselves are in `Verdicts`. Assumes nothing.
+use mathlib.Core.Path.{_≡_, refl, sym, ap, subst, subst₂, _∙_}
+use mathlib.Core.Logic.{_≢_}
+use mathlib.Core.Bool.{Bool, true, false, _&&_}
+use mathlib.Core.List.{List, [], _∷_, List·Memᴰ·head, List·Memᴰ·not-nil}
+use mathlib.Core.Option.{Option, none, some}
+use Prim.Native.Nat.{ℕ, _≤_, _<_}
+use native.Mathlib.Omega.{arith}
+use lib.ListN.{length, take}
+use Rattle.record.specs.declared.Cell.{Cell}
+use Rattle.record.specs.declared.Query.{Query}
+use Rattle.record.specs.declared.Dependency.{Dependency}
+use Rattle.record.specs.declared.Place.{Place}
+use Rattle.record.specs.declared.Record.{Record}
+use Rattle.record.specs.View.{rowsOf, queryOf, schemaOf, dependenciesOf}
+use Rattle.record.specs.Rule.{every, between, goodPlace, goodQuery, goodRelations, goodDependencies, goodRecord, noCell, noQuery}
+use Rattle.record.proofs.Tests.{and-left, and-right}
+use Rattle.record.proofs.Good.{good-query}
+use Rattle.record.proofs.Shape.{row-count}
+use Rattle.chase.specs.declared.Chased.{Chased}
+use Rattle.chase.specs.Outcome.{Chasable, IsChased}
+use Rattle.chase.proofs.Callers.{chasable}
+use Rattle.mapping.specs.declared.Mapped.{Mapped}
+use Rattle.mapping.specs.Mapped.{imagesOf, Storable, IsMapped, Finds, Checks}
+use Rattle.theory.specs.Query as theory
+use Rattle.theory.specs.Query.{_∈_}
+use Rattle.theory.specs.Answer as answer
+use Rattle.comparison.specs.declared.Pair.the-variants.{Places, Refused}
+use Rattle.comparison.specs.declared.Verdict.the-variants as verdict
+use Rattle.comparison.specs.declared.Comparison.{Comparison}
+use Rattle.comparison.specs.declared.Checked.{Checked}
+use Rattle.comparison.specs.declared.Checked.the-variants as checked
+use Rattle.comparison.specs.Comparison.{storedAt, queryAt, chasedAt, pairRefusal, Compared, CheckedMapping}
+use Rattle.comparison.specs.Parts.{paired, bare, Drawn}
+use Rattle.comparison.proofs.Pairs.{standing, paired-places}
+use Rattle.comparison.proofs.Verdicts.{queries, compared-never, compared-contained, compared-apart}
+
+-- ---- two stored queries
+
+-- A query of size 0 has no rows
+no-rows : (schema : List ℕ) (q : Query) → q .size ≡ 0 → queryOf schema q .rows ≡ []
+unfolding rowsOf
+no-rows schema q e = ap (λ (n : ℕ). rowsOf schema (take n (q .relations)) (q .cells)) e
+
+-- A query that is mapped to has rows
+mapping-rows : (S T : theory.Query) (f : ℕ → theory.Entry) → answer.IsMapping S T f → T .rows ≢ []
+mapping-rows S T f is empty = go (S .rows) refl
+  where
+    go : (rows : List (theory.Row theory.Entry)) → S .rows ≡ rows → ⊥
+    go [] none-there = is .carries .not-never none-there
+    go (x ∷ xs) there =
+        let at : x ∈ S .rows = subst (λ (l : List (theory.Row theory.Entry)). x ∈ l) (sym there) (List·Memᴰ·head refl) in
+        List·Memᴰ·not-nil
+        (subst (λ (l : List (theory.Row theory.Entry)). theory.mapRow (answer.valueOf theory.constant f) x ∈ l) empty (is .carries .to-rows x at))
+
+dependencies-good : (r : Record) → goodRecord r ≡ true → goodDependencies (schemaOf r) (r .held) (r .dependencies) ≡ true
+unfolding goodRecord
+dependencies-good r good =
+    let a : Bool = goodRelations (r .relations) (r .widths) in
+    let b : Bool = goodDependencies (schemaOf r) (r .held) (r .dependencies) in
+    and-right a b (and-left (a && b) (every (goodPlace (schemaOf r)) (r .places)) good)
+
+module _ (r : Record) (p q : ℕ) (first second : Query) (dependencies : List Dependency) (held : ℕ) (drawn : Drawn r p q first second dependencies held) where
+  good-first : goodQuery (schemaOf r) first ≡ true
+  good-first = rw (drawn .first-is) (queries r p q (drawn .accepted) .good-p)
+
+  good-second : goodQuery (schemaOf r) second ≡ true
+  good-second = rw (drawn .second-is) (queries r p q (drawn .accepted) .good-q)
+
+  -- The first can be chased
+  pub drawn-chasable : Chasable first dependencies held
+  drawn-chasable =
+      chasable (schemaOf r) held dependencies first (queries r p q (drawn .accepted) .widths)
+      (rw (drawn .dependencies-are, drawn .held-is) (dependencies-good r (standing r p q (drawn .accepted) .good))) good-first
+
+  -- With the chased query
+  module _ (chased : Chased)
+      (is : (schema : List ℕ) → goodQuery schema first ≡ true → every (between 1 8) schema ≡ true → IsChased schema dependencies held first chased) where
+    here : IsChased (schemaOf r) dependencies held first chased
+    here = is (schemaOf r) good-first (queries r p q (drawn .accepted) .widths)
+
+    chased-is : queryOf (schemaOf r) (chased .query) ≡ chasedAt r p
+    chased-is = rw (drawn .first-is, drawn .dependencies-are, drawn .held-is) at (here .query-is)
+
+    -- a mapping to it can be looked for
+    pub drawn-storable : Storable second × Storable (chased .query)
+    drawn-storable = ((schemaOf r, good-second), (schemaOf r, here .good))
+
+    -- It is never
+    pub answers-never : chased .query .size ≡ 0 → Compared r p q (bare verdict.Never)
+    answers-never zero =
+        compared-never r p q (drawn .accepted) (ap (λ (x : theory.Query). x .rows) (sym chased-is) ∙ no-rows (schemaOf r) (chased .query) zero)
+
+    module _ (mapped : Mapped) (finds : Finds second (chased .query) mapped) where
+      found : IsMapped (schemaOf r) second (chased .query) mapped
+      found =
+          let k = queries r p q (drawn .accepted) in
+          finds (schemaOf r) (k .narrow) good-second (here .good)
+          (ap (λ (x : Query). x .arity) (drawn .second-is) ∙ sym (k .same-arity) ∙ ap (λ (x : Query). x .arity) (sym (drawn .first-is))
+          ∙ sym (here .same-arity))
+
+      -- There is one
+      pub answers-contained : mapped .found ≡ true
+          → Compared r p q (record { verdict = verdict.Contained; images = mapped .images; query = noQuery })
+      answers-contained e =
+          let is-mapping : answer.IsMapping (queryAt r q) (chasedAt r p) (imagesOf (mapped .images)) =
+          subst₂ (λ (S T : theory.Query). answer.IsMapping S T (imagesOf (mapped .images))) (ap (queryOf (schemaOf r)) (drawn .second-is)) chased-is
+          (found .mapping e)
+          in
+          compared-contained r p q (drawn .accepted) (mapping-rows (queryAt r q) (chasedAt r p) (imagesOf (mapped .images)) is-mapping) (mapped .images) is-mapping
+
+      -- There is none
+      module _ (named : length (chased .query .relations) ≡ 12) (size : chased .query .size ≢ 0) where
+        some-rows : chasedAt r p .rows ≢ []
+        some-rows empty =
+            let fits : chased .query .size ≤ length (chased .query .relations) = omega (arith, good-query (schemaOf r) (chased .query) (here .good) .size) in
+            size (sym (row-count (schemaOf r) (chased .query) fits) ∙ ap length (ap (λ (x : theory.Query). x .rows) chased-is ∙ empty))
+
+        pub answers-apart : length (first .cells) ≡ 96 → mapped .found ≡ false
+            → Compared r p q (record { verdict = verdict.Apart; images = mapped .images; query = chased .query })
+        answers-apart long e =
+            subst (λ (images : List Cell). Compared r p q (record { verdict = verdict.Apart; images = images; query = chased .query })) (sym (found .blank e))
+            (compared-apart r p q (drawn .accepted) some-rows (ap (λ (x : Query). length (x .cells)) (sym (drawn .first-is)) ∙ long) (chased .query) chased-is
+            (here .good)
+            (λ m. found .none e (subst₂ answer.Mapping (ap (queryOf (schemaOf r)) (sym (drawn .second-is))) (sym chased-is) m)))
+
+-- ---- two places
+
+module _ (r : Record) (p q a b : ℕ) (is : paired (pairRefusal r p q) p q ≡ Places a b) where
+  pub places-low : (a < 8) × (b < 8)
+  places-low =
+      let f = paired-places (pairRefusal r p q) p q a b is in
+      let s = standing r p q (f .0) in
+      (omega (arith, f .1, s .low-p), omega (arith, f .2, s .low-q))
+
+  pub draws : (x y : Query) (dependencies : List Dependency) (held : ℕ) → x ≡ storedAt r a → y ≡ storedAt r b → dependencies ≡ r .dependencies → held ≡ r .held
+      → Drawn r p q x y dependencies held
+  draws x y dependencies held is-x is-y same-dependencies same-held =
+      let f = paired-places (pairRefusal r p q) p q a b is in
+      record {
+        accepted = f .0;
+        first-is = is-x ∙ ap (storedAt r) (sym (f .1));
+        second-is = is-y ∙ ap (storedAt r) (sym (f .2));
+        dependencies-are = same-dependencies;
+        held-is = same-held;
+      }
+
+-- ---- the checking of a mapping
+
+true-false : true ≡ false → ⊥
+true-false e = let z : _≡_ {A = ℕ} 0 1 = cc in omega arith
+
+none-some : (n : ℕ) → none ≡ some n → ⊥
+none-some n e = let z : _≡_ {A = ℕ} 0 1 = cc in omega arith
+
+pub checks-refused : (r : Record) (p q : ℕ) (images : List Cell) (n : ℕ) → pairRefusal r p q ≡ some n → CheckedMapping r p q images (checked.Refused n)
+checks-refused r p q images n refused =
+    record {
+      refused = λ m e. cc;
+      yes-mapping = λ e. absurd (none-some n (sym e ∙ refused));
+      no-mapping = λ e. absurd (none-some n (sym e ∙ refused));
+    }
+
+module _ (r : Record) (p q : ℕ) (images : List Cell) (x y : Query) (accepted : pairRefusal r p q ≡ none) (is-x : x ≡ storedAt r p) (is-y : y ≡ storedAt r q) where
+  pub check-storable : Storable y × Storable x
+  check-storable =
+      let k = queries r p q accepted in
+      ((schemaOf r, rw is-y (k .good-q)), (schemaOf r, rw is-x (k .good-p)))
+
+  module _ (b : Bool) (checks : Checks y x images b) where
+    tells : (b ≡ true → answer.IsMapping (queryAt r q) (queryAt r p) (imagesOf images)) × (answer.IsMapping (queryAt r q) (queryAt r p) (imagesOf images) → b ≡ true)
+    tells =
+        let k = queries r p q accepted in
+        subst₂ (λ (S T : theory.Query). (b ≡ true → answer.IsMapping S T (imagesOf images)) × (answer.IsMapping S T (imagesOf images) → b ≡ true)) (ap (queryOf (schemaOf r)) is-y) (ap (queryOf (schemaOf r)) is-x)
+        (checks (schemaOf r) (k .narrow) (rw is-y (k .good-q)) (rw is-x (k .good-p)))
+
+    pub checks-yes : b ≡ true → CheckedMapping r p q images checked.Yes
+    checks-yes e =
+        record {
+          refused = λ n refused. absurd (none-some n (sym accepted ∙ refused));
+          yes-mapping = λ stands is. refl;
+          no-mapping = λ stands isnt. absurd (isnt (tells .0 e));
+        }
+
+    pub checks-no : b ≡ false → CheckedMapping r p q images checked.No
+    checks-no e =
+        record {
+          refused = λ n refused. absurd (none-some n (sym accepted ∙ refused));
+          yes-mapping = λ stands is. absurd (true-false (sym (tells .1 is) ∙ e));
+          no-mapping = λ stands isnt. refl;
+        }

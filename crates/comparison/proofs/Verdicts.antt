@@ -1,0 +1,186 @@
+-- What a comparison promises (`Compared`), case by case: refused, never, contained by a mapping, not contained.
+-- Each case is Chandra and Merlin's theorem with functional dependencies (`Rattle.theory.proofs.Containment`) for the queries of two places that are not refused.
+-- Assumes nothing.
+use mathlib.Core.Path.{_≡_, refl, sym, ap, subst, _∙_}
+use mathlib.Core.Logic.{_≢_, _⊎_, inl, inr}
+use mathlib.Core.Bool.{Bool, true, false, cond}
+use mathlib.Core.List.{List, [], _∷_}
+use mathlib.Core.Option.{Option, none, some}
+use Prim.Native.Nat.{ℕ, _*_, _≤_, _<_}
+use native.Mathlib.Omega.{arith}
+use lib.ListN.{length, getD, replicate}
+use Rattle.record.specs.declared.Cell.{Cell}
+use Rattle.record.specs.declared.Query.{Query}
+use Rattle.record.specs.declared.Place.{Place}
+use Rattle.record.specs.declared.Record.{Record}
+use Rattle.record.specs.View.{queryOf, schemaOf, dependenciesOf}
+use Rattle.record.specs.Rule.{every, between, blankQuery, goodPlace, goodQuery, headSafe, goodRecord, noCell, noPlace, noQuery}
+use Rattle.record.specs.Calls.{isFilled}
+use Rattle.record.proofs.Good.{good-record, good-query}
+use Rattle.record.proofs.Stored as stored
+use Rattle.chase.proofs.Callers.{good-widths}
+use Rattle.chase.proofs.Good.{every-getD}
+use Rattle.theory.specs.Query as theory
+use Rattle.theory.specs.Database as database
+use Rattle.theory.specs.Answer as answer
+use Rattle.theory.specs.Containment as containment
+use Rattle.theory.specs.Search as search
+use Rattle.theory.proofs.Search.{mappable-exact, mappable-false}
+use Rattle.theory.proofs.Containment.{contained-of-mapping, counterexample}
+use Rattle.mapping.specs.Mapped.{imagesOf}
+use Rattle.comparison.specs.declared.Verdict.{Verdict}
+use Rattle.comparison.specs.declared.Verdict.the-variants.{Never, Contained, Apart, Refused}
+use Rattle.comparison.specs.declared.Comparison.{Comparison}
+use Rattle.comparison.specs.Comparison.{storedAt, queryAt, chasedAt, pairRefusal, verdictOn, judged, verdictOf, base, Compared}
+use Rattle.comparison.specs.Parts.{bare}
+use Rattle.comparison.proofs.Pairs.{Standing, standing}
+
+-- ---- the queries of two places
+
+no-place-good : (schema : List ℕ) → goodPlace schema noPlace ≡ true
+unfolding blankQuery every
+no-place-good schema = refl
+
+-- A filled place of a good record holds a good query with a safe head
+filled-good : (r : Record) → goodRecord r ≡ true → (place : ℕ) → isFilled r place ≡ true
+    → (goodQuery (schemaOf r) (storedAt r place) ≡ true) × (headSafe (schemaOf r) (storedAt r place) ≡ true)
+filled-good r good place filled =
+    stored.filled-parts (schemaOf r) (getD (r .places) place noPlace)
+    (every-getD (goodPlace (schemaOf r)) (r .places) place noPlace (good-record r good .places) (no-place-good (schemaOf r))) filled
+
+-- What is known of the queries of two places that are not refused
+pub record Queries (r : Record) (p q : ℕ) : Type 0 where
+  pub widths : every (between 1 8) (schemaOf r) ≡ true
+  pub narrow : (i : ℕ) → getD (schemaOf r) i 0 ≤ 8
+  pub good-p : goodQuery (schemaOf r) (storedAt r p) ≡ true
+  pub good-q : goodQuery (schemaOf r) (storedAt r q) ≡ true
+  pub safe-p : headSafe (schemaOf r) (storedAt r p) ≡ true
+  pub same-arity : storedAt r p .arity ≡ storedAt r q .arity
+
+pub queries : (r : Record) (p q : ℕ) → pairRefusal r p q ≡ none → Queries r p q
+queries r p q accepted =
+    let s = standing r p q accepted in
+    let first = filled-good r (s .good) p (s .filled-p) in
+    let second = filled-good r (s .good) q (s .filled-q) in
+    record {
+      widths = good-widths (r .relations) (r .widths) (good-record r (s .good) .relations);
+      narrow = stored.narrow r (s .good);
+      good-p = first .0;
+      good-q = second .0;
+      safe-p = first .1;
+      same-arity = s .same-arity;
+    }
+
+-- ---- the verdict
+
+verdict-some : (rows : List (theory.Row theory.Entry)) (mapped : Bool) → rows ≢ [] → verdictOn rows mapped ≡ cond mapped Contained Apart
+verdict-some [] mapped filled = absurd (filled refl)
+verdict-some (x ∷ xs) mapped filled = refl
+
+-- The verdicts are different
+never-contained : Never ≡ Contained → ⊥
+never-contained e = let z : _≡_ {A = ℕ} 0 1 = cc in omega arith
+
+never-apart : Never ≡ Apart → ⊥
+never-apart e = let z : _≡_ {A = ℕ} 0 1 = cc in omega arith
+
+contained-apart : Contained ≡ Apart → ⊥
+contained-apart e = let z : _≡_ {A = ℕ} 0 1 = cc in omega arith
+
+refused-contained : (n : ℕ) → Refused n ≡ Contained → ⊥
+refused-contained n e = let z : _≡_ {A = ℕ} 0 1 = cc in omega arith
+
+refused-apart : (n : ℕ) → Refused n ≡ Apart → ⊥
+refused-apart n e = let z : _≡_ {A = ℕ} 0 1 = cc in omega arith
+
+-- ---- the cases
+
+-- Refused
+pub compared-refused : (r : Record) (p q n : ℕ) → pairRefusal r p q ≡ some n → Compared r p q (bare (Refused n))
+compared-refused r p q n refused =
+    record {
+      verdict = ap (λ (o : Option ℕ). judged o (verdictOn (chasedAt r p .rows) (search.mappable (queryAt r q) (chasedAt r p)))) (sym refused);
+      mapping = λ e. absurd (refused-contained n e);
+      no-mapping = λ e. refl;
+      chased = λ e. absurd (refused-apart n e);
+      no-query = λ e. refl;
+      contained = λ e. absurd e;
+      apart = λ e. absurd (refused-apart n e);
+    }
+
+module _ (r : Record) (p q : ℕ) (accepted : pairRefusal r p q ≡ none) where
+  verdict-is : (v : Verdict) → verdictOn (chasedAt r p .rows) (search.mappable (queryAt r q) (chasedAt r p)) ≡ v → v ≡ verdictOf r p q
+  verdict-is v e =
+      sym e ∙ ap (λ (o : Option ℕ). judged o (verdictOn (chasedAt r p .rows) (search.mappable (queryAt r q) (chasedAt r p)))) (sym accepted)
+
+  -- The first query chases to never
+  pub compared-never : chasedAt r p .rows ≡ [] → Compared r p q (bare Never)
+  compared-never empty =
+      record {
+        verdict = verdict-is Never (ap (λ (rows : List (theory.Row theory.Entry)). verdictOn rows (search.mappable (queryAt r q) (chasedAt r p))) empty);
+        mapping = λ e. absurd (never-contained e);
+        no-mapping = λ e. refl;
+        chased = λ e. absurd (never-apart e);
+        no-query = λ e. refl;
+        contained = λ e. contained-of-mapping (dependenciesOf r) (queryAt r p) (queryAt r q) (inl empty);
+        apart = λ e. absurd (never-apart e);
+      }
+
+  module _ (filled : chasedAt r p .rows ≢ []) where
+    verdict-found : (b : Bool) → search.mappable (queryAt r q) (chasedAt r p) ≡ b → cond b Contained Apart ≡ verdictOf r p q
+    verdict-found b e =
+        verdict-is (cond b Contained Apart)
+        (verdict-some (chasedAt r p .rows) (search.mappable (queryAt r q) (chasedAt r p)) filled ∙ ap (λ (t : Bool). cond t Contained Apart) e)
+
+    -- The second query maps to the first, chased
+    pub compared-contained : (images : List Cell) → answer.IsMapping (queryAt r q) (chasedAt r p) (imagesOf images)
+        → Compared r p q (record { verdict = Contained; images = images; query = noQuery })
+    compared-contained images is =
+        record {
+          verdict = verdict-found true (mappable-exact (queryAt r q) (chasedAt r p) .1 (imagesOf images, is));
+          mapping = λ e. is;
+          no-mapping = λ e. absurd (e refl);
+          chased = λ e. absurd (contained-apart e);
+          no-query = λ e. refl;
+          contained = λ e. contained-of-mapping (dependenciesOf r) (queryAt r p) (queryAt r q) (inr (imagesOf images, is));
+          apart = λ e. absurd (contained-apart e);
+        }
+
+    -- It does not: the chased query, read as a database, shows it
+    pub compared-apart : length (storedAt r p .cells) ≡ 96 → (query : Query) → queryOf (schemaOf r) query ≡ chasedAt r p → goodQuery (schemaOf r) query ≡ true
+        → (answer.Mapping (queryAt r q) (chasedAt r p) → ⊥)
+        → Compared r p q (record { verdict = Apart; images = replicate 96 noCell; query = query })
+    compared-apart long query is good not =
+        record {
+          verdict = verdict-found false (unmappable (search.mappable (queryAt r q) (chasedAt r p)) refl);
+          mapping = λ e. absurd (contained-apart (sym e));
+          no-mapping = λ e. refl;
+          chased = λ e. (is, good);
+          no-query = λ e. absurd (e refl);
+          contained = λ e. absurd e;
+          apart = λ e. shown;
+        }
+      where
+        known : Queries r p q
+        known = queries r p q accepted
+
+        unmappable : (b : Bool) → search.mappable (queryAt r q) (chasedAt r p) ≡ b → search.mappable (queryAt r q) (chasedAt r p) ≡ false
+        unmappable true e = absurd (not (mappable-exact (queryAt r q) (chasedAt r p) .0 e))
+        unmappable false e = e
+
+        fits : 8 * storedAt r p .size ≤ length (storedAt r p .cells)
+        fits = omega (arith, long, good-query (schemaOf r) (storedAt r p) (known .good-p) .size)
+
+        formed : theory.WellFormed (schemaOf r) (queryAt r p)
+        formed = stored.well-formed (schemaOf r) (known .narrow) (storedAt r p) (known .good-p) fits (known .safe-p)
+
+        shown : containment.Counterexample (schemaOf r) (dependenciesOf r) (queryAt r p) (queryAt r q)
+            (containment.frozenRows base (queryOf (schemaOf r) query)) (containment.frozenHead base (queryOf (schemaOf r) query))
+        shown =
+            subst
+            (λ (C : theory.Query).
+            containment.Counterexample (schemaOf r) (dependenciesOf r) (queryAt r p) (queryAt r q) (containment.frozenRows base C) (containment.frozenHead base C))
+            (sym is)
+            (counterexample (schemaOf r) (dependenciesOf r) (queryAt r p) (queryAt r q) base (formed .rows-fit)
+            (stored.constants-below (schemaOf r) (known .narrow) (storedAt r p) (known .good-p))
+            (stored.constants-below (schemaOf r) (known .narrow) (storedAt r q) (known .good-q)) (omega arith) filled not)

@@ -1,0 +1,19 @@
+-- `comparison::only` meets its contract. Assumes nothing.
+use mathlib.Core.Path.{_≡_, ap}
+use lib.ListN.{replicate}
+use borrow.Author.Needs.{needs}
+use Rattle.record.specs.declared.Query.{Query}
+use Rattle.record.specs.Rule.{noCell}
+use Rattle.comparison.specs.declared.Comparison.{Comparison}
+use Rattle.comparison.proofs.only.Statement.{statement}
+use Rattle.comparison.proofs.only.Tie as tie
+
+no-query-requires : tie.Need-no-query-requires
+no-query-requires c κs = search needs
+
+returns : tie.Need-returns
+returns c =
+    ap (λ (query : Query). record { verdict = c .before .args .verdict; images = replicate 96 noCell; query = query }) (c .no-query .ensures)
+
+pub only-spec : {M : Type 1} → statement M
+only-spec = tie.close (tie.spec no-query-requires returns)

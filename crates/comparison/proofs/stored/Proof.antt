@@ -1,0 +1,28 @@
+-- `comparison::stored` meets its contract: an index below 8 is one of the places. Assumes nothing.
+use mathlib.Core.Path.{_≡_, ap}
+use Prim.Native.Nat.{_<_}
+use native.Mathlib.Omega.{arith}
+use lib.ListN.{length}
+use borrow.Author.Needs.{needs}
+use Rattle.record.specs.declared.Place.{Place}
+use Rattle.record.specs.Rule.{noPlace}
+use Rattle.record.proofs.Tail.{mapped-length, getD-any, pastPlace}
+use Rattle.comparison.proofs.stored.Statement.{statement}
+use Rattle.comparison.proofs.stored.Tie as tie
+
+mul-at : tie.Need-mul-at
+mul-at c = search needs
+
+array-copy-out-at : tie.Need-array-copy-out-at
+array-copy-out-at c = search needs
+
+returns : tie.Need-returns
+returns c =
+    let given = c .before .before .before .args .given in
+    let place = c .before .before .before .args .place in
+    let long : length (given .places) ≡ 8 = search (mapped-length, needs) in
+    let low : place < 8 = search needs in
+    ap (λ (p : Place). p .query) (getD-any (given .places) place pastPlace noPlace (omega arith))
+
+pub stored-spec : {M : Type 1} → statement M
+stored-spec = tie.close (tie.spec mul-at array-copy-out-at returns)

@@ -1,0 +1,91 @@
+-- What comparing two places and checking a mapping promise (demand 2). Which mapping a comparison returns is free; everything else is determined.
+use mathlib.Core.Path.{_≡_}
+use mathlib.Core.Bool.{Bool, true, false, not, cond}
+use mathlib.Core.List.{List, [], _∷_}
+use mathlib.Core.Option.{Option, none, some}
+use Prim.Native.Nat.{ℕ}
+use lib.Dec.{eqb}
+use lib.ListN.{getD, replicate}
+use Rattle.record.specs.declared.Cell.{Cell}
+use Rattle.record.specs.declared.Query.{Query}
+use Rattle.record.specs.declared.Record.{Record}
+use Rattle.record.specs.View.{queryOf, schemaOf, dependenciesOf}
+use Rattle.record.specs.Rule.{goodQuery, noCell, noPlace, noQuery}
+use Rattle.record.specs.Calls.{firstHolding, broken, above, vacant}
+use Rattle.mapping.specs.Mapped.{imagesOf}
+use Rattle.comparison.specs.declared.Verdict.{Verdict}
+use Rattle.comparison.specs.declared.Verdict.the-variants.{Never, Contained, Apart, Refused}
+use Rattle.comparison.specs.declared.Comparison.{Comparison}
+use Rattle.comparison.specs.declared.Checked.{Checked}
+use Rattle.comparison.specs.declared.Checked.the-variants as checked
+use Rattle.theory.specs.Query as theory
+use Rattle.theory.specs.Database as database
+use Rattle.theory.specs.Answer as answer
+use Rattle.theory.specs.Chase as chasing
+use Rattle.theory.specs.Containment as containment
+use Rattle.theory.specs.Search as search
+
+-- The query stored at a place
+abbrev pub storedAt : Record → ℕ → Query
+storedAt r place = getD (r .places) place noPlace .query
+
+-- The query that a place holds
+abbrev pub queryAt : Record → ℕ → theory.Query
+queryAt r place = queryOf (schemaOf r) (storedAt r place)
+
+-- That query, chased with the held dependencies
+abbrev pub chasedAt : Record → ℕ → theory.Query
+chasedAt r place = chasing.chase (dependenciesOf r) (queryAt r place) .query
+
+-- The refusals of a call on two places: 14; 7; 11; 8 where the head lengths differ
+unfoldable pub pairRefusal : Record → ℕ → ℕ → Option ℕ
+pairRefusal r p q =
+    firstHolding
+    (broken r ∷ above p ∷ above q ∷ vacant r p ∷ vacant r q ∷ (not (eqb (storedAt r p .arity) (storedAt r q .arity)), 8) ∷ [])
+
+-- The verdict on a chased query: never is contained, without a mapping; otherwise it is contained exactly when the second query can be mapped to it
+abbrev pub verdictOn : List (theory.Row theory.Entry) → Bool → Verdict
+verdictOn [] mapped = Never
+verdictOn (x ∷ xs) mapped = cond mapped Contained Apart
+
+-- The verdict on two places, once they are not refused
+abbrev pub judged : Option ℕ → Verdict → Verdict
+judged none verdict = verdict
+judged (some n) verdict = Refused n
+
+-- The verdict on places p and q
+abbrev pub verdictOf : Record → ℕ → ℕ → Verdict
+verdictOf r p q = judged (pairRefusal r p q) (verdictOn (chasedAt r p .rows) (search.mappable (queryAt r q) (chasedAt r p)))
+
+-- Document 01's number of the variable 0 of a query read as a database
+abbrev pub base : ℕ
+base = 2147483648
+
+-- A verdict that says contained
+abbrev pub SaysContained : Verdict → Type 0
+SaysContained Never = Unit {0}
+SaysContained Contained = Unit {0}
+SaysContained Apart = ⊥
+SaysContained (Refused n) = ⊥
+
+-- What comparing places p and q promises.
+-- The verdict, and what it holds: a mapping from q's query to p's chased query where it is contained with one, p's chased query where it is not contained,
+-- and 0 in every field not in use. And demand 2: contained means that each answer of p is an answer of q on every database that obeys the dependencies;
+-- not contained, that the chased query read as a database shows the contrary
+pub record Compared (r : Record) (p q : ℕ) (c : Comparison) : Type 0 where
+  pub verdict : c .verdict ≡ verdictOf r p q
+  pub mapping : c .verdict ≡ Contained → answer.IsMapping (queryAt r q) (chasedAt r p) (imagesOf (c .images))
+  pub no-mapping : (c .verdict ≡ Contained → ⊥) → c .images ≡ replicate 96 noCell
+  pub chased : c .verdict ≡ Apart → (queryOf (schemaOf r) (c .query) ≡ chasedAt r p) × (goodQuery (schemaOf r) (c .query) ≡ true)
+  pub no-query : (c .verdict ≡ Apart → ⊥) → c .query ≡ noQuery
+  pub contained : SaysContained (c .verdict) → (D : database.Database) → database.Obeys (dependenciesOf r) D → (t : List ℕ)
+      → answer.Answer D (queryAt r p) t → answer.Answer D (queryAt r q) t
+  pub apart : c .verdict ≡ Apart
+      → containment.Counterexample (schemaOf r) (dependenciesOf r) (queryAt r p) (queryAt r q)
+      (containment.frozenRows base (queryOf (schemaOf r) (c .query))) (containment.frozenHead base (queryOf (schemaOf r) (c .query)))
+
+-- What checking a mapping for places p and q promises: a refusal, or yes exactly when the images are a mapping from q's query to p's query as it is stored
+pub record CheckedMapping (r : Record) (p q : ℕ) (images : List Cell) (c : Checked) : Type 0 where
+  pub refused : (n : ℕ) → pairRefusal r p q ≡ some n → c ≡ checked.Refused n
+  pub yes-mapping : pairRefusal r p q ≡ none → answer.IsMapping (queryAt r q) (queryAt r p) (imagesOf images) → c ≡ checked.Yes
+  pub no-mapping : pairRefusal r p q ≡ none → (answer.IsMapping (queryAt r q) (queryAt r p) (imagesOf images) → ⊥) → c ≡ checked.No

@@ -1,0 +1,171 @@
+// Comparing two places of a record, and checking a mapping between their queries.
+
+use record::Cell;
+use record::Dependency;
+use record::Entry;
+use record::Lookup;
+use record::Query;
+use record::Record;
+use record::calls::no_query;
+use record::calls::number;
+use record::calls::place_at;
+ghost use mathlib.Core.Path.{_≡_};
+ghost use Prim.Native.Nat.{_<_};
+ghost use Rattle.comparison.specs.Comparison.{storedAt, pairRefusal, Compared, CheckedMapping};
+ghost use Rattle.comparison.specs.Parts.{paired, numberIn, bare, Comparable, Compares};
+
+// Two places to be read whose heads have one length, or document 01's number of the refusal.
+pub enum Pair {
+    Places(usize, usize),
+    Refused(u8),
+}
+
+// What a comparison says: contained because the first query chases to never, contained by a mapping, not contained, or refused with document 01's number.
+pub enum Verdict {
+    Never,
+    Contained,
+    Apart,
+    Refused(u8),
+}
+
+// A comparison: its verdict, the mapping where it is contained by one, and the first query, chased, where it is not contained.
+pub struct Comparison {
+    pub verdict: Verdict,
+    pub images: [Cell; 96],
+    pub query: Query,
+}
+
+// What checking a mapping says.
+pub enum Checked {
+    Yes,
+    No,
+    Refused(u8),
+}
+
+// The query stored at a place.
+fn stored(given: Record, place: usize) -> Query
+    requires { ⌜ place < 8 ⌝ }
+    ensures { λ r. ⌜ r ≡ storedAt given place ⌝ }
+{
+    let places = given.places;
+    let at = places[place];
+    at.query
+}
+
+// The refusals of a call on two places, in document 01's order.
+fn filled_pair(given: Record, p: usize, q: usize) -> Pair
+    ensures { λ r. ⌜ r ≡ paired (pairRefusal given p q) p q ⌝ }
+{
+    if !given.whole() {
+        return Pair::Refused(14);
+    }
+    let found = place_at(p);
+    let Lookup::At(_) = found else {
+        return Pair::Refused(number(found));
+    };
+    let found = place_at(q);
+    let Lookup::At(_) = found else {
+        return Pair::Refused(number(found));
+    };
+    let found = given.filled_place(p);
+    let Lookup::At(first) = found else {
+        return Pair::Refused(number(found));
+    };
+    let found = given.filled_place(q);
+    let Lookup::At(second) = found else {
+        return Pair::Refused(number(found));
+    };
+    let a = stored(given, first);
+    let b = stored(given, second);
+    if a.arity != b.arity {
+        return Pair::Refused(8);
+    }
+    Pair::Places(first, second)
+}
+
+// The number with which two places are refused, 0 where they are not.
+fn refusal(found: Pair) -> u8
+    ensures { λ r. ⌜ r ≡ numberIn found ⌝ }
+{
+    match found {
+        Pair::Places(_, _) => 0,
+        Pair::Refused(n) => n,
+    }
+}
+
+// A comparison with nothing but its verdict.
+fn only(verdict: Verdict) -> Comparison
+    ensures { λ r. ⌜ r ≡ bare verdict ⌝ }
+{
+    let blank = Cell {
+        entry: Entry::Constant(0),
+    };
+    Comparison {
+        verdict: verdict,
+        images: [blank; 96],
+        query: no_query(),
+    }
+}
+
+// The comparison of two queries: the first is chased, the second is not.
+fn compare_queries(
+    first: Query,
+    second: Query,
+    dependencies: [Dependency; 32],
+    held: usize,
+) -> Comparison
+    requires { ⌜ Comparable first second dependencies held ⌝ }
+    ensures { λ c. ⌜ Compares first second dependencies held c ⌝ }
+{
+    let chased = chase::chase(first, dependencies, held);
+    let query = chased.query;
+    if query.size == 0 {
+        return only(Verdict::Never);
+    }
+    let mapped = mapping::find(second, query);
+    let images = mapped.images;
+    if mapped.found {
+        return Comparison {
+            verdict: Verdict::Contained,
+            images: images,
+            query: no_query(),
+        };
+    }
+    Comparison {
+        verdict: Verdict::Apart,
+        images: images,
+        query: query,
+    }
+}
+
+// Whether the query of place p is contained in that of place q.
+pub fn compare(given: Record, p: usize, q: usize) -> Comparison
+    ensures { λ c. ⌜ Compared given p q c ⌝ }
+{
+    let found = filled_pair(given, p, q);
+    let Pair::Places(first, second) = found else {
+        return only(Verdict::Refused(refusal(found)));
+    };
+    let dependencies = given.dependencies;
+    compare_queries(
+        stored(given, first),
+        stored(given, second),
+        dependencies,
+        given.held as usize,
+    )
+}
+
+// Whether the images are a mapping from the query of place q to that of place p, as they are stored.
+pub fn check_mapping(given: Record, p: usize, q: usize, images: [Cell; 96]) -> Checked
+    ensures { λ c. ⌜ CheckedMapping given p q images c ⌝ }
+{
+    let found = filled_pair(given, p, q);
+    let Pair::Places(first, second) = found else {
+        return Checked::Refused(refusal(found));
+    };
+    if mapping::check(stored(given, second), stored(given, first), images) {
+        Checked::Yes
+    } else {
+        Checked::No
+    }
+}
