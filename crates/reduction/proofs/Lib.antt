@@ -1,0 +1,4 @@
+-- Laws that the proofs of the functions share.
+pub mod Shorter
+pub mod Passes
+pub mod Results

@@ -1,0 +1,247 @@
+-- What a reduction gives, from what the chase, the loss of rows and the search for a mapping promise:
+--   1. the shortened query, 2. the record with it, 3. the refusals in their order.
+-- The theorems are the theory's `Reduction`. Assumes nothing.
+use mathlib.Core.Path.{_≡_, refl, sym, _∙_, ap, subst, subst₂}
+use mathlib.Core.Logic.{_≢_}
+use mathlib.Core.Bool.{Bool, true, false, not}
+use mathlib.Core.List.{List, [], _∷_}
+use mathlib.Core.Option.{Option, none, some}
+use Prim.Native.Nat.{ℕ, _*_, _≤_, _<_}
+use native.Mathlib.Omega.{arith}
+use borrow.Author.Tests.{le-leb, lt-ltb, le-ltb}
+use lib.Dec.{ltb}
+use lib.ListN.{length, getD, replicate}
+use Rattle.record.specs.declared.Query.{Query}
+use Rattle.record.specs.declared.Dependency.{Dependency}
+use Rattle.record.specs.declared.Place.{Place}
+use Rattle.record.specs.declared.Record.{Record}
+use Rattle.record.specs.declared.Answer.the-variants as answer
+use Rattle.record.specs.declared.Lookup.the-variants as lookup
+use Rattle.record.specs.View.{queryOf, schemaOf, dependenciesOf}
+use Rattle.record.specs.Rule.{every, between, goodDependency, blankDependency, inUse, goodDependencies, goodQuery, headSafe, goodRecord, noCell, noPlace}
+use Rattle.record.specs.Calls.{firstHolding, above, vacant, filled, placeAt, isFilled, filledPlace, vacantPlace, withPlace}
+use Rattle.record.proofs.Tests.{and-both}
+use Rattle.record.proofs.Good.{good-record}
+use Rattle.record.proofs.Stored.{narrow, place-good, filled-parts, well-formed}
+use Rattle.record.proofs.Kept.{filled-place, place-kept, place-read}
+use Rattle.record.proofs.Refusals.{found-refused, filled-at, vacant-at, place-at, place-refused, vacant-refused}
+use Rattle.chase.specs.declared.Chased.{Chased}
+use Rattle.chase.specs.Wide.{heldOf}
+use Rattle.chase.specs.Outcome.{IsChased}
+use Rattle.chase.proofs.Callers.{good-widths, width-le, chased-count}
+use Rattle.theory.specs.Query as theory
+use Rattle.theory.specs.Query.{WellFormed, variablesOf, rowEntries, _∈_}
+use Rattle.theory.specs.Database as database
+use Rattle.theory.specs.Answer.{IsMapping, Mapping}
+use Rattle.theory.specs.Chase.{chase, Chases}
+use Rattle.theory.specs.Reduction.{Reduction}
+use Rattle.theory.proofs.Carry.{mapping-target}
+use Rattle.theory.proofs.Chase.{chase-chases}
+use Rattle.theory.proofs.Determined.{subset-of}
+use Rattle.theory.proofs.Reduction.{reduction-answers, reduction-minimal, reduction-mapping, reduction-wellformed}
+use Rattle.mapping.specs.declared.Mapped.{Mapped}
+use Rattle.reduction.specs.declared.Shortened.{Shortened}
+use Rattle.reduction.specs.declared.Reduced.{Reduced}
+use Rattle.mapping.specs.Mapped.{imagesOf, IsMapped}
+use Rattle.reduction.specs.Rows.{IsPruned}
+use Rattle.reduction.specs.Reduced.{storedAt, queryAt, refusal, reductionRefusal, Reduces, Shortenable, IsShortened, Reducible, IsStored, IsReduced}
+
+-- ---- 1. the shortened query
+
+-- Losing rows of the chased query gives a result of reduction
+result-of : {schema : List ℕ} {dependencies : List Dependency} {held : ℕ} {q result : Query} {chased : Chased} → IsChased schema dependencies held q chased
+    → IsPruned schema (chased .query) result → Reduction (heldOf dependencies held) (queryOf schema q) (queryOf schema result)
+result-of {schema} {dependencies} {held} {q} {result} {chased} c p =
+    let ds = heldOf dependencies held in
+    let is : queryOf schema (chased .query) ≡ chase ds (queryOf schema q) .query = c .query-is in
+    record {
+      head = p .head ∙ ap (λ (x : theory.Query). x .head) is;
+      rows = λ r at. subst (λ (x : theory.Query). r ∈ x .rows) is (p .rows r at);
+      receives =
+          λ some-rows.
+          subst (λ (x : theory.Query). Mapping x (queryOf schema result)) is
+          (p .receives (λ none-left. some-rows (sym (ap (λ (x : theory.Query). x .rows) is) ∙ none-left)));
+      core = p .core;
+    }
+
+-- A search that must find a mapping finds it
+found-mapping : {schema : List ℕ} {source target : Query} {r : Mapped} → IsMapped schema source target r → Mapping (queryOf schema source) (queryOf schema target)
+    → IsMapping (queryOf schema source) (queryOf schema target) (imagesOf (r .images))
+found-mapping {schema} {source} {target} {r} is m = go (r .found) refl
+  where
+    go : (b : Bool) → r .found ≡ b → IsMapping (queryOf schema source) (queryOf schema target) (imagesOf (r .images))
+    go true e = is .mapping e
+    go false e = absurd (is .none e m)
+
+-- One that can find none leaves blanks
+found-none : {schema : List ℕ} {source target : Query} {r : Mapped} → IsMapped schema source target r → queryOf schema target .rows ≡ [] → r .images ≡ replicate 96 noCell
+found-none {schema} {source} {target} {r} is empty = go (r .found) refl
+  where
+    go : (b : Bool) → r .found ≡ b → r .images ≡ replicate 96 noCell
+    go true e = absurd (mapping-target (queryOf schema source) (queryOf schema target) (imagesOf (r .images), is .mapping e) empty)
+    go false e = is .blank e
+
+pub shortened : (schema : List ℕ) (dependencies : List Dependency) (held : ℕ) (q result : Query) (chased : Chased) (mapped : Mapped)
+    → every (between 1 8) schema ≡ true → 8 * q .size ≤ length (q .cells) → goodQuery schema q ≡ true → headSafe schema q ≡ true
+    → IsChased schema dependencies held q chased → IsPruned schema (chased .query) result → IsMapped schema q result mapped
+    → IsShortened schema (heldOf dependencies held) q (record { query = result; count = chased .count; images = mapped .images })
+unfolding headSafe
+shortened schema dependencies held q result chased mapped widths long good safe c p m =
+    let ds = heldOf dependencies held in
+    let S = queryOf schema q in
+    let T = queryOf schema result in
+    let reduced : Reduction ds S T = result-of c p in
+    let well : WellFormed schema S = well-formed schema (width-le schema widths) q good long safe in
+    record {
+      good = p .good;
+      safe = subset-of (variablesOf (T .head)) (variablesOf (rowEntries (T .rows))) (reduction-wellformed schema ds S T well reduced .head-safe);
+      reduces = record {
+        result = reduced;
+        mapping = λ some-rows. found-mapping m (reduction-mapping ds S T reduced some-rows);
+        answers = reduction-answers ds S T reduced;
+        minimal = reduction-minimal schema ds S T (well .rows-fit) reduced;
+        counted = (chase ds S .query, subst (Chases ds S (chase ds S .query)) (sym (c .count-is)) (chase-chases ds S));
+        count-le = chased-count c;
+      };
+      no-mapping = found-none m;
+    }
+
+-- ---- 2. the record with it
+
+module _ (r : Record) (source target : ℕ) (able : Reducible r source target) (long : length (r .places) ≡ 8) where
+  source-parts : (goodQuery (schemaOf r) (storedAt r source) ≡ true) × (headSafe (schemaOf r) (storedAt r source) ≡ true)
+  source-parts =
+      filled-parts (schemaOf r) (getD (r .places) source noPlace)
+      (place-good r (able .good) source noPlace (omega (arith, able .source-low))) (able .source-filled)
+
+  -- The query and the dependencies of the record can be shortened
+  pub able-shortenable : (q : Query) → q ≡ storedAt r source → Shortenable q (r .dependencies) (r .held)
+  unfolding goodDependencies
+  able-shortenable q is =
+      let g = good-record r (able .good) in
+      record {
+        schema = schemaOf r;
+        widths = good-widths (r .relations) (r .widths) (g .relations);
+        dependencies-good = and-both _ _ (le-leb (r .held) 32 (g .held)) (g .dependencies);
+        query-good = ap (goodQuery (schemaOf r)) is ∙ source-parts .0;
+      }
+
+  -- What is stored meets demand 3
+  pub stored-reduced : (q : Query) → q ≡ storedAt r source → (s : Shortened)
+      → ((schema : List ℕ) → every (between 1 8) schema ≡ true → goodQuery schema q ≡ true → headSafe schema q ≡ true
+      → IsShortened schema (dependenciesOf r) q s)
+      → IsStored r source target
+      (record { answer = answer.Done; «record» = withPlace r target (record { filled = true; query = s .query }); count = s .count; images = s .images })
+  stored-reduced q is s tells =
+      let schema = schemaOf r in
+      let after = withPlace r target (record { filled = true; query = s .query }) in
+      let told : IsShortened schema (dependenciesOf r) q s =
+      tells schema (good-widths (r .relations) (r .widths) (good-record r (able .good) .relations)) (ap (goodQuery schema) is ∙ source-parts .0)
+      (ap (headSafe schema) is ∙ source-parts .1)
+      in
+      let read : s .query ≡ storedAt after target =
+      sym (ap (λ (p : Place). p .query) (place-read r target (record { filled = true; query = s .query }) noPlace (omega (arith, able .target-low))))
+      in
+      record {
+        done = refl;
+        unchanged = ap (λ (x : Query). withPlace r target (record { filled = true; query = x })) read;
+        good = place-kept r target (record { filled = true; query = s .query }) (able .good) (filled-place schema (s .query) (told .good) (told .safe));
+        reduces =
+            subst (λ (x : Query). Reduces schema (dependenciesOf r) (queryOf schema (storedAt r source)) (queryOf schema x) (s .count) (imagesOf (s .images))) read
+            (subst (λ (x : Query). Reduces schema (dependenciesOf r) (queryOf schema x) (queryOf schema (s .query)) (s .count) (imagesOf (s .images))) is (told .reduces));
+        no-mapping = λ empty. told .no-mapping (ap (λ (x : Query). queryOf schema x .rows) read ∙ empty);
+      }
+
+-- ---- 3. the refusals in their order
+
+-- A refused call
+refused-with : (r : Record) (source target n : ℕ) (o : Reduced) → reductionRefusal r source target ≡ some n → o ≡ refusal r n → IsReduced r source target o
+refused-with r source target n o refuses is =
+    record {
+      refused = λ m e. let same : n ≡ m = cc in is ∙ ap (refusal r) same;
+      accepted = λ e. absurd (never e);
+      unchanged = λ e. absurd (never e);
+      good = λ e. absurd (never e);
+      reduces = λ e. absurd (never e);
+      no-mapping = λ e. absurd (never e);
+    }
+  where
+    never : reductionRefusal r source target ≡ none → ⊥
+    never e = let z : _≡_ {A = ℕ} 0 1 = cc in omega arith
+
+module _ (r : Record) (source target : ℕ) (o : Reduced) where
+  pub reduce-broken : goodRecord r ≡ false → o ≡ refusal r 14 → IsReduced r source target o
+  unfolding reductionRefusal firstHolding
+  reduce-broken e = refused-with r source target 14 o (rw e)
+
+  module _ (good : goodRecord r ≡ true) where
+    high-target : 8 ≤ target → (b : Bool) → ltb source 8 ≡ b → reductionRefusal r source target ≡ some 7
+    unfolding reductionRefusal firstHolding
+    high-target h true e = rw (good, e, le-ltb target 8 h)
+    high-target h false e = rw (good, e)
+
+    -- A place above 7 has the same number whichever of the two it is
+    pub reduce-high : (n : ℕ) → placeAt target ≡ lookup.Refused n → o ≡ refusal r n → IsReduced r source target o
+    reduce-high n e =
+        let f = place-refused target n e in
+        refused-with r source target n o (high-target (f .0) (ltb source 8) refl ∙ ap some (sym (f .1)))
+
+    module _ (low : target < 8) where
+      source-refuses : (n : ℕ) (b f : Bool) → ltb source 8 ≡ b → isFilled r source ≡ f → firstHolding (above source ∷ vacant r source ∷ []) ≡ some n
+          → reductionRefusal r source target ≡ some n
+      unfolding reductionRefusal firstHolding
+      source-refuses n true true e f given =
+          let z : none ≡ some n = rw (e, f) at given in
+          let y : _≡_ {A = ℕ} 0 1 = cc in
+          absurd (omega arith)
+      source-refuses n true false e f given = rw (good, e, f, lt-ltb target 8 low) (rw (e, f) at given)
+      source-refuses n false f e is given = rw (good, e) (rw e at given)
+
+      pub reduce-source : (n : ℕ) → filledPlace r source ≡ lookup.Refused n → o ≡ refusal r n → IsReduced r source target o
+      reduce-source n e =
+          refused-with r source target n o
+          (source-refuses n (ltb source 8) (isFilled r source) refl refl (found-refused (firstHolding (above source ∷ vacant r source ∷ [])) source n e))
+
+      pub reduce-target : (from n : ℕ) → filledPlace r source ≡ lookup.At from → vacantPlace r target ≡ lookup.Refused n → o ≡ refusal r n → IsReduced r source target o
+      unfolding reductionRefusal firstHolding
+      reduce-target from n at e =
+          let f = filled-at r source from at in
+          let g = vacant-refused r target n low e in
+          let refuses : reductionRefusal r source target ≡ some n = rw (good, lt-ltb source 8 (f .1), lt-ltb target 8 low, f .2, g .0, g .1) in
+          refused-with r source target n o refuses
+
+      accepted-none : (from to : ℕ) → filledPlace r source ≡ lookup.At from → vacantPlace r target ≡ lookup.At to → reductionRefusal r source target ≡ none
+      unfolding reductionRefusal firstHolding
+      accepted-none from to at free =
+          let f = filled-at r source from at in
+          let g = vacant-at r target to free in
+          rw (good, lt-ltb source 8 (f .1), lt-ltb target 8 low, f .2, g .2)
+
+      -- An accepted call
+      pub reduce-done : (from to : ℕ) → filledPlace r source ≡ lookup.At from → vacantPlace r target ≡ lookup.At to → IsStored r from to o → IsReduced r source target o
+      reduce-done from to at free stored =
+          let accepts : reductionRefusal r source target ≡ none = accepted-none from to at free in
+          let is : IsStored r source target o =
+          subst₂ (λ (p q : ℕ). IsStored r p q o) (filled-at r source from at .0) (vacant-at r target to free .0) stored
+          in
+          record {
+            refused = λ m e. let z : _≡_ {A = ℕ} 0 1 = cc in absurd (omega arith);
+            accepted = λ e. is .done;
+            unchanged = λ e. is .unchanged;
+            good = λ e. is .good;
+            reduces = λ e. is .reduces;
+            no-mapping = λ e. is .no-mapping;
+          }
+
+-- What the lookups tell of an accepted call
+pub able : (r : Record) (source target from to : ℕ) → goodRecord r ≡ true → filledPlace r source ≡ lookup.At from → vacantPlace r target ≡ lookup.At to
+    → Reducible r from to
+able r source target from to good at free =
+    let f = filled-at r source from at in
+    let g = vacant-at r target to free in
+    record {
+      good = good;
+      source-low = omega (arith, f .0, f .1);
+      target-low = omega (arith, g .0, g .1);
+      source-filled = ap (isFilled r) (f .0) ∙ f .2;
+    }

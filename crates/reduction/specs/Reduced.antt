@@ -1,0 +1,95 @@
+-- What reducing the query of one place into another promises (demand 3). Which rows stay, their order and which mapping is returned are free.
+use mathlib.Core.Path.{_≡_}
+use mathlib.Core.Logic.{_≢_, _↔_}
+use mathlib.Core.Bool.{true}
+use mathlib.Core.List.{List, [], _∷_}
+use mathlib.Core.Option.{Option, none, some}
+use Prim.Native.Nat.{ℕ, _≤_, _<_}
+use lib.ListN.{getD, length, replicate}
+use Rattle.record.specs.declared.Query.{Query}
+use Rattle.record.specs.declared.Dependency.{Dependency}
+use Rattle.record.specs.declared.Record.{Record}
+use Rattle.record.specs.declared.Answer.the-variants as answer
+use Rattle.record.specs.View.{queryOf, schemaOf, dependenciesOf}
+use Rattle.record.specs.Rule.{every, between, goodDependencies, goodQuery, headSafe, goodRecord, noCell, noPlace}
+use Rattle.record.specs.Calls.{firstHolding, broken, above, vacant, filled, isFilled, withPlace}
+use Rattle.mapping.specs.Mapped.{imagesOf}
+use Rattle.reduction.specs.declared.Shortened.{Shortened}
+use Rattle.reduction.specs.declared.Reduced.{Reduced}
+use Rattle.theory.specs.Query as theory
+use Rattle.theory.specs.Database as database
+use Rattle.theory.specs.Answer as answers
+use Rattle.theory.specs.Chase as chasing
+use Rattle.theory.specs.Reduction as reduction
+
+-- The query stored at a place
+abbrev pub storedAt : Record → ℕ → Query
+storedAt r place = getD (r .places) place noPlace .query
+
+-- The query that a place holds
+abbrev pub queryAt : Record → ℕ → theory.Query
+queryAt r place = queryOf (schemaOf r) (storedAt r place)
+
+-- The refusals of a reduction: 14; 7; 11 where the source is vacant; 12 where the target is filled
+unfoldable pub reductionRefusal : Record → ℕ → ℕ → Option ℕ
+reductionRefusal r source target = firstHolding (broken r ∷ above source ∷ above target ∷ vacant r source ∷ filled r target ∷ [])
+
+-- What a refused reduction gives: the number, the record as it was, and 0 in every other field
+abbrev pub refusal : Record → ℕ → Reduced
+refusal r n = record { answer = answer.Refused n; «record» = r; count = 0; images = replicate 96 noCell }
+
+-- What an accepted reduction of S, under the schema and the dependencies ds, gives: T is the result, `images` the mapping and `count` the count
+pub record Reduces (schema : List ℕ) (ds : List database.Dependency) (S T : theory.Query) (count : ℕ) (images : ℕ → theory.Entry) : Type 0 where
+  -- T is a result of reduction
+  pub result : reduction.Reduction ds S T
+  -- unless T is never, a mapping from S to T is returned
+  pub mapping : T .rows ≢ [] → answers.IsMapping S T images
+  -- on every database that obeys the dependencies T has exactly the answers of S
+  pub answers : (D : database.Database) → database.Obeys ds D → (t : List ℕ) → answers.Answer D S t ↔ answers.Answer D T t
+  -- every query with those answers on all those databases has at least as many rows
+  pub minimal : reduction.Minimal schema ds S T
+  -- the count is the number of replacements that the chase makes on S
+  pub counted : (chased : theory.Query) × chasing.Chases ds S chased count
+  -- and at most the number of different variables of S
+  pub count-le : count ≤ theory.variableCount S
+
+-- A query and dependencies that are good under some schema, as those of a good record
+pub record Shortenable (q : Query) (dependencies : List Dependency) (held : ℕ) : Type 0 where
+  pub schema : List ℕ
+  pub widths : every (between 1 8) schema ≡ true
+  pub dependencies-good : goodDependencies schema held dependencies ≡ true
+  pub query-good : goodQuery schema q ≡ true
+
+-- What a query is shortened to, read through a schema that makes it good
+pub record IsShortened (schema : List ℕ) (ds : List database.Dependency) (q : Query) (r : Shortened) : Type 0 where
+  pub good : goodQuery schema (r .query) ≡ true
+  pub safe : headSafe schema (r .query) ≡ true
+  pub reduces : Reduces schema ds (queryOf schema q) (queryOf schema (r .query)) (r .count) (imagesOf (r .images))
+  pub no-mapping : queryOf schema (r .query) .rows ≡ [] → r .images ≡ replicate 96 noCell
+
+-- A good record whose source place is filled, and a target place
+pub record Reducible (r : Record) (source target : ℕ) : Type 0 where
+  pub good : goodRecord r ≡ true
+  pub source-low : source < 8
+  pub target-low : target < 8
+  pub source-filled : isFilled r source ≡ true
+
+-- What an accepted reduction gives
+pub record IsStored (r : Record) (source target : ℕ) (o : Reduced) : Type 0 where
+  pub done : o .answer ≡ answer.Done
+  pub unchanged : o .«record» ≡ withPlace r target (record { filled = true; query = storedAt (o .«record») target })
+  pub good : goodRecord (o .«record») ≡ true
+  pub reduces : Reduces (schemaOf r) (dependenciesOf r) (queryAt r source) (queryAt (o .«record») target) (o .count) (imagesOf (o .images))
+  pub no-mapping : queryAt (o .«record») target .rows ≡ [] → o .images ≡ replicate 96 noCell
+
+-- What reducing the query at `source` into `target` promises: a refusal, or all of demand 3 and nothing else in the record changed
+pub record IsReduced (r : Record) (source target : ℕ) (o : Reduced) : Type 0 where
+  pub refused : (n : ℕ) → reductionRefusal r source target ≡ some n → o ≡ refusal r n
+  pub accepted : reductionRefusal r source target ≡ none → o .answer ≡ answer.Done
+  pub unchanged : reductionRefusal r source target ≡ none
+      → o .«record» ≡ withPlace r target (record { filled = true; query = storedAt (o .«record») target })
+  pub good : reductionRefusal r source target ≡ none → goodRecord (o .«record») ≡ true
+  pub reduces : reductionRefusal r source target ≡ none
+      → Reduces (schemaOf r) (dependenciesOf r) (queryAt r source) (queryAt (o .«record») target) (o .count) (imagesOf (o .images))
+  -- a mapping that is absent is 0
+  pub no-mapping : reductionRefusal r source target ≡ none → queryAt (o .«record») target .rows ≡ [] → o .images ≡ replicate 96 noCell

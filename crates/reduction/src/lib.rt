@@ -1,0 +1,115 @@
+// Reducing the query of one place into a vacant one: chase it, lose rows while it can be mapped into itself without one of them, and find a mapping from the
+// query as it was stored.
+mod rows; // rows.rt: a query without one of its rows, and without all that it can do without
+
+use record::Answer;
+use record::Cell;
+use record::Dependency;
+use record::Entry;
+use record::Lookup;
+use record::Place;
+use record::Query;
+use record::Record;
+ghost use mathlib.Core.Path.{_≡_};
+ghost use mathlib.Core.Bool.{true};
+ghost use mathlib.Core.List.{List};
+ghost use Prim.Native.Nat.{ℕ};
+ghost use Rattle.record.specs.Rule.{every, between, goodQuery, headSafe};
+ghost use Rattle.chase.specs.Wide.{heldOf};
+ghost use Rattle.reduction.specs.Reduced.{refusal, Shortenable, IsShortened, Reducible, IsStored, IsReduced};
+
+// What a reduction gives: its answer, the record after it, the number of replacements, and the mapping from the source query to the result.
+// Where there is no mapping, its images hold constant 0.
+pub struct Reduced {
+    pub answer: Answer,
+    pub record: Record,
+    pub count: u8,
+    pub images: [Cell; 96],
+}
+
+// A shortened query, the number of replacements, and the mapping from the query as it was. Where there is none, its images hold constant 0.
+struct Shortened {
+    query: Query,
+    count: u8,
+    images: [Cell; 96],
+}
+
+// A reduction is refused with a number.
+fn refused(number: u8, given: Record) -> Reduced
+    ensures { λ o. ⌜ o ≡ refusal given number ⌝ }
+{
+    let blank = Cell {
+        entry: Entry::Constant(0),
+    };
+    Reduced {
+        answer: Answer::Refused(number),
+        record: given,
+        count: 0,
+        images: [blank; 96],
+    }
+}
+
+// Shortens a query: chases it, loses rows and finds a mapping from the query as it was.
+fn shorten(q: Query, dependencies: [Dependency; 32], held: usize) -> Shortened
+    requires { ⌜ Shortenable q dependencies held ⌝ }
+    ensures { λ r. ⌜ ((schema : List ℕ) → every (between 1 8) schema ≡ true → goodQuery schema q ≡ true → headSafe schema q ≡ true → IsShortened schema (heldOf dependencies held) q r) ⌝ }
+{
+    let chased = chase::chase(q, dependencies, held);
+    let query = chased.query;
+    let result = rows::prune(query);
+    let mapped = mapping::find(q, result);
+    let images = mapped.images;
+    Shortened {
+        query: result,
+        count: chased.count,
+        images: images,
+    }
+}
+
+// Reduces the query at a filled place into a vacant one.
+fn store_reduced(given: Record, source: usize, target: usize) -> Reduced
+    requires { ⌜ Reducible given source target ⌝ }
+    ensures { λ o. ⌜ IsStored given source target o ⌝ }
+{
+    let dependencies = given.dependencies;
+    let held = given.held as usize;
+    let places = given.places;
+    let place = places[source];
+    let stored = place.query;
+    let shortened = shorten(stored, dependencies, held);
+    let query = shortened.query;
+    let images = shortened.images;
+    let mut after = given;
+    after.places[target] = Place {
+        filled: true,
+        query: query,
+    };
+    Reduced {
+        answer: Answer::Done,
+        record: after,
+        count: shortened.count,
+        images: images,
+    }
+}
+
+// Reduces the query at `source` into `target`. A place above 7 is refused before a vacant or a filled one.
+pub fn reduce(given: Record, source: usize, target: usize) -> Reduced
+    ensures { λ o. ⌜ IsReduced given source target o ⌝ }
+{
+    if !given.whole() {
+        return refused(14, given);
+    }
+    let found = record::calls::place_at(target);
+    let Lookup::At(_) = found else {
+        return refused(record::calls::number(found), given);
+    };
+    let found = given.filled_place(source);
+    let Lookup::At(from) = found else {
+        return refused(record::calls::number(found), given);
+    };
+    let found = given.vacant_place(target);
+    let Lookup::At(to) = found else {
+        return refused(record::calls::number(found), given);
+    };
+    store_reduced(given, from, to)
+}
