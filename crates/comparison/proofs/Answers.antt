@@ -68,11 +68,14 @@ module _ (r : Record) (p q : ℕ) (first second : Query) (dependencies : List De
   good-second : goodQuery (schemaOf r) second ≡ true
   good-second = rw (drawn .second-is) (queries r p q (drawn .accepted) .good-q)
 
-  -- The first can be chased
-  pub drawn-chasable : Chasable first dependencies held
-  drawn-chasable =
-      chasable (schemaOf r) held dependencies first (queries r p q (drawn .accepted) .widths)
-      (rw (drawn .dependencies-are, drawn .held-is) (dependencies-good r (standing r p q (drawn .accepted) .good))) good-first
+  -- Each can be chased
+  good-chasable : (x : Query) → goodQuery (schemaOf r) x ≡ true → Chasable x dependencies held
+  good-chasable x good-x =
+      chasable (schemaOf r) held dependencies x (queries r p q (drawn .accepted) .widths)
+      (rw (drawn .dependencies-are, drawn .held-is) (dependencies-good r (standing r p q (drawn .accepted) .good))) good-x
+
+  pub drawn-chasable : Chasable first dependencies held × Chasable second dependencies held
+  drawn-chasable = (good-chasable first good-first, good-chasable second good-second)
 
   -- With the chased query
   module _ (chased : Chased)

@@ -99,7 +99,7 @@ refused-apart n e = let z : _≡_ {A = ℕ} 0 1 = cc in omega arith
 pub compared-refused : (r : Record) (p q n : ℕ) → pairRefusal r p q ≡ some n → Compared r p q (bare (Refused n))
 compared-refused r p q n refused =
     record {
-      verdict = ap (λ (o : Option ℕ). judged o (verdictOn (chasedAt r p .rows) (search.mappable (queryAt r q) (chasedAt r p)))) (sym refused);
+      verdict = rw refused;
       mapping = λ e. absurd (refused-contained n e);
       no-mapping = λ e. refl;
       chased = λ e. absurd (refused-apart n e);

@@ -44,7 +44,8 @@ use Rattle.reduction.specs.declared.Shortened.{Shortened}
 use Rattle.reduction.specs.declared.Reduced.{Reduced}
 use Rattle.mapping.specs.Mapped.{imagesOf, IsMapped}
 use Rattle.reduction.specs.Rows.{IsPruned}
-use Rattle.reduction.specs.Reduced.{storedAt, queryAt, refusal, reductionRefusal, Reduces, Shortenable, IsShortened, Reducible, IsStored, IsReduced}
+use Rattle.reduction.specs.Reduced.{storedAt, refusal, reductionRefusal, Reduces, IsReduced}
+use Rattle.reduction.specs.Steps.{Shortenable, IsShortened, Reducible, IsStored}
 
 -- ---- 1. the shortened query
 

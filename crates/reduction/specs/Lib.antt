@@ -1,3 +1,4 @@
--- What losing rows and reducing a place promise.
+-- What losing rows, shortening a query and reducing a place promise.
 pub mod Rows
 pub mod Reduced
+pub mod Steps

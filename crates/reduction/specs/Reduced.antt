@@ -4,17 +4,15 @@ use mathlib.Core.Logic.{_≢_, _↔_}
 use mathlib.Core.Bool.{true}
 use mathlib.Core.List.{List, [], _∷_}
 use mathlib.Core.Option.{Option, none, some}
-use Prim.Native.Nat.{ℕ, _≤_, _<_}
+use Prim.Native.Nat.{ℕ, _≤_}
 use lib.ListN.{getD, length, replicate}
 use Rattle.record.specs.declared.Query.{Query}
-use Rattle.record.specs.declared.Dependency.{Dependency}
 use Rattle.record.specs.declared.Record.{Record}
 use Rattle.record.specs.declared.Answer.the-variants as answer
 use Rattle.record.specs.View.{queryOf, schemaOf, dependenciesOf}
-use Rattle.record.specs.Rule.{every, between, goodDependencies, goodQuery, headSafe, goodRecord, noCell, noPlace}
-use Rattle.record.specs.Calls.{firstHolding, broken, above, vacant, filled, isFilled, withPlace}
+use Rattle.record.specs.Rule.{goodRecord, noCell, noPlace}
+use Rattle.record.specs.Calls.{firstHolding, broken, above, vacant, filled, withPlace}
 use Rattle.mapping.specs.Mapped.{imagesOf}
-use Rattle.reduction.specs.declared.Shortened.{Shortened}
 use Rattle.reduction.specs.declared.Reduced.{Reduced}
 use Rattle.theory.specs.Query as theory
 use Rattle.theory.specs.Database as database
@@ -52,35 +50,6 @@ pub record Reduces (schema : List ℕ) (ds : List database.Dependency) (S T : th
   pub counted : (chased : theory.Query) × chasing.Chases ds S chased count
   -- and at most the number of different variables of S
   pub count-le : count ≤ theory.variableCount S
-
--- A query and dependencies that are good under some schema, as those of a good record
-pub record Shortenable (q : Query) (dependencies : List Dependency) (held : ℕ) : Type 0 where
-  pub schema : List ℕ
-  pub widths : every (between 1 8) schema ≡ true
-  pub dependencies-good : goodDependencies schema held dependencies ≡ true
-  pub query-good : goodQuery schema q ≡ true
-
--- What a query is shortened to, read through a schema that makes it good
-pub record IsShortened (schema : List ℕ) (ds : List database.Dependency) (q : Query) (r : Shortened) : Type 0 where
-  pub good : goodQuery schema (r .query) ≡ true
-  pub safe : headSafe schema (r .query) ≡ true
-  pub reduces : Reduces schema ds (queryOf schema q) (queryOf schema (r .query)) (r .count) (imagesOf (r .images))
-  pub no-mapping : queryOf schema (r .query) .rows ≡ [] → r .images ≡ replicate 96 noCell
-
--- A good record whose source place is filled, and a target place
-pub record Reducible (r : Record) (source target : ℕ) : Type 0 where
-  pub good : goodRecord r ≡ true
-  pub source-low : source < 8
-  pub target-low : target < 8
-  pub source-filled : isFilled r source ≡ true
-
--- What an accepted reduction gives
-pub record IsStored (r : Record) (source target : ℕ) (o : Reduced) : Type 0 where
-  pub done : o .answer ≡ answer.Done
-  pub unchanged : o .«record» ≡ withPlace r target (record { filled = true; query = storedAt (o .«record») target })
-  pub good : goodRecord (o .«record») ≡ true
-  pub reduces : Reduces (schemaOf r) (dependenciesOf r) (queryAt r source) (queryAt (o .«record») target) (o .count) (imagesOf (o .images))
-  pub no-mapping : queryAt (o .«record») target .rows ≡ [] → o .images ≡ replicate 96 noCell
 
 -- What reducing the query at `source` into `target` promises: a refusal, or all of demand 3 and nothing else in the record changed
 pub record IsReduced (r : Record) (source target : ℕ) (o : Reduced) : Type 0 where

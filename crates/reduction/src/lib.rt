@@ -16,7 +16,8 @@ ghost use mathlib.Core.List.{List};
 ghost use Prim.Native.Nat.{ℕ};
 ghost use Rattle.record.specs.Rule.{every, between, goodQuery, headSafe};
 ghost use Rattle.chase.specs.Wide.{heldOf};
-ghost use Rattle.reduction.specs.Reduced.{refusal, Shortenable, IsShortened, Reducible, IsStored, IsReduced};
+ghost use Rattle.reduction.specs.Reduced.{refusal, IsReduced};
+ghost use Rattle.reduction.specs.Steps.{Shortenable, IsShortened, Reducible, IsStored};
 
 // What a reduction gives: its answer, the record after it, the number of replacements, and the mapping from the source query to the result.
 // Where there is no mapping, its images hold constant 0.
@@ -49,7 +50,7 @@ fn refused(number: u8, given: Record) -> Reduced
     }
 }
 
-// Shortens a query: chases it, loses rows and finds a mapping from the query as it was.
+// Shortens a query: chases it, loses rows, and finds a mapping from the query as it was.
 fn shorten(q: Query, dependencies: [Dependency; 32], held: usize) -> Shortened
     requires { ⌜ Shortenable q dependencies held ⌝ }
     ensures { λ r. ⌜ ((schema : List ℕ) → every (between 1 8) schema ≡ true → goodQuery schema q ≡ true → headSafe schema q ≡ true → IsShortened schema (heldOf dependencies held) q r) ⌝ }

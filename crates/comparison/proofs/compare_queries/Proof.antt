@@ -12,7 +12,8 @@ use Rattle.comparison.proofs.compare_queries.Tie as tie
 
 chase-requires : tie.Need-chase-requires
 chase-requires c κs =
-    drawn-chasable (c .pre .0) (c .pre .1) (c .pre .2) (c .args .first) (c .args .second) (c .args .dependencies) (c .args .held) (c .pre .3)
+    let each = drawn-chasable (c .pre .0) (c .pre .1) (c .pre .2) (c .args .first) (c .args .second) (c .args .dependencies) (c .args .held) (c .pre .3) in
+    search (needs, each .0, each .1)
 
 only-requires : tie.Need-only-requires
 only-requires c κs = search needs
