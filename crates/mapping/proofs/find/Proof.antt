@@ -5,15 +5,13 @@ use borrow.Author.Tests.{not-true, not-false}
 use mathlib.Core.Path.{_≡_}
 use mathlib.Core.Bool.{true}
 use Prim.Native.Nat.{ℕ, _+_, _≤_, _<_}
-use native.Mathlib.Omega.{arith}
 use lib.ListN.{getD, length}
 use Rattle.theory.specs.Containment.{freeze}
 use Rattle.record.proofs.Tail.{mapped-length}
 use Rattle.search.specs.Solution.{Sized, choiceOf}
-use Rattle.mapping.specs.Agree.{candidatesOf, Laid}
+use Rattle.mapping.specs.Agree.{Laid}
 use Rattle.mapping.specs.Mapped.{entryAt}
-use Rattle.mapping.proofs.Masks.{marks-small}
-use Rattle.mapping.proofs.Candidates.{few-candidates}
+use Rattle.mapping.proofs.Candidates.{search-sized}
 use Rattle.mapping.proofs.Wide.{chosen-small}
 use Rattle.mapping.proofs.Lines.{Sizes, all-within}
 use Rattle.mapping.proofs.Results.{storable-size, line-number, number-small, none-size, none-solution, found-solution}
@@ -99,17 +97,10 @@ to-is c = line-number (c .before .before .before .before .before .before .before
 -- The search is given what it asks for
 sized : (c : After-table) → Sized (c .before .before .before .before .before .before .before .before .before .before .before .before .before .before .before .args .source .size + 1) (c .before .before .before .domains .result) (c .table .result)
 sized c =
-    let source = c .before .before .before .before .before .before .before .before .before .before .before .before .before .before .before .args .source in
-    let target = c .before .before .before .before .before .before .before .before .before .before .before .before .before .before .before .args .target in
-    let few : source .size ≤ 12 = storable-size source (c .before .before .before .before .before .before .before .before .before .before .before .before .before .before .before .pre .0) in
-    record {
-      few = omega arith;
-      domain-length = domain-long (c .before .before .before);
-      table-length = table-long c;
-      masks = λ r h.
-          marks-small _ (candidatesOf (source .size) (target .size) r) (getD (c .before .before .before .domains .result) r 0)
-          (few-candidates (source .size) (target .size) r (storable-size target (c .before .before .before .before .before .before .before .before .before .before .before .before .before .before .before .pre .1))) (c .before .before .before .domains .ensures r (omega arith));
-    }
+    search-sized (c .before .before .before .before .before .before .before .before .before .numbers .result) (c .before .before .before .before .before .before .before .before .numbers2 .result) (c .before .before .before .before .before .before .before .before .before .before .before .before .before .before .before .args .source .relations) (c .before .before .before .before .before .before .before .before .before .before .before .before .before .before .before .args .target .relations)
+    (c .before .before .before .before .before .before .before .before .before .before .before .before .before .before .before .args .source .size) (c .before .before .before .before .before .before .before .before .before .before .before .before .before .before .before .args .target .size) (c .before .before .before .domains .result) (c .table .result)
+    (storable-size (c .before .before .before .before .before .before .before .before .before .before .before .before .before .before .before .args .source) (c .before .before .before .before .before .before .before .before .before .before .before .before .before .before .before .pre .0)) (storable-size (c .before .before .before .before .before .before .before .before .before .before .before .before .before .before .before .args .target) (c .before .before .before .before .before .before .before .before .before .before .before .before .before .before .before .pre .1)) (domain-long (c .before .before .before)) (table-long c)
+    (c .before .before .before .domains .ensures)
 
 -- A choice that solves it has candidates below 12
 chosen-below : (c : After-solve) → c .solve .result .found ≡ true → (r : ℕ) → r ≤ c .before .before .before .before .before .before .before .before .before .before .before .before .before .before .before .before .before .before .args .source .size → getD (c .solve .result .chosen) r 0 < 12
