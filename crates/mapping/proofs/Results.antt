@@ -1,5 +1,5 @@
 -- What finding and checking promise, from what their parts promise: 1. the lines of two good queries, 2. checking, 3. finding.
--- Assumes nothing.
+-- Assumes noMapping.
 use mathlib.Core.Path.{_≡_, refl, sym, _∙_, ap, subst}
 use mathlib.Core.Bool.{Bool, true, false, true≢false, false≢true}
 use mathlib.Core.List.{List}
@@ -16,11 +16,9 @@ use Rattle.record.specs.View.{entryOf}
 use Rattle.record.specs.Rule.{noCell}
 use Rattle.record.proofs.Good.{good-query}
 use Rattle.record.proofs.Stored.{Within}
-use Rattle.search.specs.Solution.{Solution}
-use Rattle.mapping.specs.Tests.{Tells}
-use Rattle.mapping.specs.declared.Mapped.{Mapped}
+use Rattle.search.specs.Solution.{Tells, Solution}
 use Rattle.mapping.specs.Agree.{IsDomain, IsTable}
-use Rattle.mapping.specs.Mapped.{cellAt, entryAt, entryIn, imagesOf, Storable, Carried, Lands, RestBlank, Assigned, Finds, Checks}
+use Rattle.mapping.specs.Mapped.{cellAt, entryAt, entryIn, imagesOf, Storable, Carried, Lands, RestBlank, Assigned, noMapping, Finds, Checks}
 use Rattle.mapping.proofs.Tells.{tells-false}
 use Rattle.mapping.proofs.Wide.{Wide, wide-solution, solution-wide}
 use Rattle.mapping.proofs.Lines.{Sizes, all-within, mapping-wide, wide-mapping, mapping-arity}
@@ -124,14 +122,10 @@ module _ (source target : Query) (images : List Cell) (sizes : Sizes source) (si
 
 -- ---- 3. finding
 
--- No mapping was found
-abbrev pub nothing : Mapped
-nothing = record { found = false; images = replicate 96 noCell }
-
 module _ (source target : Query) (sizes : Sizes source) (sizes' : Sizes target) where
   -- There is none where no images are a mapping by positions
   pub none-found : ((f : ℕ → Entry) → Wide (entryAt source) (entryAt target) (source .relations) (target .relations) (source .size) (target .size) f → ⊥)
-      → Finds source target nothing
+      → Finds source target noMapping
   none-found out schema narrow good good' same =
       record {
         mapping = λ e. absurd (false≢true e);
@@ -139,7 +133,7 @@ module _ (source target : Query) (sizes : Sizes source) (sizes' : Sizes target) 
         blank = λ e. refl;
       }
 
-  pub none-size : source .size ≡ 0 → Finds source target nothing
+  pub none-size : source .size ≡ 0 → Finds source target noMapping
   none-size none = none-found (λ f w. let h : 0 < source .size = w .some-row in omega arith)
 
   module _ (storable : Storable source) (storable' : Storable target) (cells : List Cell) (from to domain table : List ℕ)
@@ -148,7 +142,7 @@ module _ (source target : Query) (sizes : Sizes source) (sizes' : Sizes target) 
       (is-domain : IsDomain from to (source .relations) (target .relations) (source .size) (target .size) domain)
       (is-table : IsTable from to (source .size) (target .size) table) where
     -- There is none where the search has no solution
-    pub none-solution : ((choice : ℕ → ℕ) → Solution (source .size + 1) domain table choice → ⊥) → Finds source target nothing
+    pub none-solution : ((choice : ℕ → ℕ) → Solution (source .size + 1) domain table choice → ⊥) → Finds source target noMapping
     none-solution out =
         none-found
         (λ f w.

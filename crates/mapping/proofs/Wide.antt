@@ -89,7 +89,7 @@ module _ (source target : ℕ → Entry) (from to named offered : List ℕ) (siz
   to-same j k hj hk e = freeze-same (target j) (target k) (to-within j hj) (to-within k hk) (sym (to-is j hj) ∙ e ∙ to-is k hk)
 
   -- A choice of candidates that f lands on
-  pub record Lands (f : ℕ → Entry) (choice : ℕ → ℕ) : Type 0 where
+  pub record LandsOn (f : ℕ → Entry) (choice : ℕ → ℕ) : Type 0 where
     pub is-candidate : (r : ℕ) → r ≤ size → choice r < candidatesOf size count r
     pub same-relation : (r : ℕ) → r < size → getD named r 0 ≡ getD offered (choice r) 0
     pub carried : (r i : ℕ) → r ≤ size → i < 8 → valueOf constant f (source (rowStart size r + i)) ≡ target (imageStart size r (choice r) + i)
@@ -99,7 +99,7 @@ module _ (source target : ℕ → Entry) (from to named offered : List ℕ) (siz
 
   -- ---- 3. a choice that f lands on is a solution
 
-  module _ (f : ℕ → Entry) (choice : ℕ → ℕ) (lands : Lands f choice) where
+  module _ (f : ℕ → Entry) (choice : ℕ → ℕ) (lands : LandsOn f choice) where
     at-row : (r i : ℕ) → r ≤ size → i < 8 → rowStart size r + i < 104
     at-row r i h k = row-inside size r i few h k
 
@@ -167,7 +167,7 @@ module _ (source target : ℕ → Entry) (from to named offered : List ℕ) (siz
           go (yes l) = absurd (omega arith)
           go (no l) = refl
 
-      lands : Lands f choice
+      lands : LandsOn f choice
       lands =
           record {
             is-candidate = λ r h.
@@ -214,22 +214,36 @@ module _ (source target : ℕ → Entry) (from to named offered : List ℕ) (siz
       image-place : (r i : ℕ) → r ≤ size → i < 8 → imageStart size r (choice r) + i < 104
       image-place r i h k = image-inside size r (choice r) i h (chosen-small r h) k
 
+      -- Two places of one variable have images that are one entry
+      one-image : (n r i r' i' : ℕ) → r ≤ size → i < 8 → r' ≤ size → i' < 8 → getD from (rowStart size r + i) 0 ≡ n → getD from (rowStart size r' + i') 0 ≡ n
+          → 2147483648 ≤ n → target (imageStart size r' (choice r') + i') ≡ target (imageStart size r (choice r) + i)
+      one-image n r i r' i' h k h' k' at at' large =
+          to-same (imageStart size r' (choice r') + i') (imageStart size r (choice r) + i) (image-place r' i' h' k') (image-place r i h k)
+          (sym (chosen-together r' r h' h i' k' (subst (λ (m : ℕ). 2147483648 ≤ m) (sym at') large) i k (at ∙ sym at')))
+
       -- A variable goes to its image in each row
       variable-carried : (v r i : ℕ) → r ≤ size → i < 8 → source (rowStart size r + i) ≡ variable v
           → imagesOf images v ≡ target (imageStart size r (choice r) + i)
-      variable-carried v r i h k is =
-          let below : v < 96 = subst Within is (from-within (rowStart size r + i) (place r i h k)) in
-          let number : getD from (rowStart size r + i) 0 ≡ 2147483648 + v = from-is (rowStart size r + i) (place r i h k) ∙ ap (freeze 2147483648) is in
-          ⊎-elim
-          (λ w. absurd (w .0 r i (omega arith) k number))
-          (λ w.
-          let l : w .0 ≤ size = let z : w .0 < size + 1 = w .2 in omega arith in
-          ap (λ (c : Cell). entryOf (c .entry)) (w .5) ∙ cells-are (imageStart size (w .0) (choice (w .0)) + w .1) (image-place (w .0) (w .1) l (w .3))
-          ∙ sym
-          (to-same (imageStart size r (choice r) + i) (imageStart size (w .0) (choice (w .0)) + w .1) (image-place r i h k) (image-place (w .0) (w .1) l (w .3))
-          (chosen-together (w .0) r l h (w .1) (w .3) (let z : getD from (rowStart size (w .0) + w .1) 0 ≡ 2147483648 + v = w .4 in omega arith) i k
-          (number ∙ sym (w .4)))))
-          (assigned v below)
+      variable-carried v r i h k is = go (assigned v below)
+        where
+          below : v < 96
+          below = subst Within is (from-within (rowStart size r + i) (place r i h k))
+
+          number : getD from (rowStart size r + i) 0 ≡ 2147483648 + v
+          number = from-is (rowStart size r + i) (place r i h k) ∙ ap (freeze 2147483648) is
+
+          last : (r' : ℕ) → r' < size + 1 → r' ≤ size
+          last r' l = omega arith
+
+          go : (((r' i' : ℕ) → r' < size + 1 → i' < 8 → getD from (rowStart size r' + i') 0 ≡ 2147483648 + v → ⊥) × (getD images v noCell ≡ noCell))
+              ⊎ ((r' : ℕ) × (i' : ℕ) × (r' < size + 1) × (i' < 8) × (getD from (rowStart size r' + i') 0 ≡ 2147483648 + v)
+              × (getD images v noCell ≡ getD cells (imageStart size r' (choice r') + i') noCell))
+              → imagesOf images v ≡ target (imageStart size r (choice r) + i)
+          go (inl w) = absurd (w .0 r i (omega arith) k number)
+          go (inr w) =
+              ap (λ (c : Cell). entryOf (c .entry)) (w .5)
+              ∙ cells-are (imageStart size (w .0) (choice (w .0)) + w .1) (image-place (w .0) (w .1) (last (w .0) (w .2)) (w .3))
+              ∙ one-image (2147483648 + v) r i (w .0) (w .1) h k (last (w .0) (w .2)) (w .3) number (w .4) (omega arith)
 
       -- An entry goes to the entry in its place
       entry-carried : (r i : ℕ) → r ≤ size → i < 8 → (x : Entry) → source (rowStart size r + i) ≡ x

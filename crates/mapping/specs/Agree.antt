@@ -1,4 +1,5 @@
--- Rows as numbers, 8 to a row: a number from 2,147,483,648 on is a variable, a smaller one a constant. When images of rows are consistent.
+-- Rows as numbers, 8 to a row: a number from 2,147,483,648 on is a variable, a smaller one a constant.
+-- First when images of rows are consistent, then the rows, candidates, masks and table that the search is given.
 use mathlib.Core.Path.{_≡_}
 use mathlib.Core.Bool.{cond}
 use mathlib.Core.List.{List}

@@ -1,4 +1,5 @@
--- Stored queries laid out as 104 entries, and what finding and checking a mapping between them promise.
+-- Mappings between stored queries (document 01's "Answers and mappings"): what finding and checking one promise.
+-- First queries laid out in one line of 104 cells, then what images carry and how they are collected, last the promises `Finds` and `Checks`.
 use mathlib.Core.Path.{_≡_}
 use mathlib.Core.Bool.{Bool, true, false, cond}
 use mathlib.Core.List.{List}
@@ -76,6 +77,10 @@ Assigned source target size choice n images =
     → (((r i : ℕ) → r < n → i < 8 → getD source (rowStart size r + i) 0 ≡ 2147483648 + v → ⊥) × (getD images v noCell ≡ noCell))
     ⊎ ((r : ℕ) × (i : ℕ) × (r < n) × (i < 8) × (getD source (rowStart size r + i) 0 ≡ 2147483648 + v)
     × (getD images v noCell ≡ getD target (imageStart size r (choice r) + i) noCell))
+
+-- No mapping was found
+abbrev pub noMapping : Mapped
+noMapping = record { found = false; images = replicate 96 noCell }
 
 -- What is found: the images are a mapping, or there is no mapping and they hold constant 0
 pub record IsMapped (schema : List ℕ) (source target : Query) (r : Mapped) : Type 0 where

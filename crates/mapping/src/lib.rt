@@ -16,7 +16,8 @@ use crate::table::table;
 use record::Cell;
 use record::Entry;
 use record::Query;
-ghost use Rattle.mapping.specs.Mapped.{Storable, Finds, Checks};
+ghost use mathlib.Core.Path.{_≡_};
+ghost use Rattle.mapping.specs.Mapped.{noMapping, Storable, Finds, Checks};
 
 // A mapping that was looked for: whether there is one, and the image of each variable. Where there is none the images hold constant 0.
 pub struct Mapped {
@@ -24,21 +25,28 @@ pub struct Mapped {
     pub images: [Cell; 96],
 }
 
+// No mapping.
+pub fn no_mapping() -> Mapped
+    ensures { λ r. ⌜ r ≡ noMapping ⌝ }
+{
+    let images = [Cell {
+        entry: Entry::Constant(0),
+    }; 96];
+    Mapped {
+        found: false,
+        images: images,
+    }
+}
+
 // A mapping from one query to another of the same arity, if there is one. Which one is free.
 pub fn find(source: Query, target: Query) -> Mapped
     requires { ⌜ Storable source × Storable target ⌝ }
     ensures { λ r. ⌜ Finds source target r ⌝ }
 {
-    let none = [Cell {
-        entry: Entry::Constant(0),
-    }; 96];
     let size = source.size as usize;
     let count = target.size as usize;
     if size == 0 {
-        return Mapped {
-            found: false,
-            images: none,
-        };
+        return no_mapping();
     }
     let cells = flat(target);
     let from = numbers(flat(source));
@@ -49,10 +57,7 @@ pub fn find(source: Query, target: Query) -> Mapped
     let pairs = table(&from, &to, size, count);
     let outcome = search::solve(&domain, &pairs, size + 1);
     if !outcome.found {
-        return Mapped {
-            found: false,
-            images: none,
-        };
+        return no_mapping();
     }
     let chosen = outcome.chosen;
     let images = assign(from, cells, size, chosen);

@@ -2,18 +2,16 @@
 -- Assumes nothing.
 use borrow.Author.Needs.{needs}
 use borrow.Author.Tests.{not-true, not-false}
-use mathlib.Core.Path.{_≡_}
+use mathlib.Core.Path.{_≡_, sym, subst}
 use mathlib.Core.Bool.{true}
 use Prim.Native.Nat.{ℕ, _+_, _≤_, _<_}
-use native.Mathlib.Omega.{arith}
 use lib.ListN.{getD, length}
 use Rattle.theory.specs.Containment.{freeze}
 use Rattle.record.proofs.Tail.{mapped-length}
-use Rattle.mapping.specs.Tests.{choiceOf}
-use Rattle.mapping.specs.Agree.{candidatesOf, Laid}
-use Rattle.mapping.specs.Mapped.{entryAt}
-use Rattle.mapping.proofs.Masks.{marks-small}
-use Rattle.mapping.proofs.Candidates.{few-candidates}
+use Rattle.search.specs.Solution.{Sized, choiceOf}
+use Rattle.mapping.specs.Agree.{Laid}
+use Rattle.mapping.specs.Mapped.{entryAt, Finds}
+use Rattle.mapping.proofs.Candidates.{search-sized}
 use Rattle.mapping.proofs.Wide.{chosen-small}
 use Rattle.mapping.proofs.Lines.{Sizes, all-within}
 use Rattle.mapping.proofs.Results.{storable-size, line-number, number-small, none-size, none-solution, found-solution}
@@ -21,6 +19,7 @@ use Rattle.mapping.proofs.find.Statement.{statement}
 use Rattle.mapping.proofs.find.Tie as tie
 use Rattle.mapping.proofs.find.Reads as reads
 use Rattle.mapping.proofs.find.Lts as lts
+use Rattle.mapping.proofs.no_mapping.Reads as no-mapping-reads
 use Rattle.mapping.proofs.assign.assign.Reads as assign-reads
 use Rattle.mapping.proofs.cells.flat.Reads as flat-reads
 use Rattle.mapping.proofs.cells.numbers.Reads as numbers-reads
@@ -32,31 +31,31 @@ use Rattle.search.proofs.solve.Reads as solve-reads
 
 abbrev Start : Type 0
 Start = lts.Start
-    (flat-reads.Asked, flat-reads.Learnt, numbers-reads.Asked, numbers-reads.Learnt, domains-reads.Asked, domains-reads.Learnt, table-reads.Asked, table-reads.Learnt, solve-reads.Asked, solve-reads.Learnt, assign-reads.Asked, assign-reads.Learnt) reads.Pre reads.Post
+    (no-mapping-reads.Asked, no-mapping-reads.Learnt, flat-reads.Asked, flat-reads.Learnt, numbers-reads.Asked, numbers-reads.Learnt, domains-reads.Asked, domains-reads.Learnt, table-reads.Asked, table-reads.Learnt, solve-reads.Asked, solve-reads.Learnt, assign-reads.Asked, assign-reads.Learnt) reads.Pre reads.Post
 
 abbrev After-numbers : Type 0
 After-numbers = lts.After-numbers
-    (flat-reads.Asked, flat-reads.Learnt, numbers-reads.Asked, numbers-reads.Learnt, domains-reads.Asked, domains-reads.Learnt, table-reads.Asked, table-reads.Learnt, solve-reads.Asked, solve-reads.Learnt, assign-reads.Asked, assign-reads.Learnt) reads.Pre reads.Post
+    (no-mapping-reads.Asked, no-mapping-reads.Learnt, flat-reads.Asked, flat-reads.Learnt, numbers-reads.Asked, numbers-reads.Learnt, domains-reads.Asked, domains-reads.Learnt, table-reads.Asked, table-reads.Learnt, solve-reads.Asked, solve-reads.Learnt, assign-reads.Asked, assign-reads.Learnt) reads.Pre reads.Post
 
 abbrev After-numbers2 : Type 0
 After-numbers2 = lts.After-numbers2
-    (flat-reads.Asked, flat-reads.Learnt, numbers-reads.Asked, numbers-reads.Learnt, domains-reads.Asked, domains-reads.Learnt, table-reads.Asked, table-reads.Learnt, solve-reads.Asked, solve-reads.Learnt, assign-reads.Asked, assign-reads.Learnt) reads.Pre reads.Post
+    (no-mapping-reads.Asked, no-mapping-reads.Learnt, flat-reads.Asked, flat-reads.Learnt, numbers-reads.Asked, numbers-reads.Learnt, domains-reads.Asked, domains-reads.Learnt, table-reads.Asked, table-reads.Learnt, solve-reads.Asked, solve-reads.Learnt, assign-reads.Asked, assign-reads.Learnt) reads.Pre reads.Post
 
 abbrev After-domains : Type 0
 After-domains = lts.After-domains
-    (flat-reads.Asked, flat-reads.Learnt, numbers-reads.Asked, numbers-reads.Learnt, domains-reads.Asked, domains-reads.Learnt, table-reads.Asked, table-reads.Learnt, solve-reads.Asked, solve-reads.Learnt, assign-reads.Asked, assign-reads.Learnt) reads.Pre reads.Post
+    (no-mapping-reads.Asked, no-mapping-reads.Learnt, flat-reads.Asked, flat-reads.Learnt, numbers-reads.Asked, numbers-reads.Learnt, domains-reads.Asked, domains-reads.Learnt, table-reads.Asked, table-reads.Learnt, solve-reads.Asked, solve-reads.Learnt, assign-reads.Asked, assign-reads.Learnt) reads.Pre reads.Post
 
 abbrev After-table : Type 0
 After-table = lts.After-table
-    (flat-reads.Asked, flat-reads.Learnt, numbers-reads.Asked, numbers-reads.Learnt, domains-reads.Asked, domains-reads.Learnt, table-reads.Asked, table-reads.Learnt, solve-reads.Asked, solve-reads.Learnt, assign-reads.Asked, assign-reads.Learnt) reads.Pre reads.Post
+    (no-mapping-reads.Asked, no-mapping-reads.Learnt, flat-reads.Asked, flat-reads.Learnt, numbers-reads.Asked, numbers-reads.Learnt, domains-reads.Asked, domains-reads.Learnt, table-reads.Asked, table-reads.Learnt, solve-reads.Asked, solve-reads.Learnt, assign-reads.Asked, assign-reads.Learnt) reads.Pre reads.Post
 
 abbrev After-solve : Type 0
 After-solve = lts.After-solve
-    (flat-reads.Asked, flat-reads.Learnt, numbers-reads.Asked, numbers-reads.Learnt, domains-reads.Asked, domains-reads.Learnt, table-reads.Asked, table-reads.Learnt, solve-reads.Asked, solve-reads.Learnt, assign-reads.Asked, assign-reads.Learnt) reads.Pre reads.Post
+    (no-mapping-reads.Asked, no-mapping-reads.Learnt, flat-reads.Asked, flat-reads.Learnt, numbers-reads.Asked, numbers-reads.Learnt, domains-reads.Asked, domains-reads.Learnt, table-reads.Asked, table-reads.Learnt, solve-reads.Asked, solve-reads.Learnt, assign-reads.Asked, assign-reads.Learnt) reads.Pre reads.Post
 
 abbrev After-assign : Type 0
 After-assign = lts.After-assign
-    (flat-reads.Asked, flat-reads.Learnt, numbers-reads.Asked, numbers-reads.Learnt, domains-reads.Asked, domains-reads.Learnt, table-reads.Asked, table-reads.Learnt, solve-reads.Asked, solve-reads.Learnt, assign-reads.Asked, assign-reads.Learnt) reads.Pre reads.Post
+    (no-mapping-reads.Asked, no-mapping-reads.Learnt, flat-reads.Asked, flat-reads.Learnt, numbers-reads.Asked, numbers-reads.Learnt, domains-reads.Asked, domains-reads.Learnt, table-reads.Asked, table-reads.Learnt, solve-reads.Asked, solve-reads.Learnt, assign-reads.Asked, assign-reads.Learnt) reads.Pre reads.Post
 
 source-sizes : (c : Start) → Sizes (c .args .source)
 source-sizes c = record { head = search (mapped-length, needs); relations = search (mapped-length, needs); cells = search (mapped-length, needs) }
@@ -96,11 +95,13 @@ from-is c =
 to-is : (c : After-numbers2) (k : ℕ) → k < 104 → getD (c .numbers2 .result) k 0 ≡ freeze 2147483648 (entryAt (c .before .before .before .before .before .before .before .args .target) k)
 to-is c = line-number (c .before .before .before .before .before .before .before .args .target) (c .before .before .before .flat .result) (c .numbers2 .result) (c .before .before .before .flat .ensures) (c .numbers2 .ensures)
 
--- The search is given few enough rows
-few-rows : (c : After-table) → c .before .before .before .before .before .before .before .before .before .before .before .before .before .before .before .args .source .size + 1 ≤ 13
-few-rows c =
-    let few : c .before .before .before .before .before .before .before .before .before .before .before .before .before .before .before .args .source .size ≤ 12 = storable-size (c .before .before .before .before .before .before .before .before .before .before .before .before .before .before .before .args .source) (c .before .before .before .before .before .before .before .before .before .before .before .before .before .before .before .pre .0) in
-    omega arith
+-- The search is given what it asks for
+sized : (c : After-table) → Sized (c .before .before .before .before .before .before .before .before .before .before .before .before .before .before .before .args .source .size + 1) (c .before .before .before .domains .result) (c .table .result)
+sized c =
+    search-sized (c .before .before .before .before .before .before .before .before .before .numbers .result) (c .before .before .before .before .before .before .before .before .numbers2 .result) (c .before .before .before .before .before .before .before .before .before .before .before .before .before .before .before .args .source .relations) (c .before .before .before .before .before .before .before .before .before .before .before .before .before .before .before .args .target .relations)
+    (c .before .before .before .before .before .before .before .before .before .before .before .before .before .before .before .args .source .size) (c .before .before .before .before .before .before .before .before .before .before .before .before .before .before .before .args .target .size) (c .before .before .before .domains .result) (c .table .result)
+    (storable-size (c .before .before .before .before .before .before .before .before .before .before .before .before .before .before .before .args .source) (c .before .before .before .before .before .before .before .before .before .before .before .before .before .before .before .pre .0)) (storable-size (c .before .before .before .before .before .before .before .before .before .before .before .before .before .before .before .args .target) (c .before .before .before .before .before .before .before .before .before .before .before .before .before .before .before .pre .1)) (domain-long (c .before .before .before)) (table-long c)
+    (c .before .before .before .domains .ensures)
 
 -- A choice that solves it has candidates below 12
 chosen-below : (c : After-solve) → c .solve .result .found ≡ true → (r : ℕ) → r ≤ c .before .before .before .before .before .before .before .before .before .before .before .before .before .before .before .before .before .before .args .source .size → getD (c .solve .result .chosen) r 0 < 12
@@ -121,9 +122,13 @@ cast-size c = search needs
 cast-count : tie.Need-cast-count
 cast-count c = search needs
 
+no-mapping-requires : tie.Need-no-mapping-requires
+no-mapping-requires c κs = search needs
+
 returns : tie.Need-returns
 returns c =
-    none-size (c .before .before .before .args .source) (c .before .before .before .args .target) (source-sizes (c .before .before .before)) (target-sizes (c .before .before .before)) (c .if1 .taken)
+    subst (Finds (c .before .before .before .before .args .source) (c .before .before .before .before .args .target)) (sym (c .no-mapping .ensures))
+    (none-size (c .before .before .before .before .args .source) (c .before .before .before .before .args .target) (source-sizes (c .before .before .before .before)) (target-sizes (c .before .before .before .before)) (c .before .if1 .taken))
 
 flat-requires : tie.Need-flat-requires
 flat-requires c κs = search needs
@@ -161,12 +166,16 @@ add-solve c = search needs
 solve-requires : tie.Need-solve-requires
 solve-requires c κs = few-rows (c .before .before)
 
+no-mapping-requires-2 : tie.Need-no-mapping-requires-2
+no-mapping-requires-2 c κs = search needs
+
 returns-2 : tie.Need-returns-2
 returns-2 c =
-    none-solution (c .before .before .before .before .before .before .before .before .before .before .before .before .before .before .before .before .before .before .before .before .args .source) (c .before .before .before .before .before .before .before .before .before .before .before .before .before .before .before .before .before .before .before .before .args .target) (source-sizes (c .before .before .before .before .before .before .before .before .before .before .before .before .before .before .before .before .before .before .before .before)) (target-sizes (c .before .before .before .before .before .before .before .before .before .before .before .before .before .before .before .before .before .before .before .before)) (c .before .before .before .before .before .before .before .before .before .before .before .before .before .before .before .before .before .before .before .before .pre .0) (c .before .before .before .before .before .before .before .before .before .before .before .before .before .before .before .before .before .before .before .before .pre .1)
-    (c .before .before .before .before .before .before .before .before .before .before .before .before .before .before .before .before .flat .result) (c .before .before .before .before .before .before .before .before .before .before .before .before .before .before .numbers .result) (c .before .before .before .before .before .before .before .before .before .before .before .before .before .numbers2 .result) (c .before .before .before .before .before .before .before .before .domains .result) (c .before .before .before .before .before .table .result)
-    (from-is (c .before .before .before .before .before .before .before .before .before .before .before .before .before)) (c .before .before .before .before .before .before .before .before .before .before .before .before .before .before .before .before .flat .ensures) (to-is (c .before .before .before .before .before .before .before .before .before .before .before .before .before)) (c .before .before .before .before .before .before .before .before .domains .ensures) (c .before .before .before .before .before .table .ensures)
-    (c .before .before .solve .ensures .1 (not-true _ (c .if2 .taken)))
+    subst (Finds (c .before .before .before .before .before .before .before .before .before .before .before .before .before .before .before .before .before .before .before .before .before .args .source) (c .before .before .before .before .before .before .before .before .before .before .before .before .before .before .before .before .before .before .before .before .before .args .target)) (sym (c .no-mapping2 .ensures))
+    (none-solution (c .before .before .before .before .before .before .before .before .before .before .before .before .before .before .before .before .before .before .before .before .before .args .source) (c .before .before .before .before .before .before .before .before .before .before .before .before .before .before .before .before .before .before .before .before .before .args .target) (source-sizes (c .before .before .before .before .before .before .before .before .before .before .before .before .before .before .before .before .before .before .before .before .before)) (target-sizes (c .before .before .before .before .before .before .before .before .before .before .before .before .before .before .before .before .before .before .before .before .before)) (c .before .before .before .before .before .before .before .before .before .before .before .before .before .before .before .before .before .before .before .before .before .pre .0) (c .before .before .before .before .before .before .before .before .before .before .before .before .before .before .before .before .before .before .before .before .before .pre .1)
+    (c .before .before .before .before .before .before .before .before .before .before .before .before .before .before .before .before .before .flat .result) (c .before .before .before .before .before .before .before .before .before .before .before .before .before .before .before .numbers .result) (c .before .before .before .before .before .before .before .before .before .before .before .before .before .before .numbers2 .result) (c .before .before .before .before .before .before .before .before .before .domains .result) (c .before .before .before .before .before .before .table .result)
+    (from-is (c .before .before .before .before .before .before .before .before .before .before .before .before .before .before)) (c .before .before .before .before .before .before .before .before .before .before .before .before .before .before .before .before .before .flat .ensures) (to-is (c .before .before .before .before .before .before .before .before .before .before .before .before .before .before)) (c .before .before .before .before .before .before .before .before .before .domains .ensures) (c .before .before .before .before .before .before .table .ensures)
+    (c .before .before .before .solve .ensures .none (not-true _ (c .before .if2 .taken))))
 
 assign-requires : tie.Need-assign-requires
 assign-requires c κs = (
@@ -190,6 +199,7 @@ find-spec =
     (tie.spec
     cast-size
     cast-count
+    no-mapping-requires
     returns
     flat-requires
     flat-requires-2
@@ -203,6 +213,7 @@ find-spec =
     table-requires
     add-solve
     solve-requires
+    no-mapping-requires-2
     returns-2
     assign-requires
     returns-3)
