@@ -8,7 +8,8 @@ use native.Mathlib.Nat.{le-trans}
 use native.Mathlib.Omega.{arith}
 use lib.Dec.{eqb}
 use lib.ListN.{getD, length}
-use Rattle.search.specs.Solution.{Tells, Sized, goes}
+use Rattle.search.specs.Solution.{together as goes}
+use Rattle.mapping.specs.Tests.{Tells}
 use Rattle.mapping.specs.Agree.{Agrees, Keeps, Marks, rowStart, imageStart, candidatesOf, Shares, Together, Possible, IsDomain, IsMask, IsTable}
 use Rattle.mapping.proofs.Masks.{marks-small}
 
@@ -85,16 +86,3 @@ apart-marks source target size count r d q row other n mask at-row at-other is a
         (λ p. marks .1 e h .1 tt),
       )),
     )
-
--- The search is given what it asks for
-pub search-sized : (source target named offered : List ℕ) (size count : ℕ) (domain table : List ℕ) → size ≤ 12 → count ≤ 12 → length domain ≡ 13 → length table ≡ 2028
-    → IsDomain source target named offered size count domain → Sized (size + 1) domain table
-search-sized source target named offered size count domain table few few' long long' is =
-    record {
-      few = omega arith;
-      domain-length = long;
-      table-length = long';
-      masks = λ r h.
-          marks-small (Possible source target named offered size r) (candidatesOf size count r) (getD domain r 0) (few-candidates size count r few')
-          (is r (omega arith));
-    }

@@ -16,7 +16,8 @@ use Rattle.record.specs.View.{entryOf}
 use Rattle.record.specs.Rule.{noCell}
 use Rattle.record.proofs.Good.{good-query}
 use Rattle.record.proofs.Stored.{Within}
-use Rattle.search.specs.Solution.{Tells, Solution}
+use Rattle.search.specs.Solution.{Solution}
+use Rattle.mapping.specs.Tests.{Tells}
 use Rattle.mapping.specs.Agree.{IsDomain, IsTable}
 use Rattle.mapping.specs.Mapped.{cellAt, entryAt, entryIn, imagesOf, Storable, Carried, Lands, RestBlank, Assigned, noMapping, Finds, Checks}
 use Rattle.mapping.proofs.Tells.{tells-false}

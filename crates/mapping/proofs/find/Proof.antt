@@ -8,10 +8,10 @@ use Prim.Native.Nat.{ℕ, _+_, _≤_, _<_}
 use lib.ListN.{getD, length}
 use Rattle.theory.specs.Containment.{freeze}
 use Rattle.record.proofs.Tail.{mapped-length}
-use Rattle.search.specs.Solution.{Sized, choiceOf}
+use native.Mathlib.Omega.{arith}
+use Rattle.mapping.specs.Tests.{choiceOf}
 use Rattle.mapping.specs.Agree.{Laid}
 use Rattle.mapping.specs.Mapped.{entryAt, Finds}
-use Rattle.mapping.proofs.Candidates.{search-sized}
 use Rattle.mapping.proofs.Wide.{chosen-small}
 use Rattle.mapping.proofs.Lines.{Sizes, all-within}
 use Rattle.mapping.proofs.Results.{storable-size, line-number, number-small, none-size, none-solution, found-solution}
@@ -95,13 +95,11 @@ from-is c =
 to-is : (c : After-numbers2) (k : ℕ) → k < 104 → getD (c .numbers2 .result) k 0 ≡ freeze 2147483648 (entryAt (c .before .before .before .before .before .before .before .args .target) k)
 to-is c = line-number (c .before .before .before .before .before .before .before .args .target) (c .before .before .before .flat .result) (c .numbers2 .result) (c .before .before .before .flat .ensures) (c .numbers2 .ensures)
 
--- The search is given what it asks for
-sized : (c : After-table) → Sized (c .before .before .before .before .before .before .before .before .before .before .before .before .before .before .before .args .source .size + 1) (c .before .before .before .domains .result) (c .table .result)
-sized c =
-    search-sized (c .before .before .before .before .before .before .before .before .before .numbers .result) (c .before .before .before .before .before .before .before .before .numbers2 .result) (c .before .before .before .before .before .before .before .before .before .before .before .before .before .before .before .args .source .relations) (c .before .before .before .before .before .before .before .before .before .before .before .before .before .before .before .args .target .relations)
-    (c .before .before .before .before .before .before .before .before .before .before .before .before .before .before .before .args .source .size) (c .before .before .before .before .before .before .before .before .before .before .before .before .before .before .before .args .target .size) (c .before .before .before .domains .result) (c .table .result)
-    (storable-size (c .before .before .before .before .before .before .before .before .before .before .before .before .before .before .before .args .source) (c .before .before .before .before .before .before .before .before .before .before .before .before .before .before .before .pre .0)) (storable-size (c .before .before .before .before .before .before .before .before .before .before .before .before .before .before .before .args .target) (c .before .before .before .before .before .before .before .before .before .before .before .before .before .before .before .pre .1)) (domain-long (c .before .before .before)) (table-long c)
-    (c .before .before .before .domains .ensures)
+-- The search is given few enough rows
+few-rows : (c : After-table) → c .before .before .before .before .before .before .before .before .before .before .before .before .before .before .before .args .source .size + 1 ≤ 13
+few-rows c =
+    let few : c .before .before .before .before .before .before .before .before .before .before .before .before .before .before .before .args .source .size ≤ 12 = storable-size (c .before .before .before .before .before .before .before .before .before .before .before .before .before .before .before .args .source) (c .before .before .before .before .before .before .before .before .before .before .before .before .before .before .before .pre .0) in
+    omega arith
 
 -- A choice that solves it has candidates below 12
 chosen-below : (c : After-solve) → c .solve .result .found ≡ true → (r : ℕ) → r ≤ c .before .before .before .before .before .before .before .before .before .before .before .before .before .before .before .before .before .before .args .source .size → getD (c .solve .result .chosen) r 0 < 12
@@ -175,7 +173,7 @@ returns-2 c =
     (none-solution (c .before .before .before .before .before .before .before .before .before .before .before .before .before .before .before .before .before .before .before .before .before .args .source) (c .before .before .before .before .before .before .before .before .before .before .before .before .before .before .before .before .before .before .before .before .before .args .target) (source-sizes (c .before .before .before .before .before .before .before .before .before .before .before .before .before .before .before .before .before .before .before .before .before)) (target-sizes (c .before .before .before .before .before .before .before .before .before .before .before .before .before .before .before .before .before .before .before .before .before)) (c .before .before .before .before .before .before .before .before .before .before .before .before .before .before .before .before .before .before .before .before .before .pre .0) (c .before .before .before .before .before .before .before .before .before .before .before .before .before .before .before .before .before .before .before .before .before .pre .1)
     (c .before .before .before .before .before .before .before .before .before .before .before .before .before .before .before .before .before .flat .result) (c .before .before .before .before .before .before .before .before .before .before .before .before .before .before .before .numbers .result) (c .before .before .before .before .before .before .before .before .before .before .before .before .before .before .numbers2 .result) (c .before .before .before .before .before .before .before .before .before .domains .result) (c .before .before .before .before .before .before .table .result)
     (from-is (c .before .before .before .before .before .before .before .before .before .before .before .before .before .before)) (c .before .before .before .before .before .before .before .before .before .before .before .before .before .before .before .before .before .flat .ensures) (to-is (c .before .before .before .before .before .before .before .before .before .before .before .before .before .before)) (c .before .before .before .before .before .before .before .before .before .domains .ensures) (c .before .before .before .before .before .before .table .ensures)
-    (c .before .before .before .solve .ensures .none (not-true _ (c .before .if2 .taken))))
+    (c .before .before .before .solve .ensures .1 (not-true _ (c .before .if2 .taken))))
 
 assign-requires : tie.Need-assign-requires
 assign-requires c κs = (
