@@ -1,7 +1,7 @@
 -- What the code has shown when it answers, and the promise that follows: first for a comparison of two stored queries, then for the places that they come from,
 -- then for the checking of a mapping. The cases themselves are in `Verdicts`. Assumes nothing.
 use mathlib.Core.Path.{_≡_, refl, sym, ap, subst, subst₂, _∙_}
-use mathlib.Core.Logic.{_≢_}
+use mathlib.Core.Logic.{_≢_, inl, inr}
 use mathlib.Core.Bool.{Bool, true, false, _&&_}
 use mathlib.Core.List.{List, [], _∷_, List·Memᴰ·head, List·Memᴰ·not-nil}
 use mathlib.Core.Option.{Option, none, some}
@@ -161,8 +161,7 @@ pub checks-refused : (r : Record) (p q : ℕ) (images : List Cell) (n : ℕ) →
 checks-refused r p q images n refused =
     record {
       refused = λ m e. cc;
-      yes-mapping = λ e. absurd (none-some n (sym e ∙ refused));
-      no-mapping = λ e. absurd (none-some n (sym e ∙ refused));
+      decided = λ e. absurd (none-some n (sym e ∙ refused));
     }
 
 module _ (r : Record) (p q : ℕ) (images : List Cell) (x y : Query) (accepted : pairRefusal r p q ≡ none) (is-x : x ≡ storedAt r p) (is-y : y ≡ storedAt r q) where
@@ -182,14 +181,12 @@ module _ (r : Record) (p q : ℕ) (images : List Cell) (x y : Query) (accepted :
     checks-yes e =
         record {
           refused = λ n refused. absurd (none-some n (sym accepted ∙ refused));
-          yes-mapping = λ stands is. refl;
-          no-mapping = λ stands isnt. absurd (isnt (tells .0 e));
+          decided = λ stands. inl (refl, tells .0 e);
         }
 
     pub checks-no : b ≡ false → CheckedMapping r p q images checked.No
     checks-no e =
         record {
           refused = λ n refused. absurd (none-some n (sym accepted ∙ refused));
-          yes-mapping = λ stands is. absurd (true-false (sym (tells .1 is) ∙ e));
-          no-mapping = λ stands isnt. refl;
+          decided = λ stands. inr (refl, λ is. absurd (true-false (sym (tells .1 is) ∙ e)));
         }

@@ -1,5 +1,6 @@
 -- What comparing two places and checking a mapping promise (demand 2). Which mapping a comparison returns is free; everything else is determined.
 use mathlib.Core.Path.{_≡_}
+use mathlib.Core.Logic.{_⊎_}
 use mathlib.Core.Bool.{Bool, true, false, not, cond}
 use mathlib.Core.List.{List, [], _∷_}
 use mathlib.Core.Option.{Option, none, some}
@@ -87,5 +88,6 @@ pub record Compared (r : Record) (p q : ℕ) (c : Comparison) : Type 0 where
 -- What checking a mapping for places p and q promises: a refusal, or yes exactly when the images are a mapping from q's query to p's query as it is stored
 pub record CheckedMapping (r : Record) (p q : ℕ) (images : List Cell) (c : Checked) : Type 0 where
   pub refused : (n : ℕ) → pairRefusal r p q ≡ some n → c ≡ checked.Refused n
-  pub yes-mapping : pairRefusal r p q ≡ none → answer.IsMapping (queryAt r q) (queryAt r p) (imagesOf images) → c ≡ checked.Yes
-  pub no-mapping : pairRefusal r p q ≡ none → (answer.IsMapping (queryAt r q) (queryAt r p) (imagesOf images) → ⊥) → c ≡ checked.No
+  pub decided : pairRefusal r p q ≡ none
+      → ((c ≡ checked.Yes) × answer.IsMapping (queryAt r q) (queryAt r p) (imagesOf images))
+      ⊎ ((c ≡ checked.No) × (answer.IsMapping (queryAt r q) (queryAt r p) (imagesOf images) → ⊥))
