@@ -1,0 +1,2 @@
+-- What the calls on a database answer.
+pub mod Calls

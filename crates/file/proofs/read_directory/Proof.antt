@@ -1,0 +1,81 @@
+use borrow.Author.Needs.{needs}
+use mathlib.Core.Path.{_≡_, sym, ap, _∙_}
+use mathlib.Core.Bool.{true, false}
+use lib.ListN.{drop}
+use Rattle.file.specs.declared.DirectoryRead.the-variants.{Parts}
+use Rattle.file.specs.Read.{directoryRead}
+use Rattle.file.proofs.Stretches.{length-stretches, too-short, too-few, too-many, cut-table, whole-table}
+use Rattle.file.proofs.read_directory.Statement.{statement}
+use Rattle.file.proofs.read_directory.Tie as tie
+use Rattle.file.proofs.read_directory.Reads as reads
+use Rattle.file.proofs.read_directory.Lts as lts
+use Rattle.file.proofs.chain.Reads as chain-reads
+use Rattle.file.proofs.word16.Reads as word16-reads
+
+-- src/lib.rt:628:9
+returns : tie.Need-returns
+returns c =
+    sym (ap directoryRead (too-short (c .before .before .args .file .now) (c .if1 .taken)))
+
+-- src/lib.rt:630:13
+word16-requires : tie.Need-word16-requires
+word16-requires c κs = search needs
+
+-- src/lib.rt:630:13
+cast-n : tie.Need-cast-n
+cast-n c = search needs
+
+-- src/lib.rt:632:9
+returns-2 : tie.Need-returns-2
+returns-2 c =
+    sym (ap directoryRead (too-few (c .before .before .before .before .args .file .now) (c .before .word16 .result) (c .before .word16 .ensures .0) (c .if2 .taken)))
+
+-- src/lib.rt:635:9
+returns-3 : tie.Need-returns-3
+returns-3 c =
+    sym (ap directoryRead (too-many (c .before .before .before .before .before .args .file .now) (c .before .before .word16 .result) (c .before .before .word16 .ensures .0) (c .if3 .taken)))
+
+-- src/lib.rt:637:25
+mul-if4 : tie.Need-mul-if4
+mul-if4 c = search needs
+
+-- src/lib.rt:637:21
+add-if4 : tie.Need-add-if4
+add-if4 c = search needs
+
+-- src/lib.rt:638:9
+returns-4 : tie.Need-returns-4
+returns-4 c =
+    sym (ap directoryRead (cut-table (c .before .before .before .before .before .before .args .file .now) (c .before .before .before .word16 .result) (c .before .before .before .word16 .ensures .0) (c .if4 .taken)))
+
+-- src/lib.rt:640:8
+chain-requires : tie.Need-chain-requires
+chain-requires c κs = search needs
+
+-- src/lib.rt:641:9
+returns-5 : tie.Need-returns-5
+returns-5 c =
+    let n = c .before .before .before .before .before .word16 .result in
+    let file = c .before .before .before .before .before .before .before .before .args .file .now in
+    ap Parts (sym (length-stretches n file (drop 2 file))) ∙ sym (ap directoryRead (whole-table (c .before .before .before .before .before .before .before .before .args .file .now) (c .before .before .before .before .before .word16 .result) (c .before .before .before .before .before .word16 .ensures .0) (c .before .before .before .before .if2 .left) (c .before .before .before .if3 .left) (c .before .before .if4 .left) true (sym (c .before .chain .ensures) ∙ c .if5 .taken)))
+
+-- src/lib.rt:624:1
+returns-6 : tie.Need-returns-6
+returns-6 c =
+    sym (ap directoryRead (whole-table (c .before .before .before .before .before .before .before .before .args .file .now) (c .before .before .before .before .before .word16 .result) (c .before .before .before .before .before .word16 .ensures .0) (c .before .before .before .before .if2 .left) (c .before .before .before .if3 .left) (c .before .before .if4 .left) false (sym (c .before .chain .ensures) ∙ c .if5 .left)))
+
+pub read-directory-spec : {M : Type 1} → statement M
+read-directory-spec =
+    tie.close
+    (tie.spec
+    returns
+    word16-requires
+    cast-n
+    returns-2
+    returns-3
+    mul-if4
+    add-if4
+    returns-4
+    chain-requires
+    returns-5
+    returns-6)

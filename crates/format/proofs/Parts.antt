@@ -1,0 +1,260 @@
+-- The two laws of each part of the file.
+use mathlib.Core.Path.{_≡_, refl, sym, ap, _∙_, subst}
+use mathlib.Core.Bool.{Bool, true, false, cond, not, _&&_}
+use mathlib.Core.List.{List, [], _∷_, _++_, append-assoc, map}
+use Prim.Native.Nat.{ℕ, zero, suc, _+_, _*_, _-_, _^_, _≤_, _<_, min}
+use native.Mathlib.Nat.{not-suc-le-zero, le-of-suc-le-suc}
+use native.Mathlib.Omega.{arith}
+use lib.Dec.{eqb, leb, ltb, lit<, lit≤}
+use lib.ListN.{length, take, drop, getD, replicate, length-append, length-take, length-drop, take-append-drop, drop-of-length-le}
+use lib.Seq.{take-at, drop-at, length-take-le, take-all}
+use borrow.Author.Tests.{eqb-true, eq-eqb, leb-true, le-leb, ltb-true, eqb-false, ne-eqb}
+use Rattle.record.specs.declared.Entry.{Entry}
+use Rattle.record.specs.declared.Entry.the-variants.{Constant, Variable}
+use Rattle.record.specs.declared.Cell.{Cell}
+use Rattle.record.specs.declared.Query.{Query}
+use Rattle.record.specs.declared.Dependency.{Dependency}
+use Rattle.record.specs.Rule.{between, every, inUse, isZero, blankEntry, blankCell, blankDependency, goodDependency, goodEntry, goodCell, noCell}
+use Rattle.format.specs.Bytes.{number, digits, Bytes}
+use Rattle.format.specs.Format.{Reading, none, got, gotIf, Format, Lawful, byte, sequence, padded, via}
+use Rattle.format.specs.Parts.{relations, noDependency, dependencyAt, dependency, dependencies, putEntry, isEntry, entryFrom, entry, entries, row, noRow, blankRow, rows, chunk, flat, Fields, queryWith, fieldsOf, fullCells, query}
+use Rattle.format.proofs.Lists.{and-left, and-right, and-both, and-iff, every-parts, every-join, every-weaken, every-getD, all-blank, bytes-++}
+use Rattle.format.proofs.Numbers.{number-digits, digits-number, length-digits}
+use Rattle.format.proofs.Formats.{not-got, gotIf-true, byte-lawful, sequence-lawful, padded-lawful, via-lawful}
+
+-- ---- part 0 and part 1
+
+pub zero-is : (n : ℕ) → isZero n ≡ true → n ≡ 0
+zero-is n h = eqb-true n 0 h
+
+pub relations-lawful : Lawful relations
+unfolding relations byte
+relations-lawful =
+    sequence-lawful (byte (between 1 8)) (λ n. padded 8 0 isZero n (byte (between 1 8))) (byte-lawful (between 1 8))
+    (λ n h.
+    let k : (leb 1 n ≡ true) × (leb n 8 ≡ true) = simp and-iff at h in
+    padded-lawful 8 0 isZero n (byte (between 1 8)) zero-is refl (leb-true n 8 (k .1)) (byte-lawful (between 1 8)))
+
+pub dependency-is : (d : Dependency) → blankDependency d ≡ true → d ≡ noDependency
+dependency-is d h =
+    let k : ((isZero (d .relation) ≡ true) × (isZero (d .left) ≡ true)) × (isZero (d .right) ≡ true) = simp and-iff at h in
+    λ i. record { relation = zero-is (d .relation) (k .0 .0) i; left = zero-is (d .left) (k .0 .1) i; right = zero-is (d .right) (k .1) i }
+
+-- three bytes off the front
+three : (bytes : List ℕ) → leb 3 (length bytes) ≡ true → (getD bytes 0 0 ∷ getD bytes 1 0 ∷ getD bytes 2 0 ∷ drop 3 bytes) ≡ bytes
+three [] h = absurd (not-suc-le-zero (leb-true 3 0 h))
+three (a ∷ []) h = absurd (not-suc-le-zero (le-of-suc-le-suc (leb-true 3 1 h)))
+three (a ∷ b ∷ []) h = absurd (not-suc-le-zero (le-of-suc-le-suc (le-of-suc-le-suc (leb-true 3 2 h))))
+three (a ∷ b ∷ c ∷ bytes) h = refl
+
+pub dependency-lawful : (schema : List ℕ) → Lawful (dependency schema)
+unfolding dependency gotIf
+dependency-lawful schema =
+    record {
+      get-put = λ d rest h.
+          let l : leb 3 (length (d .relation ∷ d .left ∷ d .right ∷ rest)) ≡ true = le-leb 3 (length (d .relation ∷ d .left ∷ d .right ∷ rest)) (omega arith) in
+          rw (l, h);
+      put-get = λ bytes d rest hb e.
+          let (t, ed, er) = gotIf-true (leb 3 (length bytes) && goodDependency schema (dependencyAt bytes)) (dependencyAt bytes) d (drop 3 bytes) rest e in
+          let k : (leb 3 (length bytes) ≡ true) × (goodDependency schema (dependencyAt bytes) ≡ true) = simp and-iff at t in
+          rw (← ed, ← er) (k .1, three bytes (k .0));
+    }
+
+pub dependencies-lawful : (schema : List ℕ) → Lawful (dependencies schema)
+unfolding dependencies byte
+dependencies-lawful schema =
+    sequence-lawful (byte (λ n. leb n 32)) (λ n. padded 32 noDependency blankDependency n (dependency schema)) (byte-lawful (λ n. leb n 32))
+    (λ n h. padded-lawful 32 noDependency blankDependency n (dependency schema) dependency-is refl (leb-true n 32 h) (dependency-lawful schema))
+
+-- ---- entries and rows
+
+pub cell-is : (c : Cell) → blankCell c ≡ true → c ≡ noCell
+cell-is c h = go (c .entry) refl
+  where
+    go : (e : Entry) → c .entry ≡ e → c ≡ noCell
+    go (Constant n) p =
+        let q : c .entry ≡ Constant 0 = p ∙ ap Constant (zero-is n (rw p at h)) in
+        λ i. record { entry = q i }
+    go (Variable v) p = let z : false ≡ true = rw p at h in let y : _≡_ {A = ℕ} 0 1 = cc in absurd (omega arith)
+
+-- an entry's bytes, and what follows them
+putEntry-get : (e : Entry) (rest : List ℕ) → goodEntry e ≡ true → entry .get (putEntry e ++ rest) ≡ got (record { entry = e }) rest
+unfolding entry putEntry gotIf
+putEntry-get (Constant n) rest h =
+    let bytes : List ℕ = 0 ∷ digits 4 n ++ rest in
+    let l : leb 5 (length bytes) ≡ true = le-leb 5 (length bytes) (omega (arith, length-append (digits 4 n) rest, length-digits 4 n)) in
+    let k : number 4 (digits 4 n ++ rest) ≡ n = number-digits 4 n rest (omega (arith, leb-true n 2147483647 h)) in
+    let d : drop 4 (digits 4 n ++ rest) ≡ rest = drop-at (digits 4 n) rest 4 (length-digits 4 n) in
+    rw (l, k, d, h)
+putEntry-get (Variable v) rest h =
+    let bytes : List ℕ = 1 ∷ digits 4 v ++ rest in
+    let l : leb 5 (length bytes) ≡ true = le-leb 5 (length bytes) (omega (arith, length-append (digits 4 v) rest, length-digits 4 v)) in
+    let k : number 4 (digits 4 v ++ rest) ≡ v = number-digits 4 v rest (omega (arith, leb-true v 95 h)) in
+    let d : drop 4 (digits 4 v ++ rest) ≡ rest = drop-at (digits 4 v) rest 4 (length-digits 4 v) in
+    rw (l, k, d, h)
+
+-- the first byte, the four digits after it and the rest
+five : (bytes : List ℕ) → Bytes bytes → 5 ≤ length bytes → (getD bytes 0 0 ∷ digits 4 (number 4 (drop 1 bytes))) ++ drop 5 bytes ≡ bytes
+unfolding every
+five [] b h = absurd (not-suc-le-zero h)
+five (x ∷ bytes) b h =
+    let d : digits 4 (number 4 bytes) ≡ take 4 bytes = digits-number 4 bytes (and-right (ltb x 256) (every (λ n. ltb n 256) bytes) b) (le-of-suc-le-suc h) in
+    rw (d, take-append-drop 4 bytes)
+
+-- the entry that a byte and a number stand for is good, and written so
+entryFrom-put : (tag n : ℕ) (t : Bool) → eqb tag 0 ≡ t → isEntry tag n ≡ true → (goodCell (entryFrom tag n) ≡ true) × (putEntry (entryFrom tag n .entry) ≡ tag ∷ digits 4 n)
+unfolding putEntry
+entryFrom-put tag n true e h = let z : tag ≡ 0 = eqb-true tag 0 e in rw z (rw z at h, refl)
+entryFrom-put tag n false e h =
+    let k : (eqb tag 1 ≡ true) × (leb n 95 ≡ true) = simp and-iff at (rw e at h) in
+    let z : tag ≡ 1 = eqb-true tag 1 (k .0) in
+    rw z (k .1, refl)
+
+pub entry-lawful : Lawful entry
+unfolding entry
+entry-lawful =
+    record {
+      get-put = λ c rest h. putEntry-get (c .entry) rest h;
+      put-get = λ bytes c rest hb e.
+          let tag : ℕ = getD bytes 0 0 in
+          let n : ℕ = number 4 (drop 1 bytes) in
+          let (t, ec, er) = gotIf-true (leb 5 (length bytes) && isEntry tag n) (entryFrom tag n) c (drop 5 bytes) rest e in
+          let k : (leb 5 (length bytes) ≡ true) × (isEntry tag n ≡ true) = simp and-iff at t in
+          let p : (goodCell (entryFrom tag n) ≡ true) × (putEntry (entryFrom tag n .entry) ≡ tag ∷ digits 4 n) = entryFrom-put tag n (eqb tag 0) refl (k .1) in
+          subst (λ (c : Cell). (goodCell c ≡ true) × (putEntry (c .entry) ++ rest ≡ bytes)) ec
+          (p .0, rw (p .1, ← er) (five bytes hb (leb-true 5 (length bytes) (k .0))));
+    }
+
+pub entries-lawful : (n : ℕ) → n ≤ 8 → Lawful (entries n)
+unfolding entries
+entries-lawful n h = padded-lawful 8 noCell blankCell n entry cell-is refl h entry-lawful
+
+-- No relation has more than 8 columns
+abbrev pub Narrow : List ℕ → Type 0
+Narrow schema = every (λ w. leb w 8) schema ≡ true
+
+pub narrow-at : (schema : List ℕ) (r : ℕ) → Narrow schema → getD schema r 0 ≤ 8
+unfolding every
+narrow-at [] r h = lit≤ tt
+narrow-at (w ∷ schema) zero h = leb-true w 8 (and-left (leb w 8) (every (λ w. leb w 8) schema) h)
+narrow-at (w ∷ schema) (suc r) h = narrow-at schema r (and-right (leb w 8) (every (λ w. leb w 8) schema) h)
+
+pub row-lawful : (schema : List ℕ) → Narrow schema → Lawful (row schema)
+unfolding row
+row-lawful schema hs =
+    sequence-lawful (byte (λ r. ltb r (length schema))) (λ r. entries (getD schema r 0)) (byte-lawful (λ r. ltb r (length schema)))
+    (λ r h. entries-lawful (getD schema r 0) (narrow-at schema r hs))
+
+pub row-is : (r : ℕ × List Cell) → blankRow r ≡ true → r ≡ noRow
+row-is r h =
+    let k : (isZero (r .0) ≡ true) × ((eqb (length (r .1)) 8 ≡ true) × (every blankCell (r .1) ≡ true)) = simp and-iff at h in
+    let p : r .1 ≡ replicate 8 noCell =
+    all-blank blankCell noCell cell-is (r .1) (k .1 .1) ∙ ap (λ (n : ℕ). replicate n noCell) (eqb-true (length (r .1)) 8 (k .1 .0)) in
+    λ i. (zero-is (r .0) (k .0) i, p i)
+
+pub rows-lawful : (schema : List ℕ) (n : ℕ) → Narrow schema → n ≤ 12 → Lawful (rows schema n)
+unfolding rows every
+rows-lawful schema n hs h = padded-lawful 12 noRow blankRow n (row schema) row-is refl h (row-lawful schema hs)
+
+-- ---- relations and cells as rows
+
+-- Whether a row has 8 cells
+abbrev pub fullRow : ℕ × List Cell → Bool
+fullRow r = eqb (length (r .1)) 8
+
+pub chunk-flat : (rs : List (ℕ × List Cell)) → every fullRow rs ≡ true → chunk (map (λ r. r .0) rs) (flat rs) ≡ rs
+unfolding every chunk flat
+chunk-flat [] h = refl
+chunk-flat (r ∷ rs) h =
+    let l : length (r .1) ≡ 8 = eqb-true (length (r .1)) 8 (and-left (fullRow r) (every fullRow rs) h) in
+    rw (take-at (r .1) (flat rs) 8 l, drop-at (r .1) (flat rs) 8 l, chunk-flat rs (and-right (fullRow r) (every fullRow rs) h))
+
+pub length-flat : (rs : List (ℕ × List Cell)) → every fullRow rs ≡ true → length (flat rs) ≡ 8 * length rs
+unfolding every flat
+length-flat [] h = refl
+length-flat (r ∷ rs) h =
+    let l : length (r .1) ≡ 8 = eqb-true (length (r .1)) 8 (and-left (fullRow r) (every fullRow rs) h) in
+    let ih : length (flat rs) ≡ 8 * length rs = length-flat rs (and-right (fullRow r) (every fullRow rs) h) in
+    rw (length-append (r .1) (flat rs)) (omega arith)
+
+pub map-chunk : (relations : List ℕ) (cells : List Cell) → map (λ r. r .0) (chunk relations cells) ≡ relations
+unfolding chunk
+map-chunk [] cells = refl
+map-chunk (r ∷ rs) cells = ap {B = List ℕ} (λ rs. r ∷ rs) (map-chunk rs (drop 8 cells))
+
+pub flat-chunk : (relations : List ℕ) (cells : List Cell) → flat (chunk relations cells) ≡ take (8 * length relations) cells
+unfolding chunk flat
+flat-chunk [] cells = refl
+flat-chunk (r ∷ rs) cells =
+    let n : 8 * length (r ∷ rs) ≡ 8 + 8 * length rs = omega arith in
+    rw (flat-chunk rs (drop 8 cells), n, lib.Seq.take-add 8 (8 * length rs) cells)
+
+-- good rows are 12, of 8 cells each
+pub rows-full : (schema : List ℕ) (n : ℕ) (rs : List (ℕ × List Cell)) → rows schema n .good rs ≡ true → (length rs ≡ 12) × (every fullRow rs ≡ true)
+unfolding rows padded row sequence entries byte
+rows-full schema n rs h =
+    let k : (eqb (length rs) 12 ≡ true) × ((every (row schema .good) (take n rs) ≡ true) × (every blankRow (drop n rs) ≡ true)) = simp and-iff at h in
+    let used : every fullRow (take n rs) ≡ true =
+    every-weaken (row schema .good) fullRow
+    (λ r g. (simp and-iff at g) .1 .0)
+    (take n rs) (k .1 .0) in
+    let unused : every fullRow (drop n rs) ≡ true =
+    every-weaken blankRow fullRow (λ r g. (simp and-iff at g) .1 .0) (drop n rs) (k .1 .1) in
+    (eqb-true (length rs) 12 (k .0), every-join fullRow n rs used unused)
+
+-- ---- queries
+
+-- The format of a query's fields
+fields : List ℕ → Format Fields
+fields schema =
+    sequence (byte (λ n. leb n 8))
+    (λ arity.
+    sequence (byte (λ n. leb n 12))
+    (λ size. sequence (entries (cond (eqb size 0) 0 arity)) (λ head. rows schema size)))
+
+pub headFits : (size arity : ℕ) → arity ≤ 8 → cond (eqb size 0) 0 arity ≤ 8
+headFits size arity h = go (eqb size 0)
+  where
+    go : (t : Bool) → cond t 0 arity ≤ 8
+    go true = lit≤ tt
+    go false = h
+
+fields-lawful : (schema : List ℕ) → Narrow schema → Lawful (fields schema)
+unfolding fields byte
+fields-lawful schema hs =
+    sequence-lawful (byte (λ n. leb n 8)) (λ arity. sequence (byte (λ n. leb n 12)) (λ size. sequence (entries (cond (eqb size 0) 0 arity)) (λ head. rows schema size)))
+    (byte-lawful (λ n. leb n 8))
+    (λ arity ha.
+    sequence-lawful (byte (λ n. leb n 12)) (λ size. sequence (entries (cond (eqb size 0) 0 arity)) (λ head. rows schema size)) (byte-lawful (λ n. leb n 12))
+    (λ size hz.
+    sequence-lawful (entries (cond (eqb size 0) 0 arity)) (λ head. rows schema size)
+    (entries-lawful (cond (eqb size 0) 0 arity) (headFits size arity (leb-true arity 8 ha))) (λ head hh. rows-lawful schema size hs (leb-true size 12 hz))))
+
+-- good fields have good rows
+fields-rows : (schema : List ℕ) (f : Fields) → fields schema .good f ≡ true → rows schema (f .1 .0) .good (f .1 .1 .1) ≡ true
+unfolding fields sequence
+fields-rows schema f h =
+    let a : Bool = entries (cond (eqb (f .1 .0) 0) 0 (f .0)) .good (f .1 .1 .0) in
+    let b : Bool = rows schema (f .1 .0) .good (f .1 .1 .1) in
+    let c : Bool = byte (λ n. leb n 12) .good (f .1 .0) in
+    let d : Bool = byte (λ n. leb n 8) .good (f .0) in
+    and-right a b (and-right c (a && b) (and-right d (c && (a && b)) h))
+
+pub query-lawful : (schema : List ℕ) → Narrow schema → Lawful (query schema)
+unfolding query fields
+query-lawful schema hs = via-lawful fullCells queryWith fieldsOf (fields schema) there back (fields-lawful schema hs)
+  where
+    there : (f : Fields) → fields schema .good f ≡ true → (fieldsOf (queryWith f) ≡ f) × (fullCells (queryWith f) ≡ true)
+    there f h =
+        let k : (length (f .1 .1 .1) ≡ 12) × (every fullRow (f .1 .1 .1) ≡ true) = rows-full schema (f .1 .0) (f .1 .1 .1) (fields-rows schema f h) in
+        let p : chunk (map (λ r. r .0) (f .1 .1 .1)) (flat (f .1 .1 .1)) ≡ f .1 .1 .1 = chunk-flat (f .1 .1 .1) (k .1) in
+        let l : length (flat (f .1 .1 .1)) ≡ 96 = omega (arith, length-flat (f .1 .1 .1) (k .1), k .0) in
+        (λ i. (f .0, (f .1 .0, (f .1 .1 .0, p i))), eq-eqb (length (flat (f .1 .1 .1))) 96 l)
+
+    back : (q : Query) → fullCells q ≡ true → fields schema .good (fieldsOf q) ≡ true → queryWith (fieldsOf q) ≡ q
+    back q full h =
+        let l : length (q .cells) ≡ 96 = eqb-true (length (q .cells)) 96 full in
+        let k : length (chunk (q .relations) (q .cells)) ≡ 12 = rows-full schema (q .size) (chunk (q .relations) (q .cells)) (fields-rows schema (fieldsOf q) h) .0 in
+        let n : length (q .relations) ≡ 12 = sym (ap length (map-chunk (q .relations) (q .cells))) ∙ lib.ListN.length-map (chunk (q .relations) (q .cells)) (λ r. r .0) ∙ k in
+        let c : flat (chunk (q .relations) (q .cells)) ≡ q .cells = flat-chunk (q .relations) (q .cells) ∙ take-all (8 * length (q .relations)) (q .cells) (omega arith) in
+        λ i. record { arity = q .arity; size = q .size; head = q .head; relations = map-chunk (q .relations) (q .cells) i; cells = c i }

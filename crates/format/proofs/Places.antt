@@ -1,0 +1,274 @@
+-- Query parts: what is written of a place is read back, and what is read is a good place, written as the same bytes.
+use mathlib.Core.Path.{_≡_, refl, sym, ap, _∙_, subst}
+use mathlib.Core.Bool.{Bool, true, false, cond, _&&_}
+use mathlib.Core.List.{List, [], _∷_, _++_, map, append-nil}
+use Prim.Native.Nat.{ℕ, zero, suc, _+_, _*_, _-_, _≤_, _<_}
+use native.Mathlib.Omega.{arith}
+use lib.Dec.{eqb, leb, ltb, lit≤}
+use lib.ListN.{length, take, drop, getD, replicate, length-map, take-append-drop}
+use lib.Seq.{length-take-le}
+use borrow.Author.Tests.{eqb-true, eq-eqb}
+use Rattle.record.specs.declared.Cell.{Cell}
+use Rattle.record.specs.declared.Query.{Query}
+use Rattle.record.specs.declared.Place.{Place}
+use Rattle.record.specs.Rule.{every, isZero, blankCell, blankQuery, goodQuery, goodPlace, headSafe, noCell, noQuery, noPlace}
+use Rattle.format.specs.Bytes.{Bytes}
+use Rattle.format.specs.Format.{Reading, none, got, Format, Lawful, byte, sequence, via, pad}
+use Rattle.format.specs.Parts.{query}
+use Rattle.format.specs.File.{Result, ok, refused, _>>=_, whole, isVacant, placeWith, safeQuery, readPlace, noneLeft, readPlaces, join, putPlace, oneMore, upToFilled, shapedQuery}
+use Rattle.format.proofs.Lists.{and-left, and-right, and-both, and-iff, all-blank, bytes-++}
+use Rattle.format.proofs.Parts.{Narrow, cell-is, zero-is, query-lawful}
+use Rattle.format.proofs.Rules.{query-good, good-query}
+use Rattle.format.proofs.Directory.{cond-ok}
+
+-- ---- results
+
+pub not-ok : {A : Type 0} {n : ℕ} {a : A} → refused n ≡ ok a → ⊥
+not-ok e = let z : _≡_ {A = ℕ} 0 1 = cc in omega arith
+
+pub bind-ok : {A B : Type 0} (o : Result A) (next : A → Result B) (b : B) → (o >>= next) ≡ ok b → (a : A) × (o ≡ ok a) × (next a ≡ ok b)
+unfolding _>>=_
+bind-ok (ok a) next b e = (a, refl, e)
+bind-ok (refused n) next b e = absurd (not-ok e)
+
+pub whole-ok : {A : Type 0} (n : ℕ) (o : Reading A) (a : A) → whole n o ≡ ok a → o ≡ got a []
+unfolding whole
+whole-ok n none a e = absurd (not-ok e)
+whole-ok n (got b []) a e = let p : b ≡ a = cc in rw p
+whole-ok n (got b (x ∷ rest)) a e = absurd (not-ok e)
+
+-- a part that holds a good value and no more
+pub whole-put : {A : Type 0} (n : ℕ) (f : Format A) → Lawful f → (a : A) → f .good a ≡ true → whole n (f .get (f .put a)) ≡ ok a
+unfolding whole
+whole-put n f lf a h = let e : f .get (f .put a) ≡ got a [] = rw append-nil at (lf .get-put a [] h) in rw e
+
+-- what a part that is accepted holds
+pub whole-get : {A : Type 0} (n : ℕ) (f : Format A) → Lawful f → (part : List ℕ) (a : A) → Bytes part → whole n (f .get part) ≡ ok a → (f .good a ≡ true) × (f .put a ≡ part)
+whole-get n f lf part a hb e =
+    let k : (f .good a ≡ true) × (f .put a ++ [] ≡ part) = lf .put-get part a [] hb (whole-ok n (f .get part) a e) in
+    (k .0, rw append-nil at (k .1))
+
+-- ---- vacant places
+
+pub query-is : (q : Query) → shapedQuery q ≡ true → blankQuery q ≡ true → q ≡ noQuery
+unfolding blankQuery
+query-is q hs h =
+    let s : ((eqb (length (q .head)) 8 ≡ true) × (eqb (length (q .relations)) 12 ≡ true)) × (eqb (length (q .cells)) 96 ≡ true) = simp and-iff at hs in
+    let k = simp and-iff at h in
+    let head : q .head ≡ replicate 8 noCell = all-blank blankCell noCell cell-is (q .head) (k .0 .0 .1) ∙ ap (λ (n : ℕ). replicate n noCell) (eqb-true (length (q .head)) 8 (s .0 .0)) in
+    let relations : q .relations ≡ replicate 12 0 = all-blank isZero 0 zero-is (q .relations) (k .0 .1) ∙ ap (λ (n : ℕ). replicate n 0) (eqb-true (length (q .relations)) 12 (s .0 .1)) in
+    let cells : q .cells ≡ replicate 96 noCell = all-blank blankCell noCell cell-is (q .cells) (k .1) ∙ ap (λ (n : ℕ). replicate n noCell) (eqb-true (length (q .cells)) 96 (s .1)) in
+    λ i.
+    record {
+      arity = zero-is (q .arity) (k .0 .0 .0 .0) i;
+      size = zero-is (q .size) (k .0 .0 .0 .1) i;
+      head = head i;
+      relations = relations i;
+      cells = cells i;
+    }
+
+-- The rule of a place, with its arrays' lengths
+abbrev pub sound : List ℕ → Place → Bool
+sound schema p = goodPlace schema p && shapedQuery (p .query)
+
+pub vacant-is : (schema : List ℕ) (p : Place) → sound schema p ≡ true → p .filled ≡ false → p ≡ noPlace
+vacant-is schema p h e =
+    let k : (goodPlace schema p ≡ true) × (shapedQuery (p .query) ≡ true) = and-iff (goodPlace schema p) (shapedQuery (p .query)) .0 h in
+    let q : p .query ≡ noQuery = query-is (p .query) (k .1) (rw e at (k .0)) in
+    λ i. record { filled = e i; query = q i }
+
+no-sound : (schema : List ℕ) → sound schema noPlace ≡ true
+unfolding blankQuery every
+no-sound schema = refl
+
+-- ---- one place
+
+-- a query's part has two bytes or more
+pub query-part : (schema : List ℕ) (q : Query) → isVacant (query schema .put q) ≡ false
+unfolding isVacant query via sequence byte
+query-part schema q = refl
+
+pub read-filled : (schema : List ℕ) → Narrow schema → (last : Bool) (p : Place) → sound schema p ≡ true → p .filled ≡ true → readPlace schema last (putPlace schema p) ≡ ok p
+unfolding readPlace putPlace safeQuery _>>=_
+read-filled schema hn last p h e =
+    let k : (goodPlace schema p ≡ true) × (shapedQuery (p .query) ≡ true) = and-iff (goodPlace schema p) (shapedQuery (p .query)) .0 h in
+    let g : (goodQuery schema (p .query) ≡ true) × (headSafe schema (p .query) ≡ true) = and-iff (goodQuery schema (p .query)) (headSafe schema (p .query)) .0 (rw e at (k .0)) in
+    let w : whole 5 (query schema .get (query schema .put (p .query))) ≡ ok (p .query) =
+    whole-put 5 (query schema) (query-lawful schema hn) (p .query) (query-good schema (p .query) (k .1) (g .0)) in
+    rw (e, query-part schema (p .query), w) (rw (g .1))
+
+pub read-vacant : (schema : List ℕ) → readPlace schema false (255 ∷ []) ≡ ok noPlace
+unfolding readPlace isVacant
+read-vacant schema = refl
+
+-- the byte of a vacant place
+vacant-part : (part : List ℕ) → isVacant part ≡ true → part ≡ 255 ∷ []
+unfolding isVacant
+vacant-part [] h = let z : _≡_ {A = ℕ} 0 1 = cc in absurd (omega arith)
+vacant-part (b ∷ []) h = ap {B = List ℕ} (λ b. b ∷ []) (eqb-true b 255 h)
+vacant-part (b ∷ c ∷ bytes) h = let z : _≡_ {A = ℕ} 0 1 = cc in absurd (omega arith)
+
+-- What holds of a place that was read from a part
+abbrev Read : List ℕ → Bool → List ℕ → Place → Type 0
+Read schema last part p = (sound schema p ≡ true) × (putPlace schema p ≡ part) × (last ≡ true → p .filled ≡ true)
+
+read-place : (schema : List ℕ) → Narrow schema → (last : Bool) (part : List ℕ) (p : Place) → Bytes part → readPlace schema last part ≡ ok p → Read schema last part p
+unfolding readPlace safeQuery putPlace
+read-place schema hn last part p hb e = vacancy (isVacant part) refl e
+  where
+    vacant : (t : Bool) → last ≡ t → isVacant part ≡ true → cond t (refused 5) (ok noPlace) ≡ ok p → Read schema last part p
+    vacant true el ev e = absurd (not-ok e)
+    vacant false el ev e =
+        let same : noPlace ≡ p = cc in
+        subst (Read schema last part) same (no-sound schema, sym (vacant-part part ev), λ l. sym el ∙ l)
+
+    filled : (whole 5 (query schema .get part) >>= safeQuery schema) ≡ ok p → Read schema last part p
+    filled e =
+        let (q, w, s) = bind-ok (whole 5 (query schema .get part)) (safeQuery schema) p e in
+        let (safe, s₁) = cond-ok (headSafe schema q) (ok (placeWith q)) 6 p s in
+        let same : placeWith q ≡ p = cc in
+        let (good, put) = whole-get 5 (query schema) (query-lawful schema hn) part q hb w in
+        let (shape, rule) = good-query schema q good in
+        subst (Read schema last part) same (and-both (and-both rule safe) shape, put, λ l. refl)
+
+    vacancy : (t : Bool) → isVacant part ≡ t → cond t (cond last (refused 5) (ok noPlace)) (whole 5 (query schema .get part) >>= safeQuery schema) ≡ ok p
+        → Read schema last part p
+    vacancy true ev e = vacant last refl ev e
+    vacancy false ev e = filled e
+
+-- ---- all places
+
+-- What holds of the places that were read from some parts: good, written as the same parts, the last one filled
+abbrev AllRead : List ℕ → List (List ℕ) → List Place → Type 0
+AllRead schema parts places =
+    (every (sound schema) places ≡ true) × (map (putPlace schema) places ≡ parts) × ((k : ℕ) → upToFilled (places ++ replicate k noPlace) ≡ length places)
+
+none-filled : (k : ℕ) → upToFilled (replicate k noPlace) ≡ 0
+unfolding upToFilled
+none-filled zero = refl
+none-filled (suc k) = ap oneMore (none-filled k)
+
+-- one place more in front of places of which the last is filled
+one-more : (p : Place) (ps rest : List Place) (parts : List (List ℕ)) → (noneLeft parts ≡ true → p .filled ≡ true) → length ps ≡ length parts → upToFilled rest ≡ length ps
+    → upToFilled (p ∷ rest) ≡ suc (length ps)
+unfolding upToFilled noneLeft
+one-more p ps rest [] last l e = let f : p .filled ≡ true = last refl in rw (f, e)
+one-more p ps rest (part ∷ parts) last l e = go (p .filled)
+  where
+    go : (t : Bool) → cond t (suc (upToFilled rest)) (oneMore (upToFilled rest)) ≡ suc (length ps)
+    go true = ap suc e
+    go false = rw (e, l)
+
+pub read-places : (schema : List ℕ) → Narrow schema → (parts : List (List ℕ)) (places : List Place) → Bytes (join parts) → readPlaces schema parts ≡ ok places
+    → AllRead schema parts places
+unfolding readPlaces every join
+read-places schema hn [] places hb e =
+    let same : [] ≡ places = cc in
+    subst (AllRead schema []) same (refl, refl, none-filled)
+read-places schema hn (part ∷ parts) places hb e =
+    let (p, e₁, e₂) = bind-ok (readPlace schema (noneLeft parts) part) (λ place. readPlaces schema parts >>= (λ places. ok (place ∷ places))) places e in
+    let (ps, e₃, e₄) = bind-ok (readPlaces schema parts) (λ places. ok (p ∷ places)) places e₂ in
+    let same : p ∷ ps ≡ places = cc in
+    let (b₁, b₂) = bytes-++ part (join parts) hb in
+    let (good, put, last) = read-place schema hn (noneLeft parts) part p b₁ e₁ in
+    let (goods, puts, upTo) = read-places schema hn parts ps b₂ e₃ in
+    let l : length ps ≡ length parts = sym (length-map ps (putPlace schema)) ∙ ap length puts in
+    let all : map (putPlace schema) (p ∷ ps) ≡ part ∷ parts = rw (put, puts) in
+    subst (AllRead schema (part ∷ parts)) same (and-both good goods, all, λ k. one-more p ps (ps ++ replicate k noPlace) parts last l (upTo k))
+
+-- ---- reading back
+
+-- how many places there are up to the last filled one
+module _ (p : Place) (ps : List Place) where
+  upTo-filled : p .filled ≡ true → upToFilled (p ∷ ps) ≡ suc (upToFilled ps)
+  unfolding upToFilled
+  upTo-filled f = rw f
+
+  upTo-none : p .filled ≡ false → upToFilled ps ≡ 0 → upToFilled (p ∷ ps) ≡ 0
+  unfolding upToFilled
+  upTo-none f e = rw (f, e)
+
+  upTo-some : (m : ℕ) → p .filled ≡ false → upToFilled ps ≡ suc m → upToFilled (p ∷ ps) ≡ suc (suc m)
+  unfolding upToFilled
+  upTo-some m f e = rw (f, e)
+
+some-left : (schema : List ℕ) (ps : List Place) (m : ℕ) → upToFilled ps ≡ suc m → noneLeft (map (putPlace schema) (take (suc m) ps)) ≡ false
+unfolding upToFilled noneLeft
+some-left schema [] m e = absurd (omega arith)
+some-left schema (p ∷ ps) m e = refl
+
+read-cons : (schema : List ℕ) (p : Place) (ps : List Place) → readPlace schema (noneLeft (map (putPlace schema) ps)) (putPlace schema p) ≡ ok p
+    → readPlaces schema (map (putPlace schema) ps) ≡ ok ps → readPlaces schema (map (putPlace schema) (p ∷ ps)) ≡ ok (p ∷ ps)
+unfolding readPlaces _>>=_
+read-cons schema p ps e₁ e₂ = rw (e₁, e₂)
+
+nil-read : (schema : List ℕ) → readPlaces schema [] ≡ ok []
+unfolding readPlaces
+nil-read schema = refl
+
+read-no : (schema : List ℕ) → readPlace schema false (putPlace schema noPlace) ≡ ok noPlace
+unfolding putPlace readPlace isVacant
+read-no schema = refl
+
+-- the places up to the last filled one are read back
+pub places-read : (schema : List ℕ) → Narrow schema → (places : List Place) → every (sound schema) places ≡ true
+    → readPlaces schema (map (putPlace schema) (take (upToFilled places) places)) ≡ ok (take (upToFilled places) places)
+unfolding every
+places-read schema hn [] h = rw lib.Seq.take-nil (nil-read schema)
+places-read schema hn (p ∷ ps) h =
+    split (p .filled) refl (upToFilled ps) refl (places-read schema hn ps (and-right (sound schema p) (every (sound schema) ps) h))
+  where
+    good : sound schema p ≡ true
+    good = and-left (sound schema p) (every (sound schema) ps) h
+
+    split : (t : Bool) → p .filled ≡ t → (k : ℕ) → upToFilled ps ≡ k → readPlaces schema (map (putPlace schema) (take (upToFilled ps) ps)) ≡ ok (take (upToFilled ps) ps)
+        → readPlaces schema (map (putPlace schema) (take (upToFilled (p ∷ ps)) (p ∷ ps))) ≡ ok (take (upToFilled (p ∷ ps)) (p ∷ ps))
+    split true f k ek ih =
+        rw (upTo-filled p ps f)
+        (read-cons schema p (take (upToFilled ps) ps) (read-filled schema hn (noneLeft (map (putPlace schema) (take (upToFilled ps) ps))) p good f) ih)
+    split false f zero ek ih = rw (upTo-none p ps f ek) (nil-read schema)
+    split false f (suc m) ek ih =
+        let v : p ≡ noPlace = vacant-is schema p good f in
+        let e : readPlace schema (noneLeft (map (putPlace schema) (take (suc m) ps))) (putPlace schema p) ≡ ok p =
+        ap (λ (t : Bool). readPlace schema t (putPlace schema p)) (some-left schema ps m ek) ∙ ap (λ (p : Place). readPlace schema false (putPlace schema p)) v
+        ∙ read-no schema ∙ ap ok (sym v) in
+        rw (upTo-some p ps m f ek) (read-cons schema p (take (suc m) ps) e (rw ek at ih))
+
+-- those after the last filled one are blank
+pub blank-after : (schema : List ℕ) (places : List Place) → every (sound schema) places ≡ true
+    → drop (upToFilled places) places ≡ drop (upToFilled places) (replicate (length places) noPlace)
+unfolding every
+blank-after schema [] h = refl
+blank-after schema (p ∷ ps) h =
+    split (p .filled) refl (upToFilled ps) refl (blank-after schema ps (and-right (sound schema p) (every (sound schema) ps) h))
+  where
+    good : sound schema p ≡ true
+    good = and-left (sound schema p) (every (sound schema) ps) h
+
+    split : (t : Bool) → p .filled ≡ t → (k : ℕ) → upToFilled ps ≡ k → drop (upToFilled ps) ps ≡ drop (upToFilled ps) (replicate (length ps) noPlace)
+        → drop (upToFilled (p ∷ ps)) (p ∷ ps) ≡ drop (upToFilled (p ∷ ps)) (replicate (length (p ∷ ps)) noPlace)
+    split true f k ek ih = rw (upTo-filled p ps f) ih
+    split false f zero ek ih =
+        let v : p ≡ noPlace = vacant-is schema p good f in
+        let e : ps ≡ replicate (length ps) noPlace = rw ek at ih in
+        rw (upTo-none p ps f ek) (ap {B = List Place} (λ p. p ∷ ps) v ∙ ap {B = List Place} (λ ps. noPlace ∷ ps) e)
+    split false f (suc m) ek ih = rw (upTo-some p ps m f ek) (rw ek at ih)
+
+pub upTo-fits : (places : List Place) → upToFilled places ≤ length places
+unfolding upToFilled
+upTo-fits [] = lit≤ tt
+upTo-fits (p ∷ ps) = go (p .filled) (upToFilled ps) (upTo-fits ps)
+  where
+    go : (t : Bool) (k : ℕ) → k ≤ length ps → cond t (suc k) (oneMore k) ≤ suc (length ps)
+    go true k h = omega arith
+    go false zero h = omega arith
+    go false (suc k) h = omega arith
+
+-- the places that are written, padded, are all places
+pub pad-places : (schema : List ℕ) (places : List Place) → every (sound schema) places ≡ true → length places ≡ 8
+    → pad 8 noPlace (take (upToFilled places) places) ≡ places
+unfolding pad
+pad-places schema places h l =
+    let lt : length (take (upToFilled places) places) ≡ upToFilled places = length-take-le (upToFilled places) places (upTo-fits places) in
+    let e : drop (upToFilled places) (replicate 8 noPlace) ≡ drop (upToFilled places) places = rw l at (sym (blank-after schema places h)) in
+    rw lt (ap (λ (ps : List Place). take (upToFilled places) places ++ ps) e ∙ take-append-drop (upToFilled places) places)

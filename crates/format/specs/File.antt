@@ -1,0 +1,180 @@
+-- The whole file: the directory of its parts, the reader with its refusals, and the bytes of a record. Document 01's "The file" and refusals 1 to 6.
+use mathlib.Core.Bool.{Bool, true, false, cond, _&&_}
+use mathlib.Core.List.{List, [], _∷_, _++_, map}
+use Prim.Native.Nat.{ℕ, zero, suc, _+_, _*_}
+use lib.Dec.{eqb, ltb, leb}
+use lib.ListN.{length, getD, take, drop}
+use Rattle.record.specs.declared.Query.{Query}
+use Rattle.record.specs.declared.Dependency.{Dependency}
+use Rattle.record.specs.declared.Place.{Place}
+use Rattle.record.specs.declared.Record.{Record}
+use Rattle.record.specs.declared.Answer.{Answer}
+use Rattle.record.specs.declared.Answer.the-variants.{Done, Refused}
+use Rattle.record.specs.declared.Outcome.{Outcome}
+use Rattle.record.specs.View.{schemaOf}
+use Rattle.record.specs.Rule.{between, every, headSafe, noPlace, blankRecord}
+use Rattle.format.specs.Bytes.{number, digits}
+use Rattle.format.specs.Format.{Reading, none, got, Format, pad}
+use Rattle.format.specs.Parts.{relations, dependencies, query}
+
+-- ---- the first fault decides
+
+-- A value, or a refusal with document 01's number
+pub data Result (A : Type 0) : Type 0 where
+  ok : A → Result A
+  refused : ℕ → Result A
+
+infixl 10 _>>=_
+-- Go on with the value; a refusal stands
+unfoldable pub _>>=_ : {A B : Type 0} → Result A → (A → Result B) → Result B
+ok a >>= next = next a
+refused n >>= next = refused n
+
+-- A part that is to hold one value and no more: refused if the value is bad or the part too short, and refused if it is too long
+unfoldable pub whole : {A : Type 0} → ℕ → Reading A → Result A
+whole n none = refused n
+whole n (got a []) = ok a
+whole n (got a (b ∷ rest)) = refused n
+
+-- ---- the directory
+
+-- Each pair of the table has the offset that is due, and the last part ends where the file does
+unfoldable pub chained : ℕ → ℕ → ℕ → List ℕ → Bool
+chained zero due end table = eqb due end
+chained (suc n) due end table = eqb (number 2 table) due && chained n (due + number 2 (drop 2 table)) end (drop 4 table)
+
+-- The stretch of the file that the first pair of the table names
+abbrev pub stretch : List ℕ → List ℕ → List ℕ
+stretch file table = take (number 2 (drop 2 table)) (drop (number 2 table) file)
+
+-- The stretches of the file that the first n pairs of the table name
+unfoldable pub stretches : ℕ → List ℕ → List ℕ → List (List ℕ)
+stretches zero file table = []
+stretches (suc n) file table = stretch file table ∷ stretches n file (drop 4 table)
+
+-- At least 2 bytes, 2 to 10 parts, and a pair of 4 bytes for each: what refusal 1 asks
+abbrev pub tableFits : List ℕ → Bool
+tableFits file = leb 2 (length file) && (between 2 10 (number 2 file) && leb (2 + 4 * number 2 file) (length file))
+
+-- The parts of a file. Refused: 1, the table does not fit; 2, a pair breaks the offset rule
+unfoldable pub directory : List ℕ → Result (List (List ℕ))
+directory file =
+    cond (tableFits file)
+    (cond (chained (number 2 file) (2 + 4 * number 2 file) (length file) (drop 2 file))
+    (ok (stretches (number 2 file) file (drop 2 file)))
+    (refused 2))
+    (refused 1)
+
+-- The table of some parts, the first of which starts at the given offset
+unfoldable pub tableOf : ℕ → List (List ℕ) → List ℕ
+tableOf start [] = []
+tableOf start (p ∷ ps) = digits 2 start ++ digits 2 (length p) ++ tableOf (start + length p) ps
+
+-- Parts one after the other
+unfoldable pub join : List (List ℕ) → List ℕ
+join [] = []
+join (p ∷ ps) = p ++ join ps
+
+-- The file of some parts: their number, the table, and the parts
+unfoldable pub assemble : List (List ℕ) → List ℕ
+assemble parts = digits 2 (length parts) ++ tableOf (2 + 4 * length parts) parts ++ join parts
+
+-- ---- reading
+
+-- Whether a part is the single byte 255, a vacant place
+unfoldable pub isVacant : List ℕ → Bool
+isVacant [] = false
+isVacant (b ∷ []) = eqb b 255
+isVacant (b ∷ c ∷ bytes) = false
+
+-- A place that holds a query
+abbrev pub placeWith : Query → Place
+placeWith q = record { filled = true; query = q }
+
+-- A query whose head is safe. Refused: 6, a head variable in no row
+unfoldable pub safeQuery : List ℕ → Query → Result Place
+safeQuery schema q = cond (headSafe schema q) (ok (placeWith q)) (refused 6)
+
+-- A query part. Refused: 5, a bad query, another length, or a last part that is vacant; then 6
+unfoldable pub readPlace : List ℕ → Bool → List ℕ → Result Place
+readPlace schema last part =
+    cond (isVacant part) (cond last (refused 5) (ok noPlace)) (whole 5 (query schema .get part) >>= safeQuery schema)
+
+-- Whether there is no part left
+unfoldable pub noneLeft : List (List ℕ) → Bool
+noneLeft [] = true
+noneLeft (p ∷ ps) = false
+
+-- The query parts in file order
+unfoldable pub readPlaces : List ℕ → List (List ℕ) → Result (List Place)
+readPlaces schema [] = ok []
+readPlaces schema (p ∷ ps) = do
+  place ← readPlace schema (noneLeft ps) p
+  places ← readPlaces schema ps
+  ok (place ∷ places)
+
+-- The record of the given relations, dependencies and first places
+abbrev pub recordWith : ℕ × List ℕ → ℕ × List Dependency → List Place → Record
+recordWith rs ds places =
+    record { relations = rs .0; widths = rs .1; held = ds .0; dependencies = ds .1; places = pad 8 noPlace places }
+
+-- The parts in file order. Refused: 3, relations; 4, dependencies; 5 and 6, query parts
+unfoldable pub readParts : List ℕ → List ℕ → List (List ℕ) → Result Record
+readParts part0 part1 parts = do
+  rs ← whole 3 (relations .get part0)
+  ds ← whole 4 (dependencies (take (rs .0) (rs .1)) .get part1)
+  places ← readPlaces (take (rs .0) (rs .1)) parts
+  ok (recordWith rs ds places)
+
+-- All parts. The directory gives at least two
+unfoldable pub readAll : List (List ℕ) → Result Record
+readAll [] = refused 1
+readAll (part0 ∷ []) = refused 1
+readAll (part0 ∷ part1 ∷ parts) = readParts part0 part1 parts
+
+-- The record of a file, or the first fault
+unfoldable pub readFile : List ℕ → Result Record
+readFile file = directory file >>= readAll
+
+-- A result as a call's outcome: a refused file gives the blank record
+abbrev pub outcomeOf : Result Record → Outcome
+outcomeOf (ok r) = record { answer = Done; «record» = r }
+outcomeOf (refused n) = record { answer = Refused n; «record» = blankRecord }
+
+-- ---- writing
+
+-- The part of a place: 255 alone if it is vacant, else its query
+unfoldable pub putPlace : List ℕ → Place → List ℕ
+putPlace schema p = cond (p .filled) (query schema .put (p .query)) (255 ∷ [])
+
+-- One more if there is any
+abbrev pub oneMore : ℕ → ℕ
+oneMore zero = zero
+oneMore (suc n) = suc (suc n)
+
+-- How many places there are up to the last filled one
+unfoldable pub upToFilled : List Place → ℕ
+upToFilled [] = 0
+upToFilled (p ∷ ps) = cond (p .filled) (suc (upToFilled ps)) (oneMore (upToFilled ps))
+
+-- The parts of a record's file
+unfoldable pub partsOf : Record → List (List ℕ)
+partsOf r =
+    relations .put (r .relations, r .widths) ∷ dependencies (schemaOf r) .put (r .held, r .dependencies)
+    ∷ map (putPlace (schemaOf r)) (take (upToFilled (r .places)) (r .places))
+
+-- The file of a record
+unfoldable pub fileOf : Record → List ℕ
+fileOf r = assemble (partsOf r)
+
+-- ---- the lengths of the record's arrays, which its types give
+
+-- A query has 8 head cells, 12 relations and 96 cells
+abbrev pub shapedQuery : Query → Bool
+shapedQuery q = eqb (length (q .head)) 8 && eqb (length (q .relations)) 12 && eqb (length (q .cells)) 96
+
+-- A record has 8 widths, 32 dependencies and 8 places, each with the arrays of a query
+abbrev pub shaped : Record → Bool
+shaped r =
+    eqb (length (r .widths)) 8 && eqb (length (r .dependencies)) 32 && eqb (length (r .places)) 8
+    && every (λ p. shapedQuery (p .query)) (r .places)

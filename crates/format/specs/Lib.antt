@@ -1,0 +1,5 @@
+-- The format of the file, in the order in which to read it.
+pub mod Bytes
+pub mod Format
+pub mod Parts
+pub mod File

@@ -1,0 +1,125 @@
+-- The parts of the file as formats: relations, dependencies and queries, as document 01's "The file" lists them.
+-- Arrays are those of the record: the elements in use are written, those after them are blank.
+use mathlib.Core.Bool.{Bool, true, false, cond, _&&_}
+use mathlib.Core.List.{List, [], _∷_, _++_, map}
+use Prim.Native.Nat.{ℕ, zero, suc}
+use lib.Dec.{eqb, ltb, leb}
+use lib.ListN.{length, getD, take, drop, replicate}
+use Rattle.record.specs.declared.Entry.{Entry}
+use Rattle.record.specs.declared.Entry.the-variants.{Constant, Variable}
+use Rattle.record.specs.declared.Cell.{Cell}
+use Rattle.record.specs.declared.Query.{Query}
+use Rattle.record.specs.declared.Dependency.{Dependency}
+use Rattle.record.specs.Rule.{between, every, isZero, blankCell, blankDependency, goodDependency, goodEntry, goodCell, noCell}
+use Rattle.format.specs.Bytes.{number, digits}
+use Rattle.format.specs.Format.{Reading, none, gotIf, Format, byte, sequence, padded, via}
+
+-- ---- part 0 and part 1
+
+-- Part 0: the count of relations, then a width byte each
+unfoldable pub relations : Format (ℕ × List ℕ)
+relations = sequence (byte (between 1 8)) (λ n. padded 8 0 isZero n (byte (between 1 8)))
+
+-- A dependency that is not in use
+abbrev pub noDependency : Dependency
+noDependency = record { relation = 0; left = 0; right = 0 }
+
+-- The dependency that three bytes stand for
+abbrev pub dependencyAt : List ℕ → Dependency
+dependencyAt bytes = record { relation = getD bytes 0 0; left = getD bytes 1 0; right = getD bytes 2 0 }
+
+-- A dependency: relation, left set (bit c for column c), right column
+unfoldable pub dependency : List ℕ → Format Dependency
+dependency schema =
+    record {
+      good = goodDependency schema;
+      put = λ d. d .relation ∷ d .left ∷ d .right ∷ [];
+      get = λ bytes. gotIf (leb 3 (length bytes) && goodDependency schema (dependencyAt bytes)) (dependencyAt bytes) (drop 3 bytes);
+    }
+
+-- Part 1: the count of dependencies, then 3 bytes each
+unfoldable pub dependencies : List ℕ → Format (ℕ × List Dependency)
+dependencies schema = sequence (byte (λ n. leb n 32)) (λ n. padded 32 noDependency blankDependency n (dependency schema))
+
+-- ---- queries
+
+-- The bytes of an entry: 0 for a constant, 1 for a variable, and 32 bits
+unfoldable pub putEntry : Entry → List ℕ
+putEntry (Constant n) = 0 ∷ digits 4 n
+putEntry (Variable v) = 1 ∷ digits 4 v
+
+-- Whether a byte and a number stand for an entry
+abbrev pub isEntry : ℕ → ℕ → Bool
+isEntry tag n = cond (eqb tag 0) (leb n 2147483647) (eqb tag 1 && leb n 95)
+
+-- The entry that a byte and a number stand for
+abbrev pub entryFrom : ℕ → ℕ → Cell
+entryFrom tag n = record { entry = cond (eqb tag 0) (Constant n) (Variable n) }
+
+-- An entry: a byte (0 constant, 1 variable) and 32 bits
+unfoldable pub entry : Format Cell
+entry =
+    record {
+      good = goodCell;
+      put = λ c. putEntry (c .entry);
+      get = λ bytes.
+          gotIf (leb 5 (length bytes) && isEntry (getD bytes 0 0) (number 4 (drop 1 bytes)))
+          (entryFrom (getD bytes 0 0) (number 4 (drop 1 bytes)))
+          (drop 5 bytes);
+    }
+
+-- n entries in 8 cells
+unfoldable pub entries : ℕ → Format (List Cell)
+entries n = padded 8 noCell blankCell n entry
+
+-- A row: the relation byte and one entry a column
+unfoldable pub row : List ℕ → Format (ℕ × List Cell)
+row schema = sequence (byte (λ r. ltb r (length schema))) (λ r. entries (getD schema r 0))
+
+-- A row that is not in use
+abbrev pub noRow : ℕ × List Cell
+noRow = (0, replicate 8 noCell)
+
+-- Whether a row is blank: all 0, in 8 cells
+abbrev pub blankRow : ℕ × List Cell → Bool
+blankRow r = isZero (r .0) && (eqb (length (r .1)) 8 && every blankCell (r .1))
+
+-- n rows in 12
+unfoldable pub rows : List ℕ → ℕ → Format (List (ℕ × List Cell))
+rows schema n = padded 12 noRow blankRow n (row schema)
+
+-- Relations and cells as rows of 8 cells each
+unfoldable pub chunk : List ℕ → List Cell → List (ℕ × List Cell)
+chunk [] cells = []
+chunk (r ∷ rs) cells = (r, take 8 cells) ∷ chunk rs (drop 8 cells)
+
+-- The cells of some rows, row by row
+unfoldable pub flat : List (ℕ × List Cell) → List Cell
+flat [] = []
+flat (r ∷ rs) = r .1 ++ flat rs
+
+-- A query's head length, row count, head and rows
+abbrev pub Fields : Type 0
+Fields = ℕ × (ℕ × (List Cell × List (ℕ × List Cell)))
+
+-- The query with the given fields
+abbrev pub queryWith : Fields → Query
+queryWith f =
+    record { arity = f .0; size = f .1 .0; head = f .1 .1 .0; relations = map (λ r. r .0) (f .1 .1 .1); cells = flat (f .1 .1 .1) }
+
+-- The fields of a query
+abbrev pub fieldsOf : Query → Fields
+fieldsOf q = (q .arity, (q .size, (q .head, chunk (q .relations) (q .cells))))
+
+-- Whether a query has 8 cells for each of 12 rows
+abbrev pub fullCells : Query → Bool
+fullCells q = eqb (length (q .cells)) 96
+
+-- A query: head length, row count, head entries, then rows. Never, which has no rows, has no head entries: only the two bytes
+unfoldable pub query : List ℕ → Format Query
+query schema =
+    via fullCells queryWith fieldsOf
+    (sequence (byte (λ n. leb n 8))
+    (λ arity.
+    sequence (byte (λ n. leb n 12))
+    (λ size. sequence (entries (cond (eqb size 0) 0 arity)) (λ head. rows schema size))))

@@ -1,0 +1,1 @@
+// The format of the file, as definitions and laws alone: no code.
