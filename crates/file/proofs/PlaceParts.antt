@@ -1,12 +1,13 @@
 -- The part of a place: its bytes and its length.
 use mathlib.Core.Path.{_≡_, refl, sym, ap, _∙_}
 use mathlib.Core.Bool.{true, false, cond, _&&_}
-use mathlib.Core.List.{List, [], _∷_}
-use Prim.Native.Nat.{ℕ, zero, suc, _+_, _*_, _≤_}
+use mathlib.Core.List.{List, [], _∷_, map}
+use Prim.Native.Nat.{ℕ, zero, suc, _+_, _*_, _≤_, _<_}
 use native.Mathlib.Omega.{arith}
 use lib.Dec.{eqb}
-use lib.ListN.{length, take, drop, getD, length-append, length-drop}
-use lib.Seq.{length-take-le}
+use lib.ListN.{length, take, drop, getD, length-append, length-drop, drop-of-length-le}
+use lib.Seq.{length-take-le, drop-cons, getD-take}
+use native.Mathlib.Numerals.{add-one}
 use Rattle.record.specs.declared.Cell.{Cell}
 use Rattle.record.specs.declared.Query.{Query}
 use Rattle.record.specs.declared.Place.{Place}
@@ -19,6 +20,7 @@ use Rattle.format.proofs.Parts.{Narrow, narrow-at}
 use Rattle.format.proofs.Rules.{good-sizes}
 use Rattle.format.proofs.Lengths.{length-row, length-query}
 use Rattle.file.specs.Write.{rowsLength}
+use Rattle.file.proofs.Arrays.{pastPlace}
 
 module _ (schema : List ℕ) (narrow : Narrow schema) where
   rows-exact : (named : List ℕ) (cells : List Cell) (size : ℕ) → length cells ≡ 8 * length named
@@ -54,3 +56,17 @@ module _ (schema : List ℕ) (p : Place) where
   filled-sizes f g =
       let h : (goodQuery schema (p .query) && headSafe schema (p .query)) ≡ true = rw f at g in
       good-sizes schema (p .query) (and-left (goodQuery schema (p .query)) (headSafe schema (p .query)) h)
+
+-- ---- the parts of the first n places
+
+module _ (schema : List ℕ) (places : List Place) (n k : ℕ) (l : n ≤ length places) where
+  pub parts-next : k < n
+      → map (putPlace schema) (drop k (take n places)) ≡ putPlace schema (getD places k pastPlace) ∷ map (putPlace schema) (drop (k + 1) (take n places))
+  parts-next h =
+      let m : length (take n places) ≡ n = length-take-le n places l in
+      ap (map (putPlace schema)) (drop-cons (take n places) k pastPlace (omega arith)) ∙ rw (getD-take n places k pastPlace h, add-one)
+
+  pub parts-end : n ≤ k → map (putPlace schema) (drop k (take n places)) ≡ []
+  parts-end h =
+      let m : length (take n places) ≡ n = length-take-le n places l in
+      ap (map (putPlace schema)) (drop-of-length-le (take n places) {i = k} (omega arith))

@@ -3,7 +3,7 @@ use record::{Cell, Dependency, Entry, Place, Query, Record};
 
 ghost use mathlib.Core.Path.{_≡_};
 ghost use mathlib.Core.Bool.{true};
-ghost use mathlib.Core.List.{_∷_, map};
+ghost use mathlib.Core.List.{_∷_, [], map};
 ghost use Prim.Native.Nat.{_+_, _*_, _≤_, _<_};
 ghost use lib.ListN.{length, take, drop, getD};
 ghost use Rattle.record.specs.Rule.{every, goodRelations, goodPlace};
@@ -217,4 +217,76 @@ fn places_length(places: [Place; 8], n: usize, count: u8, widths: [u8; 8]) -> us
         sum = sum + place_length(place, count, widths);
     }
     sum
+}
+
+// ---- part 0 and part 1
+
+// The relations at a position: their count, then a width byte each.
+fn put_relations(buffer: &mut [u8], at: usize, count: u8, widths: [u8; 8])
+    requires { ⌜ count ≤ 8 ⌝ }
+    requires { ⌜ at + 1 + count ≤ length (now buffer) ⌝ }
+    ensures { λ _. ⌜ now (buffer .exit) ≡ over (now (buffer .entry)) at (relations .put (count, widths)) ⌝ }
+{
+    buffer[at] = count;
+    for i in 0..count as usize {
+        buffer[at + 1 + i] = widths[i];
+    }
+}
+
+// A dependency at a position: relation, left set and right column, a byte each.
+fn put_dependency(buffer: &mut [u8], at: usize, d: Dependency)
+    requires { ⌜ at + 3 ≤ length (now buffer) ⌝ }
+    ensures { λ _. ⌜ now (buffer .exit) ≡ over (now (buffer .entry)) at (d .relation ∷ d .left ∷ d .right ∷ []) ⌝ }
+{
+    buffer[at] = d.relation;
+    buffer[at + 1] = d.left;
+    buffer[at + 2] = d.right;
+}
+
+// The dependencies at a position: their count, then 3 bytes each.
+fn put_dependencies(buffer: &mut [u8], at: usize, held: u8, list: [Dependency; 32], count: u8, widths: [u8; 8])
+    requires { ⌜ held ≤ 32 ⌝ }
+    requires { ⌜ at + 1 + 3 * held ≤ length (now buffer) ⌝ }
+    ensures { λ _. ⌜ now (buffer .exit) ≡ over (now (buffer .entry)) at (dependencies (take count widths) .put (held, list)) ⌝ }
+{
+    buffer[at] = held;
+    for i in 0..held as usize {
+        let d = list[i];
+        put_dependency(buffer, at + 1 + 3 * i, d);
+    }
+}
+
+// ---- the directory and the places
+
+// The pairs of the first n places at a position, the first part starting at `start`.
+fn put_table(buffer: &mut [u8], at: usize, start: usize, places: [Place; 8], n: usize, count: u8, widths: [u8; 8])
+    requires { ⌜ goodRelations count widths ≡ true ⌝ }
+    requires { ⌜ every (goodPlace (take count widths)) places ≡ true ⌝ }
+    requires { ⌜ (n ≤ 8) × (start ≤ 1000) ⌝ }
+    requires { ⌜ at + 4 * n ≤ length (now buffer) ⌝ }
+    ensures { λ _. ⌜ now (buffer .exit) ≡ over (now (buffer .entry)) at (tableOf start (map (putPlace (take count widths)) (take n places))) ⌝ }
+{
+    let mut due = start;
+    for k in 0..n {
+        let place = places[k];
+        let size = place_length(place, count, widths);
+        put_word(buffer, at + 4 * k, due);
+        put_word(buffer, at + 4 * k + 2, size);
+        due = due + size;
+    }
+}
+
+// The parts of the first n places from a position on.
+fn put_places(buffer: &mut [u8], start: usize, places: [Place; 8], n: usize, count: u8, widths: [u8; 8])
+    requires { ⌜ goodRelations count widths ≡ true ⌝ }
+    requires { ⌜ every (goodPlace (take count widths)) places ≡ true ⌝ }
+    requires { ⌜ n ≤ 8 ⌝ }
+    requires { ⌜ start + length (join (map (putPlace (take count widths)) (take n places))) ≤ length (now buffer) ⌝ }
+    ensures { λ _. ⌜ now (buffer .exit) ≡ over (now (buffer .entry)) start (join (map (putPlace (take count widths)) (take n places))) ⌝ }
+{
+    let mut at = start;
+    for k in 0..n {
+        let place = places[k];
+        at = put_place(buffer, at, place, count, widths);
+    }
 }

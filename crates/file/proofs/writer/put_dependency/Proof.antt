@@ -1,0 +1,45 @@
+use borrow.Author.Needs.{needs}
+use Rattle.file.proofs.writer.put_dependency.Statement.{statement}
+use Rattle.file.proofs.writer.put_dependency.Tie as tie
+use Rattle.file.proofs.writer.put_dependency.Reads as reads
+use Rattle.file.proofs.writer.put_dependency.Lts as lts
+
+-- src/writer.rt:241:5
+slice-write-buffer : tie.Need-slice-write-buffer
+slice-write-buffer c = search needs
+
+-- src/writer.rt:242:12
+add-buffer : tie.Need-add-buffer
+add-buffer c = search needs
+
+-- src/writer.rt:242:5
+slice-write-buffer-2 : tie.Need-slice-write-buffer-2
+slice-write-buffer-2 c = search needs
+
+-- src/writer.rt:243:12
+add-buffer-2 : tie.Need-add-buffer-2
+add-buffer-2 c = search needs
+
+-- src/writer.rt:243:5
+slice-write-buffer-3 : tie.Need-slice-write-buffer-3
+slice-write-buffer-3 c = search needs
+
+-- src/writer.rt:237:1
+same-length : tie.Need-same-length
+same-length c = search needs
+
+-- src/writer.rt:237:1
+returns : tie.Need-returns
+returns c = search needs
+
+pub put-dependency-spec : {M : Type 1} → statement M
+put-dependency-spec =
+    tie.close
+    (tie.spec
+    slice-write-buffer
+    add-buffer
+    slice-write-buffer-2
+    add-buffer-2
+    slice-write-buffer-3
+    same-length
+    returns)
