@@ -3,3 +3,4 @@ pub mod Encoding
 pub mod Verdicts
 pub mod Prepared
 pub mod Evaluations
+pub mod Meaning

@@ -33,7 +33,7 @@ module _ (schema : List ℕ) (narrow : Narrow schema) where
       let front : length (take 8 cells) ≡ 8 = length-take-le 8 cells (omega arith) in
       let used : length (take w (take 8 cells)) ≡ w = length-take-le w (take 8 cells) (omega (arith, narrow-at schema r narrow)) in
       let ih : length (putAll (row schema .put) (take size (chunk named (drop 8 cells)))) ≡ rowsLength schema (take size named) =
-          rows-exact named (drop 8 cells) size (length-drop 8 cells ∙ omega arith) in
+      rows-exact named (drop 8 cells) size (length-drop 8 cells ∙ omega arith) in
       length-append (row schema .put (r, take 8 cells)) (putAll (row schema .put) (take size (chunk named (drop 8 cells)))) ∙ omega (arith, length-row schema (r, take 8 cells))
 
   pub query-exact : (q : Query) (used rows : ℕ) → length (q .head) ≡ 8 → length (q .relations) ≡ 12 → length (q .cells) ≡ 96 → used ≡ cond (eqb (q .size) 0) 0 (q .arity) → used ≤ 8

@@ -8,7 +8,7 @@ use lib.ListN.{length, getD, take, drop, set, length-append, drop-of-length-le}
 use lib.Seq.{sets-eq, drop-cons}
 use Rattle.format.specs.Bytes.{over}
 use Rattle.format.specs.Format.{putAll}
-use Rattle.format.proofs.Lists.{over-nil, over-over, over-length}
+use Rattle.format.proofs.Lists.{over-nil, over-set, over-over, over-length}
 
 pub two-stores : (d : List ℕ) (at a b : ℕ) → at + 2 ≤ length d → set (set d at a) (at + 1) b ≡ over d at (a ∷ b ∷ [])
 two-stores d at a b h = rw add-one (sets-eq (a ∷ b ∷ []) d at h)
@@ -16,6 +16,13 @@ two-stores d at a b h = rw add-one (sets-eq (a ∷ b ∷ []) d at h)
 pub five-stores : (d : List ℕ) (at a b c e f : ℕ) → at + 5 ≤ length d
     → set (set (set (set (set d at a) (at + 1) b) (at + 2) c) (at + 3) e) (at + 4) f ≡ over d at (a ∷ b ∷ c ∷ e ∷ f ∷ [])
 five-stores d at a b c e f h = rw (add-one, add-two, add-three, add-four) (sets-eq (a ∷ b ∷ c ∷ e ∷ f ∷ []) d at h)
+
+pub three-stores : (d : List ℕ) (at a b c : ℕ) → at + 3 ≤ length d → set (set (set d at a) (at + 1) b) (at + 2) c ≡ over d at (a ∷ b ∷ c ∷ [])
+three-stores d at a b c h = rw (add-one, add-two) (sets-eq (a ∷ b ∷ c ∷ []) d at h)
+
+-- a byte and then a run
+pub byte-and-run : (d : List ℕ) (at a : ℕ) (run next : List ℕ) → at < length d → next ≡ over (set d at a) (at + 1) run → next ≡ over d at (a ∷ run)
+byte-and-run d at a run next h e = e ∙ ap (λ (n : ℕ). over (set d at a) n run) (add-one at) ∙ over-set d at a run h
 
 -- ---- a loop that writes values
 
@@ -39,7 +46,7 @@ module _ {A : Type 0} {put : A → List ℕ} {before : List ℕ} {start : ℕ} {
   pub writing-room : (d : A) → i < length xs → at + length (put (getD xs i d)) ≤ length buffer
   writing-room d h =
       let l : length (putAll put (drop i xs)) ≡ length (put (getD xs i d)) + length (putAll put (drop (i + 1) xs)) =
-          ap length (put-next d h) ∙ length-append (put (getD xs i d)) (putAll put (drop (i + 1) xs)) in
+      ap length (put-next d h) ∙ length-append (put (getD xs i d)) (putAll put (drop (i + 1) xs)) in
       omega (arith, w .room)
 
   pub writing-turns : (d : A) (next : List ℕ) (to : ℕ) → i < length xs → next ≡ over buffer at (put (getD xs i d)) → to ≡ at + length (put (getD xs i d))

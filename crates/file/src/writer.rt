@@ -1,17 +1,21 @@
 // The file of a record, written into a lent buffer. Each function writes one piece over the buffer at a position: what stands before and after it stays.
-use record::{Cell, Dependency, Entry, Place, Query, Record};
-
+use record::Cell;
+use record::Dependency;
+use record::Entry;
+use record::Place;
+use record::Query;
+use record::Record;
 ghost use mathlib.Core.Path.{_≡_};
 ghost use mathlib.Core.Bool.{true};
-ghost use mathlib.Core.List.{_∷_, [], map};
+ghost use mathlib.Core.List.{_∷_, map};
 ghost use Prim.Native.Nat.{_+_, _*_, _≤_, _<_};
 ghost use lib.ListN.{length, take, drop, getD};
 ghost use Rattle.record.specs.Rule.{every, goodRelations, goodPlace};
 ghost use Rattle.format.specs.Bytes.{digits, over};
 ghost use Rattle.format.specs.Format.{putAll};
-ghost use Rattle.format.specs.Parts.{relations, dependencies, putEntry, entries, row, chunk, query};
+ghost use Rattle.format.specs.Parts.{relations, putEntry, entries, row, chunk, query};
 ghost use Rattle.format.specs.File.{tableOf, join, putPlace, upToFilled};
-ghost use Rattle.file.specs.Write.{rowsLength};
+ghost use Rattle.file.specs.Write.{rowsLength, putDependency, dependencyBytes};
 
 // ---- numbers and entries
 
@@ -72,7 +76,9 @@ fn row_of(cells: [Cell; 96], r: usize) -> Row
     requires { ⌜ r < 12 ⌝ }
     ensures { λ x. ⌜ x .cells ≡ take 8 (drop (8 * r) cells) ⌝ }
 {
-    let mut copy = [Cell { entry: Entry::Constant(0) }; 8];
+    let mut copy = [Cell {
+        entry: Entry::Constant(0),
+    }; 8];
     for c in 0..8 {
         copy[c] = cells[8 * r + c];
     }
@@ -102,7 +108,15 @@ fn put_row(buffer: &mut [u8], at: usize, relation: u8, cells: [Cell; 8], width: 
 }
 
 // The first `size` rows from a position on. Returns the position after them.
-fn put_rows(buffer: &mut [u8], start: usize, size: usize, named: [u8; 12], cells: [Cell; 96], count: u8, widths: [u8; 8]) -> usize
+fn put_rows(
+    buffer: &mut [u8],
+    start: usize,
+    size: usize,
+    named: [u8; 12],
+    cells: [Cell; 96],
+    count: u8,
+    widths: [u8; 8],
+) -> usize
     requires { ⌜ goodRelations count widths ≡ true ⌝ }
     requires { ⌜ size ≤ 12 ⌝ }
     requires { ⌜ start + length (putAll (row (take count widths) .put) (take size (chunk named cells))) ≤ length (now buffer) ⌝ }
@@ -137,7 +151,15 @@ fn put_query(buffer: &mut [u8], at: usize, q: Query, count: u8, widths: [u8; 8])
     put_entries(buffer, at + 2, head, used);
     let named = q.relations;
     let cells = q.cells;
-    put_rows(buffer, at + 2 + 5 * used, size as usize, named, cells, count, widths)
+    put_rows(
+        buffer,
+        at + 2 + 5 * used,
+        size as usize,
+        named,
+        cells,
+        count,
+        widths,
+    )
 }
 
 // The part of a place at a position: 255 alone if it is vacant, else its query. Returns the position after it.
@@ -236,7 +258,7 @@ fn put_relations(buffer: &mut [u8], at: usize, count: u8, widths: [u8; 8])
 // A dependency at a position: relation, left set and right column, a byte each.
 fn put_dependency(buffer: &mut [u8], at: usize, d: Dependency)
     requires { ⌜ at + 3 ≤ length (now buffer) ⌝ }
-    ensures { λ _. ⌜ now (buffer .exit) ≡ over (now (buffer .entry)) at (d .relation ∷ d .left ∷ d .right ∷ []) ⌝ }
+    ensures { λ _. ⌜ now (buffer .exit) ≡ over (now (buffer .entry)) at (putDependency d) ⌝ }
 {
     buffer[at] = d.relation;
     buffer[at + 1] = d.left;
@@ -244,10 +266,10 @@ fn put_dependency(buffer: &mut [u8], at: usize, d: Dependency)
 }
 
 // The dependencies at a position: their count, then 3 bytes each.
-fn put_dependencies(buffer: &mut [u8], at: usize, held: u8, list: [Dependency; 32], count: u8, widths: [u8; 8])
+fn put_dependencies(buffer: &mut [u8], at: usize, held: u8, list: [Dependency; 32])
     requires { ⌜ held ≤ 32 ⌝ }
     requires { ⌜ at + 1 + 3 * held ≤ length (now buffer) ⌝ }
-    ensures { λ _. ⌜ now (buffer .exit) ≡ over (now (buffer .entry)) at (dependencies (take count widths) .put (held, list)) ⌝ }
+    ensures { λ _. ⌜ now (buffer .exit) ≡ over (now (buffer .entry)) at (dependencyBytes held list) ⌝ }
 {
     buffer[at] = held;
     for i in 0..held as usize {
@@ -259,7 +281,15 @@ fn put_dependencies(buffer: &mut [u8], at: usize, held: u8, list: [Dependency; 3
 // ---- the directory and the places
 
 // The pairs of the first n places at a position, the first part starting at `start`.
-fn put_table(buffer: &mut [u8], at: usize, start: usize, places: [Place; 8], n: usize, count: u8, widths: [u8; 8])
+fn put_table(
+    buffer: &mut [u8],
+    at: usize,
+    start: usize,
+    places: [Place; 8],
+    n: usize,
+    count: u8,
+    widths: [u8; 8],
+)
     requires { ⌜ goodRelations count widths ≡ true ⌝ }
     requires { ⌜ every (goodPlace (take count widths)) places ≡ true ⌝ }
     requires { ⌜ (n ≤ 8) × (start ≤ 1000) ⌝ }
@@ -277,7 +307,14 @@ fn put_table(buffer: &mut [u8], at: usize, start: usize, places: [Place; 8], n: 
 }
 
 // The parts of the first n places from a position on.
-fn put_places(buffer: &mut [u8], start: usize, places: [Place; 8], n: usize, count: u8, widths: [u8; 8])
+fn put_places(
+    buffer: &mut [u8],
+    start: usize,
+    places: [Place; 8],
+    n: usize,
+    count: u8,
+    widths: [u8; 8],
+)
     requires { ⌜ goodRelations count widths ≡ true ⌝ }
     requires { ⌜ every (goodPlace (take count widths)) places ≡ true ⌝ }
     requires { ⌜ n ≤ 8 ⌝ }

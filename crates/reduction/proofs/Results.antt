@@ -2,10 +2,9 @@
 --   1. the shortened query, 2. the record with it, 3. the refusals in their order.
 -- The theorems are the theory's `Reduction`. Assumes nothing.
 use mathlib.Core.Path.{_≡_, refl, sym, _∙_, ap, subst, subst₂}
-use mathlib.Core.Logic.{_≢_}
-use mathlib.Core.Bool.{Bool, true, false, not}
+use mathlib.Core.Bool.{Bool, true, false}
 use mathlib.Core.List.{List, [], _∷_}
-use mathlib.Core.Option.{Option, none, some}
+use mathlib.Core.Option.{none, some}
 use Prim.Native.Nat.{ℕ, _*_, _≤_, _<_}
 use native.Mathlib.Omega.{arith}
 use borrow.Author.Tests.{le-leb, lt-ltb, le-ltb}
@@ -18,13 +17,13 @@ use Rattle.record.specs.declared.Record.{Record}
 use Rattle.record.specs.declared.Answer.the-variants as answer
 use Rattle.record.specs.declared.Lookup.the-variants as lookup
 use Rattle.record.specs.View.{queryOf, schemaOf, dependenciesOf}
-use Rattle.record.specs.Rule.{every, between, goodDependency, blankDependency, inUse, goodDependencies, goodQuery, headSafe, goodRecord, noCell, noPlace}
+use Rattle.record.specs.Rule.{every, between, goodDependencies, goodQuery, headSafe, goodRecord, noCell, noPlace}
 use Rattle.record.specs.Calls.{firstHolding, above, vacant, filled, placeAt, isFilled, filledPlace, vacantPlace, withPlace}
 use Rattle.record.proofs.Tests.{and-both}
 use Rattle.record.proofs.Good.{good-record}
-use Rattle.record.proofs.Stored.{narrow, place-good, filled-parts, well-formed}
+use Rattle.record.proofs.Stored.{place-good, filled-parts, well-formed}
 use Rattle.record.proofs.Kept.{filled-place, place-kept, place-read}
-use Rattle.record.proofs.Refusals.{found-refused, filled-at, vacant-at, place-at, place-refused, vacant-refused}
+use Rattle.record.proofs.Refusals.{found-refused, filled-at, vacant-at, place-refused, vacant-refused}
 use Rattle.chase.specs.declared.Chased.{Chased}
 use Rattle.chase.specs.Wide.{heldOf}
 use Rattle.chase.specs.Outcome.{IsChased}

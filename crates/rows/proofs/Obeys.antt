@@ -46,7 +46,7 @@ breaks-kept d r s h p q a = go (eqb (column 0 r (d .right)) (column 0 s (d .righ
     go true e = eqb-true (column 0 r (d .right)) (column 0 s (d .right)) e
     go false e =
         let broken : breaksRows d r s ≡ true =
-            rw (eq-eqb (r .relation) (d .relation) p, eq-eqb (s .relation) (d .relation) q, agree-true (d .left) r s a, same-constants r s (d .right), e) in
+        rw (eq-eqb (r .relation) (d .relation) p, eq-eqb (s .relation) (d .relation) q, agree-true (d .left) r s a, same-constants r s (d .right), e) in
         absurd (false≢true (sym h ∙ broken))
 
 -- rows that keep a dependency do not break it
@@ -61,8 +61,13 @@ kept-breaks d r s keep = go (eqb (r .relation) (d .relation)) refl (eqb (s .rela
     go true p false q z a = rw (p, q)
     go true p true q false a = rw (p, q, a)
     go true p true q true a =
-        rw (p, q, a, same-constants r s (d .right),
-        eq-eqb (column 0 r (d .right)) (column 0 s (d .right)) (keep (eqb-true (r .relation) (d .relation) p) (eqb-true (s .relation) (d .relation) q) (agree-all (d .left) r s a)))
+        rw (
+          p,
+          q,
+          a,
+          same-constants r s (d .right),
+          eq-eqb (column 0 r (d .right)) (column 0 s (d .right)) (keep (eqb-true (r .relation) (d .relation) p) (eqb-true (s .relation) (d .relation) q) (agree-all (d .left) r s a)),
+        )
 
 -- ---- all rows
 
@@ -103,6 +108,7 @@ pairs-obey d n (t ∷ D) h r s mr ms p q a =
   where
     swap : column 0 s (d .right) ≡ column 0 r (d .right) → column 0 r (d .right) ≡ column 0 s (d .right)
     swap e = sym e
+
     go : ((u : Row ℕ) → u ∈ D → breaksRows d t u ≡ false) → (r ∈ D → s ∈ D → column 0 r (d .right) ≡ column 0 s (d .right)) → r ∈ (t ∷ D) → s ∈ (t ∷ D)
         → column 0 r (d .right) ≡ column 0 s (d .right)
     go fails later (List·Memᴰ·head e) (List·Memᴰ·head f) = ap (λ (x : Row ℕ). column 0 x (d .right)) (e ∙ sym f)

@@ -1,7 +1,7 @@
 -- `reduction::reduce` meets its contract, by `Results`: each answer follows the test that decides it. Assumes nothing.
 use mathlib.Core.Path.{_≡_, sym, ap, _∙_}
 use mathlib.Core.Bool.{true}
-use Prim.Native.Nat.{ℕ, _<_}
+use Prim.Native.Nat.{_<_}
 use borrow.Author.Tests.{not-true, not-false}
 use borrow.Author.Needs.{needs}
 use Rattle.record.specs.Rule.{goodRecord}

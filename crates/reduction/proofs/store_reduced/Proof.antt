@@ -5,7 +5,6 @@ use native.Mathlib.Omega.{arith}
 use borrow.Author.Needs.{needs}
 use lib.ListN.{length, getD}
 use Rattle.record.specs.declared.Place.{Place}
-use Rattle.record.specs.declared.Query.{Query}
 use Rattle.record.specs.Rule.{noPlace}
 use Rattle.record.proofs.Tail.{mapped-length, getD-any, pastPlace}
 use Rattle.reduction.specs.Reduced.{storedAt}

@@ -56,10 +56,11 @@ returns c =
     let q = c .before .before .before .before .before .args .place .query in
     let lh : length (q .head) ≡ 8 = search (length-mapped, needs) in
     let lr : length (q .relations) ≡ 12 = search (length-mapped, needs) in
-    let lc : length (q .cells) ≡ 96 = search (length-mapped, needs) in
-    (query-exact (take (c .before .before .before .before .before .args .count) (c .before .before .before .before .before .args .widths)) (good-narrow (c .before .before .before .before .before .args .count) (c .before .before .before .before .before .args .widths) (c .before .before .before .before .before .pre .0)) q (c .before .head-in-use .result) (c .rows-length .result) lh lr lc
-      (c .before .head-in-use .ensures) fits (c .rows-length .ensures .0) ∙ sym (ap length (filled-part (take (c .before .before .before .before .before .args .count) (c .before .before .before .before .before .args .widths)) (c .before .before .before .before .before .args .place) (c .before .before .before .before .if1 .taken))),
-      omega (arith, c .rows-length .ensures .1))
+    let lc : length (q .cells) ≡ 96 = search (length-mapped, needs) in (
+      query-exact (take (c .before .before .before .before .before .args .count) (c .before .before .before .before .before .args .widths)) (good-narrow (c .before .before .before .before .before .args .count) (c .before .before .before .before .before .args .widths) (c .before .before .before .before .before .pre .0)) q (c .before .head-in-use .result) (c .rows-length .result) lh lr lc
+          (c .before .head-in-use .ensures) fits (c .rows-length .ensures .0) ∙ sym (ap length (filled-part (take (c .before .before .before .before .before .args .count) (c .before .before .before .before .before .args .widths)) (c .before .before .before .before .before .args .place) (c .before .before .before .before .if1 .taken))),
+      omega (arith, c .rows-length .ensures .1),
+    )
 
 -- src/writer.rt:176:1
 returns-2 : tie.Need-returns-2

@@ -1,4 +1,7 @@
 use borrow.Author.Needs.{needs}
+use native.Mathlib.Omega.{arith}
+use lib.ListN.{length-set}
+use Rattle.file.proofs.Stores.{three-stores}
 use Rattle.file.proofs.writer.put_dependency.Statement.{statement}
 use Rattle.file.proofs.writer.put_dependency.Tie as tie
 use Rattle.file.proofs.writer.put_dependency.Reads as reads
@@ -14,7 +17,7 @@ add-buffer c = search needs
 
 -- src/writer.rt:242:5
 slice-write-buffer-2 : tie.Need-slice-write-buffer-2
-slice-write-buffer-2 c = search needs
+slice-write-buffer-2 c = simp length-set (omega arith)
 
 -- src/writer.rt:243:12
 add-buffer-2 : tie.Need-add-buffer-2
@@ -22,7 +25,7 @@ add-buffer-2 c = search needs
 
 -- src/writer.rt:243:5
 slice-write-buffer-3 : tie.Need-slice-write-buffer-3
-slice-write-buffer-3 c = search needs
+slice-write-buffer-3 c = simp length-set (omega arith)
 
 -- src/writer.rt:237:1
 same-length : tie.Need-same-length
@@ -30,7 +33,8 @@ same-length c = search needs
 
 -- src/writer.rt:237:1
 returns : tie.Need-returns
-returns c = search needs
+returns c =
+    three-stores (c .args .buffer .now) (c .args .at) (c .args .d .relation) (c .args .d .left) (c .args .d .right) (c .pre)
 
 pub put-dependency-spec : {M : Type 1} → statement M
 put-dependency-spec =

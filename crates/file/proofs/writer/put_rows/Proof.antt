@@ -116,7 +116,7 @@ returns c =
     let ln : length (c .before .before .before .args .t4) ≡ 12 = search needs in
     let lc : length (c .before .before .before .args .cells) ≡ 96 = search needs in
     let k : length (take (c .before .before .before .args .size) (chunk (c .before .before .before .args .t4) (c .before .before .before .args .cells))) ≡ c .before .before .before .args .size =
-        length-take-le (c .before .before .before .args .size) (chunk (c .before .before .before .args .t4) (c .before .before .before .args .cells)) (rw length-chunk (omega (arith, c .before .before .before .pre .1 .0))) in
+    length-take-le (c .before .before .before .args .size) (chunk (c .before .before .before .args .t4) (c .before .before .before .args .cells)) (rw length-chunk (omega (arith, c .before .before .before .pre .1 .0))) in
     writing-ends (c .before .loop .inv .1) (omega arith)
 
 pub put-rows-spec : {M : Type 1} → statement M

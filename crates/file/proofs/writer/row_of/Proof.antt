@@ -39,10 +39,10 @@ abbrev μ-loop : tie.MeasureT-loop
 -- src/writer.rt:75:5
 loop-holds : tie.Need-loop-holds Inv-loop μ-loop
 loop-holds c =
-    let cells = c  .args .t1 in
-    let r = c  .args .r in
+    let cells = c .args .t1 in
+    let r = c .args .r in
     let l : length cells ≡ 96 = search needs in
-    let run = run-length cells r l (c  .pre) in
+    let run = run-length cells r l (c .pre) in
     (omega arith, refl, covered (take 8 (drop (8 * r) cells)) (replicate 8 noCell) run)
 
 -- src/writer.rt:76:25
@@ -86,9 +86,11 @@ loop-again c =
     let run = run-length cells r l (c .before .before .before .pre) in
     let copy = c .before .before .loop .copy in
     let i = c .before .before .loop .c in
-    let inv = c .before .before .loop .inv in
-    (search needs, length-set copy i (getD cells (8 * r + i) noCell) ∙ inv .1,
-      inv .2 ∙ turn (take 8 (drop (8 * r) cells)) copy i (getD cells (8 * r + i) noCell) (omega arith) (omega arith) (run-at cells r i (c .before .loop-test .taken)))
+    let inv = c .before .before .loop .inv in (
+      search needs,
+      length-set copy i (getD cells (8 * r + i) noCell) ∙ inv .1,
+      inv .2 ∙ turn (take 8 (drop (8 * r) cells)) copy i (getD cells (8 * r + i) noCell) (omega arith) (omega arith) (run-at cells r i (c .before .loop-test .taken)),
+    )
 
 -- src/writer.rt:70:1
 returns : tie.Need-returns Inv-loop μ-loop
