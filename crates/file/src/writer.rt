@@ -280,32 +280,6 @@ fn put_dependencies(buffer: &mut [u8], at: usize, held: u8, list: [Dependency; 3
 
 // ---- the directory and the places
 
-// The pairs of the first n places at a position, the first part starting at `start`.
-fn put_table(
-    buffer: &mut [u8],
-    at: usize,
-    start: usize,
-    places: [Place; 8],
-    n: usize,
-    count: u8,
-    widths: [u8; 8],
-)
-    requires { ⌜ goodRelations count widths ≡ true ⌝ }
-    requires { ⌜ every (goodPlace (take count widths)) places ≡ true ⌝ }
-    requires { ⌜ (n ≤ 8) × (start ≤ 1000) ⌝ }
-    requires { ⌜ at + 4 * n ≤ length (now buffer) ⌝ }
-    ensures { λ _. ⌜ now (buffer .exit) ≡ over (now (buffer .entry)) at (tableOf start (map (putPlace (take count widths)) (take n places))) ⌝ }
-{
-    let mut due = start;
-    for k in 0..n {
-        let place = places[k];
-        let size = place_length(place, count, widths);
-        put_word(buffer, at + 4 * k, due);
-        put_word(buffer, at + 4 * k + 2, size);
-        due = due + size;
-    }
-}
-
 // The parts of the first n places from a position on.
 fn put_places(
     buffer: &mut [u8],

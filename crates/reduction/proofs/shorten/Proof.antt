@@ -6,6 +6,7 @@ use borrow.Author.Needs.{needs}
 use lib.ListN.{length}
 use Rattle.record.proofs.Tail.{mapped-length}
 use Rattle.record.proofs.Good.{good-query}
+use Rattle.mapping.specs.Mapped.{Storable}
 use Rattle.chase.proofs.Callers.{chasable, width-le}
 use Rattle.reduction.proofs.Results.{shortened}
 use Rattle.reduction.proofs.shorten.Statement.{statement}
@@ -25,7 +26,10 @@ find-requires : tie.Need-find-requires
 find-requires c κs =
     let p = c .before .before .before .pre in
     let chased = c .before .before .chase .ensures (p .schema) (p .query-good) (p .widths) in
-    ((p .schema, p .query-good), (p .schema, c .prune .ensures (p .schema) (width-le (p .schema) (p .widths)) (chased .good) .good))
+    let first : Storable (c .before .before .before .args .q) = (p .schema, p .query-good) in
+    let second : Storable (c .before .before .chase .result .query) = (p .schema, chased .good) in
+    let third : Storable (c .prune .result) = (p .schema, c .prune .ensures (p .schema) (width-le (p .schema) (p .widths)) (chased .good) .good) in
+    search needs
 
 returns : tie.Need-returns
 returns c =

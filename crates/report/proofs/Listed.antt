@@ -1,0 +1,133 @@
+-- The lines of a filled place: what its reduction in the record without the other places gives may be listed, and is its lines. Assumes nothing.
+use mathlib.Core.Path.{_≡_, refl, sym, ap, _∙_, subst}
+use mathlib.Core.Bool.{true}
+use mathlib.Core.List.{List, []}
+use mathlib.Core.Option.{none}
+use Prim.Native.Nat.{ℕ, _+_, _≤_, _<_}
+use native.Mathlib.Omega.{arith}
+use lib.ListN.{length, getD, set, replicate, length-set, length-replicate}
+use lib.Seq.{getD-set-same}
+use Rattle.record.specs.declared.Cell.{Cell}
+use Rattle.record.specs.declared.Query.{Query}
+use Rattle.record.specs.declared.Place.{Place}
+use Rattle.record.specs.declared.Record.{Record}
+use Rattle.record.specs.View.{schemaOf, dependenciesOf, queryOf}
+use Rattle.record.specs.Rule.{every, goodCell, goodQuery, goodPlace, goodRecord, noPlace}
+use Rattle.record.specs.Calls.{isFilled}
+use Rattle.record.proofs.Good.{good-query, good-record}
+use Rattle.record.proofs.Stored as stored
+use Rattle.reduction.specs.declared.Reduced.{Reduced}
+use Rattle.reduction.specs.Reduced.{storedAt, queryAt, reductionRefusal, Reduces, IsReduced}
+use Rattle.text.specs.Text.{placeText}
+use Rattle.text.specs.Stored.{imageOf, placeRoom, Listable}
+use Rattle.text.specs.Writing.{Written}
+use Rattle.text.proofs.Schema.{widths-narrow, query-same, query-good}
+use Rattle.text.proofs.Bound.{place-short}
+use Rattle.theory.specs.Query as theory
+use Rattle.report.specs.Report.{Lines, LinesWritten, aloneIn, otherPlace}
+use Rattle.report.proofs.Images.{images-good}
+use Rattle.report.proofs.OnePlace.{other-low, alone-query, alone-accepted}
+
+module _ (r : Record) (place : ℕ) (low : place < 8) (good : goodRecord r ≡ true) (long : length (r .places) ≡ 8) (held : isFilled r place ≡ true)
+    (other : ℕ) (other-is : other ≡ otherPlace place) (single : Record) (single-is : single ≡ aloneIn r place) (o : Reduced)
+    (reduced : IsReduced single place other o) (source : Query) (source-is : source ≡ storedAt r place)
+    (result : Query) (result-is : result ≡ storedAt (o .«record») other) where
+  -- ---- the reduction is accepted
+
+  alone-reduced : IsReduced (aloneIn r place) place (otherPlace place) o
+  alone-reduced =
+      subst (λ (x : Record). IsReduced x place (otherPlace place) o) single-is (subst (λ (n : ℕ). IsReduced single place n o) other-is reduced)
+
+  result-stored : result ≡ storedAt (o .«record») (otherPlace place)
+  result-stored = result-is ∙ ap (λ (n : ℕ). storedAt (o .«record») n) other-is
+
+  accepted : reductionRefusal (aloneIn r place) place (otherPlace place) ≡ none
+  accepted = alone-accepted r place low good long held
+
+  -- ---- the result
+
+  same-schema : schemaOf (o .«record») ≡ schemaOf r
+  same-schema = ap (λ (x : Record). schemaOf x) (alone-reduced .unchanged accepted)
+
+  alone-long : length (aloneIn r place .places) ≡ 8
+  alone-long = simp (length-set, length-replicate)
+
+  places-long : length (o .«record» .places) ≡ 8
+  places-long = ap (λ (x : Record). length (x .places)) (alone-reduced .unchanged accepted) ∙ simp (length-set, length-replicate)
+
+  result-filled : isFilled (o .«record») (otherPlace place) ≡ true
+  result-filled =
+      ap (λ (x : Record). isFilled x (otherPlace place)) (alone-reduced .unchanged accepted)
+      ∙ ap (λ (p : Place). p .filled)
+      (getD-set-same (aloneIn r place .places) (otherPlace place) (record { filled = true; query = storedAt (o .«record») (otherPlace place) }) noPlace
+      (rw alone-long (other-low place)))
+
+  result-good : goodQuery (schemaOf r) result ≡ true
+  result-good =
+      ap (λ (q : Query). goodQuery (schemaOf r) q) result-stored
+      ∙ subst (λ (s : List ℕ). goodQuery s (storedAt (o .«record») (otherPlace place)) ≡ true) same-schema
+      (stored.filled-parts (schemaOf (o .«record»)) (getD (o .«record» .places) (otherPlace place) noPlace)
+      (stored.place-good (o .«record») (alone-reduced .good accepted) (otherPlace place) noPlace (rw places-long (other-low place))) result-filled .0)
+
+  source-good : goodQuery (schemaOf r) source ≡ true
+  source-good =
+      ap (λ (q : Query). goodQuery (schemaOf r) q) source-is
+      ∙ stored.filled-parts (schemaOf r) (getD (r .places) place noPlace) (stored.place-good r good place noPlace (rw long low)) held .0
+
+  -- The query at the target is the result
+  target-is : queryAt (o .«record») (otherPlace place) ≡ queryOf (schemaOf r) result
+  target-is =
+      ap (λ (s : List ℕ). queryOf s (storedAt (o .«record») (otherPlace place))) same-schema ∙ ap (λ (q : Query). queryOf (schemaOf r) q) (sym result-stored)
+
+  reduces : Reduces (schemaOf r) (dependenciesOf r) (queryAt r place) (queryOf (schemaOf r) result) (o .count) (imageOf (o .images))
+  reduces =
+      subst (λ (T : theory.Query). Reduces (schemaOf r) (dependenciesOf r) (queryAt r place) T (o .count) (imageOf (o .images))) target-is
+      (subst (λ (S : theory.Query). Reduces (schemaOf r) (dependenciesOf r) S (queryAt (o .«record») (otherPlace place)) (o .count) (imageOf (o .images)))
+      (alone-query r place low) (alone-reduced .reduces accepted))
+
+  good-images : every goodCell (o .images) ≡ true
+  good-images =
+      images-good (schemaOf r) (stored.narrow r good) result result-good (queryAt r place) (o .images) (reduces .mapping)
+      (λ e. alone-reduced .no-mapping accepted (ap (λ (q : theory.Query). q .rows) target-is ∙ e))
+
+  -- ---- the lines
+
+  -- What is given may be listed
+  pub listable : (buffer : List ℕ) (at : ℕ) → at + placeRoom ≤ length buffer → Listable buffer at place (r .widths) source result (o .images)
+  listable buffer at room =
+      let g = good-record r good .relations in
+      record {
+        room = room;
+        place-known = low;
+        widths-narrow = widths-narrow (r .relations) (r .widths) g;
+        source-good = query-good (r .relations) (r .widths) g source source-good;
+        result-good = query-good (r .relations) (r .widths) g result result-good;
+        images-good = good-images;
+      }
+
+  -- What is written are the lines of the place
+  pub lines-written : length (r .widths) ≡ 8 → length (source .relations) ≡ 12 → length (result .relations) ≡ 12 → o .count < 256
+      → (before : List ℕ) (at : ℕ) (after : List ℕ) (next : ℕ)
+      → Written before at (placeText place (queryOf (r .widths) source) (queryOf (r .widths) result) (o .count) (imageOf (o .images))) after next
+      → LinesWritten r place before at after next
+  lines-written eight source-long result-long small before at after next w =
+      let g = good-record r good .relations in
+      record {
+        text = placeText place (queryOf (r .widths) source) (queryOf (r .widths) result) (o .count) (imageOf (o .images));
+        lines =
+            record {
+              result = queryOf (schemaOf r) result;
+              count = o .count;
+              images = imageOf (o .images);
+              reduces = reduces;
+              text =
+                  ap (λ (S : theory.Query). placeText place S (queryOf (r .widths) result) (o .count) (imageOf (o .images)))
+                  (sym (query-same (r .relations) (r .widths) g source) ∙ ap (λ (q : Query). queryOf (schemaOf r) q) source-is)
+                  ∙ ap (λ (T : theory.Query). placeText place (queryAt r place) T (o .count) (imageOf (o .images))) (sym (query-same (r .relations) (r .widths) g result));
+            };
+        short =
+            place-short (r .widths) eight (widths-narrow (r .relations) (r .widths) g) place source result (o .count) (o .images) low
+            (query-good (r .relations) (r .widths) g source source-good) (query-good (r .relations) (r .widths) g result result-good)
+            (omega (arith, good-query (schemaOf r) source source-good .size)) (omega (arith, good-query (schemaOf r) result result-good .size)) small good-images;
+        written = w;
+      }

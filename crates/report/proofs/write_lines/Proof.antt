@@ -1,0 +1,72 @@
+-- `report::write_lines` meets its contract, by `Listed`. Assumes nothing.
+use mathlib.Core.Path.{_≡_, sym, subst}
+use Prim.Native.Nat.{ℕ, _<_}
+use lib.ListN.{length}
+use Rattle.record.proofs.Tail.{mapped-length}
+use Rattle.report.proofs.OnePlace.{other-low}
+use Rattle.report.proofs.Listed.{listable, lines-written}
+use borrow.Author.Needs.{needs}
+use Rattle.report.proofs.write_lines.Statement.{statement}
+use Rattle.report.proofs.write_lines.Tie as tie
+
+eight : (c : tie.Start) → length (c .args .given .places) ≡ 8
+eight c = let long : length (c .args .given .places) ≡ 8 = search (mapped-length, needs) in long
+
+-- The arrays of what the calls return have their lengths, and the count is a byte
+source-long : (c : tie.After-query-at) → length (c .query-at .result .relations) ≡ 12
+source-long c = let long : length (c .query-at .result .relations) ≡ 12 = search (mapped-length, needs) in long
+
+result-long : (c : tie.After-query-at2) → length (c .query-at2 .result .relations) ≡ 12
+result-long c = let long : length (c .query-at2 .result .relations) ≡ 12 = search (mapped-length, needs) in long
+
+count-small : (c : tie.After-reduce) → c .reduce .result .count < 256
+count-small c = let small : c .reduce .result .count < 256 = search needs in small
+
+widths-long : (c : tie.Start) → length (c .args .given .widths) ≡ 8
+widths-long c = let long : length (c .args .given .widths) ≡ 8 = search (mapped-length, needs) in long
+
+other-place-requires : tie.Need-other-place-requires
+other-place-requires c κs = search needs
+
+alone-requires : tie.Need-alone-requires
+alone-requires c κs = search needs
+
+query-at-requires : tie.Need-query-at-requires
+query-at-requires c κs = search needs
+
+reduce-requires : tie.Need-reduce-requires
+reduce-requires c κs = search needs
+
+query-at-requires-2 : tie.Need-query-at-requires-2
+query-at-requires-2 c κs = subst (λ (n : ℕ). n < 8) (sym (c .before .before .before .before .other-place .ensures)) (other-low (c .before .before .before .before .before .before .args .place))
+
+write-place-requires : tie.Need-write-place-requires
+write-place-requires c κs =
+    let s = c .before .before .before .before .before .before .before .before .before .before in
+    listable (s .args .given) (s .args .place) (s .pre .2) (s .pre .1) (eight s) (s .pre .3) (c .before .before .before .before .before .before .before .before .other-place .result) (c .before .before .before .before .before .before .before .before .other-place .ensures)
+    (c .before .before .before .before .before .before .before .alone .result) (c .before .before .before .before .before .before .before .alone .ensures) (c .before .before .before .before .before .reduce .result) (c .before .before .before .before .before .reduce .ensures) (c .before .before .before .before .before .before .query-at .result) (c .before .before .before .before .before .before .query-at .ensures)
+    (c .before .before .before .query-at2 .result) (c .before .before .before .query-at2 .ensures) (s .args .buffer .now) (s .args .at) (s .pre .0 .room)
+
+same-length : tie.Need-same-length
+same-length c = search needs
+
+returns : tie.Need-returns
+returns c =
+    let s = c .before .before .before .before .before .before .before .before .before .before .before .before .before in
+    lines-written (s .args .given) (s .args .place) (s .pre .2) (s .pre .1) (eight s) (s .pre .3) (c .before .before .before .before .before .before .before .before .before .before .before .other-place .result) (c .before .before .before .before .before .before .before .before .before .before .before .other-place .ensures)
+    (c .before .before .before .before .before .before .before .before .before .before .alone .result) (c .before .before .before .before .before .before .before .before .before .before .alone .ensures) (c .before .before .before .before .before .before .before .before .reduce .result) (c .before .before .before .before .before .before .before .before .reduce .ensures) (c .before .before .before .before .before .before .before .before .before .query-at .result) (c .before .before .before .before .before .before .before .before .before .query-at .ensures)
+    (c .before .before .before .before .before .before .query-at2 .result) (c .before .before .before .before .before .before .query-at2 .ensures) (widths-long s) (source-long (c .before .before .before .before .before .before .before .before .before)) (result-long (c .before .before .before .before .before .before)) (count-small (c .before .before .before .before .before .before .before .before)) (s .args .buffer .now) (s .args .at) (c .before .before .write-place .last .0)
+    (c .before .before .write-place .result) (c .before .before .write-place .ensures)
+
+pub write-lines-spec : {M : Type 1} → statement M
+write-lines-spec =
+    tie.close
+    (tie.spec
+    other-place-requires
+    alone-requires
+    query-at-requires
+    reduce-requires
+    query-at-requires-2
+    write-place-requires
+    same-length
+    returns)

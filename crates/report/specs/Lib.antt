@@ -1,0 +1,2 @@
+-- What the listing of a file is, and what writing it promises.
+pub mod Report

@@ -1,0 +1,147 @@
+// The listing of a file, written into a lent buffer: `refused n`, or the lines of each filled place, reduced in a copy of the record from which every other
+// place is dropped.
+use record::Answer;
+use record::Cell;
+use record::Entry;
+use record::Place;
+use record::Query;
+use record::Record;
+ghost use mathlib.Core.Path.{_≡_};
+ghost use mathlib.Core.Bool.{true};
+ghost use Prim.Native.Nat.{_*_, _≤_, _<_};
+ghost use lib.ListN.{length};
+ghost use Rattle.record.specs.Rule.{goodRecord, noPlace};
+ghost use Rattle.record.specs.Calls.{isFilled};
+ghost use Rattle.text.specs.Stored.{placeRoom};
+ghost use Rattle.reduction.specs.Reduced.{storedAt};
+ghost use Rattle.report.specs.Report.{aloneIn, otherPlace, LinesWritten, PlaceWritten, ListingWritten, IsReport, Room};
+
+// A vacant place.
+fn no_place() -> Place
+    ensures { λ r. ⌜ r ≡ noPlace ⌝ }
+{
+    let blank = Cell {
+        entry: Entry::Constant(0),
+    };
+    let query = Query {
+        arity: 0,
+        size: 0,
+        head: [blank; 8],
+        relations: [0u8; 12],
+        cells: [blank; 96],
+    };
+    Place {
+        filled: false,
+        query: query,
+    }
+}
+
+// The record with every place but one dropped.
+fn alone(given: Record, place: usize) -> Record
+    requires { ⌜ place < 8 ⌝ }
+    ensures { λ r. ⌜ r ≡ aloneIn given place ⌝ }
+{
+    let widths = given.widths;
+    let dependencies = given.dependencies;
+    let places = given.places;
+    let kept = places[place];
+    let vacant = no_place();
+    let mut after = [vacant; 8];
+    after[place] = kept;
+    Record {
+        relations: given.relations,
+        widths: widths,
+        held: given.held,
+        dependencies: dependencies,
+        places: after,
+    }
+}
+
+// The query at a place.
+fn query_at(given: Record, place: usize) -> Query
+    requires { ⌜ place < 8 ⌝ }
+    ensures { λ r. ⌜ r ≡ storedAt given place ⌝ }
+{
+    let places = given.places;
+    let kept = places[place];
+    kept.query
+}
+
+// Whether a place is filled.
+fn is_filled(given: Record, place: usize) -> bool
+    requires { ⌜ place < 8 ⌝ }
+    ensures { λ r. ⌜ r ≡ isFilled given place ⌝ }
+{
+    let places = given.places;
+    let kept = places[place];
+    kept.filled
+}
+
+// Another place than the given one.
+fn other_place(place: usize) -> usize
+    requires { ⌜ place < 8 ⌝ }
+    ensures { λ r. ⌜ r ≡ otherPlace place ⌝ }
+{
+    if place == 0 { 1 } else { 0 }
+}
+
+// Writes the lines of a filled place: its reduction in the record without the other places.
+fn write_lines(buffer: &mut [u8], at: usize, given: Record, place: usize) -> usize
+    requires { ⌜ Room (now buffer) at × (goodRecord given ≡ true) × (place < 8) × (isFilled given place ≡ true) ⌝ }
+    ensures { λ r. ⌜ LinesWritten given place (now (buffer .entry)) at (now (buffer .exit)) r ⌝ }
+{
+    let target = other_place(place);
+    let single = alone(given, place);
+    let source = query_at(given, place);
+    let reduced = reduction::reduce(single, place, target);
+    let after = reduced.record;
+    let result = query_at(after, target);
+    let widths = given.widths;
+    let images = reduced.images;
+    text::write_place(
+        buffer,
+        at,
+        place,
+        widths,
+        source,
+        result,
+        reduced.count,
+        images,
+    )
+}
+
+// Writes the lines of a place, none where it is vacant.
+fn write_place(buffer: &mut [u8], at: usize, given: Record, place: usize) -> usize
+    requires { ⌜ Room (now buffer) at × (goodRecord given ≡ true) × (place < 8) ⌝ }
+    ensures { λ r. ⌜ PlaceWritten given place (now (buffer .entry)) at (now (buffer .exit)) r ⌝ }
+{
+    if is_filled(given, place) {
+        return write_lines(buffer, at, given, place);
+    }
+    at
+}
+
+// Writes the lines of every filled place, ascending.
+fn write_places(buffer: &mut [u8], given: Record) -> usize
+    requires { ⌜ (8 * placeRoom ≤ length (now buffer)) × (goodRecord given ≡ true) ⌝ }
+    ensures { λ r. ⌜ ListingWritten given (now (buffer .entry)) (now (buffer .exit)) r ⌝ }
+{
+    let mut next: usize = 0;
+    for place in 0..8 {
+        next = write_place(buffer, next, given, place);
+    }
+    next
+}
+
+// Writes the listing of a file at the start of the buffer, and returns its length.
+pub fn report(file: &[u8], buffer: &mut [u8]) -> usize
+    requires { ⌜ 8 * placeRoom ≤ length (now buffer) ⌝ }
+    ensures { λ r. ⌜ IsReport (now (file .entry)) (now (buffer .entry)) (now (buffer .exit)) r ⌝ }
+{
+    let outcome = file::read(file);
+    let answer = outcome.answer;
+    match answer {
+        Answer::Done => write_places(buffer, outcome.record),
+        Answer::Refused(n) => text::write_refused(buffer, 0, n),
+    }
+}
