@@ -11,3 +11,4 @@ pub mod QueryLaws
 pub mod Stretches
 pub mod Stores
 pub mod PlaceParts
+pub mod RecordParts

@@ -6,8 +6,9 @@ use native.Mathlib.Numerals.{add-one, add-two, add-three, add-four}
 use native.Mathlib.Omega.{arith}
 use lib.ListN.{length, getD, take, drop, set, length-append, drop-of-length-le}
 use lib.Seq.{sets-eq, drop-cons}
-use Rattle.format.specs.Bytes.{over}
+use Rattle.format.specs.Bytes.{digits, over}
 use Rattle.format.specs.Format.{putAll}
+use Rattle.format.proofs.Numbers.{length-digits}
 use Rattle.format.proofs.Lists.{over-nil, over-set, over-over, over-length}
 
 pub two-stores : (d : List ℕ) (at a b : ℕ) → at + 2 ≤ length d → set (set d at a) (at + 1) b ≡ over d at (a ∷ b ∷ [])
@@ -71,3 +72,32 @@ module _ {A : Type 0} {put : A → List ℕ} {before : List ℕ} {start : ℕ} {
       let z : putAll put (drop i xs) ≡ [] = ap (putAll put) e in
       let l : length (putAll put (drop i xs)) ≡ 0 = ap length z in
       (sym (w .rest ∙ ap (over buffer at) z ∙ over-nil buffer at), omega (arith, w .end))
+
+-- ---- pieces one after the other
+
+-- The buffer with the pieces written so far, and the position after them
+pub record Run (before : List ℕ) (start : ℕ) (done buffer : List ℕ) (at : ℕ) : Type 0 where
+  pub long : length buffer ≡ length before
+  pub reached : start + length done ≡ at
+  pub written : buffer ≡ over before start done
+
+pub run-starts : (before : List ℕ) (start : ℕ) → Run before start [] before start
+run-starts before start = record { long = refl; reached = native.Mathlib.Nat.add-zero start; written = sym (over-nil before start) }
+
+pub run-turns : {before : List ℕ} {start : ℕ} {done buffer : List ℕ} {at : ℕ} → Run before start done buffer at → (more next : List ℕ) (to : ℕ) → at + length more ≤ length before
+    → next ≡ over buffer at more → to ≡ at + length more → Run before start (done ++ more) next to
+run-turns {before} {start} {done} {buffer} {at} r more next to room e t =
+    let reached = r .reached in
+    let l : length (done ++ more) ≡ length done + length more = length-append done more in
+    let two : next ≡ over before start (done ++ more) =
+    e ∙ ap (λ (b : List ℕ). over b at more) (r .written) ∙ ap (λ (n : ℕ). over (over before start done) n more) (sym (r .reached)) ∙ over-over before start done more (omega arith) in
+    record {
+      long = ap length two ∙ over-length before (done ++ more) start (omega arith);
+      reached = omega arith;
+      written = two;
+    }
+
+-- 16 bits more
+pub word-run : {before : List ℕ} {start : ℕ} {done buffer : List ℕ} {at : ℕ} → Run before start done buffer at → (v : ℕ) (next : List ℕ) → at + 2 ≤ length before
+    → next ≡ over buffer at (digits 2 v) → Run before start (done ++ digits 2 v) next (at + 2)
+word-run r v next room e = run-turns r (digits 2 v) next _ (rw (length-digits 2 v) room) e (rw (length-digits 2 v))

@@ -10,12 +10,12 @@ ghost use mathlib.Core.Bool.{true};
 ghost use mathlib.Core.List.{_∷_, map};
 ghost use Prim.Native.Nat.{_+_, _*_, _≤_, _<_};
 ghost use lib.ListN.{length, take, drop, getD};
-ghost use Rattle.record.specs.Rule.{every, goodRelations, goodPlace};
+ghost use Rattle.record.specs.Rule.{every, goodRelations, goodPlace, goodRecord};
 ghost use Rattle.format.specs.Bytes.{digits, over};
 ghost use Rattle.format.specs.Format.{putAll};
 ghost use Rattle.format.specs.Parts.{relations, putEntry, entries, row, chunk, query};
 ghost use Rattle.format.specs.File.{tableOf, join, putPlace, upToFilled};
-ghost use Rattle.file.specs.Write.{rowsLength, putDependency, dependencyBytes};
+ghost use Rattle.file.specs.Write.{rowsLength, putDependency, dependencyBytes, directoryBytes, partBytes, written, bufferAfter};
 
 // ---- numbers and entries
 
@@ -280,6 +280,32 @@ fn put_dependencies(buffer: &mut [u8], at: usize, held: u8, list: [Dependency; 3
 
 // ---- the directory and the places
 
+// The pairs of the first n places at a position, the first part starting at `start`.
+fn put_table(
+    buffer: &mut [u8],
+    at: usize,
+    start: usize,
+    places: [Place; 8],
+    n: usize,
+    count: u8,
+    widths: [u8; 8],
+)
+    requires { ⌜ goodRelations count widths ≡ true ⌝ }
+    requires { ⌜ every (goodPlace (take count widths)) places ≡ true ⌝ }
+    requires { ⌜ (n ≤ 8) × (start ≤ 1000) ⌝ }
+    requires { ⌜ at + 4 * n ≤ length (now buffer) ⌝ }
+    ensures { λ _. ⌜ now (buffer .exit) ≡ over (now (buffer .entry)) at (tableOf start (map (putPlace (take count widths)) (take n places))) ⌝ }
+{
+    let mut due = start;
+    for k in 0..n {
+        let place = places[k];
+        let size = place_length(place, count, widths);
+        put_word(buffer, at + 4 * k, due);
+        put_word(buffer, at + 4 * k + 2, size);
+        due = due + size;
+    }
+}
+
 // The parts of the first n places from a position on.
 fn put_places(
     buffer: &mut [u8],
@@ -300,4 +326,88 @@ fn put_places(
         let place = places[k];
         at = put_place(buffer, at, place, count, widths);
     }
+}
+
+// The number of parts and all pairs, part 0 being `first` and part 1 `second` bytes long.
+fn put_directory(
+    buffer: &mut [u8],
+    first: usize,
+    second: usize,
+    places: [Place; 8],
+    n: usize,
+    count: u8,
+    widths: [u8; 8],
+)
+    requires { ⌜ goodRelations count widths ≡ true ⌝ }
+    requires { ⌜ every (goodPlace (take count widths)) places ≡ true ⌝ }
+    requires { ⌜ (n ≤ 8) × (first ≤ 9) × (second ≤ 97) ⌝ }
+    requires { ⌜ 10 + 4 * n ≤ length (now buffer) ⌝ }
+    ensures { λ _. ⌜ now (buffer .exit) ≡ over (now (buffer .entry)) 0 (directoryBytes n first second (map (putPlace (take count widths)) (take n places))) ⌝ }
+{
+    let start = 2 + 4 * (n + 2);
+    put_word(buffer, 0, n + 2);
+    put_word(buffer, 2, start);
+    put_word(buffer, 4, first);
+    put_word(buffer, 6, start + first);
+    put_word(buffer, 8, second);
+    put_table(buffer, 10, start + first + second, places, n, count, widths);
+}
+
+// All parts from a position on.
+fn put_parts(buffer: &mut [u8], start: usize, given: Record, n: usize)
+    requires { ⌜ goodRecord given ≡ true ⌝ }
+    requires { ⌜ n ≤ 8 ⌝ }
+    requires { ⌜ start + length (partBytes given n) ≤ length (now buffer) ⌝ }
+    ensures { λ _. ⌜ now (buffer .exit) ≡ over (now (buffer .entry)) start (partBytes given n) ⌝ }
+{
+    let count = given.relations;
+    let widths = given.widths;
+    let held = given.held;
+    let list = given.dependencies;
+    let places = given.places;
+    let first = start + 1 + count as usize;
+    let second = first + 1 + 3 * (held as usize);
+    put_relations(buffer, start, count, widths);
+    put_dependencies(buffer, first, held, list);
+    put_places(buffer, second, places, n, count, widths);
+}
+
+// ---- the file
+
+// What writing answers: the length of the file, or a refusal with document 01's number.
+pub enum Written {
+    Length(usize),
+    Refused(u8),
+}
+
+// Write a record that refusal 14 passes: refused by 10, with the buffer unchanged, if the file is longer than the buffer.
+pub fn write_good(given: Record, buffer: &mut [u8]) -> Written
+    requires { ⌜ goodRecord given ≡ true ⌝ }
+    ensures { λ r. ⌜ (r ≡ written given (now (buffer .entry))) × (now (buffer .exit) ≡ bufferAfter given (now (buffer .entry))) ⌝ }
+{
+    let count = given.relations;
+    let widths = given.widths;
+    let held = given.held;
+    let places = given.places;
+    let n = up_to_filled(places);
+    let first = 1 + count as usize;
+    let second = 1 + 3 * (held as usize);
+    let others = places_length(places, n, count, widths);
+    let size = 2 + 4 * (n + 2) + first + second + others;
+    if buffer.len() < size {
+        return Written::Refused(10);
+    }
+    put_directory(buffer, first, second, places, n, count, widths);
+    put_parts(buffer, 2 + 4 * (n + 2), given, n);
+    Written::Length(size)
+}
+
+// Write a record into a lent buffer: 14 and 10 are refused, with the buffer unchanged.
+pub fn write(given: Record, buffer: &mut [u8]) -> Written
+    ensures { λ r. ⌜ (r ≡ written given (now (buffer .entry))) × (now (buffer .exit) ≡ bufferAfter given (now (buffer .entry))) ⌝ }
+{
+    if !given.whole() {
+        return Written::Refused(14);
+    }
+    write_good(given, buffer)
 }
