@@ -26,8 +26,11 @@ returns c = broken _ _ (sym (c .before .whole .ensures) ∙ not-true _ (c .if1 .
 write-good-requires : tie.Need-write-good-requires
 write-good-requires c κs = sym (c .before .before .whole .ensures) ∙ not-false _ (c .before .if1 .left)
 
+same-length : tie.Need-same-length
+same-length c = search needs
+
 returns-2 : tie.Need-returns-2
 returns-2 c = c .before .before .write-good .ensures
 
 pub write-spec : {M : Type 1} → statement M
-write-spec = tie.close (tie.spec whole-requires returns write-good-requires returns-2)
+write-spec = tie.close (tie.spec whole-requires returns write-good-requires same-length returns-2)
