@@ -39,7 +39,7 @@ and-false-right true = refl
 and-false-right false = refl
 
 -- Padded widths are good exactly when there are 1 to 8, each 1 to 8
-widths-judged : (widths : List ℕ) (k : ℕ)
+pub widths-judged : (widths : List ℕ) (k : ℕ)
     → goodRelations (length widths) (widths ++ replicate k 0) ≡ between 1 8 (length widths) && every (between 1 8) widths
 unfolding goodRelations
 widths-judged widths k =
