@@ -8,6 +8,7 @@ use mathlib.Core.Option.{Option, none, some}
 use Prim.Native.Nat.{ℕ, _≤_, _<_}
 use native.Mathlib.Omega.{arith}
 use lib.ListN.{length, take}
+use Rattle.record.specs.Calls.{storedAt, queryAt}
 use Rattle.record.specs.declared.Cell.{Cell}
 use Rattle.record.specs.declared.Query.{Query}
 use Rattle.record.specs.declared.Dependency.{Dependency}
@@ -31,7 +32,7 @@ use Rattle.comparison.specs.declared.Verdict.the-variants as verdict
 use Rattle.comparison.specs.declared.Comparison.{Comparison}
 use Rattle.comparison.specs.declared.Checked.{Checked}
 use Rattle.comparison.specs.declared.Checked.the-variants as checked
-use Rattle.comparison.specs.Comparison.{storedAt, queryAt, chasedAt, pairRefusal, Compared, CheckedMapping}
+use Rattle.comparison.specs.Comparison.{chasedAt, pairRefusal, Compared, CheckedMapping}
 use Rattle.comparison.specs.Parts.{paired, bare, Drawn}
 use Rattle.comparison.proofs.Pairs.{standing, paired-places}
 use Rattle.comparison.proofs.Verdicts.{queries, compared-never, compared-contained, compared-apart}

@@ -13,11 +13,11 @@ use Rattle.record.specs.declared.Query.{Query}
 use Rattle.record.specs.declared.Record.{Record}
 use Rattle.record.specs.declared.Lookup.the-variants as lookup
 use Rattle.record.specs.Rule.{goodRecord}
-use Rattle.record.specs.Calls.{firstHolding, above, vacant, isFilled, placeAt, filledPlace}
+use Rattle.record.specs.Calls.{firstHolding, above, vacant, isFilled, placeAt, filledPlace, storedAt}
 use Rattle.record.proofs.Refusals.{first-goes, some-holds, none-holds, nothing-holds, found-refused, place-refused, filled-at}
 use Rattle.comparison.specs.declared.Pair.{Pair}
 use Rattle.comparison.specs.declared.Pair.the-variants.{Places, Refused}
-use Rattle.comparison.specs.Comparison.{storedAt, pairRefusal}
+use Rattle.comparison.specs.Comparison.{pairRefusal}
 use Rattle.comparison.specs.Parts.{paired}
 
 -- A place below 8 that is refused is vacant

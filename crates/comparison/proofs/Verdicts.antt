@@ -15,7 +15,7 @@ use Rattle.record.specs.declared.Place.{Place}
 use Rattle.record.specs.declared.Record.{Record}
 use Rattle.record.specs.View.{queryOf, schemaOf, dependenciesOf}
 use Rattle.record.specs.Rule.{every, between, blankQuery, goodPlace, goodQuery, headSafe, goodRecord, noCell, noPlace, noQuery}
-use Rattle.record.specs.Calls.{isFilled}
+use Rattle.record.specs.Calls.{isFilled, storedAt, queryAt}
 use Rattle.record.proofs.Good.{good-record, good-query}
 use Rattle.record.proofs.Stored as stored
 use Rattle.chase.proofs.Callers.{good-widths}
@@ -31,7 +31,7 @@ use Rattle.mapping.specs.Mapped.{imagesOf}
 use Rattle.comparison.specs.declared.Verdict.{Verdict}
 use Rattle.comparison.specs.declared.Verdict.the-variants.{Never, Contained, Apart, Refused}
 use Rattle.comparison.specs.declared.Comparison.{Comparison}
-use Rattle.comparison.specs.Comparison.{storedAt, queryAt, chasedAt, pairRefusal, verdictOn, judged, verdictOf, base, Compared}
+use Rattle.comparison.specs.Comparison.{chasedAt, pairRefusal, verdictOn, judged, verdictOf, base, Compared}
 use Rattle.comparison.specs.Parts.{bare}
 use Rattle.comparison.proofs.Pairs.{Standing, standing}
 

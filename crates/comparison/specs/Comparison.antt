@@ -12,7 +12,7 @@ use Rattle.record.specs.declared.Query.{Query}
 use Rattle.record.specs.declared.Record.{Record}
 use Rattle.record.specs.View.{queryOf, schemaOf, dependenciesOf}
 use Rattle.record.specs.Rule.{goodQuery, noCell, noPlace, noQuery}
-use Rattle.record.specs.Calls.{firstHolding, broken, above, vacant}
+use Rattle.record.specs.Calls.{firstHolding, broken, above, vacant, storedAt, queryAt}
 use Rattle.mapping.specs.Mapped.{imagesOf}
 use Rattle.comparison.specs.declared.Verdict.{Verdict}
 use Rattle.comparison.specs.declared.Verdict.the-variants.{Never, Contained, Apart, Refused}
@@ -25,14 +25,6 @@ use Rattle.theory.specs.Answer as answer
 use Rattle.theory.specs.Chase as chasing
 use Rattle.theory.specs.Containment as containment
 use Rattle.theory.specs.Search as search
-
--- The query stored at a place
-abbrev pub storedAt : Record → ℕ → Query
-storedAt r place = getD (r .places) place noPlace .query
-
--- The query that a place holds
-abbrev pub queryAt : Record → ℕ → theory.Query
-queryAt r place = queryOf (schemaOf r) (storedAt r place)
 
 -- That query, chased with the held dependencies
 abbrev pub chasedAt : Record → ℕ → theory.Query

@@ -4,6 +4,7 @@ use mathlib.Core.List.{List}
 use mathlib.Core.Option.{Option, none, some}
 use Prim.Native.Nat.{ℕ}
 use lib.ListN.{replicate}
+use Rattle.record.specs.Calls.{storedAt}
 use Rattle.record.specs.declared.Query.{Query}
 use Rattle.record.specs.declared.Dependency.{Dependency}
 use Rattle.record.specs.declared.Record.{Record}
@@ -12,7 +13,7 @@ use Rattle.comparison.specs.declared.Pair.{Pair}
 use Rattle.comparison.specs.declared.Pair.the-variants as pair
 use Rattle.comparison.specs.declared.Verdict.{Verdict}
 use Rattle.comparison.specs.declared.Comparison.{Comparison}
-use Rattle.comparison.specs.Comparison.{storedAt, pairRefusal, Compared}
+use Rattle.comparison.specs.Comparison.{pairRefusal, Compared}
 
 -- Two places looked up that are refused with number n, or none
 abbrev pub paired : Option ℕ → ℕ → ℕ → Pair

@@ -9,9 +9,10 @@ use record::Record;
 use record::calls::no_query;
 use record::calls::number;
 use record::calls::place_at;
+use record::calls::stored;
 ghost use mathlib.Core.Path.{_≡_};
 ghost use Prim.Native.Nat.{_<_};
-ghost use Rattle.comparison.specs.Comparison.{storedAt, pairRefusal, Compared, CheckedMapping};
+ghost use Rattle.comparison.specs.Comparison.{pairRefusal, Compared, CheckedMapping};
 ghost use Rattle.comparison.specs.Parts.{paired, numberIn, bare, Comparable, Compares};
 
 // Two places to be read whose heads have one length, or document 01's number of the refusal.
@@ -40,16 +41,6 @@ pub enum Checked {
     Yes,
     No,
     Refused(u8),
-}
-
-// The query stored at a place.
-fn stored(given: Record, place: usize) -> Query
-    requires { ⌜ place < 8 ⌝ }
-    ensures { λ r. ⌜ r ≡ storedAt given place ⌝ }
-{
-    let places = given.places;
-    let at = places[place];
-    at.query
 }
 
 // The refusals of a call on two places, in document 01's order.

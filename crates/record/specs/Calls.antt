@@ -5,6 +5,7 @@ use mathlib.Core.Option.{Option, none, some}
 use Prim.Native.Nat.{ℕ, _+_, _-_, _^_}
 use lib.Dec.{eqb, ltb, leb}
 use lib.ListN.{length, getD, set, replicate}
+use Rattle.theory.specs.Query as theory
 use Rattle.theory.specs.Determined.{determined}
 use Rattle.record.specs.declared.Query.{Query}
 use Rattle.record.specs.declared.Dependency.{Dependency}
@@ -17,7 +18,7 @@ use Rattle.record.specs.declared.Lookup.{Lookup}
 use Rattle.record.specs.declared.Lookup.the-variants as lookup
 use Rattle.record.specs.declared.Columns.{Columns}
 use Rattle.record.specs.declared.Columns.the-variants as columns
-use Rattle.record.specs.View.{columnsOf, schemaOf, dependenciesOf}
+use Rattle.record.specs.View.{columnsOf, queryOf, schemaOf, dependenciesOf}
 use Rattle.record.specs.Rule.{between, every, goodSet, goodDependency, goodQuery, headSafe, goodRecord, noDependency, noPlace, blankRecord}
 
 -- ---- refusals
@@ -55,6 +56,14 @@ above place = (not (ltb place 8), 7)
 -- Whether a place is filled
 abbrev pub isFilled : Record → ℕ → Bool
 isFilled r place = getD (r .places) place noPlace .filled
+
+-- The query stored at a place
+abbrev pub storedAt : Record → ℕ → Query
+storedAt r place = getD (r .places) place noPlace .query
+
+-- The query that a place holds
+abbrev pub queryAt : Record → ℕ → theory.Query
+queryAt r place = queryOf (schemaOf r) (storedAt r place)
 
 -- 11: the place to be read or dropped is vacant
 abbrev pub vacant : Record → ℕ → (Bool × ℕ)

@@ -20,7 +20,7 @@ ghost use Rattle.theory.specs.Determined.{adds};
 ghost use Rattle.record.specs.View.{columnsOf, dependencyOf};
 ghost use Rattle.record.specs.Closure.{nextMask, growMask};
 ghost use Rattle.record.specs.Rule.{every, rightNarrow, noQuery, noPlace, blankRecord};
-ghost use Rattle.record.specs.Calls.{concluded, placeAt, filledPlace, vacantPlace, emptyRecord, openRecord, addDependency, putQuery, dropQuery, determinedColumns, numberOf};
+ghost use Rattle.record.specs.Calls.{concluded, placeAt, filledPlace, vacantPlace, storedAt, emptyRecord, openRecord, addDependency, putQuery, dropQuery, determinedColumns, numberOf};
 
 // A call is done.
 fn done(after: Record) -> Outcome
@@ -61,6 +61,16 @@ pub fn place_at(place: usize) -> Lookup
     } else {
         Lookup::Refused(7)
     }
+}
+
+// The query stored at a place.
+pub fn stored(given: Record, place: usize) -> Query
+    requires { ⌜ place < 8 ⌝ }
+    ensures { λ r. ⌜ r ≡ storedAt given place ⌝ }
+{
+    let places = given.places;
+    let at = places[place];
+    at.query
 }
 
 // The query of a vacant place.

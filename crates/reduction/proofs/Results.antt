@@ -18,7 +18,7 @@ use Rattle.record.specs.declared.Answer.the-variants as answer
 use Rattle.record.specs.declared.Lookup.the-variants as lookup
 use Rattle.record.specs.View.{queryOf, schemaOf, dependenciesOf}
 use Rattle.record.specs.Rule.{every, between, goodDependencies, goodQuery, headSafe, goodRecord, noCell, noPlace}
-use Rattle.record.specs.Calls.{firstHolding, above, vacant, filled, placeAt, isFilled, filledPlace, vacantPlace, withPlace}
+use Rattle.record.specs.Calls.{firstHolding, above, vacant, filled, placeAt, isFilled, filledPlace, vacantPlace, withPlace, storedAt}
 use Rattle.record.proofs.Tests.{and-both}
 use Rattle.record.proofs.Good.{good-record}
 use Rattle.record.proofs.Stored.{place-good, filled-parts, well-formed}
@@ -43,7 +43,7 @@ use Rattle.reduction.specs.declared.Shortened.{Shortened}
 use Rattle.reduction.specs.declared.Reduced.{Reduced}
 use Rattle.mapping.specs.Mapped.{imagesOf, IsMapped}
 use Rattle.reduction.specs.Rows.{IsPruned}
-use Rattle.reduction.specs.Reduced.{storedAt, refusal, reductionRefusal, Reduces, IsReduced}
+use Rattle.reduction.specs.Reduced.{refusal, reductionRefusal, Reduces, IsReduced}
 use Rattle.reduction.specs.Steps.{Shortenable, IsShortened, Reducible, IsStored}
 
 -- ---- 1. the shortened query

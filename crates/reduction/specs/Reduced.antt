@@ -11,7 +11,7 @@ use Rattle.record.specs.declared.Record.{Record}
 use Rattle.record.specs.declared.Answer.the-variants as answer
 use Rattle.record.specs.View.{queryOf, schemaOf, dependenciesOf}
 use Rattle.record.specs.Rule.{goodRecord, noCell, noPlace}
-use Rattle.record.specs.Calls.{firstHolding, broken, above, vacant, filled, withPlace}
+use Rattle.record.specs.Calls.{firstHolding, broken, above, vacant, filled, withPlace, storedAt, queryAt}
 use Rattle.mapping.specs.Mapped.{imagesOf}
 use Rattle.reduction.specs.declared.Reduced.{Reduced}
 use Rattle.theory.specs.Query as theory
@@ -19,14 +19,6 @@ use Rattle.theory.specs.Database as database
 use Rattle.theory.specs.Answer as answers
 use Rattle.theory.specs.Chase as chasing
 use Rattle.theory.specs.Reduction as reduction
-
--- The query stored at a place
-abbrev pub storedAt : Record → ℕ → Query
-storedAt r place = getD (r .places) place noPlace .query
-
--- The query that a place holds
-abbrev pub queryAt : Record → ℕ → theory.Query
-queryAt r place = queryOf (schemaOf r) (storedAt r place)
 
 -- The refusals of a reduction: 14; 7; 11 where the source is vacant; 12 where the target is filled
 unfoldable pub reductionRefusal : Record → ℕ → ℕ → Option ℕ

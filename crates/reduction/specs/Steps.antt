@@ -10,12 +10,12 @@ use Rattle.record.specs.declared.Record.{Record}
 use Rattle.record.specs.declared.Answer.the-variants as answer
 use Rattle.record.specs.View.{queryOf, schemaOf, dependenciesOf}
 use Rattle.record.specs.Rule.{every, between, goodDependencies, goodQuery, headSafe, goodRecord, noCell}
-use Rattle.record.specs.Calls.{isFilled, withPlace}
+use Rattle.record.specs.Calls.{isFilled, withPlace, storedAt, queryAt}
 use Rattle.mapping.specs.Mapped.{imagesOf}
 use Rattle.theory.specs.Database as database
 use Rattle.reduction.specs.declared.Shortened.{Shortened}
 use Rattle.reduction.specs.declared.Reduced.{Reduced}
-use Rattle.reduction.specs.Reduced.{storedAt, queryAt, Reduces}
+use Rattle.reduction.specs.Reduced.{Reduces}
 
 -- A query and dependencies that are good under some schema, as those of a good record
 pub record Shortenable (q : Query) (dependencies : List Dependency) (held : ℕ) : Type 0 where

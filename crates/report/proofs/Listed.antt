@@ -13,11 +13,11 @@ use Rattle.record.specs.declared.Place.{Place}
 use Rattle.record.specs.declared.Record.{Record}
 use Rattle.record.specs.View.{schemaOf, dependenciesOf, queryOf}
 use Rattle.record.specs.Rule.{every, goodCell, goodQuery, goodPlace, goodRecord, noPlace}
-use Rattle.record.specs.Calls.{isFilled}
+use Rattle.record.specs.Calls.{isFilled, storedAt, queryAt}
 use Rattle.record.proofs.Good.{good-query, good-record}
 use Rattle.record.proofs.Stored as stored
 use Rattle.reduction.specs.declared.Reduced.{Reduced}
-use Rattle.reduction.specs.Reduced.{storedAt, queryAt, reductionRefusal, Reduces, IsReduced}
+use Rattle.reduction.specs.Reduced.{reductionRefusal, Reduces, IsReduced}
 use Rattle.text.specs.Text.{placeText}
 use Rattle.text.specs.Stored.{imageOf, placeRoom, Listable}
 use Rattle.text.specs.Writing.{Written}

@@ -9,9 +9,9 @@ use lib.ListN.{length, getD, set, replicate}
 use Rattle.record.specs.declared.Record.{Record}
 use Rattle.record.specs.View.{schemaOf, dependenciesOf}
 use Rattle.record.specs.Rule.{noPlace}
-use Rattle.record.specs.Calls.{isFilled}
+use Rattle.record.specs.Calls.{isFilled, queryAt}
 use Rattle.format.specs.File.{Result, ok, refused, readFile}
-use Rattle.reduction.specs.Reduced.{queryAt, Reduces}
+use Rattle.reduction.specs.Reduced.{Reduces}
 use Rattle.text.specs.Text.{passing, placeText, refusedText}
 use Rattle.text.specs.Stored.{placeRoom}
 use Rattle.text.specs.Writing.{over, Written}

@@ -1,40 +1,15 @@
 // The listing of a file, written into a lent buffer: `refused n`, or the lines of each filled place, reduced in a copy of the record from which every other
 // place is dropped.
 use record::Answer;
-use record::Cell;
-use record::Entry;
-use record::Place;
-use record::Query;
 use record::Record;
 ghost use mathlib.Core.Path.{_≡_};
 ghost use mathlib.Core.Bool.{true};
 ghost use Prim.Native.Nat.{_*_, _≤_, _<_};
 ghost use lib.ListN.{length};
-ghost use Rattle.record.specs.Rule.{goodRecord, noPlace};
+ghost use Rattle.record.specs.Rule.{goodRecord};
 ghost use Rattle.record.specs.Calls.{isFilled};
 ghost use Rattle.text.specs.Stored.{placeRoom};
-ghost use Rattle.reduction.specs.Reduced.{storedAt};
 ghost use Rattle.report.specs.Report.{aloneIn, otherPlace, LinesWritten, PlaceWritten, ListingWritten, IsReport, Room};
-
-// A vacant place.
-fn no_place() -> Place
-    ensures { λ r. ⌜ r ≡ noPlace ⌝ }
-{
-    let blank = Cell {
-        entry: Entry::Constant(0),
-    };
-    let query = Query {
-        arity: 0,
-        size: 0,
-        head: [blank; 8],
-        relations: [0u8; 12],
-        cells: [blank; 96],
-    };
-    Place {
-        filled: false,
-        query: query,
-    }
-}
 
 // The record with every place but one dropped.
 fn alone(given: Record, place: usize) -> Record
@@ -45,7 +20,7 @@ fn alone(given: Record, place: usize) -> Record
     let dependencies = given.dependencies;
     let places = given.places;
     let kept = places[place];
-    let vacant = no_place();
+    let vacant = record::calls::no_place();
     let mut after = [vacant; 8];
     after[place] = kept;
     Record {
@@ -55,16 +30,6 @@ fn alone(given: Record, place: usize) -> Record
         dependencies: dependencies,
         places: after,
     }
-}
-
-// The query at a place.
-fn query_at(given: Record, place: usize) -> Query
-    requires { ⌜ place < 8 ⌝ }
-    ensures { λ r. ⌜ r ≡ storedAt given place ⌝ }
-{
-    let places = given.places;
-    let kept = places[place];
-    kept.query
 }
 
 // Whether a place is filled.
@@ -92,10 +57,10 @@ fn write_lines(buffer: &mut [u8], at: usize, given: Record, place: usize) -> usi
 {
     let target = other_place(place);
     let single = alone(given, place);
-    let source = query_at(given, place);
+    let source = record::calls::stored(given, place);
     let reduced = reduction::reduce(single, place, target);
     let after = reduced.record;
-    let result = query_at(after, target);
+    let result = record::calls::stored(after, target);
     let widths = given.widths;
     let images = reduced.images;
     text::write_place(

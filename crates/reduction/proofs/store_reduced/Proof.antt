@@ -4,10 +4,10 @@ use Prim.Native.Nat.{_<_}
 use native.Mathlib.Omega.{arith}
 use borrow.Author.Needs.{needs}
 use lib.ListN.{length, getD}
+use Rattle.record.specs.Calls.{storedAt}
 use Rattle.record.specs.declared.Place.{Place}
 use Rattle.record.specs.Rule.{noPlace}
 use Rattle.record.proofs.Tail.{mapped-length, getD-any, pastPlace}
-use Rattle.reduction.specs.Reduced.{storedAt}
 use Rattle.reduction.proofs.Results.{able-shortenable, stored-reduced}
 use Rattle.reduction.proofs.store_reduced.Statement.{statement}
 use Rattle.reduction.proofs.store_reduced.Tie as tie

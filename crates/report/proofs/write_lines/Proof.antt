@@ -13,11 +13,11 @@ eight : (c : tie.Start) → length (c .args .given .places) ≡ 8
 eight c = let long : length (c .args .given .places) ≡ 8 = search (mapped-length, needs) in long
 
 -- The arrays of what the calls return have their lengths, and the count is a byte
-source-long : (c : tie.After-query-at) → length (c .query-at .result .relations) ≡ 12
-source-long c = let long : length (c .query-at .result .relations) ≡ 12 = search (mapped-length, needs) in long
+source-long : (c : tie.After-stored) → length (c .stored .result .relations) ≡ 12
+source-long c = let long : length (c .stored .result .relations) ≡ 12 = search (mapped-length, needs) in long
 
-result-long : (c : tie.After-query-at2) → length (c .query-at2 .result .relations) ≡ 12
-result-long c = let long : length (c .query-at2 .result .relations) ≡ 12 = search (mapped-length, needs) in long
+result-long : (c : tie.After-stored2) → length (c .stored2 .result .relations) ≡ 12
+result-long c = let long : length (c .stored2 .result .relations) ≡ 12 = search (mapped-length, needs) in long
 
 count-small : (c : tie.After-reduce) → c .reduce .result .count < 256
 count-small c = let small : c .reduce .result .count < 256 = search needs in small
@@ -31,21 +31,21 @@ other-place-requires c κs = search needs
 alone-requires : tie.Need-alone-requires
 alone-requires c κs = search needs
 
-query-at-requires : tie.Need-query-at-requires
-query-at-requires c κs = search needs
+stored-requires : tie.Need-stored-requires
+stored-requires c κs = search needs
 
 reduce-requires : tie.Need-reduce-requires
 reduce-requires c κs = search needs
 
-query-at-requires-2 : tie.Need-query-at-requires-2
-query-at-requires-2 c κs = subst (λ (n : ℕ). n < 8) (sym (c .before .before .before .before .other-place .ensures)) (other-low (c .before .before .before .before .before .before .args .place))
+stored-requires-2 : tie.Need-stored-requires-2
+stored-requires-2 c κs = subst (λ (n : ℕ). n < 8) (sym (c .before .before .before .before .other-place .ensures)) (other-low (c .before .before .before .before .before .before .args .place))
 
 write-place-requires : tie.Need-write-place-requires
 write-place-requires c κs =
     let s = c .before .before .before .before .before .before .before .before .before .before in
     listable (s .args .given) (s .args .place) (s .pre .2) (s .pre .1) (eight s) (s .pre .3) (c .before .before .before .before .before .before .before .before .other-place .result) (c .before .before .before .before .before .before .before .before .other-place .ensures)
-    (c .before .before .before .before .before .before .before .alone .result) (c .before .before .before .before .before .before .before .alone .ensures) (c .before .before .before .before .before .reduce .result) (c .before .before .before .before .before .reduce .ensures) (c .before .before .before .before .before .before .query-at .result) (c .before .before .before .before .before .before .query-at .ensures)
-    (c .before .before .before .query-at2 .result) (c .before .before .before .query-at2 .ensures) (s .args .buffer .now) (s .args .at) (s .pre .0 .room)
+    (c .before .before .before .before .before .before .before .alone .result) (c .before .before .before .before .before .before .before .alone .ensures) (c .before .before .before .before .before .reduce .result) (c .before .before .before .before .before .reduce .ensures) (c .before .before .before .before .before .before .stored .result) (c .before .before .before .before .before .before .stored .ensures)
+    (c .before .before .before .stored2 .result) (c .before .before .before .stored2 .ensures) (s .args .buffer .now) (s .args .at) (s .pre .0 .room)
 
 same-length : tie.Need-same-length
 same-length c = search needs
@@ -54,8 +54,8 @@ returns : tie.Need-returns
 returns c =
     let s = c .before .before .before .before .before .before .before .before .before .before .before .before .before in
     lines-written (s .args .given) (s .args .place) (s .pre .2) (s .pre .1) (eight s) (s .pre .3) (c .before .before .before .before .before .before .before .before .before .before .before .other-place .result) (c .before .before .before .before .before .before .before .before .before .before .before .other-place .ensures)
-    (c .before .before .before .before .before .before .before .before .before .before .alone .result) (c .before .before .before .before .before .before .before .before .before .before .alone .ensures) (c .before .before .before .before .before .before .before .before .reduce .result) (c .before .before .before .before .before .before .before .before .reduce .ensures) (c .before .before .before .before .before .before .before .before .before .query-at .result) (c .before .before .before .before .before .before .before .before .before .query-at .ensures)
-    (c .before .before .before .before .before .before .query-at2 .result) (c .before .before .before .before .before .before .query-at2 .ensures) (widths-long s) (source-long (c .before .before .before .before .before .before .before .before .before)) (result-long (c .before .before .before .before .before .before)) (count-small (c .before .before .before .before .before .before .before .before)) (s .args .buffer .now) (s .args .at) (c .before .before .write-place .last .0)
+    (c .before .before .before .before .before .before .before .before .before .before .alone .result) (c .before .before .before .before .before .before .before .before .before .before .alone .ensures) (c .before .before .before .before .before .before .before .before .reduce .result) (c .before .before .before .before .before .before .before .before .reduce .ensures) (c .before .before .before .before .before .before .before .before .before .stored .result) (c .before .before .before .before .before .before .before .before .before .stored .ensures)
+    (c .before .before .before .before .before .before .stored2 .result) (c .before .before .before .before .before .before .stored2 .ensures) (widths-long s) (source-long (c .before .before .before .before .before .before .before .before .before)) (result-long (c .before .before .before .before .before .before)) (count-small (c .before .before .before .before .before .before .before .before)) (s .args .buffer .now) (s .args .at) (c .before .before .write-place .last .0)
     (c .before .before .write-place .result) (c .before .before .write-place .ensures)
 
 pub write-lines-spec : {M : Type 1} → statement M
@@ -64,9 +64,9 @@ write-lines-spec =
     (tie.spec
     other-place-requires
     alone-requires
-    query-at-requires
+    stored-requires
     reduce-requires
-    query-at-requires-2
+    stored-requires-2
     write-place-requires
     same-length
     returns)

@@ -1,14 +1,14 @@
--- `comparison::stored` meets its contract: an index below 8 is one of the places. Assumes nothing.
+-- `record::calls::stored` meets its contract: an index below 8 is one of the places. Assumes nothing.
 use mathlib.Core.Path.{_≡_, ap}
 use Prim.Native.Nat.{_<_}
 use native.Mathlib.Omega.{arith}
 use lib.ListN.{length}
 use borrow.Author.Needs.{needs}
 use Rattle.record.specs.declared.Place.{Place}
 use Rattle.record.specs.Rule.{noPlace}
 use Rattle.record.proofs.Tail.{mapped-length, getD-any, pastPlace}
-use Rattle.comparison.proofs.stored.Statement.{statement}
-use Rattle.comparison.proofs.stored.Tie as tie
+use Rattle.record.proofs.calls.stored.Statement.{statement}
+use Rattle.record.proofs.calls.stored.Tie as tie
 
 mul-at : tie.Need-mul-at
 mul-at c = search needs
