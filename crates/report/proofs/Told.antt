@@ -14,7 +14,7 @@ use Rattle.record.proofs.Tests.{and-both}
 use Rattle.format.specs.Bytes.{Bytes}
 use Rattle.format.specs.File.{Result, ok, refused, readFile, outcomeOf}
 use Rattle.format.proofs.RoundTrip.{file-written-back}
-use Rattle.file.proofs.Arrays.{bytes-known}
+use Rattle.format.proofs.Arrays.{bytes-known}
 use Rattle.text.specs.Text.{refusedText}
 use Rattle.text.specs.Writing.{over, Written}
 use Rattle.report.specs.Report.{ListingOf, IsReport, ListingWritten}
