@@ -1,0 +1,2 @@
+-- The round trips of the two calls.
+pub mod RoundTrip
