@@ -124,7 +124,7 @@ row-bounds schema s at r rest narrow h e =
     let ls : length (drop at s) ≡ length s - at = lib.ListN.length-drop at s in
     let d′ : drop (at + 1 + 5 * w) s ≡ rest =
     sym (drop-drop (5 * w) (at + 1) s) ∙ ap (λ (t : List ℕ). drop (5 * w) t) (sym (drop-drop 1 at s) ∙ d₁) ∙ d in
-    subst (λ (r : ℕ × List Cell). (length (r .1) ≡ 8) × (drop (at + 1 + 5 * getD schema (r .0) 0) s ≡ rest) × (at + 1 + 5 * getD schema (r .0) 0 ≤ length s)) ep
+    subst (λ (r : ℕ × List Cell). (length (r .1) ≡ 8) × (drop (at + 1 + 5 * getD schema (r .0) 0) s ≡ rest) × (at + 1 + 5 * getD schema (r .0) 0 ≤ length s)) {x = (b, cs)} ep
     (l, d′, omega arith)
 
 -- ---- the row reader's answer
