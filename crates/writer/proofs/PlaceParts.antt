@@ -19,7 +19,7 @@ use Rattle.format.proofs.Lists.{and-left}
 use Rattle.format.proofs.Parts.{Narrow, narrow-at}
 use Rattle.format.proofs.Rules.{good-sizes}
 use Rattle.format.proofs.Lengths.{length-row, length-query}
-use Rattle.writer.specs.Write.{rowsLength}
+use Rattle.writer.specs.Pieces.{rowsLength}
 use Rattle.format.proofs.Arrays.{pastPlace}
 
 module _ (schema : List ℕ) (narrow : Narrow schema) where

@@ -19,7 +19,7 @@ use Rattle.format.proofs.Lists.{and-left, and-iff}
 use Rattle.format.proofs.Numbers.{length-digits}
 use Rattle.format.proofs.Directory.{length-table}
 use Rattle.format.proofs.Lengths.{length-putAll, length-relations}
-use Rattle.writer.specs.Write.{putDependency, dependencyBytes, directoryBytes, partBytes}
+use Rattle.writer.specs.Pieces.{putDependency, dependencyBytes, directoryBytes, partBytes}
 use Rattle.format.proofs.Schema.{count-bounds}
 
 module _ (r : Record) (good : goodRecord r ≡ true) where

@@ -1,2 +1,3 @@
--- What writing a record promises, and the bytes that its parts are written as.
+-- What writing a record promises, and the pieces that it is written in.
 pub mod Write
+pub mod Pieces

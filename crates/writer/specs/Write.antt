@@ -1,43 +1,15 @@
 -- What writing a record promises.
 use mathlib.Core.Bool.{cond, _&&_}
-use mathlib.Core.List.{List, [], _∷_, _++_, map}
-use Prim.Native.Nat.{ℕ, _+_, _*_}
+use mathlib.Core.List.{List}
+use Prim.Native.Nat.{ℕ}
 use lib.Dec.{leb}
-use lib.ListN.{length, getD, take}
-use Rattle.record.specs.declared.Dependency.{Dependency}
+use lib.ListN.{length}
 use Rattle.record.specs.declared.Record.{Record}
-use Rattle.record.specs.View.{schemaOf}
 use Rattle.record.specs.Rule.{goodRecord}
-use Rattle.format.specs.Bytes.{digits, over}
-use Rattle.format.specs.Format.{putAll}
-use Rattle.format.specs.Parts.{relations}
-use Rattle.format.specs.File.{tableOf, join, putPlace, fileOf}
+use Rattle.format.specs.Bytes.{over}
+use Rattle.format.specs.File.{fileOf}
 use Rattle.writer.specs.declared.Written.{Written}
 use Rattle.writer.specs.declared.Written.the-variants.{Length, Refused}
-
--- How many bytes some rows take: a byte for the relation and 5 a column
-unfoldable pub rowsLength : List ℕ → List ℕ → ℕ
-rowsLength schema [] = 0
-rowsLength schema (r ∷ rs) = 1 + 5 * getD schema r 0 + rowsLength schema rs
-
--- The bytes of a dependency
-abbrev pub putDependency : Dependency → List ℕ
-putDependency d = d .relation ∷ d .left ∷ d .right ∷ []
-
--- The bytes of part 1: the count of dependencies, then 3 bytes each
-abbrev pub dependencyBytes : ℕ → List Dependency → List ℕ
-dependencyBytes held list = held ∷ putAll putDependency (take held list)
-
--- The number of parts and the table: parts 0 and 1 of the given lengths, and query parts
-abbrev pub directoryBytes : ℕ → ℕ → ℕ → List (List ℕ) → List ℕ
-directoryBytes n first second parts =
-    digits 2 (n + 2) ++ digits 2 (2 + 4 * (n + 2)) ++ digits 2 first ++ digits 2 (2 + 4 * (n + 2) + first) ++ digits 2 second
-    ++ tableOf (2 + 4 * (n + 2) + first + second) parts
-
--- The parts of a record, n of them query parts, one after the other
-abbrev pub partBytes : Record → ℕ → List ℕ
-partBytes r n =
-    relations .put (r .relations, r .widths) ++ dependencyBytes (r .held) (r .dependencies) ++ join (map (putPlace (schemaOf r)) (take n (r .places)))
 
 -- What writing a record into a buffer answers: 14, the record breaks its rule; 10, the file is longer than the buffer; else the file's length
 abbrev pub written : Record → List ℕ → Written

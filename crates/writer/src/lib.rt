@@ -16,7 +16,8 @@ ghost use Rattle.format.specs.Bytes.{digits, over};
 ghost use Rattle.format.specs.Format.{putAll};
 ghost use Rattle.format.specs.Parts.{relations, putEntry, entries, row, chunk, query};
 ghost use Rattle.format.specs.File.{tableOf, join, putPlace, upToFilled};
-ghost use Rattle.writer.specs.Write.{rowsLength, putDependency, dependencyBytes, directoryBytes, partBytes, written, bufferAfter};
+ghost use Rattle.writer.specs.Pieces.{rowsLength, putDependency, dependencyBytes, directoryBytes, partBytes};
+ghost use Rattle.writer.specs.Write.{written, bufferAfter};
 
 // ---- numbers and entries
 

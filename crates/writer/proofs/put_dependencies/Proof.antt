@@ -10,7 +10,7 @@ use Rattle.record.specs.declared.Dependency.{Dependency}
 use Rattle.format.specs.Bytes.{over}
 use Rattle.format.specs.Format.{putAll}
 use Rattle.format.proofs.Lengths.{length-putAll}
-use Rattle.writer.specs.Write.{putDependency}
+use Rattle.writer.specs.Pieces.{putDependency}
 use Rattle.writer.proofs.Stores.{Writing, writing-starts, writing-room, writing-turns, writing-ends, byte-and-run}
 use Rattle.writer.proofs.put_dependencies.Statement.{statement}
 use Rattle.writer.proofs.put_dependencies.Tie as tie

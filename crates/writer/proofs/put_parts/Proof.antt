@@ -7,7 +7,7 @@ use lib.ListN.{length, take}
 use Rattle.record.specs.View.{schemaOf}
 use Rattle.format.specs.Parts.{relations}
 use Rattle.format.specs.File.{join, putPlace}
-use Rattle.writer.specs.Write.{dependencyBytes}
+use Rattle.writer.specs.Pieces.{dependencyBytes}
 use Rattle.format.proofs.Arrays.{length-mapped}
 use Rattle.format.proofs.Schema.{count-bounds}
 use Rattle.writer.proofs.Stores.{run-starts, run-turns}

@@ -7,7 +7,7 @@ use native.Mathlib.Numerals.{add-one}
 use native.Mathlib.Omega.{arith}
 use lib.ListN.{length, take, drop, getD, drop-of-length-le}
 use lib.Seq.{drop-cons, getD-take, length-take-le}
-use Rattle.writer.specs.Write.{rowsLength}
+use Rattle.writer.specs.Pieces.{rowsLength}
 use Rattle.writer.proofs.rows_length.Statement.{statement}
 use Rattle.writer.proofs.rows_length.Tie as tie
 use Rattle.writer.proofs.rows_length.Reads as reads

@@ -13,7 +13,8 @@ use Rattle.record.specs.Rule.{goodRecord}
 use Rattle.format.specs.Bytes.{over}
 use Rattle.format.specs.File.{putPlace, fileOf}
 use Rattle.writer.specs.declared.Written.the-variants.{Length, Refused}
-use Rattle.writer.specs.Write.{directoryBytes, partBytes, written, bufferAfter}
+use Rattle.writer.specs.Pieces.{directoryBytes, partBytes}
+use Rattle.writer.specs.Write.{written, bufferAfter}
 use Rattle.format.proofs.Arrays.{length-mapped}
 use Rattle.format.proofs.Schema.{count-bounds}
 use Rattle.writer.proofs.Stores.{run-starts, run-turns}
