@@ -1,4 +1,5 @@
 -- What reading and writing come to together, in the words of the two calls' contracts. Each statement is proved in `proofs/RoundTrip`.
+-- `Bytes` and `shaped` hold of every value that the calls can be given: bytes are below 256, and arrays as long as their types say.
 use mathlib.Core.Path.{_≡_}
 use mathlib.Core.Bool.{true}
 use mathlib.Core.List.{List}
