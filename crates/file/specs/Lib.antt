@@ -1,4 +1,2 @@
--- What the reader's functions answer, as values of the code's types, for what the format's definitions give.
-pub mod Read
-pub mod Safe
-pub mod Write
+-- Reading and writing undo each other.
+pub mod RoundTrip

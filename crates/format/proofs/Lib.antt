@@ -8,3 +8,5 @@ pub mod Rules
 pub mod Places
 pub mod Lengths
 pub mod RoundTrip
+pub mod Arrays
+pub mod Schema

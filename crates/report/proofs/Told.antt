@@ -14,14 +14,11 @@ use Rattle.record.proofs.Tests.{and-both}
 use Rattle.format.specs.Bytes.{Bytes}
 use Rattle.format.specs.File.{Result, ok, refused, readFile, outcomeOf}
 use Rattle.format.proofs.RoundTrip.{file-written-back}
-use Rattle.file.proofs.Arrays.{bytes-known}
+use Rattle.format.proofs.Arrays.{bytes-known}
+use Rattle.file.proofs.RoundTrip.{accepted}
 use Rattle.text.specs.Text.{refusedText}
 use Rattle.text.specs.Writing.{over, Written}
 use Rattle.report.specs.Report.{ListingOf, IsReport, ListingWritten}
-
-accepted : (x : Result Record) (o : Outcome) → o ≡ outcomeOf x → o .answer ≡ Done → x ≡ ok (o .«record»)
-accepted (ok r) o e a = cc
-accepted (refused n) o e a = let z : _≡_ {A = ℕ} 0 1 = cc in absurd (omega arith)
 
 turned-down : (x : Result Record) (o : Outcome) (n : ℕ) → o ≡ outcomeOf x → o .answer ≡ Refused n → x ≡ refused n
 turned-down (ok r) o n e a = let z : _≡_ {A = ℕ} 0 1 = cc in absurd (omega arith)

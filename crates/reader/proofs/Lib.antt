@@ -1,0 +1,9 @@
+-- Laws that several functions cite.
+pub mod Words
+pub mod Positions
+pub mod Filling
+pub mod Counted
+pub mod RowLaws
+pub mod Safety
+pub mod QueryLaws
+pub mod Stretches

@@ -1,0 +1,52 @@
+use borrow.Author.Needs.{needs}
+use mathlib.Core.Path.{_≡_, sym, ap, _∙_}
+use mathlib.Core.List.{List}
+use Prim.Native.Nat.{ℕ}
+use Rattle.format.specs.File.{Result, _>>=_, directory, readAll, readFile, outcomeOf}
+use Rattle.reader.proofs.Stretches.{accepts, refuses}
+use Rattle.reader.proofs.read.Statement.{statement}
+use Rattle.reader.proofs.read.Tie as tie
+use Rattle.reader.proofs.read.Reads as reads
+use Rattle.reader.proofs.read.Lts as lts
+use Rattle.reader.proofs.read_directory.Reads as read-directory-reads
+use Rattle.reader.proofs.read_parts.Reads as read-parts-reads
+use Rattle.reader.proofs.refusal.Reads as refusal-reads
+
+read-directory-requires : tie.Need-read-directory-requires
+read-directory-requires c κs = search needs
+
+enum-known-n : tie.Need-enum-known-n
+enum-known-n c = search needs
+
+read-parts-requires : tie.Need-read-parts-requires
+read-parts-requires c κs =
+    let a = accepts (c .before .before .before .before .before .args .file .now) (c .before .n .given .0 .0) (sym (c .before .n .given .1) ∙ c .before .before .before .read-directory .ensures) in
+    ((a .low, a .high, a .fits), a .chain)
+
+enum-known-number : tie.Need-enum-known-number
+enum-known-number c = search needs
+
+refusal-requires : tie.Need-refusal-requires
+refusal-requires c κs = search needs
+
+returns : tie.Need-returns
+unfolding readFile _>>=_
+returns c =
+    c .read-parts .ensures ∙ sym (ap outcomeOf (ap (λ (o : Result (List (List ℕ))). o >>= readAll) (accepts (c .before .before .before .before .before .before .args .file .now) (c .before .before .n .given .0 .0) (sym (c .before .before .n .given .1) ∙ c .before .before .before .before .read-directory .ensures) .parts)))
+
+returns-2 : tie.Need-returns-2
+unfolding readFile _>>=_
+returns-2 c =
+    c .refusal .ensures ∙ sym (ap outcomeOf (ap (λ (o : Result (List (List ℕ))). o >>= readAll) (refuses (directory (c .before .before .before .before .before .before .args .file .now)) (c .before .before .number .given .0 .0) (sym (c .before .before .number .given .1) ∙ c .before .before .before .before .read-directory .ensures))))
+
+pub read-spec : {M : Type 1} → statement M
+read-spec =
+    tie.close
+    (tie.spec
+    read-directory-requires
+    enum-known-n
+    read-parts-requires
+    enum-known-number
+    refusal-requires
+    returns
+    returns-2)

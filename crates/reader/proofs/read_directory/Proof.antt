@@ -1,0 +1,70 @@
+use borrow.Author.Needs.{needs}
+use mathlib.Core.Path.{_≡_, sym, ap, _∙_}
+use mathlib.Core.Bool.{true, false}
+use lib.ListN.{drop}
+use Rattle.reader.specs.declared.DirectoryRead.the-variants.{Parts}
+use Rattle.reader.specs.Read.{directoryRead}
+use Rattle.reader.proofs.Stretches.{length-stretches, too-short, too-few, too-many, cut-table, whole-table}
+use Rattle.reader.proofs.read_directory.Statement.{statement}
+use Rattle.reader.proofs.read_directory.Tie as tie
+use Rattle.reader.proofs.read_directory.Reads as reads
+use Rattle.reader.proofs.read_directory.Lts as lts
+use Rattle.reader.proofs.chain.Reads as chain-reads
+use Rattle.reader.proofs.word16.Reads as word16-reads
+
+returns : tie.Need-returns
+returns c =
+    sym (ap directoryRead (too-short (c .before .before .args .file .now) (c .if1 .taken)))
+
+word16-requires : tie.Need-word16-requires
+word16-requires c κs = search needs
+
+cast-n : tie.Need-cast-n
+cast-n c = search needs
+
+returns-2 : tie.Need-returns-2
+returns-2 c =
+    sym (ap directoryRead (too-few (c .before .before .before .before .args .file .now) (c .before .word16 .result) (c .before .word16 .ensures .0) (c .if2 .taken)))
+
+returns-3 : tie.Need-returns-3
+returns-3 c =
+    sym (ap directoryRead (too-many (c .before .before .before .before .before .args .file .now) (c .before .before .word16 .result) (c .before .before .word16 .ensures .0) (c .if3 .taken)))
+
+mul-if4 : tie.Need-mul-if4
+mul-if4 c = search needs
+
+add-if4 : tie.Need-add-if4
+add-if4 c = search needs
+
+returns-4 : tie.Need-returns-4
+returns-4 c =
+    sym (ap directoryRead (cut-table (c .before .before .before .before .before .before .args .file .now) (c .before .before .before .word16 .result) (c .before .before .before .word16 .ensures .0) (c .if4 .taken)))
+
+chain-requires : tie.Need-chain-requires
+chain-requires c κs = search needs
+
+returns-5 : tie.Need-returns-5
+returns-5 c =
+    let n = c .before .before .before .before .before .word16 .result in
+    let file = c .before .before .before .before .before .before .before .before .args .file .now in
+    ap Parts (sym (length-stretches n file (drop 2 file))) ∙ sym (ap directoryRead (whole-table (c .before .before .before .before .before .before .before .before .args .file .now) (c .before .before .before .before .before .word16 .result) (c .before .before .before .before .before .word16 .ensures .0) (c .before .before .before .before .if2 .left) (c .before .before .before .if3 .left) (c .before .before .if4 .left) true (sym (c .before .chain .ensures) ∙ c .if5 .taken)))
+
+returns-6 : tie.Need-returns-6
+returns-6 c =
+    sym (ap directoryRead (whole-table (c .before .before .before .before .before .before .before .before .args .file .now) (c .before .before .before .before .before .word16 .result) (c .before .before .before .before .before .word16 .ensures .0) (c .before .before .before .before .if2 .left) (c .before .before .before .if3 .left) (c .before .before .if4 .left) false (sym (c .before .chain .ensures) ∙ c .if5 .left)))
+
+pub read-directory-spec : {M : Type 1} → statement M
+read-directory-spec =
+    tie.close
+    (tie.spec
+    returns
+    word16-requires
+    cast-n
+    returns-2
+    returns-3
+    mul-if4
+    add-if4
+    returns-4
+    chain-requires
+    returns-5
+    returns-6)

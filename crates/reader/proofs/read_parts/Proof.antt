@@ -1,0 +1,222 @@
+use borrow.Author.Needs.{needs}
+use borrow.Author.Tests.{not-true, not-false}
+use mathlib.Core.Path.{_≡_, sym, ap, refl, _∙_}
+use mathlib.Core.Bool.{true, false}
+use mathlib.Core.List.{List, [], _∷_}
+use Prim.Native.Nat.{ℕ, _+_, _*_, _-_, _≤_, _<_}
+use native.Mathlib.Nat.{sub-zero}
+use native.Mathlib.Omega.{arith}
+use lib.Dec.{ltb}
+use lib.ListN.{take, drop}
+use denote.Ref.{now}
+use Rattle.record.specs.declared.Dependency.{Dependency}
+use Rattle.record.specs.declared.Place.{Place}
+use Rattle.record.specs.declared.Answer.the-variants.{Done, Refused}
+use Rattle.record.specs.Rule.{goodRelations, noPlace}
+use Rattle.format.specs.Bytes.{number, Bytes}
+use Rattle.format.specs.Format.{Reading, none, got, pad}
+use Rattle.format.specs.Parts.{relations, dependencies}
+use Rattle.format.specs.File.{Result, ok, refused, _>>=_, whole, stretch, stretches, readPlaces, recordWith, readParts, readAll, outcomeOf}
+use Rattle.format.proofs.Lists.{every-parts}
+use Rattle.format.proofs.Parts.{relations-lawful}
+use Rattle.format.proofs.Rules.{good-relations}
+use Rattle.format.proofs.Places.{whole-get}
+use Rattle.reader.specs.declared.RelationsRead.{RelationsRead}
+use Rattle.reader.specs.declared.DependenciesRead.{DependenciesRead}
+use Rattle.reader.specs.declared.PlacesRead.{PlacesRead}
+use Rattle.reader.specs.Read.{relationsRead, dependenciesRead, placesRead}
+use Rattle.format.proofs.Arrays.{bytes-known}
+use Rattle.reader.proofs.Stretches.{tableAt, stretches-cons, stretch-fits}
+use Rattle.reader.proofs.read_parts.Statement.{statement}
+use Rattle.reader.proofs.read_parts.Tie as tie
+use Rattle.reader.proofs.read_parts.Reads as reads
+use Rattle.reader.proofs.read_parts.Lts as lts
+use Rattle.reader.proofs.part.Reads as part-reads
+use Rattle.reader.proofs.read_dependencies.Reads as read-dependencies-reads
+use Rattle.reader.proofs.read_places.Reads as read-places-reads
+use Rattle.reader.proofs.read_relations.Reads as read-relations-reads
+use Rattle.reader.proofs.refusal.Reads as refusal-reads
+
+-- ---- the parts
+
+first-two : (file : List ℕ) (n : ℕ) → 2 ≤ n
+    → stretches n file (drop 2 file) ≡ stretch file (tableAt file 0) ∷ stretch file (tableAt file 1) ∷ stretches (n - 2) file (drop 10 file)
+first-two file n h =
+    let e : stretches (n - 0) file (tableAt file 0) ≡ stretch file (tableAt file 0) ∷ stretches (n - 1) file (tableAt file 1) = stretches-cons file n 0 0 (omega arith) in
+    let f : stretches (n - 1) file (tableAt file 1) ≡ stretch file (tableAt file 1) ∷ stretches (n - 2) file (tableAt file 2) = stretches-cons file n 0 1 (omega arith) in
+    (rw sub-zero at e) ∙ ap {B = List (List ℕ)} (λ ps. stretch file (tableAt file 0) ∷ ps) f
+
+stretch-bytes : (file table : List ℕ) → Bytes file → Bytes (stretch file table)
+stretch-bytes file table hb =
+    every-parts (λ b. ltb b 256) (number 2 (drop 2 table)) (drop (number 2 table) file) (every-parts (λ b. ltb b 256) (number 2 table) file hb .1) .0
+
+-- ---- the answers of the part readers
+
+whole-refused : {A : Type 0} (m : ℕ) (o : Reading A) (n : ℕ) → whole m o ≡ refused n → whole m o ≡ refused m
+unfolding whole
+whole-refused m none n e = refl
+whole-refused m (got a []) n e = let z : _≡_ {A = ℕ} 0 1 = cc in absurd (omega arith)
+whole-refused m (got a (b ∷ rest)) n e = refl
+
+relations-bad : (o : Result (ℕ × List ℕ)) (r : RelationsRead) → r ≡ relationsRead o → r .good ≡ false → (n : ℕ) × (o ≡ refused n)
+relations-bad (ok rs) r e g = let t : r .good ≡ true = ap (λ (r : RelationsRead). r .good) e in let z : _≡_ {A = ℕ} 0 1 = cc in absurd (omega arith)
+relations-bad (refused n) r e g = (n, refl)
+
+relations-some : (o : Result (ℕ × List ℕ)) (r : RelationsRead) → r ≡ relationsRead o → r .good ≡ true → o ≡ ok (r .count, r .widths)
+relations-some (ok rs) r e g = ap (λ (r : RelationsRead). ok (r .count, r .widths)) (sym e)
+relations-some (refused n) r e g = let t : r .good ≡ false = ap (λ (r : RelationsRead). r .good) e in let z : _≡_ {A = ℕ} 0 1 = cc in absurd (omega arith)
+
+dependencies-bad : (o : Result (ℕ × List Dependency)) (r : DependenciesRead) → r ≡ dependenciesRead o → r .good ≡ false → (n : ℕ) × (o ≡ refused n)
+dependencies-bad (ok ds) r e g = let t : r .good ≡ true = ap (λ (r : DependenciesRead). r .good) e in let z : _≡_ {A = ℕ} 0 1 = cc in absurd (omega arith)
+dependencies-bad (refused n) r e g = (n, refl)
+
+dependencies-some : (o : Result (ℕ × List Dependency)) (r : DependenciesRead) → r ≡ dependenciesRead o → r .good ≡ true → o ≡ ok (r .held, r .dependencies)
+dependencies-some (ok ds) r e g = ap (λ (r : DependenciesRead). ok (r .held, r .dependencies)) (sym e)
+dependencies-some (refused n) r e g = let t : r .good ≡ false = ap (λ (r : DependenciesRead). r .good) e in let z : _≡_ {A = ℕ} 0 1 = cc in absurd (omega arith)
+
+places-bad : (o : Result (List Place)) (r : PlacesRead) (m : ℕ) → r ≡ placesRead o → r .answer ≡ Refused m → o ≡ refused m
+places-bad (ok ps) r m e g = let t : r .answer ≡ Done = ap (λ (r : PlacesRead). r .answer) e in let z : _≡_ {A = ℕ} 0 1 = cc in absurd (omega arith)
+places-bad (refused l) r m e g = let t : r .answer ≡ Refused l = ap (λ (r : PlacesRead). r .answer) e in let s : l ≡ m = cc in rw s
+
+places-some : (o : Result (List Place)) (r : PlacesRead) → r ≡ placesRead o → r .answer ≡ Done → (ps : List Place) × (o ≡ ok ps) × (r .places ≡ pad 8 noPlace ps)
+places-some (ok ps) r e g = (ps, refl, ap (λ (r : PlacesRead). r .places) e)
+places-some (refused m) r e g = let t : r .answer ≡ Refused m = ap (λ (r : PlacesRead). r .answer) e in let z : _≡_ {A = ℕ} 0 1 = cc in absurd (omega arith)
+
+-- ---- the parts by their results
+
+module _ (part0 part1 : List ℕ) (parts : List (List ℕ)) where
+  parts-3 : whole 3 (relations .get part0) ≡ refused 3 → readParts part0 part1 parts ≡ refused 3
+  unfolding readParts _>>=_
+  parts-3 w = rw w
+
+  module _ (rs : ℕ × List ℕ) (w₀ : whole 3 (relations .get part0) ≡ ok rs) where
+    parts-4 : whole 4 (dependencies (take (rs .0) (rs .1)) .get part1) ≡ refused 4 → readParts part0 part1 parts ≡ refused 4
+    unfolding readParts _>>=_
+    parts-4 w = rw (w₀, w)
+
+    module _ (ds : ℕ × List Dependency) (w₁ : whole 4 (dependencies (take (rs .0) (rs .1)) .get part1) ≡ ok ds) where
+      parts-places : (m : ℕ) → readPlaces (take (rs .0) (rs .1)) parts ≡ refused m → readParts part0 part1 parts ≡ refused m
+      unfolding readParts _>>=_
+      parts-places m w = rw (w₀, w₁, w)
+
+      parts-done : (ps : List Place) → readPlaces (take (rs .0) (rs .1)) parts ≡ ok ps → readParts part0 part1 parts ≡ ok (recordWith rs ds ps)
+      unfolding readParts _>>=_
+      parts-done ps w = rw (w₀, w₁, w)
+
+-- ---- the whole file, part by part
+
+module _ (file : List ℕ) (n : ℕ) (low : 2 ≤ n) (part0 part1 : List ℕ) (e₀ : part0 ≡ stretch file (tableAt file 0)) (e₁ : part1 ≡ stretch file (tableAt file 1)) where
+  all : readAll (stretches n file (drop 2 file)) ≡ readParts part0 part1 (stretches (n - 2) file (drop 10 file))
+  unfolding readAll
+  all = ap readAll (first-two file n low) ∙ rw (e₀, e₁)
+
+module _ (file : List ℕ) (n : ℕ) (low : 2 ≤ n) (part0 : List ℕ) (e₀ : part0 ≡ stretch file (tableAt file 0)) (rs : RelationsRead) (er : rs ≡ relationsRead (whole 3 (relations .get part0))) where
+  refuses-3 : rs .good ≡ false → outcomeOf (refused 3) ≡ outcomeOf (readAll (stretches n file (drop 2 file)))
+  refuses-3 g =
+      let (m, w) = relations-bad (whole 3 (relations .get part0)) rs er g in
+      let w′ = whole-refused 3 (relations .get part0) m w in
+      sym (ap outcomeOf (all file n low part0 (stretch file (tableAt file 1)) e₀ refl ∙ parts-3 part0 (stretch file (tableAt file 1)) (stretches (n - 2) file (drop 10 file)) w′))
+
+  good-count : Bytes file → rs .good ≡ true → goodRelations (rs .count) (rs .widths) ≡ true
+  good-count hb g =
+      let w = relations-some (whole 3 (relations .get part0)) rs er g in
+      let b : Bytes part0 = rw e₀ (stretch-bytes file (tableAt file 0) hb) in
+      good-relations (rs .count, rs .widths) (whole-get 3 relations relations-lawful part0 (rs .count, rs .widths) b w .0) .1
+
+  module _ (part1 : List ℕ) (e₁ : part1 ≡ stretch file (tableAt file 1)) (g₀ : rs .good ≡ true) (ds : DependenciesRead)
+      (ed : ds ≡ dependenciesRead (whole 4 (dependencies (take (rs .count) (rs .widths)) .get part1))) where
+    refuses-4 : ds .good ≡ false → outcomeOf (refused 4) ≡ outcomeOf (readAll (stretches n file (drop 2 file)))
+    refuses-4 g =
+        let w₀ = relations-some (whole 3 (relations .get part0)) rs er g₀ in
+        let (m, w) = dependencies-bad (whole 4 (dependencies (take (rs .count) (rs .widths)) .get part1)) ds ed g in
+        let w₁ = whole-refused 4 (dependencies (take (rs .count) (rs .widths)) .get part1) m w in
+        sym (ap outcomeOf (all file n low part0 part1 e₀ e₁ ∙ parts-4 part0 part1 (stretches (n - 2) file (drop 10 file)) (rs .count, rs .widths) w₀ w₁))
+
+    module _ (g₁ : ds .good ≡ true) (ps : PlacesRead) (ep : ps ≡ placesRead (readPlaces (take (rs .count) (rs .widths)) (stretches (n - 2) file (drop 10 file)))) where
+      refuses-places : (m : ℕ) → ps .answer ≡ Refused m → outcomeOf (refused m) ≡ outcomeOf (readAll (stretches n file (drop 2 file)))
+      refuses-places m g =
+          let w₀ = relations-some (whole 3 (relations .get part0)) rs er g₀ in
+          let w₁ = dependencies-some (whole 4 (dependencies (take (rs .count) (rs .widths)) .get part1)) ds ed g₁ in
+          let w₂ = places-bad (readPlaces (take (rs .count) (rs .widths)) (stretches (n - 2) file (drop 10 file))) ps m ep g in
+          sym (ap outcomeOf (all file n low part0 part1 e₀ e₁ ∙ parts-places part0 part1 (stretches (n - 2) file (drop 10 file)) (rs .count, rs .widths) w₀ (ds .held, ds .dependencies) w₁ m w₂))
+
+      accepts-all : ps .answer ≡ Done
+          → record { answer = Done; «record» = record { relations = rs .count; widths = rs .widths; held = ds .held; dependencies = ds .dependencies; places = ps .places } }
+          ≡ outcomeOf (readAll (stretches n file (drop 2 file)))
+      accepts-all g =
+          let w₀ = relations-some (whole 3 (relations .get part0)) rs er g₀ in
+          let w₁ = dependencies-some (whole 4 (dependencies (take (rs .count) (rs .widths)) .get part1)) ds ed g₁ in
+          let (all-places, w₂, same) = places-some (readPlaces (take (rs .count) (rs .widths)) (stretches (n - 2) file (drop 10 file))) ps ep g in
+          let done : readAll (stretches n file (drop 2 file)) ≡ ok (recordWith (rs .count, rs .widths) (ds .held, ds .dependencies) all-places) =
+          all file n low part0 part1 e₀ e₁ ∙ parts-done part0 part1 (stretches (n - 2) file (drop 10 file)) (rs .count, rs .widths) w₀ (ds .held, ds .dependencies) w₁ all-places w₂ in
+          (λ i. record { answer = Done; «record» = record { relations = rs .count; widths = rs .widths; held = ds .held; dependencies = ds .dependencies; places = same i } })
+          ∙ sym (ap outcomeOf done)
+
+part-requires : tie.Need-part-requires
+part-requires c κs =
+    (omega (arith, c .before .pre .0 .2), stretch-fits (c .before .args .file .now) (c .before .args .n) (2 + 4 * c .before .args .n) 0 (omega (arith, c .before .pre .0 .0)) (c .before .pre .1))
+
+read-relations-requires : tie.Need-read-relations-requires
+read-relations-requires c κs = search needs
+
+refusal-requires : tie.Need-refusal-requires
+refusal-requires c κs = search needs
+
+returns : tie.Need-returns
+returns c =
+    c .refusal .ensures ∙ refuses-3 (c .before .before .before .before .before .before .args .file .now) (c .before .before .before .before .before .before .args .n) (c .before .before .before .before .before .before .pre .0 .0) (now (c .before .before .before .before .part .result)) (c .before .before .before .before .part .ensures) (c .before .before .before .read-relations .result) (c .before .before .before .read-relations .ensures) (not-true (c .before .before .before .read-relations .result .good) (c .before .if1 .taken))
+
+part-requires-2 : tie.Need-part-requires-2
+part-requires-2 c κs =
+    (omega (arith, c .before .before .before .before .before .before .pre .0 .2), stretch-fits (c .before .before .before .before .before .before .args .file .now) (c .before .before .before .before .before .before .args .n) (2 + 4 * c .before .before .before .before .before .before .args .n) 1 (omega (arith, c .before .before .before .before .before .before .pre .0 .0)) (c .before .before .before .before .before .before .pre .1))
+
+read-dependencies-requires : tie.Need-read-dependencies-requires
+read-dependencies-requires c κs =
+    good-count (c .before .before .before .before .before .before .before .args .file .now) (c .before .before .before .before .before .before .before .args .n) (c .before .before .before .before .before .before .before .pre .0 .0) (now (c .before .before .before .before .before .part .result)) (c .before .before .before .before .before .part .ensures) (c .before .before .before .before .read-relations .result) (c .before .before .before .before .read-relations .ensures) (bytes-known (c .before .before .before .before .before .before .before .args .file .now) (λ i. c .before .before .before .before .before .before .shared-slice-known .given i .fits)) (not-false (c .before .before .before .before .read-relations .result .good) (c .before .before .if1 .left))
+
+refusal-requires-2 : tie.Need-refusal-requires-2
+refusal-requires-2 c κs = search needs
+
+returns-2 : tie.Need-returns-2
+returns-2 c =
+    c .refusal2 .ensures ∙ refuses-4 (c .before .before .before .before .before .before .before .before .before .before .before .args .file .now) (c .before .before .before .before .before .before .before .before .before .before .before .args .n) (c .before .before .before .before .before .before .before .before .before .before .before .pre .0 .0) (now (c .before .before .before .before .before .before .before .before .before .part .result)) (c .before .before .before .before .before .before .before .before .before .part .ensures) (c .before .before .before .before .before .before .before .before .read-relations .result) (c .before .before .before .before .before .before .before .before .read-relations .ensures) (now (c .before .before .before .before .part2 .result)) (c .before .before .before .before .part2 .ensures) (not-false (c .before .before .before .before .before .before .before .before .read-relations .result .good) (c .before .before .before .before .before .before .if1 .left)) (c .before .before .before .read-dependencies .result) (c .before .before .before .read-dependencies .ensures) (not-true (c .before .before .before .read-dependencies .result .good) (c .before .if2 .taken))
+
+read-places-requires : tie.Need-read-places-requires
+read-places-requires c κs =
+    (good-count (c .before .before .before .before .before .before .before .before .before .before .args .file .now) (c .before .before .before .before .before .before .before .before .before .before .args .n) (c .before .before .before .before .before .before .before .before .before .before .pre .0 .0) (now (c .before .before .before .before .before .before .before .before .part .result)) (c .before .before .before .before .before .before .before .before .part .ensures) (c .before .before .before .before .before .before .before .read-relations .result) (c .before .before .before .before .before .before .before .read-relations .ensures) (bytes-known (c .before .before .before .before .before .before .before .before .before .before .args .file .now) (λ i. c .before .before .before .before .before .before .before .before .before .shared-slice-known .given i .fits)) (not-false (c .before .before .before .before .before .before .before .read-relations .result .good) (c .before .before .before .before .before .if1 .left)), (c .before .before .before .before .before .before .before .before .before .before .pre .0, c .before .before .before .before .before .before .before .before .before .before .pre .1))
+
+enum-told : tie.Need-enum-told
+enum-told c = search needs
+
+enum-known-answer : tie.Need-enum-known-answer
+enum-known-answer c = search needs
+
+refusal-requires-3 : tie.Need-refusal-requires-3
+refusal-requires-3 c κs = search needs
+
+returns-3 : tie.Need-returns-3
+returns-3 c =
+    accepts-all (c .before .before .before .before .before .before .before .before .before .before .before .before .before .before .before .args .file .now) (c .before .before .before .before .before .before .before .before .before .before .before .before .before .before .before .args .n) (c .before .before .before .before .before .before .before .before .before .before .before .before .before .before .before .pre .0 .0) (now (c .before .before .before .before .before .before .before .before .before .before .before .before .before .part .result)) (c .before .before .before .before .before .before .before .before .before .before .before .before .before .part .ensures) (c .before .before .before .before .before .before .before .before .before .before .before .before .read-relations .result) (c .before .before .before .before .before .before .before .before .before .before .before .before .read-relations .ensures) (now (c .before .before .before .before .before .before .before .before .part2 .result)) (c .before .before .before .before .before .before .before .before .part2 .ensures) (not-false (c .before .before .before .before .before .before .before .before .before .before .before .before .read-relations .result .good) (c .before .before .before .before .before .before .before .before .before .before .if1 .left)) (c .before .before .before .before .before .before .before .read-dependencies .result) (c .before .before .before .before .before .before .before .read-dependencies .ensures) (not-false (c .before .before .before .before .before .before .before .read-dependencies .result .good) (c .before .before .before .before .before .if2 .left)) (c .before .before .before .before .read-places .result) (c .before .before .before .before .read-places .ensures) (c .before .before .enum-told .given .1)
+
+returns-4 : tie.Need-returns-4
+returns-4 c =
+    c .refusal3 .ensures ∙ refuses-places (c .before .before .before .before .before .before .before .before .before .before .before .before .before .before .before .args .file .now) (c .before .before .before .before .before .before .before .before .before .before .before .before .before .before .before .args .n) (c .before .before .before .before .before .before .before .before .before .before .before .before .before .before .before .pre .0 .0) (now (c .before .before .before .before .before .before .before .before .before .before .before .before .before .part .result)) (c .before .before .before .before .before .before .before .before .before .before .before .before .before .part .ensures) (c .before .before .before .before .before .before .before .before .before .before .before .before .read-relations .result) (c .before .before .before .before .before .before .before .before .before .before .before .before .read-relations .ensures) (now (c .before .before .before .before .before .before .before .before .part2 .result)) (c .before .before .before .before .before .before .before .before .part2 .ensures) (not-false (c .before .before .before .before .before .before .before .before .before .before .before .before .read-relations .result .good) (c .before .before .before .before .before .before .before .before .before .before .if1 .left)) (c .before .before .before .before .before .before .before .read-dependencies .result) (c .before .before .before .before .before .before .before .read-dependencies .ensures) (not-false (c .before .before .before .before .before .before .before .read-dependencies .result .good) (c .before .before .before .before .before .if2 .left)) (c .before .before .before .before .read-places .result) (c .before .before .before .before .read-places .ensures) (c .before .before .answer .given .0 .0) (c .before .before .answer .given .1)
+
+pub read-parts-spec : {M : Type 1} → statement M
+read-parts-spec =
+    tie.close
+    (tie.spec
+    part-requires
+    read-relations-requires
+    refusal-requires
+    returns
+    part-requires-2
+    read-dependencies-requires
+    refusal-requires-2
+    returns-2
+    read-places-requires
+    enum-told
+    enum-known-answer
+    refusal-requires-3
+    returns-3
+    returns-4)

@@ -1,0 +1,4 @@
+-- Laws that several functions cite.
+pub mod Stores
+pub mod PlaceParts
+pub mod RecordParts

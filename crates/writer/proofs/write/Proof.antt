@@ -1,0 +1,36 @@
+-- `write` refuses a record that breaks its rule, and writes a good one.
+-- Assumes nothing.
+use mathlib.Core.Path.{_≡_, refl, sym, _∙_}
+use mathlib.Core.Bool.{true, false}
+use mathlib.Core.List.{List}
+use Prim.Native.Nat.{ℕ}
+use borrow.Author.Needs.{needs}
+use borrow.Author.Tests.{not-true, not-false}
+use Rattle.record.specs.declared.Record.{Record}
+use Rattle.record.specs.Rule.{goodRecord}
+use Rattle.writer.specs.declared.Written.{Written}
+use Rattle.writer.specs.declared.Written.the-variants.{Length, Refused}
+use Rattle.writer.specs.Write.{written, bufferAfter}
+use Rattle.writer.proofs.write.Statement.{statement}
+use Rattle.writer.proofs.write.Tie as tie
+
+broken : (r : Record) (buffer : List ℕ) → goodRecord r ≡ false → (Refused 14 ≡ written r buffer) × (buffer ≡ bufferAfter r buffer)
+broken r buffer e = (rw e refl, rw e refl)
+
+whole-requires : tie.Need-whole-requires
+whole-requires c κs = search needs
+
+returns : tie.Need-returns
+returns c = broken _ _ (sym (c .before .whole .ensures) ∙ not-true _ (c .if1 .taken))
+
+write-good-requires : tie.Need-write-good-requires
+write-good-requires c κs = sym (c .before .before .whole .ensures) ∙ not-false _ (c .before .if1 .left)
+
+same-length : tie.Need-same-length
+same-length c = search needs
+
+returns-2 : tie.Need-returns-2
+returns-2 c = c .before .before .write-good .ensures
+
+pub write-spec : {M : Type 1} → statement M
+write-spec = tie.close (tie.spec whole-requires returns write-good-requires same-length returns-2)
