@@ -1,5 +1,6 @@
 -- Why the search may do what it does: what a choice leaves true, and what a failure after a choice says before it.
--- First choices below 12, then the state after a choice, then the ways to go on after a failure. Assumes nothing.
+-- First choices below 12, then the state after a choice, then a row compared with another, then the ways to go on after a
+-- failure. Assumes nothing.
 use mathlib.Core.Path.{_≡_, refl, sym, ap, _∙_, subst, subst⁻¹}
 use mathlib.Core.Logic.{_⊎_, inl, inr}
 use mathlib.Core.List.{List, [], _∷_}
