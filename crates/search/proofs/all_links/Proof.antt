@@ -1,7 +1,6 @@
 -- `search::all_links` is safe and ends; it promises nothing of the links. Assumes nothing.
 use borrow.Author.Needs.{needs}
 use Prim.Native.Nat.{_-_, _≤_}
-use lib.ListN.{length}
 use Rattle.search.proofs.all_links.Statement.{statement}
 use Rattle.search.proofs.all_links.Tie as tie
 

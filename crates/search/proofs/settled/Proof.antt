@@ -1,7 +1,6 @@
 -- `search::settled` meets its contract. The loop's invariant: so far it is settled. Assumes nothing.
 use borrow.Author.Needs.{needs}
-use native.Mathlib.Omega.{arith}
-use Prim.Native.Nat.{_-_, _≤_, _<_}
+use Prim.Native.Nat.{_-_, _≤_}
 use Rattle.search.specs.Invariant.{Settles}
 use Rattle.search.proofs.Steps.{settles-same, settles-more}
 use Rattle.search.proofs.settled.Statement.{statement}
