@@ -71,4 +71,5 @@ def main():
     print('%6.2f ms  %-46s %s' % (worst_random[0] * 1000, 'worst of 200 random queries', worst_random[1]))
 
 
-main()
+if __name__ == "__main__":
+    main()

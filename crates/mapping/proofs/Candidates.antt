@@ -10,7 +10,7 @@ use lib.Dec.{eqb}
 use lib.ListN.{getD, length}
 use Rattle.search.specs.Solution.{together as goes}
 use Rattle.mapping.specs.Tests.{Tells}
-use Rattle.mapping.specs.Agree.{Agrees, Keeps, Marks, rowStart, imageStart, candidatesOf, Shares, Together, Possible, IsDomain, IsMask, IsTable}
+use Rattle.mapping.specs.Agree.{Agrees, Keeps, Repeats, Marks, rowStart, imageStart, candidatesOf, Shares, Together, Possible, IsDomain, IsMask, IsTable}
 use Rattle.mapping.proofs.Masks.{marks-small}
 
 module _ (source target named offered : List ℕ) (size r d row image : ℕ) (at-row : row ≡ rowStart size r) (at-image : image ≡ imageStart size r d) where
@@ -18,13 +18,14 @@ module _ (source target named offered : List ℕ) (size r d row image : ℕ) (at
   pub possible-keeps : Possible source target named offered size r d → Keeps source target row image
   possible-keeps p = subst₂ (λ (x y : ℕ). Keeps source target x y) (sym at-row) (sym at-image) (p .keeps)
 
-  -- A candidate of the same relation with the row's constants is possible exactly when it has one number for each variable
-  pub possible-when : (b : Bool) → (r < size → getD named r 0 ≡ getD offered d 0) → Keeps source target row image
+  -- A candidate of the same relation, the first of its like, with the row's constants is possible exactly when it has one number for each variable
+  pub possible-when : (b : Bool) → (r < size → getD named r 0 ≡ getD offered d 0) → (r < size → Repeats target offered d → ⊥) → Keeps source target row image
       → Tells b (Agrees source target row image row image) → Tells b (Possible source target named offered size r d)
-  possible-when b same keeps tells = (
+  possible-when b same first keeps tells = (
     (λ e.
         record {
           relation = same;
+          first = first;
           keeps = subst₂ (λ (x y : ℕ). Keeps source target x y) at-row at-image keeps;
           agrees = subst₂ (λ (x y : ℕ). Agrees source target x y x y) at-row at-image (tells .0 e);
         }),

@@ -19,10 +19,11 @@ use Rattle.record.specs.View.{entryOf}
 use Rattle.record.specs.Rule.{noCell}
 use Rattle.record.proofs.Stored.{Within}
 use Rattle.search.specs.Solution.{Solution}
-use Rattle.mapping.specs.Agree.{rowStart, imageStart, candidatesOf, Together, Possible, IsDomain, IsTable}
+use Rattle.mapping.specs.Agree.{rowStart, imageStart, candidatesOf, Repeats, Together, Possible, IsDomain, IsTable}
 use Rattle.mapping.specs.Mapped.{entryIn, imagesOf, Assigned}
 use Rattle.mapping.proofs.Masks.{has-below}
 use Rattle.mapping.proofs.Candidates.{few-candidates}
+use Rattle.mapping.proofs.Repeats.{first-like}
 
 -- ---- 1. a mapping by positions
 
@@ -92,6 +93,7 @@ module _ (source target : ℕ → Entry) (from to named offered : List ℕ) (siz
   pub record LandsOn (f : ℕ → Entry) (choice : ℕ → ℕ) : Type 0 where
     pub is-candidate : (r : ℕ) → r ≤ size → choice r < candidatesOf size count r
     pub same-relation : (r : ℕ) → r < size → getD named r 0 ≡ getD offered (choice r) 0
+    pub first : (r : ℕ) → r < size → Repeats to offered (choice r) → ⊥
     pub carried : (r i : ℕ) → r ≤ size → i < 8 → valueOf constant f (source (rowStart size r + i)) ≡ target (imageStart size r (choice r) + i)
 
   few-choices : (choice : ℕ → ℕ) → ((r : ℕ) → r ≤ size → choice r < candidatesOf size count r) → (r : ℕ) → r ≤ size → choice r < 12
@@ -119,6 +121,7 @@ module _ (source target : ℕ → Entry) (from to named offered : List ℕ) (siz
     lands-possible r h =
         record {
           relation = λ l. lands .same-relation r l;
+          first = λ l. lands .first r l;
           keeps = λ i k small.
               let here : getD from (rowStart size r + i) 0 ≡ freeze 2147483648 (source (rowStart size r + i)) = from-is (rowStart size r + i) (at-row r i h k) in
               to-is (imageStart size r (choice r) + i) (at-image r i h k)
@@ -139,25 +142,36 @@ module _ (source target : ℕ → Entry) (from to named offered : List ℕ) (siz
               (lands-together r q (omega arith) (omega arith));
         }
 
-  -- A mapping lands on a choice
+  -- A mapping lands on a choice: of the rows that are the same as the image of a row, the first
   pub wide-solution : (f : ℕ → Entry) → Wide source target named offered size count f → (choice : ℕ → ℕ) × Solution (size + 1) domain table choice
   wide-solution f wide = (choice, lands-solution f choice lands)
     where
       pick : (r : ℕ) → Dec (r < size) → ℕ
-      pick r (yes h) = wide .rows r h .0
+      pick r (yes h) = first-like to offered (wide .rows r h .0) .at
       pick r (no h) = 0
 
       choice : ℕ → ℕ
       choice r = pick r (decLt r size)
 
       body : (r d : ℕ) → Type 0
-      body r d = (d < count) × (getD named r 0 ≡ getD offered d 0) × ((i : ℕ) → i < 8 → valueOf constant f (source (8 * r + i)) ≡ target (8 * d + i))
+      body r d =
+          (d < count) × (getD named r 0 ≡ getD offered d 0) × ((i : ℕ) → i < 8 → valueOf constant f (source (8 * r + i)) ≡ target (8 * d + i))
+          × (Repeats to offered d → ⊥)
 
       picked : (r : ℕ) → r < size → body r (choice r)
       picked r h = go (decLt r size)
         where
           go : (t : Dec (r < size)) → body r (pick r t)
-          go (yes l) = let w = wide .rows r l in (w .1, w .2, w .3)
+          go (yes l) =
+              let w = wide .rows r l in
+              let x = first-like to offered (w .0) in
+              let within : x .at ≤ w .0 = x .within in
+              let below : w .0 < count = w .1 in (
+                omega arith,
+                w .2 ∙ sym (x .relation),
+                (λ i k. w .3 i k ∙ sym (to-same (8 * x .at + i) (8 * w .0 + i) (omega arith) (omega arith) (x .same i k))),
+                x .fresh,
+              )
           go (no l) = absurd (l h)
 
       last : choice size ≡ 0
@@ -178,6 +192,7 @@ module _ (source target : ℕ → Entry) (from to named offered : List ℕ) (siz
                 (let z : choice r ≡ 0 = ap choice same ∙ last in omega arith))
                 (row-cases size r h);
             same-relation = λ r h. picked r h .1;
+            first = λ r h. picked r h .3;
             carried = λ r i h k.
                 ⊎-elim
                 (λ l.

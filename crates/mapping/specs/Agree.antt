@@ -30,6 +30,14 @@ Shares source r q = (i : ℕ) × (i < 8) × (2147483648 ≤ getD source (r + i) 
 abbrev pub Keeps : List ℕ → List ℕ → ℕ → ℕ → Type 0
 Keeps source target r d = (i : ℕ) → i < 8 → getD source (r + i) 0 < 2147483648 → getD target (d + i) 0 ≡ getD source (r + i) 0
 
+-- The rows at a and b have the same numbers
+abbrev pub SameRow : List ℕ → ℕ → ℕ → Type 0
+SameRow target a b = (i : ℕ) → i < 8 → getD target (a + i) 0 ≡ getD target (b + i) 0
+
+-- Row d of a target is the same as an earlier one of the same relation
+abbrev pub Repeats : List ℕ → List ℕ → ℕ → Type 0
+Repeats target offered d = (e : ℕ) × (e < d) × (getD offered e 0 ≡ getD offered d 0) × SameRow target (8 * e) (8 * d)
+
 -- A mask of n bits that says of which numbers P holds
 abbrev pub Marks : ℕ → ℕ → (ℕ → Type 0) → Type 0
 Marks n mask P = (mask < 2 ^ n) × ((e : ℕ) → e < n → (Has mask e ↔ P e))
@@ -59,9 +67,10 @@ pub record Laid (source target : List ℕ) (size count : ℕ) : Type 0 where
 abbrev pub Together : List ℕ → List ℕ → ℕ → ℕ → ℕ → ℕ → ℕ → Type 0
 Together source target size r d q e = Agrees source target (rowStart size r) (imageStart size r d) (rowStart size q) (imageStart size q e)
 
--- Row r can go to candidate d: a row of the same relation, with the row's constants in their places and one number for each of its variables
+-- Row r can go to candidate d: a row of the same relation, the first of its like, with the row's constants in their places and one number for each of its variables
 pub record Possible (source target named offered : List ℕ) (size r d : ℕ) : Type 0 where
   pub relation : r < size → getD named r 0 ≡ getD offered d 0
+  pub first : r < size → Repeats target offered d → ⊥
   pub keeps : Keeps source target (rowStart size r) (imageStart size r d)
   pub agrees : Together source target size r d r d
 

@@ -2,7 +2,7 @@
 ghost use Prim.Native.Nat.{_+_, _≤_};
 ghost use lib.ListN.{length};
 ghost use Rattle.mapping.specs.Tests.{Tells};
-ghost use Rattle.mapping.specs.Agree.{Takes, Agrees, Holds, Shares, Keeps};
+ghost use Rattle.mapping.specs.Agree.{Takes, Agrees, Holds, Shares, Keeps, SameRow};
 
 // Whether the row at q, with its image at e, takes the number `value` to `image` wherever it has it.
 pub fn takes(source: &[u32], target: &[u32], value: u32, image: u32, q: usize, e: usize) -> bool
@@ -75,6 +75,19 @@ pub fn keeps(source: &[u32], target: &[u32], r: usize, d: usize) -> bool
             if target[d + i] != value {
                 return false;
             }
+        }
+    }
+    true
+}
+
+// Whether the rows at a and b are the same.
+pub fn same_row(target: &[u32], a: usize, b: usize) -> bool
+    requires { ⌜ (a + 8 ≤ length (now target)) × (b + 8 ≤ length (now target)) ⌝ }
+    ensures { λ r. ⌜ Tells r (SameRow (now (target .entry)) a b) ⌝ }
+{
+    for i in 0..8 {
+        if target[a + i] != target[b + i] {
+            return false;
         }
     }
     true

@@ -2,11 +2,13 @@
 // are the source's rows, whose candidates are the target's rows; row `size` is its head, whose one candidate is the target's head.
 use crate::agree::agrees;
 use crate::agree::keeps;
+use crate::agree::same_row;
 use crate::agree::shares;
 ghost use mathlib.Core.Path.{_≡_};
 ghost use Prim.Native.Nat.{_+_, _≤_, _<_};
+ghost use lib.ListN.{length};
 ghost use Rattle.mapping.specs.Tests.{Tells};
-ghost use Rattle.mapping.specs.Agree.{Marks, rowStart, imageStart, candidatesOf, Laid, Together, Possible, IsDomain, IsMask, IsTable};
+ghost use Rattle.mapping.specs.Agree.{Marks, Repeats, rowStart, imageStart, candidatesOf, Laid, Together, Possible, IsDomain, IsMask, IsTable};
 
 // Where the numbers of row r start: the head's after those of 12 rows.
 pub fn row_at(size: usize, r: usize) -> usize
@@ -61,7 +63,22 @@ pub fn together(
     mask
 }
 
-// Whether row r can go to candidate d at all: a row of the same relation, with the row's constants in their places and one entry for each of its variables.
+// Whether row d of the target is the same as an earlier one.
+pub fn repeats(target: &[u32], offered: [u8; 12], d: usize) -> bool
+    requires { ⌜ (length (now target) ≡ 104) × (d < 12) ⌝ }
+    ensures { λ b. ⌜ Tells b (Repeats (now (target .entry)) offered d) ⌝ }
+{
+    for e in 0..d {
+        if offered[e] == offered[d] {
+            if same_row(target, 8 * e, 8 * d) {
+                return true;
+            }
+        }
+    }
+    false
+}
+
+// Whether row r can go to candidate d at all: a row of the same relation, the first of its like, with the row's constants in their places and one entry for each of its variables.
 pub fn possible(
     source: &[u32],
     target: &[u32],
@@ -76,6 +93,9 @@ pub fn possible(
 {
     if r < size {
         if named[r] != offered[d] {
+            return false;
+        }
+        if repeats(target, offered, d) {
             return false;
         }
     }

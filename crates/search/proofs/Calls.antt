@@ -9,11 +9,11 @@ use native.Mathlib.Omega.{arith}
 use lib.ListN.{getD, length}
 use lib.Bits.{bitOr}
 use Rattle.search.specs.Solution.{Bit, Solution}
-use Rattle.search.specs.Invariant.{NoBit, Below, missing, Refuted, IsNext, IsCandidate, After, Excluded, Attempted, Placeable, Tryable}
+use Rattle.search.specs.Invariant.{NoBit, Below, missing, Refuted, IsNext, IsCandidate, Settles, Follows, Excluded, Attempted, Placeable, Tryable}
 use Rattle.search.specs.declared.State.{State}
 use Rattle.search.specs.declared.Attempt.{Attempt}
 use Rattle.search.proofs.Masks.{bit-zero, missing-less, missing-none}
-use Rattle.search.proofs.Steps.{below-set, sound-after, jump, excludes, exhausted, left-next, from-next, excluded-refuted}
+use Rattle.search.proofs.Steps.{below-set, jump, excludes, exhausted, left-next, from-next, excluded-refuted}
 
 not-both : (b : Bool) → b ≡ true → b ≡ false → ⊥
 not-both b p q = let z : _≡_ {A = ℕ} 0 1 = cc in omega arith
@@ -30,7 +30,17 @@ module _ (rows : ℕ) (domain table : List ℕ) (s : State) where
         enough = subst⁻¹ (λ (p : ℕ). 14 * missing p rows < 14 * rows + 1) none (omega (arith, missing-none rows));
       }
 
-  -- and its failure says that there is no solution
+  -- also once it is settled
+  pub placeable-settled : (t : State) (work : ℕ) → Settles rows table s t → Placeable rows domain table s work → Placeable rows domain table t work
+  placeable-settled t work settles pre =
+      record {
+        rows-few = pre .rows-few;
+        below = subst⁻¹ Below (settles .chosen) (pre .below);
+        sound = settles .sound domain (pre .sound);
+        enough = subst⁻¹ (λ (p : ℕ). 14 * missing p rows < work) (settles .placed) (pre .enough);
+      }
+
+  -- and a failure without a placed row says that there is no solution
   pub no-solution : s .placed ≡ 0 → (m : ℕ) → Refuted rows domain table (s .placed) m (s .chosen) → (f : ℕ → ℕ) → Solution rows domain table f → ⊥
   no-solution none m fails f sol = fails f sol (λ q p b. absurd (bit-zero q (subst (λ (x : ℕ). Bit x q) none p)))
 
@@ -89,7 +99,7 @@ module _ (rows : ℕ) (domain table : List ℕ) (s : State) where
         omega (arith, fewer)
 
     -- after the choice of candidate d
-    module _ (n : d ≡ 12 → ⊥) (t : State) (after : After rows table s t row d) (long : length (s .chosen) ≡ 13) where
+    module _ (n : d ≡ 12 → ⊥) (t : State) (after : Follows rows table s t row d) (long : length (s .chosen) ≡ 13) where
       fits : row < length (s .chosen)
       fits = let a : row < rows = pre .row-in in let b : rows ≤ 13 = pre .rows-few in omega arith
 
@@ -101,7 +111,7 @@ module _ (rows : ℕ) (domain table : List ℕ) (s : State) where
           record {
             rows-few = pre .rows-few;
             below = subst⁻¹ Below (after .chosen) (below-set (s .chosen) row d (pre .below) (omega arith));
-            sound = sound-after rows domain table s t row d after fits (pre .free) (pre .row-in) (pre .sound);
+            sound = after .sound domain (pre .sound);
             enough = subst⁻¹ (λ (p : ℕ). 14 * missing p rows < work - 1) (after .placed) (omega (arith, fewer));
           }
 
@@ -111,7 +121,7 @@ module _ (rows : ℕ) (domain table : List ℕ) (s : State) where
         failed-jump no-row =
             record {
               solved = λ p. absurd (not-both (deeper .found) p no-luck);
-              failed = λ p. jump rows domain table s t row d after fits (pre .free) (deeper .blame) no-row (said .failed no-luck);
+              failed = λ p. jump rows domain table s t row d (after .chosen) (after .placed) fits (pre .free) (deeper .blame) no-row (said .failed no-luck);
             }
 
         -- the next candidate can be tried
@@ -120,7 +130,7 @@ module _ (rows : ℕ) (domain table : List ℕ) (s : State) where
             let w : d ≤ 12 = is .within in
             let a : 14 * missing (s .placed) rows ≤ work + c = pre .enough in
             let b : c ≤ d = is .from in
-            let ex = excludes rows domain table s t row d after fits (pre .free) (deeper .blame) (said .failed no-luck) in
+            let ex = excludes rows domain table s t row d (after .chosen) (after .placed) fits (pre .free) (deeper .blame) (said .failed no-luck) in
             record {
               rows-few = pre .rows-few;
               below = pre .below;

@@ -62,20 +62,36 @@ pub record IsCandidate (mask c d : ℕ) : Type 0 where
   pub member : d < 12 → Bit mask d
   pub first : (k : ℕ) → c ≤ k → k < d → Bit mask k → ⊥
 
--- the culprits n of a row, once the choice of row r leaves it the candidates `left` of `old`
-abbrev pub Blamed : ℕ → ℕ → ℕ → ℕ → ℕ → Type 0
-Blamed culprits old left r n = ((left ≡ old) × (n ≡ culprits)) ⊎ (n ≡ bitOr culprits (2 ^ r))
+-- n is the mask with row r too, unless the candidates `left` are the `old` ones
+abbrev pub Marked : ℕ → ℕ → ℕ → ℕ → ℕ → Type 0
+Marked mask old left r n = ((left ≡ old) × (n ≡ mask)) ⊎ (n ≡ bitOr mask (2 ^ r))
 
 -- row q of the state t is what the choice of candidate d for row r makes of row q of the state s
 pub record RowAfter (table : List ℕ) (s t : State) (r d q : ℕ) : Type 0 where
   pub candidates : getD (t .current) q 0 ≡ bitAnd (getD (s .current) q 0) (together table r d q)
-  pub blamed : Blamed (getD (s .culprits) q 0) (getD (s .current) q 0) (getD (t .current) q 0) r (getD (t .culprits) q 0)
+  pub blamed : Marked (getD (s .culprits) q 0) (getD (s .current) q 0) (getD (t .current) q 0) r (getD (t .culprits) q 0)
 
 -- t is the state after the choice of candidate d for row r in the state s
 pub record After (rows : ℕ) (table : List ℕ) (s t : State) (r d : ℕ) : Type 0 where
   pub chosen : t .chosen ≡ set (s .chosen) r d
   pub placed : t .placed ≡ bitOr (s .placed) (2 ^ r)
   pub each : (q : ℕ) → q < rows → RowAfter table s t r d q
+
+-- the mask m has each candidate of row q that goes together with one of the first n candidates of row p, whose candidates are `own`
+abbrev pub Supports : List ℕ → ℕ → ℕ → ℕ → ℕ → ℕ → Type 0
+Supports table own p q n m = (d e : ℕ) → d < n → Bit own d → Bit (together table p d q) e → Bit m e
+
+-- t has the choices of s, and its culprits account for its candidates where those of s do
+pub record Settles (rows : ℕ) (table : List ℕ) (s t : State) : Type 0 where
+  pub chosen : t .chosen ≡ s .chosen
+  pub placed : t .placed ≡ s .placed
+  pub sound : (domain : List ℕ) → Sound rows domain table s → Sound rows domain table t
+
+-- t has the choices of s and candidate d for row r, and its culprits account for its candidates where those of s do
+pub record Follows (rows : ℕ) (table : List ℕ) (s t : State) (r d : ℕ) : Type 0 where
+  pub chosen : t .chosen ≡ set (s .chosen) r d
+  pub placed : t .placed ≡ bitOr (s .placed) (2 ^ r)
+  pub sound : (domain : List ℕ) → Sound rows domain table s → Sound rows domain table t
 
 -- row r has one of its candidates, and goes together with every row
 pub record RowFits (rows : ℕ) (domain table chosen : List ℕ) (r : ℕ) : Type 0 where

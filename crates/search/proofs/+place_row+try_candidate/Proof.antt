@@ -16,7 +16,7 @@ use Rattle.search.proofs.+place_row+try_candidate.Lts-place_row as plac
 use Rattle.search.proofs.try_candidate.Reads as try-candidate
 use Rattle.search.proofs.try_candidate.Kinds as try-candidate-kinds
 use Rattle.search.proofs.+place_row+try_candidate.Lts-try_candidate as try-candidate-lts
-use Rattle.search.proofs.narrowed.Reads as narrowed-reads
+use Rattle.search.proofs.choose.Reads as choose-reads
 use Rattle.search.proofs.next_candidate.Reads as next-candidate-reads
 use Rattle.search.proofs.next_row.Reads as next-row-reads
 use Rattle.search.proofs.test_choices.Reads as test-choices-reads
@@ -55,7 +55,7 @@ place-row-claims t =
 
 abbrev try-candidate-claims : ℕ → try-candidate-lts.Claims
 try-candidate-claims t =
-    (next-candidate-reads.Asked, next-candidate-reads.Learnt, narrowed-reads.Asked, narrowed-reads.Learnt, place-row-below t, place-row.Post, try-candidate-below t, try-candidate.Post)
+    (next-candidate-reads.Asked, next-candidate-reads.Learnt, choose-reads.Asked, choose-reads.Learnt, place-row-below t, place-row.Post, try-candidate-below t, try-candidate.Post)
 
 -- there is a choice for each of the 13 rows
 long : (t : ℕ) (s : try-candidate-lts.Start (try-candidate-claims t) (try-candidate-at t) try-candidate.Post) → length (s .args .t5 .chosen) ≡ 13
@@ -112,8 +112,8 @@ try-candidate-element-copy-out-next-candidate :
     (t : ℕ) → try-candidate-lts.Need-element-copy-out-next-candidate (
       next-candidate-reads.Asked,
       next-candidate-reads.Learnt,
-      narrowed-reads.Asked,
-      narrowed-reads.Learnt,
+      choose-reads.Asked,
+      choose-reads.Learnt,
       place-row-below t,
       place-row.Post,
       try-candidate-below t,
@@ -129,8 +129,8 @@ try-candidate-returns t c =
     let s = c .before .before .before .before in
     failed-exhausted (s .args .rows) (s .args .domain .now) (s .args .table .now) (s .args .t5) (s .args .work) (s .args .row) (s .args .c) (s .args .blame) _ (s .pre .1) (c .before .before .next-candidate .ensures) (c .if1 .taken) _ refl refl
 
-try-candidate-narrowed-requires : (t : ℕ) → try-candidate-lts.Need-narrowed-requires (try-candidate-claims t) (try-candidate-at t) try-candidate.Post
-try-candidate-narrowed-requires t c κs = search needs
+try-candidate-choose-requires : (t : ℕ) → try-candidate-lts.Need-choose-requires (try-candidate-claims t) (try-candidate-at t) try-candidate.Post
+try-candidate-choose-requires t c κs = search needs
 
 try-candidate-sub-place-row : (t : ℕ) → try-candidate-lts.Need-sub-place-row (try-candidate-claims t) (try-candidate-at t) try-candidate.Post
 try-candidate-sub-place-row t c =
@@ -141,7 +141,7 @@ try-candidate-place-row-requires : (t : ℕ) → try-candidate-lts.Need-place-ro
 try-candidate-place-row-requires t c κs =
     let s = c .before .before .before .before .before in (
       omega (arith, s .pre .0, some-work (s .args .rows) (s .args .domain .now) (s .args .table .now) (s .args .t5) (s .args .work) (s .args .row) (s .args .c) (s .args .blame) _ (s .pre .1) (c .before .before .before .next-candidate .ensures) (c .before .if1 .left)),
-      placeable-next (s .args .rows) (s .args .domain .now) (s .args .table .now) (s .args .t5) (s .args .work) (s .args .row) (s .args .c) (s .args .blame) _ (s .pre .1) (c .before .before .before .next-candidate .ensures) (c .before .if1 .left) _ (c .narrowed .ensures) (long t s),
+      placeable-next (s .args .rows) (s .args .domain .now) (s .args .table .now) (s .args .t5) (s .args .work) (s .args .row) (s .args .c) (s .args .blame) _ (s .pre .1) (c .before .before .before .next-candidate .ensures) (c .before .if1 .left) _ (c .choose .ensures) (long t s),
     )
 
 try-candidate-returns-2 : (t : ℕ) → try-candidate-lts.Need-returns-2 (try-candidate-claims t) (try-candidate-at t) try-candidate.Post
@@ -158,7 +158,7 @@ try-candidate-shr-if3 t c = search needs
 try-candidate-returns-3 : (t : ℕ) → try-candidate-lts.Need-returns-3 (try-candidate-claims t) (try-candidate-at t) try-candidate.Post
 try-candidate-returns-3 t c =
     let s = c .before .before .before .before .before .before .before .before .before in
-    failed-jump (s .args .rows) (s .args .domain .now) (s .args .table .now) (s .args .t5) (s .args .work) (s .args .row) (s .args .c) (s .args .blame) _ (s .pre .1) (c .before .before .before .before .before .before .before .next-candidate .ensures) (c .before .before .before .before .before .if1 .left) _ (c .before .before .before .before .narrowed .ensures) (long t s)
+    failed-jump (s .args .rows) (s .args .domain .now) (s .args .table .now) (s .args .t5) (s .args .work) (s .args .row) (s .args .c) (s .args .blame) _ (s .pre .1) (c .before .before .before .before .before .before .before .next-candidate .ensures) (c .before .before .before .before .before .if1 .left) _ (c .before .before .before .before .choose .ensures) (long t s)
     _ (c .before .before .before .place-row .ensures) (c .before .before .if2 .left) (c .if3 .taken)
 
 try-candidate-sub-try-candidate : (t : ℕ) → try-candidate-lts.Need-sub-try-candidate (try-candidate-claims t) (try-candidate-at t) try-candidate.Post
@@ -173,7 +173,7 @@ try-candidate-try-candidate-requires : (t : ℕ) → try-candidate-lts.Need-try-
 try-candidate-try-candidate-requires t c κs =
     let s = c .before .before .before .before .before .before .before .before .before .before in (
       omega (arith, s .pre .0, some-work (s .args .rows) (s .args .domain .now) (s .args .table .now) (s .args .t5) (s .args .work) (s .args .row) (s .args .c) (s .args .blame) _ (s .pre .1) (c .before .before .before .before .before .before .before .before .next-candidate .ensures) (c .before .before .before .before .before .before .if1 .left)),
-      tryable-next (s .args .rows) (s .args .domain .now) (s .args .table .now) (s .args .t5) (s .args .work) (s .args .row) (s .args .c) (s .args .blame) _ (s .pre .1) (c .before .before .before .before .before .before .before .before .next-candidate .ensures) (c .before .before .before .before .before .before .if1 .left) _ (c .before .before .before .before .before .narrowed .ensures) (long t s)
+      tryable-next (s .args .rows) (s .args .domain .now) (s .args .table .now) (s .args .t5) (s .args .work) (s .args .row) (s .args .c) (s .args .blame) _ (s .pre .1) (c .before .before .before .before .before .before .before .before .next-candidate .ensures) (c .before .before .before .before .before .before .if1 .left) _ (c .before .before .before .before .before .choose .ensures) (long t s)
           _ (c .before .before .before .before .place-row .ensures) (c .before .before .before .if2 .left),
     )
 
@@ -198,8 +198,8 @@ pub +place-row+try-candidate-spec : {M : Type 1} → statement M
     λ t. try-candidate-lts.spec (
       next-candidate-reads.Asked,
       next-candidate-reads.Learnt,
-      narrowed-reads.Asked,
-      narrowed-reads.Learnt,
+      choose-reads.Asked,
+      choose-reads.Learnt,
       place-row-below t,
       place-row.Post,
       try-candidate-below t,
@@ -211,7 +211,7 @@ pub +place-row+try-candidate-spec : {M : Type 1} → statement M
     (try-candidate-element-copy-out-next-candidate t)
     (try-candidate-next-candidate-requires t)
     (try-candidate-returns t)
-    (try-candidate-narrowed-requires t)
+    (try-candidate-choose-requires t)
     (try-candidate-sub-place-row t)
     (try-candidate-place-row-requires t)
     (try-candidate-returns-2 t)

@@ -3,6 +3,7 @@
 use borrow.Author.Needs.{needs}
 use borrow.Author.Count.{below-more}
 use Rattle.search.proofs.Masks.{shifted}
+use Rattle.search.proofs.Steps.{stored}
 use mathlib.Core.Path.{_≡_, refl, ap, sym, _∙_, subst₂}
 use mathlib.Core.List.{List}
 use Prim.Native.Nat.{ℕ, _-_, _^_, _<_, _≤_}
@@ -10,7 +11,7 @@ use native.Mathlib.Omega.{arith}
 use lib.ListN.{getD, set, length, length-set}
 use lib.Seq.{getD-set-same, getD-set-other}
 use lib.Bits.{bitAnd, bitOr}
-use Rattle.search.specs.Invariant.{Blamed, RowAfter}
+use Rattle.search.specs.Invariant.{Marked, RowAfter}
 use Rattle.search.specs.Solution.{together}
 use Rattle.search.specs.declared.State.{State}
 use Rattle.search.proofs.narrowed.Statement.{statement}
@@ -25,32 +26,27 @@ Inv-loop table rows r d state next₀ q₀ next q =
 abbrev μ-loop : tie.MeasureT-loop
 μ-loop table rows r d state next₀ q₀ next q = rows - q
 
--- the state with new candidates and culprits of row q
-abbrev stored : State → ℕ → ℕ → ℕ → State
-stored n q left b =
-    record { chosen = n .chosen; placed = n .placed; current = set (n .current) q left; culprits = set (n .culprits) q b }
-
 -- any other row is as it was
-row-kept : (table : List ℕ) (s n : State) (r d q k left b : ℕ) → (k ≡ q → ⊥) → RowAfter table s n r d k → RowAfter table s (stored n q left b) r d k
-row-kept table s n r d q k left b ne h =
+row-kept : (table : List ℕ) (s n : State) (r d q k left b c : ℕ) → (k ≡ q → ⊥) → RowAfter table s n r d k → RowAfter table s (stored n q left b c) r d k
+row-kept table s n r d q k left b c ne h =
     let e : getD (set (n .current) q left) k 0 ≡ getD (n .current) k 0 = getD-set-other (n .current) q k left 0 ne in
     let g : getD (set (n .culprits) q b) k 0 ≡ getD (n .culprits) k 0 = getD-set-other (n .culprits) q k b 0 ne in
     record {
       candidates = e ∙ h .candidates;
-      blamed = subst₂ (λ (x y : ℕ). Blamed (getD (s .culprits) k 0) (getD (s .current) k 0) x r y) (sym e) (sym g) (h .blamed);
+      blamed = subst₂ (λ (x y : ℕ). Marked (getD (s .culprits) k 0) (getD (s .current) k 0) x r y) (sym e) (sym g) (h .blamed);
     }
 
 -- row q has them
-row-stored : (table : List ℕ) (s n : State) (r d q b : ℕ) → q < length (n .current) → q < length (n .culprits)
-    → Blamed (getD (s .culprits) q 0) (getD (s .current) q 0) (bitAnd (getD (s .current) q 0) (together table r d q)) r b
-    → RowAfter table s (stored n q (bitAnd (getD (s .current) q 0) (together table r d q)) b) r d q
-row-stored table s n r d q b lc lb h =
+row-stored : (table : List ℕ) (s n : State) (r d q b c : ℕ) → q < length (n .current) → q < length (n .culprits)
+    → Marked (getD (s .culprits) q 0) (getD (s .current) q 0) (bitAnd (getD (s .current) q 0) (together table r d q)) r b
+    → RowAfter table s (stored n q (bitAnd (getD (s .current) q 0) (together table r d q)) b c) r d q
+row-stored table s n r d q b c lc lb h =
     let left = bitAnd (getD (s .current) q 0) (together table r d q) in
     let e : getD (set (n .current) q left) q 0 ≡ left = getD-set-same (n .current) q left 0 lc in
     let g : getD (set (n .culprits) q b) q 0 ≡ b = getD-set-same (n .culprits) q b 0 lb in
     record {
       candidates = e;
-      blamed = subst₂ (λ (x y : ℕ). Blamed (getD (s .culprits) q 0) (getD (s .current) q 0) x r y) (sym e) (sym g) h;
+      blamed = subst₂ (λ (x y : ℕ). Marked (getD (s .culprits) q 0) (getD (s .current) q 0) x r y) (sym e) (sym g) h;
     }
 
 cast-next : tie.Need-cast-next Inv-loop μ-loop
@@ -98,20 +94,23 @@ mul-next c = search needs
 element-write-next-2 : tie.Need-element-write-next-2 Inv-loop μ-loop
 element-write-next-2 c = search needs
 
-mul-blamed : tie.Need-mul-blamed Inv-loop μ-loop
-mul-blamed c = search needs
+mul-marked : tie.Need-mul-marked Inv-loop μ-loop
+mul-marked c = search needs
 
-element-copy-out-blamed : tie.Need-element-copy-out-blamed Inv-loop μ-loop
-element-copy-out-blamed c = search needs
+element-copy-out-marked : tie.Need-element-copy-out-marked Inv-loop μ-loop
+element-copy-out-marked c = search needs
 
-blamed-requires : tie.Need-blamed-requires Inv-loop μ-loop
-blamed-requires c κs = search needs
+marked-requires : tie.Need-marked-requires Inv-loop μ-loop
+marked-requires c κs = search needs
 
 mul-next-2 : tie.Need-mul-next-2 Inv-loop μ-loop
 mul-next-2 c = search needs
 
 element-write-next-3 : tie.Need-element-write-next-3 Inv-loop μ-loop
 element-write-next-3 c = search needs
+
+marked-requires-2 : tie.Need-marked-requires-2 Inv-loop μ-loop
+marked-requires-2 c κs = search needs
 
 add-q : tie.Need-add-q Inv-loop μ-loop
 add-q c = search needs
@@ -121,17 +120,17 @@ loop-less c = search needs
 
 loop-again : tie.Need-loop-again Inv-loop μ-loop
 loop-again c =
-    let s = c .before .before .before .before .before .before .args in
-    let i = c .before .before .before .before .before .loop in
+    let s = c .before .before .before .before .before .before .before .args in
+    let i = c .before .before .before .before .before .before .loop in
     let left = bitAnd (getD (s .t3 .current) (i .q) 0) (together (s .table .now) (s .r) (s .d) (i .q)) in (
       search needs,
       length-set (i .next .current) (i .q) left ∙ i .inv .1,
-      length-set (i .next .culprits) (i .q) (c .blamed .result) ∙ i .inv .2,
+      length-set (i .next .culprits) (i .q) (c .before .marked .result) ∙ i .inv .2,
       i .inv .3,
       i .inv .4,
-      below-more (RowAfter (s .table .now) (s .t3) (stored (i .next) (i .q) left (c .blamed .result)) (s .r) (s .d)) (i .q)
-          (λ k l. row-kept _ _ _ _ _ _ k _ _ (λ e. omega arith) (i .inv .5 k l))
-          (row-stored (s .table .now) (s .t3) (i .next) (s .r) (s .d) (i .q) (c .blamed .result) (omega arith) (omega arith) (c .blamed .ensures)),
+      below-more (RowAfter (s .table .now) (s .t3) (stored (i .next) (i .q) left (c .before .marked .result) (c .marked2 .result)) (s .r) (s .d)) (i .q)
+          (λ k l. row-kept _ _ _ _ _ _ k _ _ _ (λ e. omega arith) (i .inv .5 k l))
+          (row-stored (s .table .now) (s .t3) (i .next) (s .r) (s .d) (i .q) (c .before .marked .result) (c .marked2 .result) (omega arith) (omega arith) (c .before .marked .ensures)),
     )
 
 returns : tie.Need-returns Inv-loop μ-loop
@@ -158,11 +157,12 @@ narrowed-spec =
     element-copy-out-left
     mul-next
     element-write-next-2
-    mul-blamed
-    element-copy-out-blamed
-    blamed-requires
+    mul-marked
+    element-copy-out-marked
+    marked-requires
     mul-next-2
     element-write-next-3
+    marked-requires-2
     add-q
     loop-less
     loop-again

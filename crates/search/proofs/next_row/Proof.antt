@@ -12,11 +12,11 @@ use Rattle.search.proofs.next_row.Statement.{statement}
 use Rattle.search.proofs.next_row.Tie as tie
 
 abbrev Inv-loop : tie.InvT-loop
-Inv-loop degrees rows state placed best₀ q₀ best q =
+Inv-loop links rows state placed best₀ q₀ best q =
     (q ≤ rows) × (best .row ≤ rows) × (best .row < rows → NoBit (state .placed) (best .row)) × (rows ≤ best .row → (k : ℕ) → k < q → Bit (state .placed) k)
 
 abbrev μ-loop : tie.MeasureT-loop
-μ-loop degrees rows state placed best₀ q₀ best q = rows - q
+μ-loop links rows state placed best₀ q₀ best q = rows - q
 
 -- the invariant after row q
 seen : (rows placed q a b : ℕ) → q < rows → a ≤ rows → (a < rows → NoBit placed a) → (rows ≤ a → (k : ℕ) → k < q → Bit placed k)
@@ -40,8 +40,14 @@ mul-rank c = search needs
 element-copy-out-rank : tie.Need-element-copy-out-rank Inv-loop μ-loop
 element-copy-out-rank c = search needs
 
+mul-rank-2 : tie.Need-mul-rank-2 Inv-loop μ-loop
+mul-rank-2 c = search needs
+
 element-copy-out-rank-2 : tie.Need-element-copy-out-rank-2 Inv-loop μ-loop
 element-copy-out-rank-2 c = search needs
+
+sub-rank : tie.Need-sub-rank Inv-loop μ-loop
+sub-rank c = search needs
 
 rank-requires : tie.Need-rank-requires Inv-loop μ-loop
 rank-requires c κs = search needs
@@ -72,7 +78,9 @@ next-row-spec =
     loop-holds
     mul-rank
     element-copy-out-rank
+    mul-rank-2
     element-copy-out-rank-2
+    sub-rank
     rank-requires
     earlier-requires
     add-q

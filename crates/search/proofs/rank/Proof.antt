@@ -12,11 +12,8 @@ few n h = ones-le 16 n h
 mul-result : tie.Need-mul-result
 mul-result c = omega (arith, few (c .args .candidates) (c .fits .candidates .fits))
 
-cast-result : tie.Need-cast-result
-cast-result c = search needs
-
 sub-result : tie.Need-sub-result
-sub-result c = search needs
+sub-result c = omega (arith, few (c .args .links) (c .fits .links .fits))
 
 add-result : tie.Need-add-result
 add-result c = omega (arith, few (c .args .candidates) (c .fits .candidates .fits))
@@ -25,4 +22,4 @@ returns : tie.Need-returns
 returns c = search needs
 
 pub rank-spec : {M : Type 1} → statement M
-rank-spec = tie.close (tie.spec mul-result cast-result sub-result add-result returns)
+rank-spec = tie.close (tie.spec mul-result sub-result add-result returns)

@@ -1,14 +1,18 @@
 -- `search::solve` meets its contract: no row is placed at the start, so a failure of the first call blames none. Assumes nothing.
 use borrow.Author.Needs.{needs}
-use Rattle.search.proofs.Calls.{placeable-start, no-solution}
+use mathlib.Core.Path.{_∙_}
+use Rattle.search.proofs.Calls.{placeable-start, placeable-settled, no-solution}
 use Rattle.search.proofs.solve.Statement.{statement}
 use Rattle.search.proofs.solve.Tie as tie
 
-degrees-requires : tie.Need-degrees-requires
-degrees-requires c κs = search needs
+all-links-requires : tie.Need-all-links-requires
+all-links-requires c κs = search needs
 
 start-requires : tie.Need-start-requires
 start-requires c κs = search needs
+
+settled-requires : tie.Need-settled-requires
+settled-requires c κs = search needs
 
 mul-place-row : tie.Need-mul-place-row
 mul-place-row c = search needs
@@ -18,24 +22,29 @@ add-place-row c = search needs
 
 place-row-requires : tie.Need-place-row-requires
 place-row-requires c κs =
-    let s = c .before .before .before in
-    let e = c .before .start .ensures in
-    placeable-start (s .args .rows) (s .args .domain .now) (s .args .table .now) _ (s .pre) (e .0) (e .1) (e .2)
+    let s = c .before .before .before .before .before in
+    let first = c .before .before .start in
+    placeable-settled (s .args .rows) (s .args .domain .now) (s .args .table .now) (first .result) (c .before .settled .result) _ (c .before .settled .ensures)
+    (placeable-start (s .args .rows) (s .args .domain .now) (s .args .table .now) (first .result) (s .pre) (first .ensures .0) (first .ensures .1)
+    (first .ensures .2))
 
 returns : tie.Need-returns
 returns c =
-    let s = c .before .before .before .before .before in
+    let s = c .before .before .before .before .before .before .before in
+    let first = c .before .before .before .before .start in
+    let settled = c .before .before .before .settled in
     let a = c .before .place-row .ensures in (
       a .solved,
-      λ p. no-solution (s .args .rows) (s .args .domain .now) (s .args .table .now) (c .before .before .before .start .result) (c .before .before .before .start .ensures .0) _ (a .failed p),
+      λ p. no-solution (s .args .rows) (s .args .domain .now) (s .args .table .now) (settled .result) (settled .ensures .placed ∙ first .ensures .0) _ (a .failed p),
     )
 
 pub solve-spec : {M : Type 1} → statement M
 solve-spec =
     tie.close
     (tie.spec
-    degrees-requires
+    all-links-requires
     start-requires
+    settled-requires
     mul-place-row
     add-place-row
     place-row-requires

@@ -1,8 +1,8 @@
--- `search::degrees` is safe and ends; it promises nothing of the degrees. Assumes nothing.
+-- `search::all_links` is safe and ends; it promises nothing of the links. Assumes nothing.
 use borrow.Author.Needs.{needs}
-use Prim.Native.Nat.{_≤_, _-_}
-use Rattle.search.proofs.degrees.Statement.{statement}
-use Rattle.search.proofs.degrees.Tie as tie
+use Prim.Native.Nat.{_-_, _≤_}
+use Rattle.search.proofs.all_links.Statement.{statement}
+use Rattle.search.proofs.all_links.Tie as tie
 
 abbrev Inv-loop : tie.InvT-loop
 Inv-loop domain table rows all₀ r₀ all r = r ≤ rows
@@ -13,8 +13,11 @@ abbrev μ-loop : tie.MeasureT-loop
 loop-holds : tie.Need-loop-holds Inv-loop μ-loop
 loop-holds c = search needs
 
-degree-requires : tie.Need-degree-requires Inv-loop μ-loop
-degree-requires c κs = search needs
+links-of-requires : tie.Need-links-of-requires Inv-loop μ-loop
+links-of-requires c κs = search needs
+
+mul-all : tie.Need-mul-all Inv-loop μ-loop
+mul-all c = search needs
 
 array-write-all : tie.Need-array-write-all Inv-loop μ-loop
 array-write-all c = search needs
@@ -31,14 +34,15 @@ loop-again c = search needs
 returns : tie.Need-returns Inv-loop μ-loop
 returns c = search needs
 
-pub degrees-spec : {M : Type 1} → statement M
-degrees-spec =
+pub all-links-spec : {M : Type 1} → statement M
+all-links-spec =
     tie.close
     (tie.spec
     Inv-loop
     μ-loop
     loop-holds
-    degree-requires
+    links-of-requires
+    mul-all
     array-write-all
     add-r
     loop-less
