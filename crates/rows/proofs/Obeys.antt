@@ -72,7 +72,7 @@ kept-breaks d r s keep = go (eqb (r .relation) (d .relation)) refl (eqb (s .rela
 -- ---- all rows
 
 -- nothing passes: each row fails
-pub none-passes : (test : (ℕ × Row ℕ) → Bool) (n : ℕ) (D : Database) → ((m : ℕ) (s : Row ℕ) → s ∈ D → test (m, s) ≡ false) → firstPassing test (numberedFrom n D) ≡ none
+none-passes : (test : (ℕ × Row ℕ) → Bool) (n : ℕ) (D : Database) → ((m : ℕ) (s : Row ℕ) → s ∈ D → test (m, s) ≡ false) → firstPassing test (numberedFrom n D) ≡ none
 unfolding firstPassing numberedFrom
 none-passes test n [] h = refl
 none-passes test n (s ∷ D) h = rw (h n s (List·Memᴰ·head refl)) (none-passes test (suc n) D (λ m u k. h m u (List·Memᴰ·tail k)))
@@ -94,7 +94,7 @@ unfolding orElse mapFound
 or-none f none later h = (refl, h)
 or-none f (some x) later h = absurd (let z : _≡_ {A = ℕ} 0 1 = cc in omega arith)
 
-pub none-or : {A B : Type 0} (f : A → B) (o : Option A) (later : Option B) → o ≡ none → later ≡ none → orElse (mapFound f o) later ≡ none
+none-or : {A B : Type 0} (f : A → B) (o : Option A) (later : Option B) → o ≡ none → later ≡ none → orElse (mapFound f o) later ≡ none
 unfolding orElse mapFound
 none-or f none later p q = q
 none-or f (some x) later p q = absurd (let z : _≡_ {A = ℕ} 0 1 = cc in omega arith)
