@@ -1,3 +1,4 @@
 -- The laws that the proofs of this crate share.
 pub mod Hashes
 pub mod Leading
+pub mod Following
