@@ -2,3 +2,4 @@
 pub mod Hashes
 pub mod Leading
 pub mod Following
+pub mod Passing
