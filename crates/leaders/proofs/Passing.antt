@@ -283,6 +283,16 @@ module _ (schema words : List ℕ) (d : Dependency) where
         least = placed-end;
       }
 
+  -- the same walk in equal slices
+  pub walked-cast : (n : ℕ) (w w' : Walk) (H H' L L' O O' N N' : List ℕ) → w' ≡ w → H' ≡ H → L' ≡ L → O' ≡ O → N' ≡ N
+      → Walked schema words d n w H L O N → Walked schema words d n w' H' L' O' N'
+  walked-cast n w w' H H' L L' O O' N N' ew eH eL eO eN h =
+      subst (λ (x : Walk). Walked schema words d n x H' L' O' N') (sym ew)
+      (subst (λ (x : List ℕ). Walked schema words d n w x L' O' N') (sym eH)
+      (subst (λ (x : List ℕ). Walked schema words d n w H x O' N') (sym eL)
+      (subst (λ (x : List ℕ). Walked schema words d n w H L x N') (sym eO)
+      (subst (λ (x : List ℕ). Walked schema words d n w H L O x) (sym eN) h))))
+
   -- all rows are passed
   pub walked-end : (at n : ℕ) (w : Walk) (H L O N : List ℕ) → Walked schema words d n w H L O N → Placed schema words at n → length words ≤ at → Skips schema words d (w .least)
   unfolding rowsFrom
