@@ -7,7 +7,7 @@ use native.Mathlib.Omega.{arith}
 use lib.Dec.{eqb, ltb}
 use borrow.Author.Tests.{eqb-true, eqb-false, lt-ltb, le-ltb, ltb-true, ltb-false}
 use lib.ListN.{length, take, drop, getD, set, length-set, length-drop, drop-of-length-le}
-use lib.Seq.{getD-drop, getD-set-same, getD-set-other, drop-drop, drop-length}
+use lib.Seq.{getD-drop, getD-set-same, getD-set-other, drop-drop, drop-length, take-all}
 use Rattle.theory.specs.Query.{Row, column}
 use Rattle.theory.specs.Database.{Database, Agree}
 use Rattle.record.specs.View.{dependencyOf, columnsOf}
@@ -307,3 +307,22 @@ module _ (schema words : List ℕ) (d : Dependency) where
             (λ k j before below low. h .groups .kept k j before (omega arith) low)
             ∙ ap (λ (l : Database). firstPairFrom (dependencyOf d) (m + w .least .number) l) (h .least .read);
       }
+
+-- the words from `at` on
+pub rest-all : (words : List ℕ) (at : ℕ) → take (length words - at) (drop at words) ≡ drop at words
+rest-all words at = let size : length (drop at words) ≡ length words - at = length-drop at words in take-all (length words - at) (drop at words) (omega arith)
+
+-- from the rows of a part of the words to those of all words
+pub skips-on : (schema words : List ℕ) (d : Dependency) (at i : ℕ) (p : Position) → From schema words at i → Skips schema (drop at words) d p
+    → From schema words (at + p .at) (i + p .number)
+    × (firstPairFrom (dependencyOf d) i (rowsOf schema (drop at words)) ≡ firstPairFrom (dependencyOf d) (i + p .number) (rowsOf schema (drop (at + p .at) words)))
+skips-on schema words d at i p f k =
+    let e : drop (p .at) (drop at words) ≡ drop (at + p .at) words = drop-drop (p .at) at words in
+    let size : length (drop at words) ≡ length words - at = length-drop at words in
+    let inside : p .at ≤ length (drop at words) = k .from .inside in
+    let low : at ≤ length words = f .inside in
+    let counted : p .number ≤ p .at = k .from .counted in
+    let before : i ≤ at = f .counted in (
+      record { inside = omega arith; counted = omega arith; good = subst (λ (l : List ℕ). whole schema l ≡ true) e (k .from .good) },
+      k .same i ∙ ap (λ (l : List ℕ). firstPairFrom (dependencyOf d) (i + p .number) (rowsOf schema l)) e,
+    )
