@@ -186,11 +186,16 @@ loop-again c = let s = c .before .before .before .before .before .before .before
     let k = skips-on S X (a .d) (l .at) (l .i) p (l .inv .0) (subst (λ (Y : List ℕ). Skips S Y (a .d) p) (rest-all X (l .at)) (c .before .before .before .before .before .before .before .before .before .before .before .before .before .before .skip .ensures .0)) in
     let found = l .inv .1 ∙ k .1 in
     let n = c .before .before .next .ensures in
-    let after : ℕ = c .before .before .next .result in
-    (record { inside = n .fits; counted = omega (arith, n .place, k .0 .counted); good = n .good },
-    found ∙ ⊎-elim (λ w. pair-later S X D (l .at + p .at) after (l .i + p .number) n (sym (w .3 .given .1) ∙ w .1 .ensures))
-    (λ w. pair-other S X D (l .at + p .at) after (l .i + p .number) n (w .left)) (c .if2 .came),
-    c .before .before .before .before .before .before .before .before .before .before .before .before .before .before .skip .ensures .1, c .before .before .before .before .before .before .before .before .before .before .before .before .before .heads .given ∙ l .inv .3, c .before .before .before .before .before .before .before .before .before .before .before .links .given ∙ l .inv .4, c .before .before .before .before .before .before .before .before .before .offsets .given ∙ l .inv .5, c .before .before .before .before .before .before .before .numbers .given ∙ l .inv .6)
+    let after : ℕ = c .before .before .next .result in (
+      record { inside = n .fits; counted = omega (arith, n .place, k .0 .counted); good = n .good },
+      found ∙ ⊎-elim (λ w. pair-later S X D (l .at + p .at) after (l .i + p .number) n (sym (w .3 .given .1) ∙ w .1 .ensures))
+          (λ w. pair-other S X D (l .at + p .at) after (l .i + p .number) n (w .left)) (c .if2 .came),
+      c .before .before .before .before .before .before .before .before .before .before .before .before .before .before .skip .ensures .1,
+      c .before .before .before .before .before .before .before .before .before .before .before .before .before .heads .given ∙ l .inv .3,
+      c .before .before .before .before .before .before .before .before .before .before .before .links .given ∙ l .inv .4,
+      c .before .before .before .before .before .before .before .before .before .offsets .given ∙ l .inv .5,
+      c .before .before .before .before .before .before .before .numbers .given ∙ l .inv .6,
+    )
 
 same-length-9 : tie.Need-same-length-9 Inv-loop μ-loop
 same-length-9 c = search needs

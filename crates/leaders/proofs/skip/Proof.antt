@@ -35,10 +35,15 @@ loop-holds c = let s = c .before .before .before .before .before .before .before
     let u = c .before .before .before .clear in
     let r = s .pre .1 .1 in
     let bucket : 0 < length (a .heads .now) = r .bucket in
-    let size : length (u .last .0) ≡ length (a .heads .now) = u .ensures .0 in
-    (placed-start S X (a .d) (s .pre .1 .0),
-    walked-start S X (a .d) (u .last .0) (a .links .now) (a .offsets .now) (a .numbers .now)
-    (record { bucket = omega arith; linked = r .linked; numbered = r .numbered; small = r .small }) (u .ensures .1), refl, refl, refl, refl)
+    let size : length (u .last .0) ≡ length (a .heads .now) = u .ensures .0 in (
+      placed-start S X (a .d) (s .pre .1 .0),
+      walked-start S X (a .d) (u .last .0) (a .links .now) (a .offsets .now) (a .numbers .now)
+          (record { bucket = omega arith; linked = r .linked; numbered = r .numbered; small = r .small }) (u .ensures .1),
+      refl,
+      refl,
+      refl,
+      refl,
+    )
 
 next-requires : tie.Need-next-requires Inv-loop μ-loop
 next-requires c κs = (c .loop-test .taken, c .before .loop .inv .0 .from .good)
@@ -70,18 +75,19 @@ loop-again c = let s = c .before .before .before .before .before .before .before
     let X = a .words .now in
     let l = c .before .before .before .before .loop in
     let N = c .before .before .next .ensures in
-    let i = c .if1 in
-    (placed-next S X (a .d) (l .at) (c .before .before .next .result) (l .n) (l .inv .0) N,
-    ⊎-elim
-    (λ w. walked-cast S X (a .d) (l .n + 1) (w .5 .result) (i .walk) (w .5 .last .1 .1 .1 .1 .1 .1 .0) (i .heads) (w .5 .last .1 .1 .1 .1 .1 .1 .1 .0) (i .links) (w .5 .last .1 .1 .1 .1 .1 .1 .1 .1 .0) (i .offsets)
-    (w .5 .last .1 .1 .1 .1 .1 .1 .1 .1 .1 .0) (i .numbers) (w .18) (w .14) (w .15) (w .16) (w .17) (w .5 .ensures))
-    (λ w. walked-cast S X (a .d) (l .n + 1) (l .walk) (i .walk) (l .heads) (i .heads) (l .links) (i .links) (l .offsets) (i .offsets)
-    (l .numbers) (i .numbers) (w .5) (w .1) (w .2) (w .3) (w .4)
-    (walked-other S X (a .d) (l .n) (l .walk) (l .heads) (l .links) (l .offsets) (l .numbers) (l .inv .1) (l .at) (c .before .before .next .result) (l .inv .0) N (w .0 .left))) (i .came),
-    ⊎-elim (λ w. ap length (w .14) ∙ w .6 .given ∙ l .inv .2) (λ w. ap length (w .1) ∙ l .inv .2) (i .came),
-    ⊎-elim (λ w. ap length (w .15) ∙ w .8 .given ∙ l .inv .3) (λ w. ap length (w .2) ∙ l .inv .3) (i .came),
-    ⊎-elim (λ w. ap length (w .16) ∙ w .10 .given ∙ l .inv .4) (λ w. ap length (w .3) ∙ l .inv .4) (i .came),
-    ⊎-elim (λ w. ap length (w .17) ∙ w .12 .given ∙ l .inv .5) (λ w. ap length (w .4) ∙ l .inv .5) (i .came))
+    let i = c .if1 in (
+      placed-next S X (a .d) (l .at) (c .before .before .next .result) (l .n) (l .inv .0) N,
+      ⊎-elim
+          (λ w. walked-cast S X (a .d) (l .n + 1) (w .5 .result) (i .walk) (w .5 .last .1 .1 .1 .1 .1 .1 .0) (i .heads) (w .5 .last .1 .1 .1 .1 .1 .1 .1 .0) (i .links) (w .5 .last .1 .1 .1 .1 .1 .1 .1 .1 .0) (i .offsets)
+          (w .5 .last .1 .1 .1 .1 .1 .1 .1 .1 .1 .0) (i .numbers) (w .18) (w .14) (w .15) (w .16) (w .17) (w .5 .ensures))
+          (λ w. walked-cast S X (a .d) (l .n + 1) (l .walk) (i .walk) (l .heads) (i .heads) (l .links) (i .links) (l .offsets) (i .offsets)
+          (l .numbers) (i .numbers) (w .5) (w .1) (w .2) (w .3) (w .4)
+          (walked-other S X (a .d) (l .n) (l .walk) (l .heads) (l .links) (l .offsets) (l .numbers) (l .inv .1) (l .at) (c .before .before .next .result) (l .inv .0) N (w .0 .left))) (i .came),
+      ⊎-elim (λ w. ap length (w .14) ∙ w .6 .given ∙ l .inv .2) (λ w. ap length (w .1) ∙ l .inv .2) (i .came),
+      ⊎-elim (λ w. ap length (w .15) ∙ w .8 .given ∙ l .inv .3) (λ w. ap length (w .2) ∙ l .inv .3) (i .came),
+      ⊎-elim (λ w. ap length (w .16) ∙ w .10 .given ∙ l .inv .4) (λ w. ap length (w .3) ∙ l .inv .4) (i .came),
+      ⊎-elim (λ w. ap length (w .17) ∙ w .12 .given ∙ l .inv .5) (λ w. ap length (w .4) ∙ l .inv .5) (i .came),
+    )
 
 same-length : tie.Need-same-length Inv-loop μ-loop
 same-length c = search needs

@@ -89,12 +89,17 @@ loop-again c = let s = c .before .before .before .before .before .before .before
     let size : length ds ≡ 32 = search needs in
     let room : a .held ≤ length ds = omega (arith, s .pre .0) in
     let e : map dependencyOf (drop (l .k) (take (a .held) ds)) ≡ dependencyOf (getD ds (l .k) noDependency) ∷ map dependencyOf (drop (l .k + 1) (take (a .held) ds)) =
-    ap (map dependencyOf) (drop-take-cons ds (a .held) (l .k) noDependency (search needs) room) in
-    (search needs,
-    l .inv .1 ∙ ap (λ (x : List database.Dependency). firstBrokenFrom (l .k) x (rowsOf S X)) e
-    ∙ violation-later (rowsOf S X) (dependencyOf (getD ds (l .k) noDependency)) (map dependencyOf (drop (l .k + 1) (take (a .held) ds))) (l .k)
-    (sym (c .enum-told .given .1) ∙ c .before .before .before .before .before .before .before .before .before .before .first-pair .ensures .0),
-    c .before .before .before .before .before .before .before .before .before .before .first-pair .ensures .1, c .before .before .before .before .before .before .before .before .before .heads .given ∙ l .inv .3, c .before .before .before .before .before .before .before .links .given ∙ l .inv .4, c .before .before .before .before .before .offsets .given ∙ l .inv .5, c .before .before .before .numbers .given ∙ l .inv .6)
+    ap (map dependencyOf) (drop-take-cons ds (a .held) (l .k) noDependency (search needs) room) in (
+      search needs,
+      l .inv .1 ∙ ap (λ (x : List database.Dependency). firstBrokenFrom (l .k) x (rowsOf S X)) e
+          ∙ violation-later (rowsOf S X) (dependencyOf (getD ds (l .k) noDependency)) (map dependencyOf (drop (l .k + 1) (take (a .held) ds))) (l .k)
+          (sym (c .enum-told .given .1) ∙ c .before .before .before .before .before .before .before .before .before .before .first-pair .ensures .0),
+      c .before .before .before .before .before .before .before .before .before .before .first-pair .ensures .1,
+      c .before .before .before .before .before .before .before .before .before .heads .given ∙ l .inv .3,
+      c .before .before .before .before .before .before .before .links .given ∙ l .inv .4,
+      c .before .before .before .before .before .offsets .given ∙ l .inv .5,
+      c .before .before .before .numbers .given ∙ l .inv .6,
+    )
 
 same-length-5 : tie.Need-same-length-5 Inv-loop μ-loop
 same-length-5 c = search needs
