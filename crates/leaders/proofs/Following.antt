@@ -2,7 +2,7 @@
 use mathlib.Core.Path.{_≡_, refl, ap, sym, _∙_}
 use mathlib.Core.Bool.{Bool, true, false}
 use mathlib.Core.List.{List}
-use Prim.Native.Nat.{ℕ, suc, _+_, _%_, _≤_, _<_}
+use Prim.Native.Nat.{ℕ, suc, _%_, _≤_, _<_}
 use native.Mathlib.Omega.{arith}
 use lib.Dec.{eqb, ltb}
 use borrow.Author.Tests.{eqb-true, eqb-false, ltb-true, ltb-false}
@@ -19,10 +19,6 @@ use Rattle.leaders.specs.Table.{keyOf, Table}
 use Rattle.leaders.proofs.Hashes.{hash-agree}
 
 module _ (width : ℕ) (words : List ℕ) (d : Dependency) (heads links offsets : List ℕ) (count at b : ℕ) where
-  -- whether leader s agrees with the row at `at`
-  pub leads : ℕ → Bool
-  leads s = agreeRows (dependencyOf d) (spanAt width words (getD offsets s 0)) (spanAt width words at)
-
   -- the node is the end of the chain or of the row's bucket, and no leader from there on agrees with the row
   pub record Following (node : ℕ) : Type 0 where
     pub low : node ≤ count
@@ -33,8 +29,7 @@ module _ (width : ℕ) (words : List ℕ) (d : Dependency) (heads links offsets 
   -- a leader of another bucket does not agree with the row
   other-bucket : b ≡ bucketOf (length heads) (dependencyOf d) (spanAt width words at) → (t : ℕ) → (keyOf width words d (length heads) offsets t ≡ b → ⊥)
       → agreeRows (dependencyOf d) (spanAt width words (getD offsets t 0)) (spanAt width words at) ≡ false
-  unfolding leads
-  other-bucket e t other = go (leads t) refl
+  other-bucket e t other = go (agreeRows (dependencyOf d) (spanAt width words (getD offsets t 0)) (spanAt width words at)) refl
     where
       go : (x : Bool) → agreeRows (dependencyOf d) (spanAt width words (getD offsets t 0)) (spanAt width words at) ≡ x
           → agreeRows (dependencyOf d) (spanAt width words (getD offsets t 0)) (spanAt width words at) ≡ false

@@ -1,17 +1,17 @@
 -- Leaders of groups, by positions: what passing one more row asks, and what is known once all rows are passed. Assumes nothing.
 use mathlib.Core.Path.{_≡_, refl, ap, sym, subst, _∙_}
-use mathlib.Core.Bool.{Bool, true, false, cond}
-use mathlib.Core.List.{List, [], _∷_}
-use mathlib.Core.Option.{Option, none, some}
+use mathlib.Core.Bool.{Bool, true, false}
+use mathlib.Core.List.{[], _∷_}
+use mathlib.Core.Option.{Option, none}
 use Prim.Native.Nat.{ℕ, zero, suc, _+_, _≤_, _<_}
 use native.Mathlib.Omega.{arith}
 use lib.Dec.{eqb, ltb}
 use borrow.Author.Tests.{ltb-true, ltb-false, eqb-true, eqb-false}
-use lib.ListN.{length, drop, getD}
+use lib.ListN.{length, drop}
 use Rattle.theory.specs.Query.{Row, column}
 use Rattle.theory.specs.Database.{Database, Dependency, Agree}
 use Rattle.theory.specs.Chase.{orElse, mapFound, firstPassing, firstPair}
-use Rattle.rows.specs.Testing.{numberedFrom, breaksRows, breaksWith, firstPairFrom}
+use Rattle.rows.specs.Testing.{numberedFrom, breaksWith, firstPairFrom}
 use Rattle.rows.proofs.Obeys.{kept-breaks}
 use Rattle.leaders.specs.Groups.{rowOf, Keeps, Groups}
 

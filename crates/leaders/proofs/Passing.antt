@@ -2,10 +2,10 @@
 use mathlib.Core.Path.{_≡_, refl, ap, ap₂, sym, subst, _∙_}
 use mathlib.Core.Bool.{Bool, true, false, cond, false≢true}
 use mathlib.Core.List.{List, [], _∷_}
-use Prim.Native.Nat.{ℕ, zero, suc, _+_, _-_, _^_, _≤_, _<_}
+use Prim.Native.Nat.{ℕ, zero, suc, _+_, _-_, _≤_, _<_}
 use native.Mathlib.Omega.{arith}
 use lib.Dec.{eqb, ltb}
-use borrow.Author.Tests.{eqb-true, eqb-false, lt-ltb, le-ltb, ltb-true, ltb-false}
+use borrow.Author.Tests.{eqb-true, eqb-false, ltb-true, ltb-false}
 use lib.ListN.{length, take, drop, getD, set, length-set, length-drop, drop-of-length-le}
 use lib.Seq.{getD-drop, getD-set-same, getD-set-other, drop-drop, drop-length, take-all}
 use Rattle.theory.specs.Query.{Row, column}
@@ -16,12 +16,12 @@ use Rattle.chains.specs.Chains.{Chained}
 use Rattle.chains.proofs.Chains.{chained-agree}
 use Rattle.rows.specs.Words.{whole, rowsFrom, rowsOf, wholeFrom, spanAt, rowAt, Next}
 use Rattle.rows.specs.Testing.{agreeRows, firstPairFrom}
-use Rattle.rows.specs.Found.{Testable, From}
+use Rattle.rows.specs.Found.{From}
 use Rattle.rows.proofs.Spelling.{next-row}
 use Rattle.rows.proofs.Obeys.{agree-true, agree-all}
 use Rattle.leaders.specs.Hash.{bucketOf}
-use Rattle.leaders.specs.Table.{keyOf, Table}
-use Rattle.leaders.specs.Groups.{rowOf, Groups}
+use Rattle.leaders.specs.Table.{keyOf}
+use Rattle.leaders.specs.Groups.{rowOf}
 use Rattle.leaders.specs.Walked.{Placed, Member, Room, Walked, earlierOf, Skips}
 use Rattle.leaders.specs.declared.Position.{Position}
 use Rattle.leaders.specs.declared.Walk.{Walk}

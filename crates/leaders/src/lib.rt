@@ -40,7 +40,7 @@ pub enum Leader {
 }
 
 // The bucket of the row at `a`, by its left values.
-pub fn bucket_of(words: &[u32], width: usize, d: Dependency, a: usize, buckets: usize) -> usize
+fn bucket_of(words: &[u32], width: usize, d: Dependency, a: usize, buckets: usize) -> usize
     requires { ⌜ a + 1 + width ≤ length (now words) ⌝ }
     requires { ⌜ (width ≤ 8) × (d .left < 2 ^ width) × (0 < buckets) ⌝ }
     ensures { λ r. ⌜ r ≡ bucketOf buckets (dependencyOf d) (spanAt width (now (words .entry)) a) ⌝ }
@@ -60,7 +60,7 @@ pub fn bucket_of(words: &[u32], width: usize, d: Dependency, a: usize, buckets: 
 }
 
 // The leader of the group of the row at `at`, whose bucket is `b`, among the first `count`.
-pub fn leader_of(
+fn leader_of(
     words: &[u32],
     width: usize,
     d: Dependency,
@@ -88,14 +88,14 @@ pub fn leader_of(
 }
 
 // The position of the two that comes first.
-pub fn earlier(p: Position, q: Position) -> Position
+fn earlier(p: Position, q: Position) -> Position
     ensures { λ r. ⌜ r ≡ earlierOf p q ⌝ }
 {
     if q.number < p.number { q } else { p }
 }
 
 // Passes the row at `at`, of the dependency's relation and at position `n`: it is a leader, or it is compared with the leader of its group.
-pub fn meet(
+fn meet(
     schema: &[u8],
     words: &[u32],
     d: Dependency,
@@ -151,7 +151,7 @@ pub fn meet(
 
 // A row before which none is the first of a broken pair, or the end of the words. With room for all leaders it is the first row of the first
 // broken pair.
-pub fn skip(
+fn skip(
     schema: &[u8],
     words: &[u32],
     d: Dependency,
@@ -200,7 +200,7 @@ pub fn skip(
 }
 
 // The first pair of rows that break the dependency.
-pub fn first_pair(
+fn first_pair(
     schema: &[u8],
     words: &[u32],
     d: Dependency,
@@ -240,7 +240,7 @@ pub fn first_pair(
 }
 
 // The first of the held dependencies that the rows break, with its first pair of rows.
-pub fn violation_in(
+fn violation_in(
     schema: &[u8],
     words: &[u32],
     dependencies: [Dependency; 32],
@@ -269,7 +269,7 @@ pub fn violation_in(
 }
 
 // The search with room for a few leaders.
-pub fn violation_few(
+fn violation_few(
     schema: &[u8],
     words: &[u32],
     dependencies: [Dependency; 32],
@@ -297,7 +297,7 @@ pub fn violation_few(
 }
 
 // The search with room for many leaders.
-pub fn violation_many(
+fn violation_many(
     schema: &[u8],
     words: &[u32],
     dependencies: [Dependency; 32],

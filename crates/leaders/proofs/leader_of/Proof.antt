@@ -1,12 +1,9 @@
 -- `leader_of` finds the leader of a row's group. Invariant: no leader from the node on agrees with the row.
 -- Assumes nothing.
-use mathlib.Core.Path.{_≡_, refl, sym, ap, _∙_}
-use Prim.Native.Nat.{ℕ, suc, _≤_, _-_, _+_, _<_}
+use mathlib.Core.Path.{_≡_, sym, _∙_}
+use Prim.Native.Nat.{suc, _≤_, _-_, _<_}
 use native.Mathlib.Omega.{arith}
-use lib.ListN.{length, getD}
-use Rattle.record.specs.View.{dependencyOf}
-use Rattle.rows.specs.Words.{spanAt}
-use Rattle.rows.specs.Testing.{agreeRows}
+use lib.ListN.{getD}
 use Rattle.leaders.proofs.Following.{Following, follow-start, link-le, follow-next}
 use borrow.Author.Needs.{needs}
 use Rattle.leaders.proofs.leader_of.Statement.{statement}

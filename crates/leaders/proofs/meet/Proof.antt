@@ -1,13 +1,10 @@
 -- `meet` passes one row of the dependency's relation.
 -- Assumes nothing.
-use mathlib.Core.Path.{_≡_, refl, sym, ap, subst, _∙_}
-use mathlib.Core.List.{List}
+use mathlib.Core.Path.{_≡_, subst}
 use Prim.Native.Nat.{ℕ, _≤_, _-_, _+_, _<_}
 use native.Mathlib.Omega.{arith}
-use lib.ListN.{length, getD, set, length-set}
-use Rattle.record.specs.View.{dependencyOf}
+use lib.ListN.{length, getD}
 use Rattle.leaders.specs.Table.{Led}
-use Rattle.leaders.specs.Walked.{Walked}
 use Rattle.leaders.specs.declared.Leader.{Leader}
 use Rattle.leaders.proofs.Passing.{member-room, walked-same, walked-differ, walked-full, walked-new}
 use borrow.Author.Needs.{needs}

@@ -1,10 +1,10 @@
 -- `skip` finds a row before which none is the first of a broken pair. Invariant: the rows before the one at `at` are passed.
 -- Assumes nothing.
-use mathlib.Core.Path.{_≡_, refl, sym, ap, _∙_}
+use mathlib.Core.Path.{_≡_, refl, ap, _∙_}
 use mathlib.Core.Logic.{⊎-elim}
-use Prim.Native.Nat.{ℕ, _≤_, _-_, _+_, _<_}
+use Prim.Native.Nat.{_-_, _+_, _<_}
 use native.Mathlib.Omega.{arith}
-use lib.ListN.{length, getD}
+use lib.ListN.{length}
 use Rattle.leaders.specs.Walked.{Placed, Walked}
 use Rattle.leaders.proofs.Passing.{placed-start, placed-next, walked-start, walked-other, walked-cast, walked-end}
 use borrow.Author.Needs.{needs}

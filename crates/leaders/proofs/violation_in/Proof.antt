@@ -1,8 +1,8 @@
 -- `violation_in` is the first broken dependency with its first pair. Invariant: the search from dependency k on finds what the whole search finds.
 -- Assumes nothing.
 use mathlib.Core.Path.{_≡_, refl, sym, ap, _∙_}
-use mathlib.Core.List.{List, [], _∷_, map}
-use Prim.Native.Nat.{ℕ, _≤_, _-_, _+_, _<_}
+use mathlib.Core.List.{List, _∷_, map}
+use Prim.Native.Nat.{_≤_, _-_, _+_}
 use native.Mathlib.Omega.{arith}
 use lib.ListN.{length, take, drop, getD}
 use Rattle.theory.specs.Database as database

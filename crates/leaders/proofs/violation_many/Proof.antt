@@ -1,11 +1,9 @@
 -- `violation_many` lends the search its slices.
 -- Assumes nothing.
-use mathlib.Core.Path.{_≡_, refl, sym, _∙_}
-use mathlib.Core.List.{List, replicate}
-use Prim.Native.Nat.{ℕ, _<_}
+use mathlib.Core.Path.{refl}
+use Prim.Native.Nat.{ℕ}
 use native.Mathlib.Omega.{arith}
-use lib.ListN.{length, length-replicate}
-use Rattle.leaders.specs.Walked.{Room}
+use lib.ListN.{length-replicate}
 use borrow.Author.Needs.{needs}
 use Rattle.leaders.proofs.violation_many.Statement.{statement}
 use Rattle.leaders.proofs.violation_many.Tie as tie

@@ -1,12 +1,9 @@
 -- `agrees_at` answers whether two rows agree on the left columns. Invariant: what is left of the left set decides as the whole of it does.
 -- Assumes nothing.
-use mathlib.Core.Path.{_≡_, refl, sym, ap, _∙_}
-use mathlib.Core.Bool.{Bool, true, false, not, _&&_}
+use mathlib.Core.Path.{_≡_, refl, sym, _∙_}
+use mathlib.Core.Bool.{true, false}
 use mathlib.Core.Logic.{⊎-elim}
-use Prim.Native.Nat.{ℕ, _≤_, _-_, _+_, _<_}
-use native.Mathlib.Omega.{arith}
-use lib.Dec.{eqb}
-use lib.ListN.{length, drop, getD}
+use Prim.Native.Nat.{_≤_, _-_}
 use Rattle.rows.proofs.Columns.{agreeFrom, agree-skip, agree-same, agree-differ, agree-start, agree-end}
 use borrow.Author.Needs.{needs}
 use Rattle.rows.proofs.agrees_at.Statement.{statement}
