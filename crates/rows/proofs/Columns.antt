@@ -14,7 +14,7 @@ use Rattle.theory.specs.Chase.{agree, breaks}
 use Rattle.record.specs.View.{columnsFrom, columnsOf, dependencyOf}
 use Rattle.record.specs.declared.Dependency.{Dependency}
 use Rattle.rows.specs.Words.{spanAt}
-use Rattle.rows.specs.Testing.{breaksRows}
+use Rattle.rows.specs.Testing.{agreeRows, breaksRows}
 
 -- ---- the columns of a mask
 
@@ -96,9 +96,8 @@ module _ (width : ℕ) (words : List ℕ) (a b : ℕ) where
   agree-end c mask h = let e : width - c ≡ 0 = omega arith in rw e
 
   -- two rows of the dependency's relation break it when they agree on the left and differ on the right
-  pub breaks-spans : (d : Dependency) → getD words a 0 ≡ d .relation → getD words b 0 ≡ d .relation → width ≤ 8 → d .left < 2 ^ width → d .right < width
+  pub breaks-spans : (d : Dependency) → getD words a 0 ≡ d .relation → getD words b 0 ≡ d .relation → d .right < width
       → breaksRows (dependencyOf d) (spanAt width words a) (spanAt width words b)
-      ≡ agreeFrom 0 (d .left) && not (eqb (getD words (a + 1 + d .right) 0) (getD words (b + 1 + d .right) 0))
+      ≡ agreeRows (dependencyOf d) (spanAt width words a) (spanAt width words b) && not (eqb (getD words (a + 1 + d .right) 0) (getD words (b + 1 + d .right) 0))
   unfolding breaks
-  breaks-spans d ra rb h below right =
-      rw (eq-eqb (getD words a 0) (d .relation) ra, eq-eqb (getD words b 0) (d .relation) rb, agree-start (d .left) h below, same-column (d .right) right)
+  breaks-spans d ra rb right = rw (eq-eqb (getD words a 0) (d .relation) ra, eq-eqb (getD words b 0) (d .relation) rb, same-column (d .right) right)

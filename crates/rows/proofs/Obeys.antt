@@ -21,13 +21,13 @@ same-constants : (r s : Row ℕ) (c : ℕ) → sameEntry (column (constant 0) (m
 unfolding sameEntry
 same-constants r s c = rw (List·getD-map constant (r .values) c 0, List·getD-map constant (s .values) c 0)
 
-agree-true : (cs : List ℕ) (r s : Row ℕ) → Agree 0 cs r s → agree cs (mapRow constant r) (mapRow constant s) ≡ true
+pub agree-true : (cs : List ℕ) (r s : Row ℕ) → Agree 0 cs r s → agree cs (mapRow constant r) (mapRow constant s) ≡ true
 unfolding agree
 agree-true [] r s h = refl
 agree-true (c ∷ cs) r s h =
     rw (same-constants r s c, eq-eqb (column 0 r c) (column 0 s c) (h c (List·Memᴰ·head refl))) (agree-true cs r s (λ b m. h b (List·Memᴰ·tail m)))
 
-agree-all : (cs : List ℕ) (r s : Row ℕ) → agree cs (mapRow constant r) (mapRow constant s) ≡ true → Agree 0 cs r s
+pub agree-all : (cs : List ℕ) (r s : Row ℕ) → agree cs (mapRow constant r) (mapRow constant s) ≡ true → Agree 0 cs r s
 unfolding agree
 agree-all [] r s h b m = absurd (List·Memᴰ·not-nil m)
 agree-all (c ∷ cs) r s h b (List·Memᴰ·head e) =
@@ -50,7 +50,7 @@ breaks-kept d r s h p q a = go (eqb (column 0 r (d .right)) (column 0 s (d .righ
         absurd (false≢true (sym h ∙ broken))
 
 -- rows that keep a dependency do not break it
-kept-breaks : (d : Dependency) (r s : Row ℕ)
+pub kept-breaks : (d : Dependency) (r s : Row ℕ)
     → (r .relation ≡ d .relation → s .relation ≡ d .relation → Agree 0 (d .left) r s → column 0 r (d .right) ≡ column 0 s (d .right)) → breaksRows d r s ≡ false
 unfolding breaks
 kept-breaks d r s keep = go (eqb (r .relation) (d .relation)) refl (eqb (s .relation) (d .relation)) refl (agree (d .left) (mapRow constant r) (mapRow constant s)) refl

@@ -7,13 +7,17 @@ use Prim.Native.Nat.{ℕ, suc}
 use lib.ListN.{drop}
 use Rattle.theory.specs.Query.{Row, constant, mapRow}
 use Rattle.theory.specs.Database.{Database, Dependency}
-use Rattle.theory.specs.Chase.{firstPair, firstFound, breaks}
+use Rattle.theory.specs.Chase.{firstPair, firstFound, agree, breaks}
 use Rattle.rows.specs.Words.{rowsOf}
 
 -- The elements of a list with their positions, the first at position n
 unfoldable pub numberedFrom : {A : Type 0} → ℕ → List A → List (ℕ × A)
 numberedFrom n [] = []
 numberedFrom n (x ∷ xs) = (n, x) ∷ numberedFrom (suc n) xs
+
+-- Whether two rows of numbers agree on the left columns of a dependency: as rows of constants they do
+abbrev pub agreeRows : Dependency → Row ℕ → Row ℕ → Bool
+agreeRows d r s = agree (d .left) (mapRow constant r) (mapRow constant s)
 
 -- Whether two rows of numbers break a dependency: as rows of constants they do
 abbrev pub breaksRows : Dependency → Row ℕ → Row ℕ → Bool

@@ -1,0 +1,2 @@
+-- Laws of hash chains.
+pub mod Chains

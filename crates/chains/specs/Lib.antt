@@ -1,0 +1,2 @@
+-- Hash chains.
+pub mod Chains

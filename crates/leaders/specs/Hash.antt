@@ -1,0 +1,14 @@
+-- The hash of a row's left values. Only that it is a function of them is used.
+use mathlib.Core.List.{List, [], _∷_}
+use Prim.Native.Nat.{ℕ, _+_, _*_, _%_}
+use Rattle.theory.specs.Query.{Row, column}
+use Rattle.theory.specs.Database.{Dependency}
+
+-- The hash h, with the row's values in the given columns mixed in
+unfoldable pub hashFrom : List ℕ → ℕ → Row ℕ → ℕ
+hashFrom [] h r = h
+hashFrom (c ∷ cs) h r = hashFrom cs ((h * 1000003 + column 0 r c) % 4294967296) r
+
+-- The bucket of a row, by its left values
+abbrev pub bucketOf : ℕ → Dependency → Row ℕ → ℕ
+bucketOf buckets d r = hashFrom (d .left) 0 r % buckets
