@@ -1,3 +1,9 @@
+-- `spernevan_determined` gives the columns and their number, once the file is read. Assumes nothing.
+use mathlib.Core.Path.{_≡_, sym, ap, _∙_}
+use Rattle.record.specs.Calls.{determinedColumns}
+use Rattle.interface.specs.Records.{columnsResult, determinedIn}
+use Rattle.format.specs.File.{ok, refused}
+use Rattle.interface.proofs.Files.{read-done, read-refused, done-number, done-leaves, refused-number, refused-leaves}
 use borrow.Author.Needs.{needs}
 use Rattle.interface.proofs.spernevan_determined.Statement.{statement}
 use Rattle.interface.proofs.spernevan_determined.Tie as tie
@@ -32,15 +38,29 @@ enum-known-answer c = search needs
 
 -- src/lib.rt:125:1
 returns : tie.Need-returns
-returns c = ?
+returns c =
+    let s = c .before .before .before .before .before .before .before .before .before in
+    let p : determinedIn (s .args .file .now) (s .args .relation) (s .args .left) ≡ ok (c .before .found .given .0 .0, c .before .found .given .0 .1 .0) =
+    read-done (s .args .file .now) (c .before .before .before .before .before .before .before .read .result) (c .before .before .before .before .before .before .before .read .ensures) (λ r. columnsResult (determinedColumns r (s .args .relation) (s .args .left))) (c .before .before .before .before .before .enum-told .given .1)
+    ∙ ap columnsResult (sym (c .before .before .before .determined .ensures) ∙ c .before .found .given .1) in
+    (done-number p, (done-leaves p (λ t. t .0) (s .args .columns .now), done-leaves p (λ t. t .1) (s .args .count .now)))
 
 -- src/lib.rt:125:1
 returns-2 : tie.Need-returns-2
-returns-2 c = ?
+returns-2 c =
+    let s = c .before .before .before .before .before .before .before .before .before in
+    let p : determinedIn (s .args .file .now) (s .args .relation) (s .args .left) ≡ refused (c .before .found2 .given .0 .0) =
+    read-done (s .args .file .now) (c .before .before .before .before .before .before .before .read .result) (c .before .before .before .before .before .before .before .read .ensures) (λ r. columnsResult (determinedColumns r (s .args .relation) (s .args .left))) (c .before .before .before .before .before .enum-told .given .1)
+    ∙ ap columnsResult (sym (c .before .before .before .determined .ensures) ∙ c .before .found2 .given .1) in
+    (refused-number p, (refused-leaves p (λ t. t .0) (s .args .columns .now), refused-leaves p (λ t. t .1) (s .args .count .now)))
 
 -- src/lib.rt:125:1
 returns-3 : tie.Need-returns-3
-returns-3 c = ?
+returns-3 c =
+    let s = c .before .before .before .before .before in
+    let p : determinedIn (s .args .file .now) (s .args .relation) (s .args .left) ≡ refused (c .before .answer .given .0 .0) =
+    read-refused (s .args .file .now) (c .before .before .before .read .result) (c .before .before .before .read .ensures) (λ r. columnsResult (determinedColumns r (s .args .relation) (s .args .left))) _ (c .before .answer .given .1) in
+    (refused-number p, (refused-leaves p (λ t. t .0) (s .args .columns .now), refused-leaves p (λ t. t .1) (s .args .count .now)))
 
 pub spernevan-determined-spec : {M : Type 1} → statement M
 spernevan-determined-spec =
