@@ -1,4 +1,4 @@
--- The record after each call on a record alone is good. Assumes nothing.
+-- The record after each call on a record alone is good; and a query part that is put. Assumes nothing.
 use mathlib.Core.Path.{_≡_, refl, sym, ap, subst, _∙_}
 use mathlib.Core.Bool.{Bool, true, false, not}
 use mathlib.Core.List.{List, [], _∷_, _++_}
@@ -7,9 +7,10 @@ use Prim.Native.Nat.{ℕ, _-_, _≤_, _<_}
 use native.Mathlib.Omega.{arith}
 use lib.Dec.{eqb, ltb}
 use lib.ListN.{length, replicate}
-use borrow.Author.Tests.{not-true, not-false, eqb-true, ne-eqb, eq-eqb}
+use borrow.Author.Tests.{eq-eqb, lt-ltb, le-ltb}
 use Rattle.record.specs.declared.Query.{Query}
 use Rattle.record.specs.declared.Dependency.{Dependency}
+use Rattle.record.specs.declared.Place.{Place}
 use Rattle.record.specs.declared.Record.{Record}
 use Rattle.record.specs.declared.Answer.the-variants.{Done, Refused}
 use Rattle.record.specs.declared.Outcome.{Outcome}
@@ -20,8 +21,10 @@ use Rattle.record.proofs.Refusals.{none-holds}
 use Rattle.record.proofs.Good.{good-record}
 use Rattle.record.proofs.Kept.{filled-place, empty-place, place-kept, dependency-kept, opened-good}
 use Rattle.record.proofs.Outcomes.{open-unfit, open-done}
-use Rattle.format.specs.File.{Result, ok, refused}
-use Rattle.interface.specs.Records.{resultOf, Sound}
+use Rattle.format.specs.File.{Result, ok, refused, _>>=_, readPlace}
+use Rattle.file.specs.declared.PlaceRead.{PlaceRead}
+use Rattle.file.specs.Read.{placeRead}
+use Rattle.interface.specs.Records.{resultOf, Sound, putPart}
 
 -- A call that is concluded leaves a good record where it is not refused
 kept : (x : Option ℕ) (given after : Record) → (x ≡ none → goodRecord after ≡ true) → Sound (concluded x given after)
@@ -88,3 +91,25 @@ module _ (r : Record) (good : goodRecord r ≡ true) where
       let h₃ = none-holds (not (goodQuery (schemaOf r) q)) 5 rest₃ h₂ in
       let h₄ = none-holds (not (headSafe (schemaOf r) q)) 6 rest₄ (h₃ .1) in
       place-kept r place (record { filled = true; query = q }) good (filled-place (schemaOf r) q (passed _ (h₃ .0)) (passed _ (h₄ .0)))))
+
+  -- A query part is put where it is read and the place is not above 7
+  pub part-above : (place : ℕ) (part : List ℕ) → 8 ≤ place → putPart place part r ≡ refused 7
+  part-above place part h = rw (le-ltb place 8 h)
+
+  pub part-bad : (place : ℕ) (part : List ℕ) (n : ℕ) → place < 8 → readPlace (schemaOf r) true part ≡ refused n → putPart place part r ≡ refused n
+  unfolding _>>=_
+  part-bad place part n h e = rw (lt-ltb place 8 h, e)
+
+  pub part-read : (place : ℕ) (part : List ℕ) (p : Place) → place < 8 → readPlace (schemaOf r) true part ≡ ok p
+      → putPart place part r ≡ resultOf (putQuery r place (p .query))
+  unfolding _>>=_
+  part-read place part p h e = rw (lt-ltb place 8 h, e)
+
+-- What reading a query part told
+pub place-accepted : (x : Result Place) (p : PlaceRead) → p ≡ placeRead x → p .answer ≡ Done → x ≡ ok (p .place)
+place-accepted (ok q) p e a = cc
+place-accepted (refused n) p e a = let z : _≡_ {A = ℕ} 0 1 = cc in absurd (omega arith)
+
+pub place-refused : (x : Result Place) (p : PlaceRead) (n : ℕ) → p ≡ placeRead x → p .answer ≡ Refused n → x ≡ refused n
+place-refused (ok q) p n e a = let z : _≡_ {A = ℕ} 0 1 = cc in absurd (omega arith)
+place-refused (refused m) p n e a = cc

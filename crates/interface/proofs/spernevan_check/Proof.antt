@@ -1,3 +1,7 @@
+-- `spernevan_check` gives what checking promises, once the file is read. Assumes nothing.
+use Rattle.format.specs.File.{readFile}
+use Rattle.interface.proofs.Files.{accepted, turned-down}
+use Rattle.interface.proofs.Verdicts.{check-done, check-unread}
 use borrow.Author.Needs.{needs}
 use Rattle.interface.proofs.spernevan_check.Statement.{statement}
 use Rattle.interface.proofs.spernevan_check.Tie as tie
@@ -24,11 +28,15 @@ enum-known-answer c = search needs
 
 -- src/lib.rt:211:1
 returns : tie.Need-returns
-returns c = ?
+returns c =
+    let a = c .before .before .before .before .before .before .before .before .args in
+    check-done (a .p) (a .q) (a .mapping .now) (a .verdict .now) (accepted (readFile (a .file .now)) (c .before .before .before .before .before .read .result) (c .before .before .before .before .before .read .ensures) (c .before .before .before .enum-told .given .1)) _ _ (c .check-words .ensures)
 
 -- src/lib.rt:211:1
 returns-2 : tie.Need-returns-2
-returns-2 c = ?
+returns-2 c =
+    let a = c .before .before .before .before .before .before .args in
+    check-unread (a .p) (a .q) (a .mapping .now) (a .verdict .now) (turned-down (readFile (a .file .now)) (c .before .before .before .read .result) _ (c .before .before .before .read .ensures) (c .before .answer .given .1))
 
 pub spernevan-check-spec : {M : Type 1} → statement M
 spernevan-check-spec =

@@ -1,3 +1,7 @@
+-- `spernevan_reduce` gives what reducing promises, once the file is read. Assumes nothing.
+use Rattle.format.specs.File.{readFile}
+use Rattle.interface.proofs.Files.{accepted, turned-down}
+use Rattle.interface.proofs.Verdicts.{reduced-sound, reduce-done, reduce-refused}
 use borrow.Author.Needs.{needs}
 use Rattle.interface.proofs.spernevan_reduce.Statement.{statement}
 use Rattle.interface.proofs.spernevan_reduce.Tie as tie
@@ -21,7 +25,8 @@ reduce-requires c κs = search needs
 
 -- src/lib.rt:177:13
 store-reduction-requires : tie.Need-store-reduction-requires
-store-reduction-requires c κs = search needs
+store-reduction-requires c κs =
+    reduced-sound (c .before .before .before .before .before .before .before .before .read .result .«record») (c .before .before .before .before .before .before .before .before .before .before .before .before .args .source) (c .before .before .before .before .before .before .before .before .before .before .before .before .args .target) (c .before .before .before .before .reduce .result) (c .before .before .before .before .reduce .ensures)
 
 -- src/lib.rt:179:25
 enum-known-answer : tie.Need-enum-known-answer
@@ -37,11 +42,17 @@ same-length-2 c = search needs
 
 -- src/lib.rt:159:1
 returns : tie.Need-returns
-returns c = ?
+returns c =
+    let a = c .before .before .before .before .before .before .before .before .before .before .before .before .before .before .before .before .before .args in
+    reduce-done (a .file .now) (a .source) (a .target) (a .out .now) (a .size .now) (a .count .now) (a .mapping .now) (c .before .before .before .before .before .before .before .before .before .before .before .before .before .read .result .«record»)
+    (accepted (readFile (a .file .now)) (c .before .before .before .before .before .before .before .before .before .before .before .before .before .read .result) (c .before .before .before .before .before .before .before .before .before .before .before .before .before .read .ensures) (c .before .before .before .before .before .before .before .before .before .before .before .enum-told .given .1)) (c .before .before .before .before .before .before .before .before .before .reduce .result) (c .before .before .before .before .before .before .before .before .before .reduce .ensures) _ _ _ _ _ (c .before .before .before .before .store-reduction .ensures)
 
 -- src/lib.rt:159:1
 returns-2 : tie.Need-returns-2
-returns-2 c = ?
+returns-2 c =
+    let a = c .before .before .before .before .before .before .before .args in
+    reduce-refused (a .file .now) (a .source) (a .target) (a .out .now) (a .size .now) (a .count .now) (a .mapping .now) _
+    (turned-down (readFile (a .file .now)) (c .before .before .before .read .result) _ (c .before .before .before .read .ensures) (c .before .answer .given .1))
 
 pub spernevan-reduce-spec : {M : Type 1} → statement M
 spernevan-reduce-spec =

@@ -1,3 +1,11 @@
+-- `put_image` is two stores. Assumes nothing.
+use mathlib.Core.Path.{_≡_, sym, ap, _∙_}
+use native.Mathlib.Omega.{arith}
+use lib.ListN.{length-set}
+use Rattle.record.specs.declared.Entry.{Entry}
+use Rattle.format.specs.Bytes.{over}
+use Rattle.file.proofs.Stores.{two-stores}
+use Rattle.interface.specs.Queries.{entryWords}
 use borrow.Author.Needs.{needs}
 use Rattle.interface.proofs.queries.put_image.Statement.{statement}
 use Rattle.interface.proofs.queries.put_image.Tie as tie
@@ -26,7 +34,8 @@ mul-words-2 c = search needs
 
 -- src/queries.rt:39:13
 slice-write-words-2 : tie.Need-slice-write-words-2
-slice-write-words-2 c = ?
+slice-write-words-2 c =
+    simp length-set (omega arith)
 
 -- src/queries.rt:41:25
 enum-known-entry-2 : tie.Need-enum-known-entry-2
@@ -54,7 +63,8 @@ mul-words-4 c = search needs
 
 -- src/queries.rt:43:13
 slice-write-words-4 : tie.Need-slice-write-words-4
-slice-write-words-4 c = ?
+slice-write-words-4 c =
+    simp length-set (omega arith)
 
 -- src/queries.rt:32:1
 same-length : tie.Need-same-length
@@ -62,7 +72,9 @@ same-length c = search needs
 
 -- src/queries.rt:32:1
 returns : tie.Need-returns
-returns c = ?
+returns c =
+    let s = c .before .before .before in
+    two-stores (s .args .words .now) (s .args .at) 0 (c .before .entry .given .0 .0) (s .pre) ∙ ap (λ (e : Entry). over (s .args .words .now) (s .args .at) (entryWords e)) (sym (c .before .entry .given .1))
 
 -- src/queries.rt:32:1
 same-length-2 : tie.Need-same-length-2
@@ -70,7 +82,9 @@ same-length-2 c = search needs
 
 -- src/queries.rt:32:1
 returns-2 : tie.Need-returns-2
-returns-2 c = ?
+returns-2 c =
+    let s = c .before .before .before in
+    two-stores (s .args .words .now) (s .args .at) 1 (c .before .entry2 .given .0 .0) (s .pre) ∙ ap (λ (e : Entry). over (s .args .words .now) (s .args .at) (entryWords e)) (sym (c .before .entry2 .given .1))
 
 pub put-image-spec : {M : Type 1} → statement M
 put-image-spec =

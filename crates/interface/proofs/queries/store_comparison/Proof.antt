@@ -1,3 +1,6 @@
+-- `store_comparison` stores what the verdict asks for. Assumes nothing.
+use lib.ListN.{length, take}
+use Rattle.interface.proofs.Verdicts.{comparison-same, comparison-none, comparison-apart, comparison-contained, comparison-never, comparison-refused}
 use borrow.Author.Needs.{needs}
 use Rattle.interface.proofs.queries.store_comparison.Statement.{statement}
 use Rattle.interface.proofs.queries.store_comparison.Tie as tie
@@ -12,7 +15,8 @@ enum-told c = search needs
 
 -- src/queries.rt:236:13
 store-apart-requires : tie.Need-store-apart-requires
-store-apart-requires c κs = search needs
+store-apart-requires c κs =
+    (c .before .before .before .before .before .before .before .before .before .before .pre .0, c .before .before .before .before .before .before .before .before .before .before .pre .1 (c .before .before .before .before .before .enum-told .given .1))
 
 -- src/queries.rt:238:58
 enum-told-2 : tie.Need-enum-told-2
@@ -44,7 +48,10 @@ same-length-2 c = search needs
 
 -- src/queries.rt:218:1
 returns : tie.Need-returns
-returns c = ?
+returns c =
+    let a = c .before .before .before .before .before .before .before .before .before .before .before .before .before .before .before .args in
+    comparison-same (a .compared .images) (a .verdict .now) (a .mapping .now) (a .part .now) (a .size .now)
+    (comparison-apart (length (a .mapping .now)) (length (a .part .now)) (take (a .count) (a .widths)) (a .compared) (c .before .before .before .before .before .before .before .before .before .before .enum-told .given .1)) _ _ _ _ _ (c .before .before .before .before .store-apart .ensures)
 
 -- src/queries.rt:218:1
 same-length-3 : tie.Need-same-length-3
@@ -56,7 +63,10 @@ same-length-4 c = search needs
 
 -- src/queries.rt:218:1
 returns-2 : tie.Need-returns-2
-returns-2 c = ?
+returns-2 c =
+    let a = c .before .before .before .before .before .before .before .before .before .before .before .before .before .before .args in
+    comparison-same (a .compared .images) (a .verdict .now) (a .mapping .now) (a .part .now) (a .size .now)
+    (comparison-contained (length (a .mapping .now)) (length (a .part .now)) (take (a .count) (a .widths)) (a .compared) (c .before .before .before .before .before .before .before .before .before .enum-told2 .given .1)) _ _ _ _ _ (c .before .before .before .before .store-contained .ensures)
 
 -- src/queries.rt:218:1
 same-length-5 : tie.Need-same-length-5
@@ -68,11 +78,17 @@ same-length-6 c = search needs
 
 -- src/queries.rt:218:1
 returns-3 : tie.Need-returns-3
-returns-3 c = ?
+returns-3 c =
+    let a = c .before .before .before .before .before .before .before .before .before .before .before .before .before .before .args in
+    comparison-same (a .compared .images) (a .verdict .now) (a .mapping .now) (a .part .now) (a .size .now)
+    (comparison-never (length (a .mapping .now)) (length (a .part .now)) (take (a .count) (a .widths)) (a .compared) (c .before .before .before .before .before .before .before .before .before .enum-told3 .given .1)) _ _ _ _ _ (c .before .before .before .before .store-contained2 .ensures)
 
 -- src/queries.rt:218:1
 returns-4 : tie.Need-returns-4
-returns-4 c = ?
+returns-4 c =
+    let a = c .before .before .before .before .before .before .args in
+    comparison-none (a .compared .images) (a .verdict .now) (a .mapping .now) (a .part .now) (a .size .now)
+    (comparison-refused (length (a .mapping .now)) (length (a .part .now)) (take (a .count) (a .widths)) (a .compared) _ (c .before .told .given .1))
 
 pub store-comparison-spec : {M : Type 1} → statement M
 store-comparison-spec =

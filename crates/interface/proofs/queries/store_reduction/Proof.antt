@@ -1,3 +1,6 @@
+-- `store_reduction` stores the file, the count and the mapping of a reduction that is done. Assumes nothing.
+use mathlib.Core.Path.{_≡_, sym, _∙_}
+use Rattle.interface.proofs.Verdicts.{reduction-none, reduction-refused, reduction-short, reduction-stored, reduction-long}
 use borrow.Author.Needs.{needs}
 use Rattle.interface.proofs.queries.store_reduction.Statement.{statement}
 use Rattle.interface.proofs.queries.store_reduction.Tie as tie
@@ -12,11 +15,15 @@ enum-told c = search needs
 
 -- src/queries.rt:143:17
 returns : tie.Need-returns
-returns c = ?
+returns c =
+    let a = c .before .before .before .before .before .args in
+    reduction-none (a .reduced) (a .out .now) (a .size .now) (a .count .now) (a .mapping .now)
+    (reduction-short (a .reduced) (a .out .now) (a .size .now) (a .count .now) (a .mapping .now) (c .before .enum-told .given .1) (c .if1 .taken))
 
 -- src/queries.rt:147:17
 write-good-requires : tie.Need-write-good-requires
-write-good-requires c κs = search needs
+write-good-requires c κs =
+    c .before .before .before .before .before .before .before .before .pre (c .before .before .before .before .enum-told .given .1)
 
 -- src/queries.rt:149:33
 enum-known-written : tie.Need-enum-known-written
@@ -44,7 +51,10 @@ same-length-2 c = search needs
 
 -- src/queries.rt:129:1
 returns-2 : tie.Need-returns-2
-returns-2 c = ?
+returns-2 c =
+    let a = c .before .before .before .before .before .before .before .before .before .before .before .before .before .before .before .before .before .before .args in
+    reduction-stored (a .reduced) (a .out .now) (a .size .now) (a .count .now) (a .mapping .now) (c .before .before .before .before .before .before .before .before .before .before .before .before .before .before .enum-told .given .1) (c .before .before .before .before .before .before .before .before .before .before .before .before .before .if1 .left) _ _ _ (c .before .before .before .before .before .before .before .before .before .before .before .before .before .before .before .before .before .before .pre (c .before .before .before .before .before .before .before .before .before .before .before .before .before .before .enum-told .given .1))
+    (sym (c .before .before .before .before .before .before .before .before .before .write-good .ensures .0) ∙ c .before .before .before .before .before .written .given .1) (c .before .before .before .before .before .before .before .before .before .write-good .ensures .1) (c .before .before .put-mapping .ensures)
 
 -- src/queries.rt:129:1
 same-length-3 : tie.Need-same-length-3
@@ -52,11 +62,17 @@ same-length-3 c = search needs
 
 -- src/queries.rt:129:1
 returns-3 : tie.Need-returns-3
-returns-3 c = ?
+returns-3 c =
+    let a = c .before .before .before .before .before .before .before .before .before .before .before .before .before .before .args in
+    reduction-long (a .reduced) (a .out .now) (a .size .now) (a .count .now) (a .mapping .now) (c .before .before .before .before .before .before .before .before .before .before .enum-told .given .1) (c .before .before .before .before .before .before .before .before .before .if1 .left) _ _ (c .before .before .before .before .before .before .before .before .before .before .before .before .before .before .pre (c .before .before .before .before .before .before .before .before .before .before .enum-told .given .1))
+    (sym (c .before .before .before .before .before .write-good .ensures .0) ∙ c .before .written2 .given .1) (c .before .before .before .before .before .write-good .ensures .1)
 
 -- src/queries.rt:129:1
 returns-4 : tie.Need-returns-4
-returns-4 c = ?
+returns-4 c =
+    let a = c .before .before .before .before .before .args in
+    reduction-none (a .reduced) (a .out .now) (a .size .now) (a .count .now) (a .mapping .now)
+    (reduction-refused (a .reduced) (a .out .now) (a .size .now) (a .count .now) (a .mapping .now) _ (c .before .answer .given .1))
 
 pub store-reduction-spec : {M : Type 1} → statement M
 store-reduction-spec =
