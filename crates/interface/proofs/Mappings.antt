@@ -117,10 +117,10 @@ full n blank xs l =
     ap (λ (t : List _). xs ++ t) d ∙ append-nil xs
 
 unpadded : {A : Type 0} (get : List ℕ → Reading A) (n : ℕ) (blank : A) (s : List ℕ) → mapReading (pad n blank) (getTimes get n s) ≡ getTimes get n s
+unfolding mapReading
 unpadded {A} get n blank s = go (getTimes get n s) refl
   where
     go : (o : Reading (List A)) → getTimes get n s ≡ o → mapReading (pad n blank) o ≡ o
-    unfolding mapReading
     go none e = refl
     go (got xs rest) e = ap (λ (ys : List A). got ys rest) (full n blank xs (times-long get n s xs rest e))
 
@@ -129,11 +129,12 @@ image-long : (s : List ℕ) (x : Cell) (rest : List ℕ) → getImage s ≡ got 
 unfolding getImage
 image-long [] x rest e = absurd (not-got e)
 image-long (tag ∷ []) x rest e = absurd (not-got e)
-image-long (tag ∷ n ∷ s) x rest e = let k = gotIf-true (isImage tag n) (entryFrom tag n) x s rest e in ap (λ (l : List ℕ). 2 + length l) (k .2)
+image-long (tag ∷ n ∷ s) x rest e = 
+    let k : length s ≡ length rest = ap length (gotIf-true (isImage tag n) (entryFrom tag n) x s rest e .2) in omega arith
 
 images-long : (n : ℕ) (s : List ℕ) (xs : List Cell) (rest : List ℕ) → getTimes getImage n s ≡ got xs rest → length s ≡ 2 * n + length rest
 unfolding getTimes
-images-long zero s xs rest e = let p : s ≡ rest = cc in ap length p
+images-long zero s xs rest e = let p : s ≡ rest = cc in let l : length s ≡ length rest = ap length p in omega arith
 images-long (suc n) s xs rest e =
     let (x, r, e₀, e₁) = andThen-got (getImage s) (λ x r. mapReading (λ ys. x ∷ ys) (getTimes getImage n r)) xs rest e in
     let (ys, e₂, e₃) = mapReading-got (λ ys. x ∷ ys) (getTimes getImage n r) xs rest e₁ in
@@ -155,7 +156,7 @@ Reading-on s images i = Filling getImage (imagesIn s) 96 images i (drop (2 * i) 
 pub reading-starts : (s : List ℕ) → Reading-on s (replicate 96 noCell) 0
 reading-starts s = rw (← unpadded getImage 96 noCell s) (filling-starts getImage 96 noCell 96 s)
 
-module _ {s : List ℕ} {images : List Cell} {i : ℕ} (f : Reading-on s images i) where
+module _ (s : List ℕ) {images : List Cell} {i : ℕ} (f : Reading-on s images i) where
   pub reading-turns : (r : ImageRead) (e : Entry) → i < 96 → length images ≡ 96 → r ≡ imageRead (getImage (drop (2 * i) s)) → r ≡ Image e
       → Reading-on s (set images i (record { entry = e })) (i + 1)
   reading-turns r e h l p q =

@@ -40,7 +40,7 @@ put-place-requires : tie.Need-put-place-requires
 put-place-requires c κs =
     let n = c .before .before .place-length .ensures .0 in
     let l : c .before .before .place-length .result ≤ length (c .before .before .before .before .before .before .args .part .now) = c .before .if2 .left in
-    ((c .before .before .before .before .before .before .pre .0, c .before .before .before .before .before .before .pre .1), omega arith)
+    (c .before .before .before .before .before .before .pre .0, (c .before .before .before .before .before .before .pre .1, omega arith))
 
 -- src/queries.rt:211:5
 put-mapping-requires : tie.Need-put-mapping-requires
