@@ -44,6 +44,7 @@ open-sound widths o e a = go (goodRelations (length widths) all) refl
   where
     all : List ℕ
     all = widths ++ replicate (8 - length widths) 0
+
     go : (t : Bool) → goodRelations (length widths) all ≡ t → goodRecord (o .«record») ≡ true
     go true g =
         let r = emptyRecord (length widths) all in
@@ -73,7 +74,7 @@ module _ (r : Record) (good : goodRecord r ≡ true) where
 
   pub drop-sound : (place : ℕ) (o : Outcome) → o ≡ dropQuery r place → Sound o
   unfolding dropQuery
-  drop-sound place o e = subst Sound (sym e) (kept _ r (withPlace r place noPlace) (λ _. place-kept r place noPlace good (empty-place (schemaOf r))))
+  drop-sound place o e = subst Sound (sym e) (kept (firstHolding (broken r ∷ above place ∷ vacant r place ∷ [])) r (withPlace r place noPlace) (λ _. place-kept r place noPlace good (empty-place (schemaOf r))))
 
   pub put-sound : (place : ℕ) (q : Query) (o : Outcome) → o ≡ putQuery r place q → Sound o
   unfolding putQuery

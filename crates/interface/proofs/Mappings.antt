@@ -129,7 +129,7 @@ image-long : (s : List ℕ) (x : Cell) (rest : List ℕ) → getImage s ≡ got 
 unfolding getImage
 image-long [] x rest e = absurd (not-got e)
 image-long (tag ∷ []) x rest e = absurd (not-got e)
-image-long (tag ∷ n ∷ s) x rest e = 
+image-long (tag ∷ n ∷ s) x rest e =
     let k : length s ≡ length rest = ap length (gotIf-true (isImage tag n) (entryFrom tag n) x s rest e .2) in omega arith
 
 images-long : (n : ℕ) (s : List ℕ) (xs : List Cell) (rest : List ℕ) → getTimes getImage n s ≡ got xs rest → length s ≡ 2 * n + length rest
