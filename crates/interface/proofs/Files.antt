@@ -13,9 +13,8 @@ use Rattle.format.specs.Bytes.{over}
 use Rattle.format.specs.File.{Result, ok, refused, _>>=_, readFile, outcomeOf, fileOf}
 use Rattle.format.proofs.RoundTrip.{parts-of, file-written-back}
 use Rattle.file.proofs.Arrays.{bytes-known}
-use Rattle.file.specs.declared.writer.Written.{Written}
 use Rattle.file.specs.declared.writer.Written.the-variants as written
-use Rattle.interface.specs.Lent.{numberIn, leaves, fitted, Wrote}
+use Rattle.interface.specs.Lent.{numberIn, leaves, Wrote}
 use Rattle.interface.specs.Records.{resultOf, stored, copied}
 
 -- ---- results

@@ -15,8 +15,8 @@ use Rattle.record.specs.declared.Record.{Record}
 use Rattle.record.specs.declared.Answer.the-variants.{Done, Refused}
 use Rattle.record.specs.declared.Outcome.{Outcome}
 use Rattle.record.specs.View.{schemaOf}
-use Rattle.record.specs.Rule.{between, every, goodRelations, goodDependency, goodQuery, headSafe, goodRecord, noPlace, blankRecord}
-use Rattle.record.specs.Calls.{firstHolding, concluded, broken, above, vacant, filled, isFilled, withPlace, withDependency, emptyRecord, openRecord, addDependency, putQuery, dropQuery}
+use Rattle.record.specs.Rule.{goodRelations, goodDependency, goodQuery, headSafe, goodRecord, noPlace, blankRecord}
+use Rattle.record.specs.Calls.{firstHolding, concluded, broken, above, vacant, filled, withPlace, withDependency, emptyRecord, openRecord, addDependency, putQuery, dropQuery}
 use Rattle.record.proofs.Refusals.{none-holds}
 use Rattle.record.proofs.Good.{good-record}
 use Rattle.record.proofs.Kept.{filled-place, empty-place, place-kept, dependency-kept, opened-good}
@@ -24,7 +24,8 @@ use Rattle.record.proofs.Outcomes.{open-unfit, open-done}
 use Rattle.format.specs.File.{Result, ok, refused, _>>=_, readPlace}
 use Rattle.file.specs.declared.PlaceRead.{PlaceRead}
 use Rattle.file.specs.Read.{placeRead}
-use Rattle.interface.specs.Records.{resultOf, Sound, putPart}
+use Rattle.interface.specs.Records.{resultOf, putPart}
+use Rattle.interface.specs.Steps.{Sound}
 
 -- A call that is concluded leaves a good record where it is not refused
 kept : (x : Option ℕ) (given after : Record) → (x ≡ none → goodRecord after ≡ true) → Sound (concluded x given after)

@@ -3,10 +3,9 @@ use mathlib.Core.Path.{_≡_, refl, sym, ap, _∙_}
 use mathlib.Core.Bool.{Bool, true, false}
 use mathlib.Core.List.{List, [], _∷_, _++_, append-nil}
 use Prim.Native.Nat.{ℕ, zero, suc, _+_, _*_, _≤_, _<_}
-use native.Mathlib.Nat.{mul-zero}
-use native.Mathlib.Numerals.{add-one, add-two}
+use native.Mathlib.Numerals.{add-one}
 use native.Mathlib.Omega.{arith}
-use lib.ListN.{length, getD, take, drop, set, replicate, length-replicate, drop-of-length-le}
+use lib.ListN.{length, getD, drop, set, replicate, length-replicate, drop-of-length-le}
 use lib.Seq.{drop-cons, drop-drop}
 use borrow.Author.Tests.{ne-eqb, lt-leb, le-leb}
 use Rattle.record.specs.declared.Entry.{Entry}
@@ -14,7 +13,7 @@ use Rattle.record.specs.declared.Entry.the-variants.{Constant, Variable}
 use Rattle.record.specs.declared.Cell.{Cell}
 use Rattle.record.specs.Rule.{noCell}
 use Rattle.format.specs.Bytes.{over}
-use Rattle.format.specs.Format.{Reading, none, got, gotIf, andThen, mapReading, getTimes, putAll, pad}
+use Rattle.format.specs.Format.{Reading, none, got, gotIf, mapReading, getTimes, putAll, pad}
 use Rattle.format.specs.Parts.{entryFrom}
 use Rattle.format.proofs.Formats.{not-got, gotIf-true, mapReading-got, andThen-got}
 use Rattle.format.proofs.Lengths.{length-putAll}
@@ -22,8 +21,8 @@ use Rattle.file.proofs.Stores.{Writing, writing-starts, writing-room, writing-t
 use Rattle.file.proofs.Filling.{Filling, filling-starts, filling-turns, filling-fails, filling-ends}
 use Rattle.interface.specs.declared.queries.ImageRead.{ImageRead}
 use Rattle.interface.specs.declared.queries.ImageRead.the-variants.{Image, NoImage}
-use Rattle.interface.specs.declared.queries.MappingRead.{MappingRead}
-use Rattle.interface.specs.Queries.{entryWords, wordsOf, isImage, getImage, imagesIn, imageRead, mappingRead}
+use Rattle.interface.specs.Queries.{entryWords, wordsOf, isImage, getImage, imagesIn}
+use Rattle.interface.specs.Steps.{imageRead, mappingRead}
 
 -- ---- writing
 
@@ -36,19 +35,19 @@ entry-long (Constant n) = refl
 entry-long (Variable v) = refl
 
 -- The first i images are written
-abbrev pub Mapped : List ℕ → List Cell → List ℕ → ℕ → Type 0
-Mapped before images words i = Writing cellWords before 0 images words (2 * i) i
+abbrev pub Writing-on : List ℕ → List Cell → List ℕ → ℕ → Type 0
+Writing-on before images words i = Writing cellWords before 0 images words (2 * i) i
 
-pub mapped-starts : (before : List ℕ) (images : List Cell) → length images ≡ 96 → 192 ≤ length before → Mapped before images before 0
+pub mapped-starts : (before : List ℕ) (images : List Cell) → length images ≡ 96 → 192 ≤ length before → Writing-on before images before 0
 mapped-starts before images l h =
     let e : length (putAll cellWords images) ≡ 2 * length images = length-putAll cellWords 2 (λ c. entry-long (c .entry)) images in
     writing-starts cellWords before 0 images (omega arith)
 
-module _ {before : List ℕ} {images : List Cell} {words : List ℕ} {i : ℕ} (w : Mapped before images words i) (l : length images ≡ 96) where
+module _ {before : List ℕ} {images : List Cell} {words : List ℕ} {i : ℕ} (w : Writing-on before images words i) (l : length images ≡ 96) where
   pub mapped-room : i < 96 → 2 * i + 2 ≤ length words
   mapped-room h = omega (arith, writing-room w noCell (omega arith), entry-long (getD images i noCell .entry))
 
-  pub mapped-turns : (next : List ℕ) → i < 96 → next ≡ over words (2 * i) (entryWords (getD images i noCell .entry)) → Mapped before images next (i + 1)
+  pub mapped-turns : (next : List ℕ) → i < 96 → next ≡ over words (2 * i) (entryWords (getD images i noCell .entry)) → Writing-on before images next (i + 1)
   mapped-turns next h e = writing-turns w noCell next (2 * (i + 1)) (omega arith) e (omega (arith, entry-long (getD images i noCell .entry)))
 
   pub mapped-ends : 96 ≤ i → words ≡ over before 0 (wordsOf images)

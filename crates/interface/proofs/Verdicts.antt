@@ -22,7 +22,6 @@ use Rattle.format.specs.Format.{Reading, none, got}
 use Rattle.format.specs.Parts.{query}
 use Rattle.format.specs.File.{Result, ok, refused, _>>=_, placeWith, putPlace, readFile, fileOf}
 use Rattle.format.proofs.Lists.{over-nil}
-use Rattle.file.specs.declared.writer.Written.{Written}
 use Rattle.file.specs.declared.writer.Written.the-variants as written
 use Rattle.mapping.specs.Mapped.{imagesOf}
 use Rattle.comparison.specs.declared.Checked.{Checked}
@@ -41,9 +40,10 @@ use Rattle.theory.specs.Determined.{subset}
 use Rattle.theory.specs.Answer as answer
 use Rattle.theory.proofs.Chase.{chase-chases}
 use Rattle.theory.proofs.Determined.{subset-true, subset-of}
-use Rattle.interface.specs.Lent.{numberIn, leaves}
-use Rattle.interface.specs.Queries.{wordsOf, imagesIn, mappingRead, reductionFits, ReductionGiven, Reducing, ReduceGives, SoundReduction, verdictBytes, verdictFits, comparisonFits, SoundComparison, ComparisonGiven, Comparing, CompareGives, WordsMap, CheckGiven, CheckGives}
-use Rattle.interface.specs.declared.queries.MappingRead.{MappingRead}
+use Rattle.interface.specs.Lent.{leaves}
+use Rattle.interface.specs.Queries.{wordsOf, imagesIn, reductionFits, ReductionGiven, Reducing, ReduceGives, verdictFits, comparisonFits, ComparisonGiven, Comparing, CompareGives, CheckGiven, CheckGives}
+use Rattle.interface.specs.Steps.{mappingRead, SoundReduction, SoundComparison}
+use Rattle.mapping.specs.declared.Mapped.{Mapped}
 
 -- ---- what a comparison leaves
 
@@ -178,14 +178,14 @@ reduced-sound r source target o is done = go (reductionRefusal r source target) 
 -- ---- checking a mapping
 
 -- Words that were read as a mapping
-read-yes : (x : Reading (List Cell)) (m : MappingRead) → m ≡ mappingRead x → m .good ≡ true → x ≡ got (m .images) []
+read-yes : (x : Reading (List Cell)) (m : Mapped) → m ≡ mappingRead x → m .found ≡ true → x ≡ got (m .images) []
 read-yes none m e g = let z : _≡_ {A = ℕ} 0 1 = cc in absurd (omega arith)
 read-yes (got images []) m e g = cc
 read-yes (got images (w ∷ ws)) m e g = let z : _≡_ {A = ℕ} 0 1 = cc in absurd (omega arith)
 
-module _ (r : Record) (p q : ℕ) (words : List ℕ) (m : MappingRead) (e : m ≡ mappingRead (imagesIn words)) where
-  mapped-words : (images : List Cell) → imagesIn words ≡ got images [] → (m .good ≡ true) × (m .images ≡ images)
-  mapped-words images i = let k : m ≡ mappingRead (got images []) = e ∙ ap mappingRead i in (ap (λ (x : MappingRead). x .good) k, ap (λ (x : MappingRead). x .images) k)
+module _ (r : Record) (p q : ℕ) (words : List ℕ) (m : Mapped) (e : m ≡ mappingRead (imagesIn words)) where
+  mapped-words : (images : List Cell) → imagesIn words ≡ got images [] → (m .found ≡ true) × (m .images ≡ images)
+  mapped-words images i = let k : m ≡ mappingRead (got images []) = e ∙ ap mappingRead i in (ap (λ (x : Mapped). x .found) k, ap (λ (x : Mapped). x .images) k)
 
   module _ (c : Checked) (is : CheckedMapping r p q (m .images) c) (said : ℕ) where
     pub check-refused : (n : ℕ) → c ≡ checked.Refused n → CheckGiven (pairRefusal r p q) r p q words said n said
@@ -197,7 +197,7 @@ module _ (r : Record) (p q : ℕ) (words : List ℕ) (m : MappingRead) (e : m �
             ⊎-elim (λ h. let k′ = h .0 in let z : _≡_ {A = ℕ} 0 1 = cc in absurd (omega arith))
             (λ h. let k′ = h .0 in let z : _≡_ {A = ℕ} 0 1 = cc in absurd (omega arith)) (is .decided a)
 
-    pub check-yes : c ≡ checked.Yes → m .good ≡ true → CheckGiven (pairRefusal r p q) r p q words said 0 1
+    pub check-yes : c ≡ checked.Yes → m .found ≡ true → CheckGiven (pairRefusal r p q) r p q words said 0 1
     check-yes k g = go (pairRefusal r p q) refl
       where
         go : (x : Option ℕ) → pairRefusal r p q ≡ x → CheckGiven x r p q words said 0 1
@@ -206,7 +206,7 @@ module _ (r : Record) (p q : ℕ) (words : List ℕ) (m : MappingRead) (e : m �
             ⊎-elim (λ h. (refl, inl (refl, (m .images, read-yes (imagesIn words) m e g, h .1))))
             (λ h. let k′ = h .0 in let z : _≡_ {A = ℕ} 0 1 = cc in absurd (omega arith)) (is .decided a)
 
-    pub check-bad : c ≡ checked.Yes → m .good ≡ false → CheckGiven (pairRefusal r p q) r p q words said 0 0
+    pub check-bad : c ≡ checked.Yes → m .found ≡ false → CheckGiven (pairRefusal r p q) r p q words said 0 0
     check-bad k g = go (pairRefusal r p q) refl
       where
         go : (x : Option ℕ) → pairRefusal r p q ≡ x → CheckGiven x r p q words said 0 0

@@ -10,7 +10,8 @@ ghost use lib.ListN.{length};
 ghost use Rattle.record.specs.Rule.{goodRecord};
 ghost use Rattle.format.specs.File.{refused, fileOf};
 ghost use Rattle.interface.specs.Lent.{fitted, Wrote};
-ghost use Rattle.interface.specs.Records.{resultOf, stored, Sound, putPart};
+ghost use Rattle.interface.specs.Records.{resultOf, stored, putPart};
+ghost use Rattle.interface.specs.Steps.{Sound};
 
 // Writes the file of a record into the buffer and its length into the number.
 pub fn store(given: Record, out: &mut [u8], size: &mut usize) -> u8
