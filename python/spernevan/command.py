@@ -11,6 +11,7 @@ import argparse
 import json
 import os
 import sys
+import textwrap
 from typing import Callable, Dict, List, Optional, Sequence, Tuple
 
 from .engine import EngineMissing, Refused
@@ -57,12 +58,17 @@ def read_text(path: str) -> str:
         raise Failure(f"{path}:{line}:{column}: this byte is not UTF-8 text") from None
 
 
+def read_record(path: str) -> Record:
+    """The record of an archive file."""
+    try:
+        return Record.read(path)
+    except Refused as refused:
+        raise Failure(f"{path}: {refused}") from None
+
+
 def load(options: argparse.Namespace) -> Tuple[Record, Names]:
     """The record of an archive file, and its names."""
-    try:
-        record = Record.read(options.file)
-    except Refused as refused:
-        raise Failure(f"{options.file}: {refused}") from None
+    record = read_record(options.file)
     path = options.names or names_path(options.file)
     if options.plain or not (options.names or os.path.exists(path)):
         return record, Names.default(record.widths)
@@ -101,11 +107,16 @@ def mapping_json(mapping: Optional[dict], source: Dict[int, str], target: Dict[i
     return {format_entry(Variable(v), source): entry_json(entry, target) for v, entry in sorted(mapping.items())}
 
 
-def set_rule(query: Query, names: Names, variables: Dict[int, str], indent: str) -> str:
+def set_rule(query: Query, names: Names, variables: Dict[int, str]) -> str:
     """A rule with a row to a line, the rows below each other."""
-    one_line = format_query(query, names, variables)
-    column = " " * (one_line.index(":- ") + 3)
-    return indent + format_query(query, names, variables, between=f"\n{indent}{column}")
+    head = format_query(query, names, variables).index(":- ") + 3
+    return "    " + format_query(query, names, variables, between="\n    " + " " * head)
+
+
+def set_mapping(text: str) -> str:
+    """A mapping in lines that fit a page."""
+    held = (text or "no variables").replace(" -> ", "\xa0->\xa0")
+    return textwrap.fill(held, 76, initial_indent="    ", subsequent_indent="    ").replace("\xa0", " ")
 
 
 def set_tables(rows: Sequence[Tuple[int, Tuple[int, ...]]], names: Names) -> List[str]:
@@ -143,15 +154,15 @@ def list_command(options: argparse.Namespace) -> None:
             }
         )
         if not options.json:
-            kept = "never" if short.result.is_never else count(len(short.result.rows), "row")
             print(f"Place {place}")
-            print(f"  long form, {count(len(query.rows), 'row') if query.rows else 'never'}:")
-            print(set_rule(query, names, variables, "    "))
-            print(f"  short form, {kept}:")
-            print(set_rule(short.result, names, variables, "    "))
+            print(f"  Long form, {count(len(query.rows), 'row')}:")
+            print(set_rule(query, names, variables))
+            print(f"  Short form, {count(len(short.result.rows), 'row')}:")
+            print(set_rule(short.result, names, variables))
             if short.mapping is not None:
-                print(f"  mapping: {format_mapping(short.mapping, variables, variables) or 'no variables'}")
-            print(f"  replaced: {count(short.replaced, 'variable')}")
+                print("  Mapping from the long form to the short:")
+                print(set_mapping(format_mapping(short.mapping, variables, variables)))
+            print(f"  Replaced by the dependencies: {count(short.replaced, 'variable')}")
             print()
     if options.json:
         print(json.dumps(found, indent=2))
@@ -174,17 +185,16 @@ def compare_command(options: argparse.Namespace) -> None:
         }
         print(json.dumps(shown, indent=2))
     elif example is None:
-        print(f"contained: each answer of place {p} is an answer of place {q},")
-        print("on every database that obeys the dependencies.")
+        print(f"Contained: on every database that obeys the dependencies, each answer of place {p} is one of place {q}.")
         if compared.mapping is None:
             print(f"The dependencies leave place {p} without an answer.")
         else:
             print(f"Mapping from place {q} to the chased form of place {p}:")
-            print(f"  {format_mapping(compared.mapping, of_q, of_p) or 'no variables'}")
+            print(set_mapping(format_mapping(compared.mapping, of_q, of_p)))
     else:
-        print("not contained: this database obeys the dependencies:")
+        print("Not contained. This database obeys the dependencies:")
         print("\n".join(set_tables(example[0], names)))
-        print(f"  {format_row('ans', example[1])} is an answer of place {p} there, and not of place {q}.")
+        print(f"There {format_row('ans', example[1])} is an answer of place {p} and not of place {q}.")
 
 
 def evaluate_command(options: argparse.Namespace) -> None:
@@ -201,10 +211,10 @@ def test_command(options: argparse.Namespace) -> None:
     rows = read_data(read_text(options.data), names, options.data)
     broken = record.test((row.relation, row.values) for row in rows)
     if broken is None:
-        print(f"obeys: {count(len(rows), 'row')}, {count(len(record.dependencies), 'dependency')}")
+        print(f"Obeys: {count(len(rows), 'row')}, {count(len(record.dependencies), 'dependency')}")
         return
     dependency = format_dependency(record.dependencies[broken.dependency], names)
-    print(f"breaks {dependency} (dependency {broken.dependency}):")
+    print(f"Breaks {dependency} (dependency {broken.dependency}):")
     for position in (broken.first, broken.second):
         row = rows[position]
         print(f"  {options.data}:{row.line}: {format_row(names.tables[row.relation].name, row.values)} (row {position})")
@@ -212,8 +222,15 @@ def test_command(options: argparse.Namespace) -> None:
 
 def determined_command(options: argparse.Namespace) -> None:
     record, names = load(options)
-    relation = names.relation(Reader(options.table, "TABLE"))
-    left = [names.column(relation, Reader(column, "COLUMN")) for column in options.column]
+
+    def one(text: str, take: Callable[[Reader], int]) -> int:
+        reader = Reader(text, "arguments")
+        found = take(reader)
+        reader.take("end", "one name")
+        return found
+
+    relation = one(options.table, names.relation)
+    left = [one(column, lambda reader: names.column(relation, reader)) for column in options.column]
     columns = sorted(record.determined(relation, left))
     print(
         f"{names.tables[relation].name}: {format_columns(relation, sorted(set(left)), names)} determines "
@@ -287,6 +304,12 @@ def usage() -> argparse.ArgumentParser:
     return parser
 
 
+def asked(options: argparse.Namespace) -> str:
+    """The places that the command line names."""
+    places = [str(vars(options)[name]) for name in ("p", "q", "place") if name in options]
+    return f": place {' and '.join(places)}" if places else ""
+
+
 def main(arguments: Optional[Sequence[str]] = None) -> int:
     """Runs the command; returns its status."""
     for stream in (sys.stdout, sys.stderr):
@@ -298,7 +321,10 @@ def main(arguments: Optional[Sequence[str]] = None) -> int:
         sys.stdout.flush()
     except BrokenPipeError:
         os.dup2(os.open(os.devnull, os.O_WRONLY), sys.stdout.fileno())
-    except (Failure, EngineMissing, Refused, ValueError) as error:
+    except Refused as refused:
+        print(f"spernevan: {options.file}{asked(options)}: {refused}", file=sys.stderr)
+        return 1
+    except (Failure, EngineMissing, ValueError) as error:
         print(f"spernevan: {error}", file=sys.stderr)
         return 1
     except OSError as error:

@@ -228,6 +228,6 @@ def test(file: bytes, words: array) -> Optional[Tuple[int, int, int]]:
 
 def evaluate(file: bytes, place: int, words: array, room: int) -> Tuple[int, array]:
     """How many answers there are, and a buffer of `room` words that begins with them."""
-    answers, count = array("I", bytes(4 * whole("the room for answers", room, 2**40))), ctypes.c_size_t()
+    answers, count = array("I", [0]) * whole("the room for answers", room, 2**40), ctypes.c_size_t()
     _call("evaluate", *_slice(file), _place(place), *_words(words), *_words(answers), ctypes.byref(count))
     return count.value, answers

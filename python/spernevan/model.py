@@ -9,7 +9,9 @@ from __future__ import annotations
 import operator
 import struct
 from dataclasses import dataclass
-from typing import Dict, FrozenSet, Iterable, List, Optional, Sequence, Tuple, Union
+from typing import Dict, FrozenSet, Iterable, List, Optional, Sequence, Tuple, TypeVar, Union
+
+T = TypeVar("T")
 
 BYTE = 2**8 - 1
 WORD = 2**32 - 1
@@ -39,6 +41,14 @@ def whole(what: str, value: object, top: Optional[int] = None) -> int:
     shown = str(number) if number.bit_length() <= 128 else f"a number of {number.bit_length()} bits"
     span = "0 or more" if top is None else f"from 0 to {top}"
     raise ValueError(f"{what} must be {span}, not {shown}")
+
+
+def items(what: str, value: Iterable[T]) -> Tuple[T, ...]:
+    """What `value` holds; ValueError if it holds nothing one after another."""
+    try:
+        return tuple(value)
+    except TypeError:
+        raise ValueError(f"{what} must be a list, not {value!r:.40}") from None
 
 
 @dataclass(frozen=True)
@@ -75,10 +85,7 @@ Mapping = Dict[int, Entry]
 
 def _entries(what: str, entries: Iterable[Entry]) -> Tuple[Entry, ...]:
     """`entries` as a tuple, each a Constant or a Variable."""
-    try:
-        held = tuple(entries)
-    except TypeError:
-        raise ValueError(f"{what} must be entries, not {entries!r:.40}") from None
+    held = items(what, entries)
     for entry in held:
         if not isinstance(entry, (Constant, Variable)):
             raise ValueError(f"{what} must hold Constant or Variable, not {entry!r:.40}")
@@ -107,7 +114,7 @@ class Query:
 
     def __post_init__(self) -> None:
         object.__setattr__(self, "head", _entries("a head", self.head))
-        object.__setattr__(self, "rows", tuple(self.rows))
+        object.__setattr__(self, "rows", items("a query's rows", self.rows))
         for row in self.rows:
             if not isinstance(row, Row):
                 raise ValueError(f"a query's rows must be Row, not {row!r:.40}")
@@ -151,12 +158,8 @@ class Dependency:
 
 def mask_of(columns: Iterable[int]) -> int:
     """The byte that stands for a set of columns, bit c for column c."""
-    try:
-        held = list(columns)
-    except TypeError:
-        raise ValueError(f"a set of columns must be whole numbers, not {columns!r:.40}") from None
     mask = 0
-    for column in held:
+    for column in items("a set of columns", columns):
         mask |= 1 << whole("a column", column, MOST_COLUMNS - 1)
     return mask
 

@@ -22,11 +22,12 @@ from .model import (
     Mapping,
     Query,
     Variable,
+    columns_of,
     decode_file,
     decode_query,
     encode_query,
+    items,
     mask_of,
-    columns_of,
     whole,
 )
 
@@ -108,7 +109,7 @@ class Record:
     @classmethod
     def open(cls, widths: Iterable[int]) -> Record:
         """A record of relations of these widths, with no dependency and every place vacant."""
-        return cls._of(engine.open_record(bytes(whole("a width", width, BYTE) for width in widths)))
+        return cls._of(engine.open_record(bytes(whole("a width", width, BYTE) for width in items("widths", widths))))
 
     @classmethod
     def read(cls, path: Union[str, PathLike]) -> Record:
@@ -231,15 +232,22 @@ class Record:
         if isinstance(database, array):
             return database
         words = array("I")
-        for position, (relation, values) in enumerate(database):
-            whole(f"the relation of row {position}", relation, WORD)
+        for position, row in enumerate(items("a database", database)):
+            pair = items(f"row {position}", row)
+            if len(pair) != 2:
+                raise ValueError(f"row {position} must be a relation and its values, not {row!r:.40}")
+            relation, values = pair[0], items(f"the values of row {position}", pair[1])
+            try:
+                words.fromlist([relation, *values])
+            except (TypeError, OverflowError):
+                for value in (relation, *values):
+                    whole(f"each number of row {position}", value, WORD)
+                raise
             if relation < len(self.widths) and len(values) != self.widths[relation]:
                 raise ValueError(
                     f"row {position} has {len(values)} values, "
                     f"relation {relation} has {self.widths[relation]} columns"
                 )
-            words.append(relation)
-            words.extend(whole(f"a value of row {position}", value, WORD) for value in values)
         return words
 
 
@@ -250,8 +258,10 @@ def _mapping(words: Sequence[int], query: Query) -> Mapping:
 
 def _mapping_words(mapping: Mapping) -> array:
     """The words of a mapping."""
-    words = array("I", bytes(8 * VARIABLES))
-    for variable, entry in dict(mapping).items():
+    words = array("I", [0]) * (2 * VARIABLES)
+    if not isinstance(mapping, dict):
+        raise ValueError(f"a mapping must be a dict from variables to entries, not {mapping!r:.40}")
+    for variable, entry in mapping.items():
         at = 2 * whole("a mapping's variable", variable, VARIABLES - 1)
         if not isinstance(entry, (Constant, Variable)):
             raise ValueError(f"a mapping must lead to Constant or Variable, not {entry!r:.40}")
