@@ -185,7 +185,8 @@ def compare_command(options: argparse.Namespace) -> None:
         }
         print(json.dumps(shown, indent=2))
     elif example is None:
-        print(f"Contained: on every database that obeys the dependencies, each answer of place {p} is one of place {q}.")
+        print("Contained: on every database that obeys the dependencies,")
+        print(f"each answer of place {p} is an answer of place {q}.")
         if compared.mapping is None:
             print(f"The dependencies leave place {p} without an answer.")
         else:
@@ -217,7 +218,8 @@ def test_command(options: argparse.Namespace) -> None:
     print(f"Breaks {dependency} (dependency {broken.dependency}):")
     for position in (broken.first, broken.second):
         row = rows[position]
-        print(f"  {options.data}:{row.line}: {format_row(names.tables[row.relation].name, row.values)} (row {position})")
+        text = format_row(names.tables[row.relation].name, row.values)
+        print(f"  {options.data}:{row.line}: {text} (row {position})")
 
 
 def determined_command(options: argparse.Namespace) -> None:

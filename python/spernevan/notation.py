@@ -16,7 +16,7 @@ from __future__ import annotations
 
 import re
 from dataclasses import dataclass, field
-from typing import Callable, Dict, List, NamedTuple, Optional, Sequence, Tuple, TypeVar
+from typing import Callable, Dict, Iterator, List, NamedTuple, Optional, Sequence, Tuple, TypeVar
 
 from .model import (
     LARGEST_CONSTANT,
@@ -66,36 +66,37 @@ class NotationError(ValueError):
 _PATTERN = re.compile(
     r"(?P<space>[^\S\n]+|#[^\n]*)|(?P<newline>\n)|(?P<sign>:-|->|[(),:])|(?P<number>[0-9]+)|(?P<name>[^\W\d]\w*)"
 )
-_OPEN = {",", "(", ":", ":-", "->"}
-_NUMBERED = re.compile(r"v[0-9]+", re.ASCII)
+_GOES_ON = {"newline", ",", "(", ":", ":-", "->"}
+_NUMBERED = re.compile(r"v[0-9]+")
 
 
 class Reader:
-    """The tokens of a text, taken one after another."""
+    """The tokens of a text, taken one after another; `next` and `then` are the two that come."""
 
     def __init__(self, text: str, source: str) -> None:
         self.source = source
-        self.tokens: List[Token] = []
-        self.at = 0
-        position, line, start = 0, 1, 0
+        self._tokens = self._scan(text)
+        self.next = next(self._tokens)
+        self.then = next(self._tokens, self.next)
+
+    def _scan(self, text: str) -> Iterator[Token]:
+        """The tokens; a newline is one only where a statement may end, and "end" is the last."""
+        position, line, start, last = 0, 1, 0, "newline"
         while position < len(text):
             found = _PATTERN.match(text, position)
             column = position - start + 1
             if found is None:
-                raise NotationError(source, line, column, f"{text[position]!r} has no meaning here")
+                raise NotationError(self.source, line, column, f"{text[position]!r} has no meaning here")
             kind, word = str(found.lastgroup), found.group()
             position = found.end()
+            if kind == "sign":
+                kind = word
+            if kind != "space" and (kind != "newline" or last not in _GOES_ON):
+                yield Token(kind, word, line, column)
+                last = kind
             if kind == "newline":
-                if self.tokens and self.tokens[-1].kind not in _OPEN | {"newline"}:
-                    self.tokens.append(Token("newline", word, line, column))
                 line, start = line + 1, position
-            elif kind != "space":
-                self.tokens.append(Token(word if kind == "sign" else kind, word, line, column))
-        self.tokens.append(Token("end", "", line, position - start + 1))
-
-    @property
-    def next(self) -> Token:
-        return self.tokens[self.at]
+        yield Token("end", "", line, position - start + 1)
 
     def error(self, token: Token, message: str) -> NotationError:
         return NotationError(self.source, token.line, token.column, message)
@@ -106,7 +107,7 @@ class Reader:
         if token.kind != kind:
             found = {"newline": "the end of the line", "end": "the end"}.get(token.kind, repr(token.text)[:40])
             raise self.error(token, f"{what or repr(kind)} was expected, not {found}")
-        self.at += 1
+        self.next, self.then = self.then, next(self._tokens, self.then)
         return token
 
     def try_take(self, kind: str) -> Optional[Token]:

@@ -53,9 +53,9 @@ def pack(text: str, source: str = "text") -> Tuple[Record, Names]:
             queries[place] = start, query
         elif start.text == "ans":
             raise reader.error(start, "a saved query has its place before it, as in 0: ans(..")
-        elif start.kind == "name" and reader.tokens[reader.at + 1].kind == ":":
+        elif start.kind == "name" and reader.then.kind == ":":
             dependencies.append((start, read_dependency(reader, names)))
-        elif start.kind == "name" and reader.tokens[reader.at + 1].kind == "(":
+        elif start.kind == "name" and reader.then.kind == "(":
             tables.append(read_table(reader, tables))
         else:
             raise reader.error(start, f"a table(, a table: or a place: was expected, not {start.text!r:.40}")
@@ -93,7 +93,8 @@ def _rule(record: Record, place: int, names: Names) -> str:
     """A saved query as a rule: under the names of its variables if it is read back with the same numbers."""
     query = record.queries[place]
     assert query is not None
-    named = format_query(query, names, names.variables.get(place))
-    if parse_query(named, names) == query:
-        return named
-    return format_query(query, names)
+    variables = names.variables.get(place)
+    if parse_query(format_query(query, names, variables), names) != query:
+        variables = None
+    rule = format_query(query, names, variables)
+    return rule if len(rule) <= 96 else format_query(query, names, variables, between="\n    ")

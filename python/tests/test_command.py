@@ -105,7 +105,8 @@ class Sample(Command):
     def test_compare(self):
         self.assertEqual(
             self.done("compare", FLIGHTS, 0, 5),
-            "Contained: on every database that obeys the dependencies, each answer of place 0 is one of place 5.\n"
+            "Contained: on every database that obeys the dependencies,\n"
+            "each answer of place 0 is an answer of place 5.\n"
             "Mapping from place 5 to the chased form of place 0:\n"
             "    f -> f, h -> h, v2 -> s, v3 -> t\n",
         )
@@ -176,7 +177,8 @@ class Messages(Command):
     def test_archive_files(self):
         self.failed("nowhere.file: No such file", "list", "nowhere.file")
         self.failed(f"{self.folder}: Is a directory", "list", self.folder)
-        for number, data in [(1, b""), (2, b"\2\0\1\0\1\0\2\0\1\0"), (5, Path(EXAMPLE).read_bytes().replace(b"\3\2", b"\3\15"))]:
+        thirteen = Path(EXAMPLE).read_bytes().replace(b"\3\2", b"\3\15")
+        for number, data in [(1, b""), (2, b"\2\0\1\0\1\0\2\0\1\0"), (5, thirteen)]:
             bad = self.write("bad.file", data)
             for command in (["list", bad], ["unpack", bad], ["compare", bad, 0, 0], ["test", bad, DATA]):
                 self.failed(f"{bad}: refused {number}: ", *command)
@@ -237,9 +239,9 @@ class Messages(Command):
 
     def test_usage(self):
         for arguments in (
-            [], ["shorten"], ["list"], ["list", FLIGHTS, FLIGHTS], ["compare", FLIGHTS, 0], ["compare", FLIGHTS, 0, "x"],
-            ["compare", FLIGHTS, 0, -1], ["compare", FLIGHTS, 0, "\u0663"], ["evaluate", FLIGHTS, "", DATA],
-            ["determined", FLIGHTS, "burst"], ["pack", "a"], ["list", "--yaml", FLIGHTS],
+            [], ["shorten"], ["list"], ["list", FLIGHTS, FLIGHTS], ["list", "--yaml", FLIGHTS], ["pack", "a"],
+            ["compare", FLIGHTS, 0], ["compare", FLIGHTS, 0, "x"], ["compare", FLIGHTS, 0, -1],
+            ["compare", FLIGHTS, 0, "\u0663"], ["evaluate", FLIGHTS, "", DATA], ["determined", FLIGHTS, "burst"],
         ):
             status, out, err = run(*arguments)
             self.assertEqual((status, out), (2, ""), arguments)
@@ -267,7 +269,8 @@ class Messages(Command):
         for arguments in (["unpack", EXAMPLE], ["list", "--names", names, EXAMPLE]):
             done = subprocess.run([*module, *arguments], capture_output=True, env=environment)
             self.assertEqual((done.returncode, done.stderr), (0, b""))
-        pipe = subprocess.Popen([*module, "list", FLIGHTS], stdout=subprocess.PIPE, stderr=subprocess.PIPE, env=environment)
+        both = {"stdout": subprocess.PIPE, "stderr": subprocess.PIPE}
+        pipe = subprocess.Popen([*module, "list", FLIGHTS], env=environment, **both)
         pipe.stdout.close()
         self.assertEqual(pipe.stderr.read(), b"")
         pipe.stderr.close()
