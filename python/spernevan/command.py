@@ -15,7 +15,7 @@ import textwrap
 from typing import Callable, Dict, List, Optional, Sequence, Tuple
 
 from .engine import EngineMissing, Refused
-from .model import Entry, Query, Variable
+from .model import FROZEN, Entry, Query, Variable
 from .notation import (
     Names,
     Reader,
@@ -30,7 +30,7 @@ from .notation import (
     read_data,
     read_names,
 )
-from .record import Record
+from .record import Record, Reduction
 from .text import pack, unpack
 
 
@@ -138,36 +138,42 @@ def set_tables(rows: Sequence[Tuple[int, Tuple[int, ...]]], names: Names) -> Lis
 
 def list_command(options: argparse.Namespace) -> None:
     record, names = load(options)
-    found = []
-    for place, query in enumerate(record.queries):
-        if query is None:
-            continue
-        short = record.shorten(place)
-        variables = names.variables.get(place, {})
-        found.append(
-            {
-                "place": place,
-                "long": query_json(query, names, variables),
-                "short": query_json(short.result, names, variables),
-                "mapping": mapping_json(short.mapping, variables, variables),
-                "replaced": short.replaced,
-            }
-        )
-        if not options.json:
-            print(f"Place {place}")
-            print(f"  Long form, {count(len(query.rows), 'row')}:")
-            print(set_rule(query, names, variables))
-            print(f"  Short form, {count(len(short.result.rows), 'row')}:")
-            print(set_rule(short.result, names, variables))
-            if short.mapping is not None:
-                print("  Mapping from the long form to the short:")
-                print(set_mapping(format_mapping(short.mapping, variables, variables)))
-            print(f"  Replaced by the dependencies: {count(short.replaced, 'variable')}")
-            print()
+    found = [(place, query, record.shorten(place)) for place, query in enumerate(record.queries) if query is not None]
     if options.json:
-        print(json.dumps(found, indent=2))
-    elif not found:
+        print(json.dumps([listed_json(*one, names) for one in found], indent=2))
+    elif found:
+        print("\n\n".join(listed(*one, names) for one in found))
+    else:
         print("Every place is vacant.")
+
+
+def listed(place: int, query: Query, short: Reduction, names: Names) -> str:
+    """A saved query and its reduction, for people."""
+    variables = names.variables.get(place, {})
+    lines = [
+        f"Place {place}",
+        f"  Long form, {count(len(query.rows), 'row')}:",
+        set_rule(query, names, variables),
+        f"  Short form, {count(len(short.result.rows), 'row')}:",
+        set_rule(short.result, names, variables),
+    ]
+    if short.mapping is not None:
+        lines.append("  Mapping from the long form to the short:")
+        lines.append(set_mapping(format_mapping(short.mapping, variables, variables)))
+    lines.append(f"  Replaced by the dependencies: {count(short.replaced, 'variable')}")
+    return "\n".join(lines)
+
+
+def listed_json(place: int, query: Query, short: Reduction, names: Names) -> dict:
+    """A saved query and its reduction, for programs."""
+    variables = names.variables.get(place, {})
+    return {
+        "place": place,
+        "long": query_json(query, names, variables),
+        "short": query_json(short.result, names, variables),
+        "mapping": mapping_json(short.mapping, variables, variables),
+        "replaced": short.replaced,
+    }
 
 
 def compare_command(options: argparse.Namespace) -> None:
@@ -196,6 +202,7 @@ def compare_command(options: argparse.Namespace) -> None:
         print("Not contained. This database obeys the dependencies:")
         print("\n".join(set_tables(example[0], names)))
         print(f"There {format_row('ans', example[1])} is an answer of place {p} and not of place {q}.")
+        print(f"A number from {FROZEN} on stands for a variable of place {p}.")
 
 
 def evaluate_command(options: argparse.Namespace) -> None:

@@ -221,7 +221,7 @@ class Record:
             except engine.Refused as refused:
                 if refused.number != 10 or room is not None:
                     raise
-                size *= 16
+                size *= 4
         query = self.queries[place]
         assert query is not None
         length = query.head_length

@@ -67,7 +67,7 @@ class Sample(Command):
             "    ans(v0, 7, v2) :- R0(v0, 7, v2)\n"
             "  Mapping from the long form to the short:\n"
             "    v0 -> v0, v1 -> 7, v2 -> v2, v3 -> v2\n"
-            "  Replaced by the dependencies: 1 variable\n\n",
+            "  Replaced by the dependencies: 1 variable\n",
         )
 
     def test_list_flights(self):
@@ -119,7 +119,8 @@ class Sample(Command):
             "  burst\n"
             "        flight      height\n"
             "    2147483648  2147483649\n"
-            "There ans(2147483648, 2147483649) is an answer of place 5 and not of place 0.\n",
+            "There ans(2147483648, 2147483649) is an answer of place 5 and not of place 0.\n"
+            "A number from 2147483648 on stands for a variable of place 5.\n",
         )
         self.assertIn("The dependencies leave place 3 without an answer.", self.done("compare", FLIGHTS, 3, 3))
         found = json.loads(self.done("compare", "--json", FLIGHTS, 5, 0))
