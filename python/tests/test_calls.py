@@ -3,6 +3,7 @@
 import ctypes
 import random
 import re
+import subprocess
 import tempfile
 import threading
 import unittest
@@ -385,6 +386,35 @@ class Random(Calls):
         self.assertIsNone(record.test([]))
         self.assertIsNone(record.test(array("I")))
         self.assertEqual(record.evaluate(0, []), [])
+
+
+class Listing(Calls):
+    """What the calls give is what the listing program writes."""
+
+    def listed(self, record):
+        lines = []
+        for place, query in enumerate(record.queries):
+            if query is None:
+                continue
+            got = record.shorten(place)
+            if got.result.is_never:
+                lines.append(f"place {place} rows {len(query.rows)} never replaced {got.replaced}")
+                continue
+            lines.append(f"place {place} rows {len(query.rows)} kept {len(got.result.rows)} replaced {got.replaced}")
+            lines.append(" ".join(["head", *map(str, got.result.head)]))
+            lines += [" ".join(["row", str(row.relation), *map(str, row.entries)]) for row in got.result.rows]
+            lines.append(" ".join(["map", *(f"v{n}={entry}" for n, entry in sorted(got.mapping.items()))]))
+        return "".join(f"{line}\n" for line in lines)
+
+    def test_listing(self):
+        program = context.ROOT / "target" / "bin" / "listing"
+        if not program.exists():
+            self.skipTest("target/bin/listing is not there; rt check listing makes it")
+        rng = random.Random(11)
+        for _ in range(40):
+            record = random_record(rng, 4, 3, 4, most_rows=7, most_head=3)
+            done = subprocess.run([program], input=record.file, capture_output=True)
+            self.assertEqual(done.stdout.decode(), self.listed(record))
 
 
 class Header(unittest.TestCase):
