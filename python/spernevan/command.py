@@ -261,7 +261,7 @@ def pack_command(options: argparse.Namespace) -> None:
 
 def unpack_command(options: argparse.Namespace) -> None:
     record, names = load(options)
-    sys.stdout.write(unpack(record, names))
+    print(unpack(record, names), end="")
 
 
 # ---- usage
@@ -326,6 +326,8 @@ def main(arguments: Optional[Sequence[str]] = None) -> int:
             stream.reconfigure(errors="backslashreplace")
     options = usage().parse_args(arguments)
     try:
+        if sys.stdout is None:
+            raise Failure("standard output is closed")
         options.run(options)
         sys.stdout.flush()
     except BrokenPipeError:

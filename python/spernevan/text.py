@@ -97,4 +97,6 @@ def _rule(record: Record, place: int, names: Names) -> str:
     if parse_query(format_query(query, names, variables), names) != query:
         variables = None
     rule = format_query(query, names, variables)
-    return rule if len(rule) <= 96 else format_query(query, names, variables, between="\n    ")
+    if len(rule) <= 96:
+        return rule
+    return format_query(query, names, variables, between="\n    ").replace(":- ", ":-\n    ", 1)
