@@ -213,7 +213,7 @@ class Record:
         `room` is how many words the answers may take; without it there is room for all of them.
         """
         words = self._words(database)
-        size = whole("the room for answers", 4096 if room is None else room)
+        size = max(4096, 2 * len(words)) if room is None else room
         while True:
             try:
                 count, answers = engine.evaluate(self.file, place, words, size)

@@ -380,6 +380,12 @@ class Random(Calls):
         thread.join()
         self.assertEqual(found, [want])
 
+    def test_more_answers_than_rows(self):
+        record = Record.open([1])
+        record = record.put(0, rule(record, "ans(x, y) :- R0(x), R0(y)"))
+        want = [(x, y) for x in range(80) for y in range(80)]
+        self.assertEqual(record.evaluate(0, [(0, (n,)) for n in range(80)]), want)
+
     def test_no_rows(self):
         record = Record.open([1]).add(0, [0], 0)
         record = record.put(0, rule(record, "ans(x) :- R0(x)"))
