@@ -560,7 +560,7 @@ fn no_place_read(number: u8) -> PlaceRead
 }
 
 // A query part: a vacant place, or a query whose head is safe. The last one is not vacant.
-fn read_place(part: &[u8], last: bool, count: u8, widths: [u8; 8]) -> PlaceRead
+pub fn read_place(part: &[u8], last: bool, count: u8, widths: [u8; 8]) -> PlaceRead
     requires { ⌜ goodRelations count widths ≡ true ⌝ }
     ensures { λ r. ⌜ r ≡ placeRead (readPlace (take count widths) last (now (part .entry))) ⌝ }
 {

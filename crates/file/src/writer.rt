@@ -163,7 +163,7 @@ fn put_query(buffer: &mut [u8], at: usize, q: Query, count: u8, widths: [u8; 8])
 }
 
 // The part of a place at a position: 255 alone if it is vacant, else its query. Returns the position after it.
-fn put_place(buffer: &mut [u8], at: usize, place: Place, count: u8, widths: [u8; 8]) -> usize
+pub fn put_place(buffer: &mut [u8], at: usize, place: Place, count: u8, widths: [u8; 8]) -> usize
     requires { ⌜ goodRelations count widths ≡ true ⌝ }
     requires { ⌜ goodPlace (take count widths) place ≡ true ⌝ }
     requires { ⌜ at + length (putPlace (take count widths) place) ≤ length (now buffer) ⌝ }
@@ -195,7 +195,7 @@ fn rows_length(size: usize, named: [u8; 12], count: u8, widths: [u8; 8]) -> usiz
 }
 
 // How long the part of a place is.
-fn place_length(place: Place, count: u8, widths: [u8; 8]) -> usize
+pub fn place_length(place: Place, count: u8, widths: [u8; 8]) -> usize
     requires { ⌜ goodRelations count widths ≡ true ⌝ }
     requires { ⌜ goodPlace (take count widths) place ≡ true ⌝ }
     ensures { λ r. ⌜ (r ≡ length (putPlace (take count widths) place)) × (r ≤ 534) ⌝ }

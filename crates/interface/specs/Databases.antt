@@ -1,0 +1,41 @@
+-- Testing a database and evaluating a place on it, on files.
+use mathlib.Core.List.{List}
+use Prim.Native.Nat.{ℕ}
+use Rattle.record.specs.declared.Record.{Record}
+use Rattle.format.specs.File.{Result, ok, refused, _>>=_, readFile}
+use Rattle.database.specs.declared.Verdict.{Verdict}
+use Rattle.database.specs.declared.Verdict.the-variants as verdict
+use Rattle.database.specs.declared.Answered.{Answered}
+use Rattle.database.specs.declared.Answered.the-variants as answered
+use Rattle.database.specs.Calls.{tested, evaluated, bufferThen}
+use Rattle.interface.specs.Lent.{leaves}
+
+-- What a test leaves: 1 where the database obeys, the rest 0; or 0, the dependency and its pair of rows
+pub record Tested : Type 0 where
+  pub obeys : ℕ
+  pub dependency : ℕ
+  pub first : ℕ
+  pub second : ℕ
+
+-- The verdict of a test, or its refusal
+abbrev pub verdictResult : Verdict → Result Tested
+verdictResult verdict.Obeys = ok (record { obeys = 1; dependency = 0; first = 0; second = 0 })
+verdictResult (verdict.Broken k i j) = ok (record { obeys = 0; dependency = k; first = i; second = j })
+verdictResult (verdict.Refused n) = refused n
+
+-- The test of a database against the dependencies of the record of a file
+abbrev pub testedIn : List ℕ → List ℕ → Result Tested
+testedIn file words = readFile file >>= λ r. verdictResult (tested r words)
+
+-- The count of answers, or the refusal
+abbrev pub countResult : Answered → Result ℕ
+countResult (answered.Count n) = ok n
+countResult (answered.Refused n) = refused n
+
+-- The count of the answers of a place of the record of a file, for a buffer with so much room
+abbrev pub evaluatedIn : List ℕ → ℕ → List ℕ → ℕ → Result ℕ
+evaluatedIn file place words room = readFile file >>= λ r. countResult (evaluated r place words room)
+
+-- The buffer after it: a refused file leaves it as it was
+abbrev pub answersIn : List ℕ → ℕ → List ℕ → List ℕ → List ℕ
+answersIn file place words buffer = leaves (readFile file) (λ r. bufferThen r place words buffer) buffer
