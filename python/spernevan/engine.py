@@ -122,9 +122,11 @@ def _place(value: int) -> int:
 
 
 def _words(words: array) -> Tuple[ctypes.Array, int]:
-    """A lent array of 32-bit words, without a copy."""
+    """A lent array of 32-bit words, without a copy. No words have an address too: C may not be given null."""
     if not isinstance(words, array) or words.typecode != "I" or words.itemsize != 4:
         raise ValueError('words must be an array("I") of 32-bit numbers')
+    if not words:
+        return (ctypes.c_uint32 * 1)(), 0
     return (ctypes.c_uint32 * len(words)).from_buffer(words), len(words)
 
 

@@ -391,6 +391,8 @@ class Random(Calls):
         record = record.put(0, rule(record, "ans(x) :- R0(x)"))
         self.assertIsNone(record.test([]))
         self.assertIsNone(record.test(array("I")))
+        lent, length = engine._words(array("I"))
+        self.assertEqual((ctypes.addressof(lent) % 4, length), (0, 0))
         self.assertEqual(record.evaluate(0, []), [])
 
 
@@ -433,6 +435,9 @@ class Header(unittest.TestCase):
         text = re.sub(r"/\*.*?\*/|//[^\n]*", " ", header.read_text(), flags=re.DOTALL)
         declared = dict(re.findall(r"uint8_t\s+spernevan_(\w+)\s*\(([^)]*)\)", text))
         self.assertEqual(sorted(declared), sorted(engine._CALLS))
+        sizes = {name: int(size) for name, size in re.findall(r"#define SPERNEVAN_(\w+) (\d+)", text)}
+        ours = {"FILE": engine.LONGEST_FILE, "QUERY": engine.LONGEST_QUERY, "MAPPING": engine.MAPPING_WORDS}
+        self.assertEqual(sizes, ours)
         kinds = {
             "uint8_t": ctypes.c_uint8,
             "size_t": ctypes.c_size_t,
