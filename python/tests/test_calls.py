@@ -416,7 +416,7 @@ class Listing(Calls):
 
     def test_listing(self):
         program = context.ROOT / "target" / "bin" / "listing"
-        if not program.exists():
+        if not program.exists() and not context.ALL:
             self.skipTest("target/bin/listing is not there; rt check listing makes it")
         rng = random.Random(11)
         for _ in range(40):
@@ -430,8 +430,6 @@ class Header(unittest.TestCase):
 
     def test_parameters(self):
         header = context.ROOT / "include" / "spernevan.h"
-        if not header.exists():
-            self.skipTest("include/spernevan.h is not there")
         text = re.sub(r"/\*.*?\*/|//[^\n]*", " ", header.read_text(), flags=re.DOTALL)
         declared = dict(re.findall(r"uint8_t\s+spernevan_(\w+)\s*\(([^)]*)\)", text))
         self.assertEqual(sorted(declared), sorted(engine._CALLS))
