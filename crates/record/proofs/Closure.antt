@@ -187,7 +187,7 @@ module _ (ds : List Dependency) (relation w : ℕ) (narrow : (d : Dependency) �
   -- ---- 4. the determined columns
 
   module _ (wide : w ≤ 8) (left : ℕ) (h : left < 2 ^ w) where
-    is-columns : determined ds relation w (columnsOf left) ≡ columnsFrom 0 w (growMask (length ds) ds relation left)
+    pub is-columns : determined ds relation w (columnsOf left) ≡ columnsFrom 0 w (growMask (length ds) ds relation left)
     unfolding determined closure
     is-columns =
         columns-in w (growMask (length ds) ds relation left) (growFor (length ds) ds relation (columnsOf left))

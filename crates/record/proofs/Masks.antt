@@ -42,7 +42,7 @@ columns-low c s (suc n) mask h = go (eqb (mask % 2) 1) (columns-low c (suc s) n 
     go false rest = rest
 
 -- A column is among those of a mask exactly when its bit is set
-columns-member : (n s mask c : ℕ) → mask < 2 ^ n → member (s + c) (columnsFrom s n mask) ≡ bit mask c
+pub columns-member : (n s mask c : ℕ) → mask < 2 ^ n → member (s + c) (columnsFrom s n mask) ≡ bit mask c
 unfolding columnsFrom member bit
 columns-member zero s mask c h = let none : mask ≡ 0 = omega arith in rw none (sym (bit-zero c))
 columns-member (suc n) s mask zero h = go (eqb (mask % 2) 1)

@@ -1,16 +1,19 @@
--- What the calls' equations mean. An accepted call leaves a record that 14 passes, the blank record is one that 14 refuses, and the columns answered are those
--- that the left set determines in every database that obeys the dependencies. Assumes nothing.
-use mathlib.Core.Path.{_≡_, refl, sym, ap, _∙_}
+-- What the calls' equations come to: the statements of `specs/Meaning`. Assumes nothing.
+use mathlib.Core.Path.{_≡_, refl, sym, ap, subst, _∙_}
 use mathlib.Core.Logic.{_↔_}
 use mathlib.Core.Bool.{Bool, true, false, not, _&&_}
 use mathlib.Core.List.{List, [], _∷_, _++_}
 use mathlib.Core.Option.{Option, none, some}
-use Prim.Native.Nat.{ℕ, _-_, _<_}
+use Prim.Native.Nat.{ℕ, _+_, _-_, _^_, _<_}
+use native.Mathlib.Nat.{lt-of-lt-of-le}
 use native.Mathlib.Omega.{arith}
 use lib.Dec.{eqb, leb}
 use lib.ListN.{length, getD, replicate}
+use lib.Pow.{pow-mono}
 use borrow.Author.Tests.{eqb-false, not-false}
-use Rattle.theory.specs.Query.{_∈_}
+use Rattle.theory.specs.Query.{member, _∈_}
+use Rattle.theory.specs.Database as database
+use Rattle.theory.proofs.Lists.{member-mem, mem-member}
 use Rattle.theory.specs.Determined.{Determines, determined}
 use Rattle.theory.proofs.Determined.{determined-exact}
 use Rattle.record.specs.declared.Query.{Query}
@@ -18,11 +21,16 @@ use Rattle.record.specs.declared.Dependency.{Dependency}
 use Rattle.record.specs.declared.Record.{Record}
 use Rattle.record.specs.declared.Answer.the-variants as answer
 use Rattle.record.specs.declared.Outcome.{Outcome}
-use Rattle.record.specs.View.{columnsOf, schemaOf, dependenciesOf}
+use Rattle.record.specs.declared.Columns.the-variants as columns
+use Rattle.record.specs.View.{columnsFrom, columnsOf, schemaOf, dependenciesOf}
 use Rattle.record.specs.Rule.{between, every, goodSet, goodRelations, goodDependency, goodQuery, headSafe, goodRecord, noPlace, blankRecord}
-use Rattle.record.specs.Calls.{firstHolding, concluded, broken, above, vacant, filled, withPlace, withDependency, emptyRecord, openRecord, addDependency, putQuery, dropQuery}
+use Rattle.record.specs.Calls.{firstHolding, concluded, broken, above, vacant, filled, withPlace, withDependency, emptyRecord, openRecord, addDependency, putQuery, dropQuery, maskOf, columnsAnswer, determinedColumns}
+use Rattle.record.specs.Meaning.{OpenKeeps, AddKeeps, PutKeeps, DropKeeps, BlankBroken, DeterminedMeans}
+use Rattle.record.specs.Closure.{growMask}
 use Rattle.record.proofs.Good.{good-record, good-set}
-use Rattle.record.proofs.Stored.{dependencies-fit}
+use Rattle.record.proofs.Stored.{narrow, dependencies-fit}
+use Rattle.record.proofs.Masks.{same-columns, columns-member, columns-count}
+use Rattle.record.proofs.Closure.{is-columns, determined-mask, grow-lt}
 use Rattle.record.proofs.Refusals.{none-holds}
 use Rattle.record.proofs.Outcomes.{widths-judged}
 use Rattle.record.proofs.Kept.{filled-place, empty-place, place-kept, dependency-kept, opened-good}
@@ -36,7 +44,7 @@ accepted none given after e then = then refl
 accepted (some n) given after e then = let z : _≡_ {A = ℕ} 0 1 = cc in absurd (omega arith)
 
 -- Open
-pub open-keeps : (widths : List ℕ) → openRecord widths .answer ≡ answer.Done → goodRecord (openRecord widths .«record») ≡ true
+pub open-keeps : OpenKeeps
 unfolding openRecord
 open-keeps widths e =
     let fit : Bool = between 1 8 (length widths) && every (between 1 8) widths in
@@ -46,8 +54,7 @@ open-keeps widths e =
     (widths-judged widths (8 - length widths) ∙ not-false fit (none-holds (not fit) 3 [] clear .0)))
 
 -- Add a dependency
-pub add-keeps : (r : Record) (d : Dependency) → length (r .dependencies) ≡ 32 → addDependency r d .answer ≡ answer.Done
-    → goodRecord (addDependency r d .«record») ≡ true
+pub add-keeps : AddKeeps
 unfolding addDependency
 add-keeps r d long e =
     let fit : Bool = goodDependency (schemaOf r) d in
@@ -63,7 +70,7 @@ add-keeps r d long e =
     dependency-kept r d good (not-false fit (b .0)) (omega arith) long)
 
 -- Put a query
-pub put-keeps : (r : Record) (place : ℕ) (q : Query) → putQuery r place q .answer ≡ answer.Done → goodRecord (putQuery r place q .«record») ≡ true
+pub put-keeps : PutKeeps
 unfolding putQuery
 put-keeps r place q e =
     let fit : Bool = goodQuery (schemaOf r) q in
@@ -79,7 +86,7 @@ put-keeps r place q e =
     (filled-place (schemaOf r) q (not-false fit (c .0)) (not-false safe (d .0))))
 
 -- Drop a query
-pub drop-keeps : (r : Record) (place : ℕ) → dropQuery r place .answer ≡ answer.Done → goodRecord (dropQuery r place .«record») ≡ true
+pub drop-keeps : DropKeeps
 unfolding dropQuery
 drop-keeps r place e =
     accepted (firstHolding (broken r ∷ above place ∷ vacant r place ∷ [])) r (withPlace r place noPlace) e
@@ -90,16 +97,75 @@ drop-keeps r place e =
 -- ---- the blank record
 
 -- 14 refuses the blank record
-pub blank-broken : goodRecord blankRecord ≡ false
+pub blank-broken : BlankBroken
 unfolding goodRecord goodRelations
 blank-broken = refl
 
 -- ---- determined columns
 
+-- A call that answers with columns was not refused
+answered : (o : Option ℕ) (cs : List ℕ) (mask n : ℕ) → columnsAnswer o cs ≡ columns.Determined mask n → (o ≡ none) × (maskOf cs ≡ mask) × (length cs ≡ n)
+answered none cs mask n e = (refl, cc, cc)
+answered (some m) cs mask n e = let z : _≡_ {A = ℕ} 0 1 = cc in absurd (omega arith)
+
+module _ (r : Record) (relation left : ℕ) (good : goodRecord r ≡ true) (fit : goodSet (schemaOf r) relation left ≡ true) where
+  narrow-right : (d : database.Dependency) → d ∈ dependenciesOf r → d .relation ≡ relation → d .right < getD (schemaOf r) relation 0
+  narrow-right d at same = subst (λ (k : ℕ). d .right < getD (schemaOf r) k 0) same (dependencies-fit r good d at .right)
+
+  within : left < 2 ^ getD (schemaOf r) relation 0
+  within = good-set (schemaOf r) relation left fit .within
+
+  -- The columns as a list and as a mask
+  listed : determined (dependenciesOf r) relation (getD (schemaOf r) relation 0) (columnsOf left)
+      ≡ columnsFrom 0 (getD (schemaOf r) relation 0) (growMask (length (dependenciesOf r)) (dependenciesOf r) relation left)
+  listed = is-columns (dependenciesOf r) relation (getD (schemaOf r) relation 0) narrow-right (narrow r good relation) left within
+
+  masked : maskOf (determined (dependenciesOf r) relation (getD (schemaOf r) relation 0) (columnsOf left))
+      ≡ growMask (length (dependenciesOf r)) (dependenciesOf r) relation left
+  masked = determined-mask (dependenciesOf r) relation (getD (schemaOf r) relation 0) narrow-right (narrow r good relation) left within
+
+  below : growMask (length (dependenciesOf r)) (dependenciesOf r) relation left < 2 ^ getD (schemaOf r) relation 0
+  below = grow-lt (dependenciesOf r) relation (getD (schemaOf r) relation 0) narrow-right (length (dependenciesOf r)) left within
+
+  below-256 : growMask (length (dependenciesOf r)) (dependenciesOf r) relation left < 256
+  below-256 = lt-of-lt-of-le below (pow-mono (narrow r good relation))
+
+  same-member : (c : ℕ) → member c (columnsOf (growMask (length (dependenciesOf r)) (dependenciesOf r) relation left))
+      ≡ member c (determined (dependenciesOf r) relation (getD (schemaOf r) relation 0) (columnsOf left))
+  same-member c =
+      let m : ℕ = growMask (length (dependenciesOf r)) (dependenciesOf r) relation left in
+      let shift : c ≡ 0 + c = omega arith in
+      same-columns m below-256 .at c
+      ∙ sym
+      (ap (member c) listed ∙ ap (λ (k : ℕ). member k (columnsFrom 0 (getD (schemaOf r) relation 0) m)) shift
+      ∙ columns-member (getD (schemaOf r) relation 0) 0 m c below)
+
+  same-length : length (columnsOf (growMask (length (dependenciesOf r)) (dependenciesOf r) relation left))
+      ≡ length (determined (dependenciesOf r) relation (getD (schemaOf r) relation 0) (columnsOf left))
+  same-length =
+      let m : ℕ = growMask (length (dependenciesOf r)) (dependenciesOf r) relation left in
+      columns-count 8 0 m below-256 ∙ sym (ap length listed ∙ columns-count (getD (schemaOf r) relation 0) 0 m below)
+
 -- The columns answered are the relation's columns that the left set determines
-pub determined-means : (r : Record) (relation left : ℕ) → goodRecord r ≡ true → goodSet (schemaOf r) relation left ≡ true → (c : ℕ)
-    → (c ∈ determined (dependenciesOf r) relation (getD (schemaOf r) relation 0) (columnsOf left))
-    ↔ ((c < getD (schemaOf r) relation 0) × Determines (schemaOf r) (dependenciesOf r) relation (columnsOf left) c)
-determined-means r relation left good fit c =
+pub determined-means : DeterminedMeans
+unfolding determinedColumns
+determined-means r relation left mask n e =
+    let cs : List ℕ = determined (dependenciesOf r) relation (getD (schemaOf r) relation 0) (columnsOf left) in
+    let a = answered (firstHolding (broken r ∷ (not (goodSet (schemaOf r) relation left), 4) ∷ [])) cs mask n e in
+    let b = none-holds (broken r .0) 14 ((not (goodSet (schemaOf r) relation left), 4) ∷ []) (a .0) in
+    let good : goodRecord r ≡ true = not-false (goodRecord r) (b .0) in
+    let fit : goodSet (schemaOf r) relation left ≡ true = not-false (goodSet (schemaOf r) relation left) (none-holds (not (goodSet (schemaOf r) relation left)) 4 [] (b .1) .0) in
+    let is : growMask (length (dependenciesOf r)) (dependenciesOf r) relation left ≡ mask = sym (masked r relation left good fit) ∙ a .1 in
+    let exact : (c : ℕ) → (c ∈ cs) ↔ ((c < getD (schemaOf r) relation 0) × Determines (schemaOf r) (dependenciesOf r) relation (columnsOf left) c) =
     determined-exact (schemaOf r) (dependenciesOf r) (dependencies-fit r good) relation (good-set (schemaOf r) relation left fit .relation-known)
-    (columnsOf left) (getD (schemaOf r) relation 0) refl c
+    (columnsOf left) (getD (schemaOf r) relation 0) refl
+    in
+    let same : (c : ℕ) → member c (columnsOf mask) ≡ member c cs =
+    λ c. ap (λ (k : ℕ). member c (columnsOf k)) (sym is) ∙ same-member r relation left good fit c
+    in (
+      (λ c. (
+        (λ at. exact c .0 (member-mem c cs (sym (same c) ∙ mem-member c (columnsOf mask) at))),
+        λ p. member-mem c (columnsOf mask) (same c ∙ mem-member c cs (exact c .1 p)),
+      )),
+      sym (a .2) ∙ sym (same-length r relation left good fit) ∙ ap (λ (k : ℕ). length (columnsOf k)) is,
+    )

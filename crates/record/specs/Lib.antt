@@ -2,4 +2,5 @@
 pub mod View
 pub mod Rule
 pub mod Calls
+pub mod Meaning
 pub mod Closure

@@ -1,0 +1,46 @@
+-- What the calls' equations come to, in the words of document 01. Each statement is proved in `proofs/Meaning`.
+use mathlib.Core.Path.{_≡_}
+use mathlib.Core.Logic.{_↔_}
+use mathlib.Core.Bool.{true, false}
+use mathlib.Core.List.{List}
+use Prim.Native.Nat.{ℕ, _<_}
+use lib.ListN.{length, getD}
+use Rattle.theory.specs.Query.{_∈_}
+use Rattle.theory.specs.Determined.{Determines}
+use Rattle.record.specs.declared.Query.{Query}
+use Rattle.record.specs.declared.Dependency.{Dependency}
+use Rattle.record.specs.declared.Record.{Record}
+use Rattle.record.specs.declared.Answer.the-variants as answer
+use Rattle.record.specs.declared.Outcome.{Outcome}
+use Rattle.record.specs.declared.Columns.the-variants as columns
+use Rattle.record.specs.View.{columnsOf, schemaOf, dependenciesOf}
+use Rattle.record.specs.Rule.{goodRecord, blankRecord}
+use Rattle.record.specs.Calls.{openRecord, addDependency, putQuery, dropQuery, determinedColumns}
+
+-- A call that is done leaves a record that 14 passes
+abbrev pub LeavesGood : Outcome → Type 0
+LeavesGood o = o .answer ≡ answer.Done → goodRecord (o .«record») ≡ true
+
+-- So does each call that changes the record. A record has room for 32 dependencies
+abbrev pub OpenKeeps : Type 0
+OpenKeeps = (widths : List ℕ) → LeavesGood (openRecord widths)
+
+abbrev pub AddKeeps : Type 0
+AddKeeps = (r : Record) (d : Dependency) → length (r .dependencies) ≡ 32 → LeavesGood (addDependency r d)
+
+abbrev pub PutKeeps : Type 0
+PutKeeps = (r : Record) (place : ℕ) (q : Query) → LeavesGood (putQuery r place q)
+
+abbrev pub DropKeeps : Type 0
+DropKeeps = (r : Record) (place : ℕ) → LeavesGood (dropQuery r place)
+
+-- 14 refuses the blank record
+abbrev pub BlankBroken : Type 0
+BlankBroken = goodRecord blankRecord ≡ false
+
+-- The columns answered are those of the relation that the left set determines in every database that obeys the dependencies, and their number is right
+abbrev pub DeterminedMeans : Type 0
+DeterminedMeans =
+    (r : Record) (relation left mask n : ℕ) → determinedColumns r relation left ≡ columns.Determined mask n
+    → ((c : ℕ) → (c ∈ columnsOf mask) ↔ ((c < getD (schemaOf r) relation 0) × Determines (schemaOf r) (dependenciesOf r) relation (columnsOf left) c))
+    × (n ≡ length (columnsOf mask))
