@@ -10,6 +10,7 @@ use native.Mathlib.Omega.{arith}
 use lib.Dec.{leb}
 use lib.ListN.{length}
 use borrow.Author.Tests.{le-leb, lt-leb}
+use Rattle.record.specs.Calls.{queryAt}
 use Rattle.record.specs.declared.Cell.{Cell}
 use Rattle.record.specs.declared.Query.{Query}
 use Rattle.record.specs.declared.Record.{Record}
@@ -29,7 +30,7 @@ use Rattle.comparison.specs.declared.Checked.the-variants as checked
 use Rattle.comparison.specs.declared.Comparison.{Comparison}
 use Rattle.comparison.specs.declared.Verdict.{Verdict}
 use Rattle.comparison.specs.declared.Verdict.the-variants as verdict
-use Rattle.comparison.specs.Comparison.{pairRefusal, queryAt, judged, Compared, CheckedMapping}
+use Rattle.comparison.specs.Comparison.{pairRefusal, judged, Compared, CheckedMapping}
 use Rattle.reduction.specs.declared.Reduced.{Reduced}
 use Rattle.reduction.specs.Reduced.{reductionRefusal, refusal, IsReduced}
 use Rattle.comparison.proofs.Verdicts.{queries}

@@ -8,6 +8,7 @@ use mathlib.Core.Option as option
 use Prim.Native.Nat.{ℕ}
 use lib.Dec.{eqb, leb}
 use lib.ListN.{length}
+use Rattle.record.specs.Calls.{queryAt}
 use Rattle.record.specs.declared.Entry.{Entry}
 use Rattle.record.specs.declared.Entry.the-variants.{Constant, Variable}
 use Rattle.record.specs.declared.Cell.{Cell}
@@ -21,7 +22,7 @@ use Rattle.mapping.specs.Mapped.{imagesOf}
 use Rattle.comparison.specs.declared.Comparison.{Comparison}
 use Rattle.comparison.specs.declared.Verdict.{Verdict}
 use Rattle.comparison.specs.declared.Verdict.the-variants as verdict
-use Rattle.comparison.specs.Comparison.{pairRefusal, queryAt, Compared}
+use Rattle.comparison.specs.Comparison.{pairRefusal, Compared}
 use Rattle.reduction.specs.declared.Reduced.{Reduced}
 use Rattle.reduction.specs.Reduced.{IsReduced}
 use Rattle.theory.specs.Answer as answer

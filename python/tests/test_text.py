@@ -1,0 +1,116 @@
+"""The text form of a whole record: round trips to the byte, and errors that say where."""
+
+import random
+import unittest
+
+import context
+from spernevan import Names, NotationError, Query, Record, Table, pack, unpack
+
+SMALL = """
+# two tables
+flight(number, sonde)
+burst(flight, height)
+
+flight: number -> sonde     # a flight has one sonde
+burst: flight, height -> height
+2: ans(f, h) :- flight(f, s), burst(f, h)
+0: ans(_) :- never
+"""
+
+
+@context.with_engine
+class Text(unittest.TestCase):
+    def test_pack(self):
+        record, names = pack(SMALL)
+        self.assertEqual(record.widths, (2, 2))
+        self.assertEqual([(d.relation, d.left, d.right) for d in record.dependencies], [(0, {0}, 1), (1, {0, 1}, 1)])
+        self.assertEqual([place for place in range(8) if record.queries[place]], [0, 2])
+        self.assertEqual(record.queries[0], Query.never(1))
+        self.assertEqual(names.tables[1], Table("burst", ("flight", "height")))
+        self.assertEqual(names.variables, {0: {}, 2: {0: "f", 1: "h", 2: "s"}})
+        self.assertEqual(
+            unpack(record, names),
+            "flight(number, sonde)\nburst(flight, height)\n\n"
+            "flight: number -> sonde\nburst: flight, height -> height\n\n"
+            "0: ans(_) :- never\n2: ans(f, h) :- flight(f, s), burst(f, h)\n",
+        )
+        self.assertEqual(unpack(record, Names.default(record.widths)).splitlines()[-1],
+                         "2: ans(v0, v1) :- R0(v0, v2), R1(v0, v1)")
+
+    def test_round_trip_to_the_byte(self):
+        rng = random.Random(9)
+        for _ in range(80):
+            record = context.random_record(rng, constants=rng.choice([0, 3]))
+            plain = Names.default(record.widths)
+            again, _ = pack(unpack(record, plain))
+            self.assertEqual(again.file, record.file)
+            # Names for some variables never change the numbers.
+            named = Names(
+                plain.tables,
+                {p: {n: f"x{n}" for n in range(96) if rng.random() < 0.8} for p in range(8) if rng.random() < 0.8},
+            )
+            again, _ = pack(unpack(record, named))
+            self.assertEqual(again.file, record.file)
+
+    def test_names_come_back(self):
+        record, names = pack(SMALL)
+        again, known = pack(unpack(record, names))
+        self.assertEqual((again, known), (record, names))
+
+    def test_the_samples(self):
+        record, names = pack((context.SAMPLES / "flights.text").read_text())
+        self.assertEqual(record.file, (context.SAMPLES / "flights.file").read_bytes())
+        self.assertEqual(pack(unpack(record, names)), (record, names))
+        example = Record.read(context.SAMPLES / "example.file")
+        self.assertEqual(pack(unpack(example, Names.default([3])))[0], example)
+
+    def test_names_must_fit(self):
+        record, _ = pack(SMALL)
+        with self.assertRaisesRegex(ValueError, "names for 1 table, the record has 2"):
+            unpack(record, Names.default([2]))
+
+    def test_errors_say_where(self):
+        table = "flight(number, sonde)\n"
+        cases = [
+            ("", "1:1: refused 3: "),
+            ("# nothing\n", "2:1: refused 3: "),
+            (table + "flight: number", "2:15: ',' or '->' was expected, not the end"),
+            (table + "flight: height -> sonde", "2:9: flight(number, sonde) has no column height"),
+            (table + "flight: -> sonde", "2:9: the name of a column was expected, not '->'"),
+            (table + "flight: number -> sonde, number", "2:24: the end of the line was expected, not ','"),
+            (table + "burst: number -> sonde", "2:1: there is no table burst; there is flight"),
+            ("burst: a -> b\n" + table, "1:1: there is no table burst; there is none"),
+            (table + "8: ans() :- never", "2:1: a place must be from 0 to 7, not 8"),
+            (table + "0 ans() :- never", "2:3: ':' was expected, not 'ans'"),
+            (table + "0: ans() :- never\n0: ans() :- never", "3:1: place 0 is filled on line 2"),
+            (table + "ans() :- never", "2:1: a saved query has its place before it, as in 0: ans(.."),
+            (table + "0: ans() :- flight(x, y) z", "2:26: the end of the line was expected, not 'z'"),
+            (table + "0: ans(z) :- flight(x, y)", "2:8: z is in no row"),
+            (table + "flight -> sonde", "2:1: a table(, a table: or a place: was expected, not 'flight'"),
+            (table + "-> sonde", "2:1: a table(, a table: or a place: was expected, not '->'"),
+            (table + "0: flight(x, y)", "2:4: a rule begins with ans, not flight"),
+            (table + "flight: number -> sonde\n" * 33, "34:1: refused 13: "),
+            (table + "\t\u00b5\u00a7", "2:3: '\u00a7' has no meaning here"),
+        ]
+        for text, message in cases:
+            with self.subTest(text=text[-40:]), self.assertRaises(NotationError) as caught:
+                pack(text, "a.text")
+            self.assertTrue(str(caught.exception).startswith(f"a.text:{message}"), str(caught.exception))
+
+    def test_any_text_is_a_record_or_an_error(self):
+        rng = random.Random(10)
+        words = SMALL.replace("(", " ( ").replace(")", " ) ").replace(",", " , ").split(" ")
+        for _ in range(3000):
+            mixed = list(words)
+            for _ in range(rng.randint(1, 3)):
+                at = rng.randrange(len(mixed))
+                mixed[at : at + rng.randint(0, 2)] = rng.choices(words, k=rng.randint(0, 2))
+            try:
+                record, names = pack(" ".join(mixed))
+            except NotationError:
+                continue
+            self.assertEqual(pack(unpack(record, names))[0], record)
+
+
+if __name__ == "__main__":
+    unittest.main()
