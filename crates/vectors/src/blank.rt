@@ -31,7 +31,7 @@ fn write(room: usize) -> u8 {
         return 255;
     }
     let mut out = [BYTE; 8192];
-    let written = file::writer::write(blank_record(), &mut out[..room]);
+    let written = file::writer::write(blank_record(), &mut out[0..room]);
     if !untouched(&out, 0) {
         return 255;
     }
@@ -124,7 +124,7 @@ fn evaluate(place: usize, words: &[u32], room: usize) -> u8 {
         return 255;
     }
     let mut answers = [WORD; 8192];
-    let done = database::evaluate(blank_record(), place, words, &mut answers[..room]);
+    let done = database::evaluate(blank_record(), place, words, &mut answers[0..room]);
     if !words_untouched(&answers, 0) {
         return 255;
     }

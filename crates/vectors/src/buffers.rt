@@ -7,25 +7,40 @@ pub const WORD: u32 = 2779096485;
 
 pub const SIZE: usize = 987654321;
 
-// The first n bytes of a buffer, all if it has fewer.
-pub fn first(bytes: &[u8], n: usize) -> &[u8] {
+// The first n bytes, all if there are fewer.
+fn prefix(bytes: &[u8], n: usize) -> &[u8] {
     if bytes.len() < n {
-        return bytes;
+        return &bytes[..];
     }
-    &bytes[..n]
+    &bytes[0..n]
 }
 
-// The first n words of a buffer, all if it has fewer.
-pub fn first_words(words: &[u32], n: usize) -> &[u32] {
+// The first n words, all if there are fewer.
+fn word_prefix(words: &[u32], n: usize) -> &[u32] {
     if words.len() < n {
-        return words;
+        return &words[..];
     }
-    &words[..n]
+    &words[0..n]
+}
+
+// The first n bytes of a buffer.
+pub fn first(bytes: &[u8; 8192], n: usize) -> &[u8] {
+    prefix(bytes, n)
+}
+
+// The first n words of a buffer.
+pub fn first_words(words: &[u32; 8192], n: usize) -> &[u32] {
+    word_prefix(words, n)
+}
+
+// The first n numbers of a line.
+pub fn first_numbers(numbers: &[u32; 65536], n: usize) -> &[u32] {
+    word_prefix(numbers, n)
 }
 
 // Whether bytes begin with others.
-pub fn begins(bytes: &[u8], start: &[u8]) -> bool {
-    if bytes.len() < start.len() {
+pub fn begins(bytes: &[u8; 8192], start: &[u8]) -> bool {
+    if 8192 < start.len() {
         return false;
     }
     for i in 0..start.len() {
@@ -37,8 +52,8 @@ pub fn begins(bytes: &[u8], start: &[u8]) -> bool {
 }
 
 // Whether the bytes from a position on are as they were before the call.
-pub fn untouched(bytes: &[u8], from: usize) -> bool {
-    for i in from..bytes.len() {
+pub fn untouched(bytes: &[u8; 8192], from: usize) -> bool {
+    for i in from..8192 {
         if bytes[i] != BYTE {
             return false;
         }
@@ -47,8 +62,8 @@ pub fn untouched(bytes: &[u8], from: usize) -> bool {
 }
 
 // Whether words begin with others.
-pub fn words_begin(words: &[u32], start: &[u32]) -> bool {
-    if words.len() < start.len() {
+pub fn words_begin(words: &[u32; 8192], start: &[u32]) -> bool {
+    if 8192 < start.len() {
         return false;
     }
     for i in 0..start.len() {
@@ -60,8 +75,8 @@ pub fn words_begin(words: &[u32], start: &[u32]) -> bool {
 }
 
 // Whether the words from a position on are as they were before the call.
-pub fn words_untouched(words: &[u32], from: usize) -> bool {
-    for i in from..words.len() {
+pub fn words_untouched(words: &[u32; 8192], from: usize) -> bool {
+    for i in from..8192 {
         if words[i] != WORD {
             return false;
         }
@@ -70,10 +85,7 @@ pub fn words_untouched(words: &[u32], from: usize) -> bool {
 }
 
 // Whether words hold an absent mapping, and after it what they held before the call.
-pub fn no_mapping(words: &[u32]) -> bool {
-    if words.len() < 192 {
-        return false;
-    }
+pub fn no_mapping(words: &[u32; 8192]) -> bool {
     for i in 0..192 {
         if words[i] != 0 {
             return false;
@@ -83,7 +95,7 @@ pub fn no_mapping(words: &[u32]) -> bool {
 }
 
 // Whether a call that stores bytes and their number answered as told.
-pub fn answered(answer: u8, out: &[u8], size: usize, refusal: u32, told: &[u8]) -> bool {
+pub fn answered(answer: u8, out: &[u8; 8192], size: usize, refusal: u32, told: &[u8]) -> bool {
     if answer as u32 != refusal {
         return false;
     }

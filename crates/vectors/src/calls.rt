@@ -45,7 +45,7 @@ pub fn write(v: &[u32], f: Fields, file: &[u8]) -> bool {
     }
     let mut out = [BYTE; 8192];
     let mut size = SIZE;
-    let answer = interface::spernevan_write(file, &mut out[..room], &mut size);
+    let answer = interface::spernevan_write(file, &mut out[0..room], &mut size);
     if !answered(answer, &out, size, refusal, file) {
         return false;
     }
@@ -153,7 +153,7 @@ fn chased(file: &[u8], p: usize, out: &mut [u8; 8192]) -> usize {
     let mut copy = [0u8; 8192];
     let n = with(file, k, &never, &mut copy);
     let mut verdict = BYTE;
-    let mut mapping = [WORD; 192];
+    let mut mapping = [WORD; 8192];
     let mut size = 0;
     interface::spernevan_compare(
         first(&copy, n),
@@ -192,7 +192,7 @@ fn maps_to_chased(file: &[u8], p: usize, q: usize, mapping: &[u32]) -> bool {
 // ---- queries
 
 // Whether a refused call left all that it was lent: bytes with their number, a number and a mapping.
-fn left_alone(out: &[u8], size: usize, told: u8, mapping: &[u32]) -> bool {
+fn left_alone(out: &[u8; 8192], size: usize, told: u8, mapping: &[u32; 8192]) -> bool {
     if size != SIZE {
         return false;
     }
@@ -225,7 +225,13 @@ fn holds_result(result: &[u8], file: &[u8], target: usize, rows: u32, chased: &[
 }
 
 // Whether the words are a mapping from the source query to the result, or none if the result is never.
-fn maps_to_result(result: &[u8], source: usize, target: usize, rows: u32, mapping: &[u32]) -> bool {
+fn maps_to_result(
+    result: &[u8],
+    source: usize,
+    target: usize,
+    rows: u32,
+    mapping: &[u32; 8192],
+) -> bool {
     if rows == 0 {
         return no_mapping(mapping);
     }
@@ -244,7 +250,7 @@ pub fn reduce(v: &[u32], f: Fields, file: &[u8], chased: &[u8]) -> bool {
     let mut out = [BYTE; 8192];
     let mut size = SIZE;
     let mut count = BYTE;
-    let mut mapping = [WORD; 200];
+    let mut mapping = [WORD; 8192];
     let answer = interface::spernevan_reduce(
         file,
         source,
@@ -279,7 +285,7 @@ pub fn compare(v: &[u32], f: Fields, file: &[u8], told: &[u8]) -> bool {
     let p = number(v, f.inputs, 0) as usize;
     let q = number(v, f.inputs, 1) as usize;
     let mut verdict = BYTE;
-    let mut mapping = [WORD; 200];
+    let mut mapping = [WORD; 8192];
     let mut part = [BYTE; 8192];
     let mut size = SIZE;
     let answer = interface::spernevan_compare(
@@ -338,7 +344,7 @@ pub fn chase(v: &[u32], f: Fields, file: &[u8], told: &[u8]) -> bool {
     let mut out = [BYTE; 8192];
     let mut size = SIZE;
     let mut count = BYTE;
-    let mut mapping = [WORD; 192];
+    let mut mapping = [WORD; 8192];
     let answer = interface::spernevan_reduce(
         first(&copy, n),
         p,
@@ -405,7 +411,7 @@ pub fn evaluate(v: &[u32], f: Fields, file: &[u8]) -> bool {
         file,
         place,
         list(v, f.second),
-        &mut answers[..room],
+        &mut answers[0..room],
         &mut count,
     );
     if answer as u32 != refusal {

@@ -8,7 +8,7 @@ mod numbers; // numbers.rt: a line as numbers, and the fields among them
 mod reduced; // reduced.rt: whether a reduced query has rows of the chased one
 mod tally; // tally.rt: what is counted and written
 
-use crate::buffers::first_words;
+use crate::buffers::first_numbers;
 use crate::judge::Verdict;
 use crate::judge::judge;
 use crate::numbers::MALFORMED;
@@ -34,7 +34,7 @@ fn verdict(numbers: &[u32; 65536], s: Scan) -> Verdict {
     if s.fault == TOO_LONG {
         return Verdict::TooLong;
     }
-    judge(first_words(numbers, n))
+    judge(first_numbers(numbers, n))
 }
 
 // Judges a line and counts what came of it.
@@ -90,7 +90,7 @@ fn take_some(numbers: &mut [u32; 65536], tally: &mut [u64; 112], s: Scan) -> Tur
 {
     let mut input = io::large_buffer();
     let n = io::read_full(STDIN_FILENO, &mut input);
-    let scan = take(numbers, tally, s, &input[..n]);
+    let scan = take(numbers, tally, s, &input[0..n]);
     Turn {
         scan,
         ended: n == 0,
