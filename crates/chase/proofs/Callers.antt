@@ -90,7 +90,7 @@ pub chased-count : {schema : List ℕ} {dependencies : List Dependency} {held : 
 chased-count {schema} {dependencies} {held} {q} c = rw (c .count-is) (chase-count-le (heldOf dependencies held) (queryOf schema q))
 
 -- The chase keeps each head variable in a row
-chases-safe : {ds : List database.Dependency} {q result : theory.Query} {count : ℕ} → Chases ds q result count
+pub chases-safe : {ds : List database.Dependency} {q result : theory.Query} {count : ℕ} → Chases ds q result count
     → ((v : ℕ) → v ∈ variablesOf (q .head) → v ∈ variablesOf (rowEntries (q .rows)))
     → (v : ℕ) → v ∈ variablesOf (result .head) → v ∈ variablesOf (rowEntries (result .rows))
 chases-safe (rests is) safe = safe

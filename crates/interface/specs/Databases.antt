@@ -1,7 +1,6 @@
 -- Testing a database and evaluating a place on it, on files.
 use mathlib.Core.List.{List}
 use Prim.Native.Nat.{ℕ}
-use Rattle.record.specs.declared.Record.{Record}
 use Rattle.format.specs.File.{Result, ok, refused, _>>=_, readFile}
 use Rattle.database.specs.declared.Verdict.{Verdict}
 use Rattle.database.specs.declared.Verdict.the-variants as verdict

@@ -1,24 +1,22 @@
 -- Reducing, comparing and checking a mapping, on files. A mapping is 192 words: for each of 96 variables a tag (0 constant, 1 variable) and a number.
 use mathlib.Core.Path.{_≡_}
 use mathlib.Core.Logic.{_⊎_}
-use mathlib.Core.Bool.{Bool, true, false, cond, _&&_}
+use mathlib.Core.Bool.{Bool, true, cond, _&&_}
 use mathlib.Core.List.{List, [], _∷_}
 use mathlib.Core.Option.{Option}
 use mathlib.Core.Option as option
 use Prim.Native.Nat.{ℕ}
 use lib.Dec.{eqb, leb}
-use lib.ListN.{length, replicate}
+use lib.ListN.{length}
 use Rattle.record.specs.declared.Entry.{Entry}
 use Rattle.record.specs.declared.Entry.the-variants.{Constant, Variable}
 use Rattle.record.specs.declared.Cell.{Cell}
 use Rattle.record.specs.declared.Record.{Record}
-use Rattle.record.specs.declared.Answer.the-variants.{Done}
 use Rattle.record.specs.View.{schemaOf}
-use Rattle.record.specs.Rule.{goodRecord, goodPlace, noCell}
 use Rattle.format.specs.Bytes.{over}
 use Rattle.format.specs.Format.{Reading, none, got, gotIf, getTimes, putAll}
 use Rattle.format.specs.Parts.{entryFrom, query}
-use Rattle.format.specs.File.{Result, ok, refused, _>>=_, placeWith, readFile, fileOf}
+use Rattle.format.specs.File.{Result, ok, refused, _>>=_, readFile, fileOf}
 use Rattle.mapping.specs.Mapped.{imagesOf}
 use Rattle.comparison.specs.declared.Comparison.{Comparison}
 use Rattle.comparison.specs.declared.Verdict.{Verdict}
@@ -27,9 +25,6 @@ use Rattle.comparison.specs.Comparison.{pairRefusal, queryAt, Compared}
 use Rattle.reduction.specs.declared.Reduced.{Reduced}
 use Rattle.reduction.specs.Reduced.{IsReduced}
 use Rattle.theory.specs.Answer as answer
-use Rattle.interface.specs.declared.queries.ImageRead.{ImageRead}
-use Rattle.interface.specs.declared.queries.ImageRead.the-variants.{Image, NoImage}
-use Rattle.interface.specs.declared.queries.MappingRead.{MappingRead}
 use Rattle.interface.specs.Lent.{numberIn, leaves}
 use Rattle.interface.specs.Records.{answered}
 
@@ -58,17 +53,6 @@ getImage (tag ∷ n ∷ words) = gotIf (isImage tag n) (entryFrom tag n) words
 abbrev pub imagesIn : List ℕ → Reading (List Cell)
 imagesIn words = getTimes getImage 96 words
 
--- An entry that a tag and a number stand for, as the code has it
-abbrev pub imageRead : Reading Cell → ImageRead
-imageRead none = NoImage
-imageRead (got c rest) = Image (c .entry)
-
--- The images that words stand for, and no more words, as the code has it
-abbrev pub mappingRead : Reading (List Cell) → MappingRead
-mappingRead none = record { good = false; images = replicate 96 noCell }
-mappingRead (got images []) = record { good = true; images = images }
-mappingRead (got images (word ∷ words)) = record { good = false; images = replicate 96 noCell }
-
 -- ---- reducing
 
 -- A reduction for buffers with so much room. Refused: 10, its file is longer than the one, or the other has no room for a mapping
@@ -87,10 +71,6 @@ ReductionGiven result out size count mapping number outAfter sizeAfter countAfte
 abbrev pub Reducing : Result Record → ℕ → ℕ → Result Reduced → ℕ → ℕ → Type 0
 Reducing (refused n) source target result room words = result ≡ refused n
 Reducing (ok r) source target result room words = (o : Reduced) × IsReduced r source target o × (result ≡ reductionFits room words o)
-
--- A reduction's record, if it is accepted, is good
-abbrev pub SoundReduction : Reduced → Type 0
-SoundReduction o = o .answer ≡ Done → goodRecord (o .«record») ≡ true
 
 -- What the exported call promises
 pub record ReduceGives (file : List ℕ) (source target : ℕ) (out : List ℕ) (size count : ℕ) (mapping : List ℕ) (number : ℕ) (outAfter : List ℕ) (sizeAfter countAfter : ℕ) (mappingAfter : List ℕ) : Type 0 where
@@ -114,10 +94,6 @@ verdictFits words room told = cond (leb 192 words && leb (length (told .1)) room
 -- The verdict and bytes of a comparison, for buffers with so much room
 abbrev pub comparisonFits : ℕ → ℕ → List ℕ → Comparison → Result (ℕ × List ℕ)
 comparisonFits words room schema c = verdictBytes (c .verdict) (query schema .put (c .query)) >>= verdictFits words room
-
--- A comparison's query, if it is told, is good with a safe head
-abbrev pub SoundComparison : List ℕ → Comparison → Type 0
-SoundComparison schema c = c .verdict ≡ verdict.Apart → goodPlace schema (placeWith (c .query)) ≡ true
 
 -- What a comparison returns and leaves: the verdict, the mapping's words, the bytes of the query with their length
 abbrev pub ComparisonGiven : Result (ℕ × List ℕ) → List Cell → ℕ → List ℕ → List ℕ → ℕ → ℕ → ℕ → List ℕ → List ℕ → ℕ → Type 0

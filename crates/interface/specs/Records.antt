@@ -1,6 +1,5 @@
 -- The calls on the record alone, on files: a record comes as the bytes of its file, and the file of the record after the call is given.
 -- A file that cannot be read is refused with reading's number before anything else.
-use mathlib.Core.Path.{_≡_}
 use mathlib.Core.Bool.{true, cond}
 use mathlib.Core.List.{List}
 use Prim.Native.Nat.{ℕ}
@@ -12,7 +11,6 @@ use Rattle.record.specs.declared.Answer.the-variants.{Done, Refused}
 use Rattle.record.specs.declared.Columns.{Columns}
 use Rattle.record.specs.declared.Columns.the-variants as columns
 use Rattle.record.specs.View.{schemaOf}
-use Rattle.record.specs.Rule.{goodRecord}
 use Rattle.record.specs.Calls.{openRecord, addDependency, putQuery, dropQuery, determinedColumns}
 use Rattle.format.specs.File.{Result, ok, refused, _>>=_, readPlace, readFile, fileOf}
 use Rattle.interface.specs.Lent.{fitted}
@@ -29,10 +27,6 @@ resultOf o = answered (o .answer) (o .«record»)
 -- The file of a record, for a buffer with so much room
 abbrev pub stored : ℕ → Result Record → Result (List ℕ)
 stored room result = result >>= λ r. fitted room (fileOf r)
-
--- A call's record, if there is one, is good
-abbrev pub Sound : Outcome → Type 0
-Sound o = o .answer ≡ Done → goodRecord (o .«record») ≡ true
 
 -- The file as it is, if it can be read
 abbrev pub copied : List ℕ → ℕ → Result (List ℕ)

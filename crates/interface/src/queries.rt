@@ -6,6 +6,8 @@ use file::writer::Written;
 use file::writer::place_length;
 use file::writer::put_place;
 use file::writer::write_good;
+use mapping::Mapped;
+use mapping::no_mapping;
 use record::Answer;
 use record::Cell;
 use record::Entry;
@@ -20,11 +22,11 @@ ghost use Prim.Native.Nat.{_+_, _≤_};
 ghost use lib.ListN.{length, take, drop};
 ghost use Rattle.record.specs.Rule.{goodRelations, goodPlace};
 ghost use Rattle.format.specs.Bytes.{over};
-ghost use Rattle.format.specs.Format.{none};
 ghost use Rattle.format.specs.Parts.{query};
 ghost use Rattle.format.specs.File.{placeWith};
 ghost use Rattle.comparison.specs.Comparison.{pairRefusal};
-ghost use Rattle.interface.specs.Queries.{entryWords, wordsOf, getImage, imagesIn, imageRead, mappingRead, reductionFits, ReductionGiven, SoundReduction, verdictFits, comparisonFits, ComparisonGiven, SoundComparison, CheckGiven};
+ghost use Rattle.interface.specs.Queries.{entryWords, wordsOf, getImage, imagesIn, reductionFits, ReductionGiven, verdictFits, comparisonFits, ComparisonGiven, CheckGiven};
+ghost use Rattle.interface.specs.Steps.{imageRead, mappingRead, SoundReduction, SoundComparison};
 
 // ---- mappings as words
 
@@ -82,26 +84,8 @@ fn read_image(words: &[u32], at: usize) -> ImageRead
     ImageRead::Image(Entry::Variable(n as u8))
 }
 
-// A mapping, or none: then the images hold constant 0.
-pub struct MappingRead {
-    pub good: bool,
-    pub images: [Cell; 96],
-}
-
-// No mapping.
-fn no_mapping() -> MappingRead
-    ensures { λ r. ⌜ r ≡ mappingRead none ⌝ }
-{
-    MappingRead {
-        good: false,
-        images: [Cell {
-            entry: Entry::Constant(0),
-        }; 96],
-    }
-}
-
 // The mapping that words stand for.
-fn read_mapping(words: &[u32]) -> MappingRead
+fn read_mapping(words: &[u32]) -> Mapped
     ensures { λ r. ⌜ r ≡ mappingRead (imagesIn (now (words .entry))) ⌝ }
 {
     if words.len() != 192 {
@@ -120,7 +104,10 @@ fn read_mapping(words: &[u32]) -> MappingRead
             }
         }
     }
-    MappingRead { good: true, images }
+    Mapped {
+        found: true,
+        images: images,
+    }
 }
 
 // ---- reducing
@@ -252,7 +239,7 @@ pub fn check_words(given: Record, p: usize, q: usize, words: &[u32], verdict: &m
     let checked = comparison::check_mapping(given, p, q, images);
     match checked {
         Checked::Yes => {
-            if read.good {
+            if read.found {
                 *verdict = 1;
             } else {
                 *verdict = 0;

@@ -2,17 +2,16 @@
 use file::writer::Written;
 use file::writer::write_good;
 use record::Answer;
-use record::Lookup;
 use record::Outcome;
 use record::Record;
-use record::calls::place_at;
 ghost use mathlib.Core.Path.{_≡_};
 ghost use mathlib.Core.Bool.{true};
 ghost use lib.ListN.{length};
 ghost use Rattle.record.specs.Rule.{goodRecord};
 ghost use Rattle.format.specs.File.{refused, fileOf};
 ghost use Rattle.interface.specs.Lent.{fitted, Wrote};
-ghost use Rattle.interface.specs.Records.{resultOf, stored, Sound, putPart};
+ghost use Rattle.interface.specs.Records.{resultOf, stored, putPart};
+ghost use Rattle.interface.specs.Steps.{Sound};
 
 // Writes the file of a record into the buffer and its length into the number.
 pub fn store(given: Record, out: &mut [u8], size: &mut usize) -> u8
@@ -54,11 +53,11 @@ fn refused(number: u8, given: Record) -> Outcome
 // Puts the query of a query part into a vacant place: a place above 7 is refused before a bad part.
 pub fn put_part(given: Record, place: usize, part: &[u8]) -> Outcome
     requires { ⌜ goodRecord given ≡ true ⌝ }
-    ensures { λ o. ⌜ resultOf o ≡ putPart place (now (part .entry)) given ⌝ }
+    ensures { λ o. ⌜ (resultOf o ≡ putPart place (now (part .entry)) given) × Sound o ⌝ }
 {
-    let Lookup::At(_) = place_at(place) else {
+    if 8 <= place {
         return refused(7, given);
-    };
+    }
     let widths = given.widths;
     let read = file::read_place(part, true, given.relations, widths);
     let answer = read.answer;

@@ -15,6 +15,7 @@ use crate::numbers::MALFORMED;
 use crate::numbers::Scan;
 use crate::numbers::TOO_LONG;
 use crate::numbers::line_start;
+use crate::numbers::number;
 use crate::numbers::step;
 use crate::numbers::stored;
 use crate::tally::more;
@@ -40,7 +41,7 @@ fn verdict(numbers: &[u32; 65536], s: Scan) -> Verdict {
 // Judges a line and counts what came of it.
 fn take_line(numbers: &[u32; 65536], tally: &mut [u64; 112], s: Scan) {
     let told = verdict(numbers, s);
-    let call = numbers[0] as usize;
+    let call = number(first_numbers(numbers, 1), 0, 0) as usize;
     match told {
         Verdict::Right => tried(tally, call),
         Verdict::Wrong => {

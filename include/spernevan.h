@@ -1,0 +1,145 @@
+/*
+ * Spernevan for C: every call on a record as a function on numbers, bytes and words.
+ *
+ * A record is the bytes of its file, in and out. Nothing is kept between calls and nothing is allocated.
+ *
+ * Every function returns 0, or the number of the refusal:
+ *   1  the file has under 2 bytes, its part count is wrong, or its pairs do not fit
+ *   2  a pair of the file breaks the offset rule
+ *   3  relations break the record's rule, or part 0 has another length than they give
+ *   4  the same of dependencies and part 1; also a bad relation or set asked of
+ *   5  the same of a query and its part; also a last query part of 255 alone
+ *   6  a head variable is in no row
+ *   7  a place is above 7
+ *   8  head lengths differ
+ *   9  a database row is of an unknown relation or cut short
+ *  10  what is to be written is longer than the buffer
+ *  11  the place to be read or dropped is vacant
+ *  12  the place to be filled is filled
+ *  13  32 dependencies are held
+ * A file that cannot be read is refused with 1 to 6 before anything else, and 10 comes last of all.
+ * A refusal leaves every buffer and every number as it was.
+ *
+ * A pointer is never null, also where the length beside it is 0: any address that is aligned for its type will do then.
+ * Lengths count elements, not bytes: a uint32_t buffer of n words is n. What a function writes to overlaps nothing else that it is given.
+ * Bytes and words of a buffer after those that are written stay as they were.
+ *
+ * No file is longer than 4420 bytes and no query part than 534, so buffers of SPERNEVAN_FILE and SPERNEVAN_QUERY bytes are never too short.
+ *
+ * A query part is the query as a file has it: head length, row count, head entries, then the rows, each a relation byte and its entries;
+ * an entry is a byte (0 constant, 1 variable) and 32 bits, little-endian. Without rows it is the first two bytes alone, the query that has no answers.
+ *
+ * A mapping is SPERNEVAN_MAPPING words: for each of the variables 0 to 95 a tag (0 constant, 1 variable) and a number.
+ *
+ * A database is words, row by row: a relation's number and then the row's values.
+ */
+#ifndef SPERNEVAN_H
+#define SPERNEVAN_H
+
+#include <stddef.h>
+#include <stdint.h>
+
+#define SPERNEVAN_FILE 4420
+#define SPERNEVAN_QUERY 534
+#define SPERNEVAN_MAPPING 192
+
+#ifdef __cplusplus
+extern "C" {
+#endif
+
+/*
+ * Whether the bytes are a file.
+ * Takes a file. Returns 0, or 1 to 6.
+ */
+uint8_t spernevan_read(const uint8_t *file, size_t file_length);
+
+/*
+ * Reads a file and writes its record back, which gives the same bytes.
+ * Takes a file and a buffer. Returns 0 with the file in `out` and its length in `*length`; or 1 to 6, 10.
+ */
+uint8_t spernevan_write(const uint8_t *file, size_t file_length, uint8_t *out, size_t out_length, size_t *length);
+
+/*
+ * Opens a record without dependencies and with all places vacant.
+ * Takes a width for each relation, 1 to 8 of them, each 1 to 8. Returns 0 with the record's file in `out` and its length in `*length`; or 3, 10.
+ */
+uint8_t spernevan_open(const uint8_t *widths, size_t widths_length, uint8_t *out, size_t out_length, size_t *length);
+
+/*
+ * Adds a dependency after those held.
+ * Takes a file, a relation, a left set (bit c for column c) and a right column.
+ * Returns 0 with the new file in `out` and its length in `*length`; or 1 to 6, 4, 13, 10.
+ */
+uint8_t spernevan_add(const uint8_t *file, size_t file_length, uint8_t relation, uint8_t left, uint8_t right,
+                      uint8_t *out, size_t out_length, size_t *length);
+
+/*
+ * Puts a query into a vacant place.
+ * Takes a file, a place and a query part; 255 alone is no query part here (5).
+ * Returns 0 with the new file in `out` and its length in `*length`; or 1 to 6, then 7, 5, 6, 12, 10 in this order.
+ */
+uint8_t spernevan_put(const uint8_t *file, size_t file_length, size_t place, const uint8_t *query, size_t query_length,
+                      uint8_t *out, size_t out_length, size_t *length);
+
+/*
+ * Drops a filled place.
+ * Takes a file and a place. Returns 0 with the new file in `out` and its length in `*length`; or 1 to 6, then 7, 11, 10.
+ */
+uint8_t spernevan_drop(const uint8_t *file, size_t file_length, size_t place, uint8_t *out, size_t out_length, size_t *length);
+
+/*
+ * The columns of a relation that a left set determines.
+ * Takes a file, a relation and a nonempty left set (bit c for column c).
+ * Returns 0 with their set in `*columns` and their number in `*count`; or 1 to 6, then 4.
+ */
+uint8_t spernevan_determined(const uint8_t *file, size_t file_length, uint8_t relation, uint8_t left, uint8_t *columns, uint8_t *count);
+
+/*
+ * Reduces the query of a filled place into a vacant one.
+ * Takes a file and the two places. Returns 0 with the new file in `out`, its length in `*length`, the number of replacements in `*count`,
+ * and in `mapping` a mapping from the source query to the result, all 0 where the result has no rows; or 1 to 6, then 7, 11, 12, 10.
+ * 10 stands for a mapping buffer of under SPERNEVAN_MAPPING words too.
+ */
+uint8_t spernevan_reduce(const uint8_t *file, size_t file_length, size_t source, size_t target, uint8_t *out, size_t out_length, size_t *length,
+                         uint8_t *count, uint32_t *mapping, size_t mapping_length);
+
+/*
+ * Whether each answer of place p is one of place q on every database that obeys the dependencies.
+ * Takes a file and the two places, which may be equal. Returns 0 with the verdict in `*verdict`:
+ *   0  no; `query` gets p's query, chased, as a query part, and `*length` its length
+ *   1  yes, by the mapping from q's query to p's chased query in `mapping`
+ *   2  yes, because p's query chases to the query that has no answers
+ * Where there is no mapping, `mapping` gets 0s; where there is no query, `query` stays and `*length` is 0.
+ * Or returns 1 to 6, then 7, 11, 8, 10. 10 stands for a mapping buffer of under SPERNEVAN_MAPPING words too.
+ */
+uint8_t spernevan_compare(const uint8_t *file, size_t file_length, size_t p, size_t q, uint8_t *verdict, uint32_t *mapping, size_t mapping_length,
+                          uint8_t *query, size_t query_length, size_t *length);
+
+/*
+ * Whether words are a mapping from the query of place q to that of place p, as both are stored.
+ * Takes a file, the two places and the words. Returns 0 with 1 (yes) or 0 (no) in `*verdict`; or 1 to 6, then 7, 11, 8.
+ * Words that are not SPERNEVAN_MAPPING, with a tag above 1 or a variable above 255 are no mapping: no.
+ */
+uint8_t spernevan_check(const uint8_t *file, size_t file_length, size_t p, size_t q, const uint32_t *mapping, size_t mapping_length, uint8_t *verdict);
+
+/*
+ * Tests a database against the dependencies.
+ * Takes a file and the database. Returns 0 with 1 in `*obeys` and 0 in the other numbers; or with 0 in `*obeys`, the position of the first broken
+ * dependency in `*dependency` and those of its first pair of rows in `*first` and `*second`, all from 0. Or returns 1 to 6, then 9.
+ */
+uint8_t spernevan_test(const uint8_t *file, size_t file_length, const uint32_t *words, size_t words_length, uint8_t *obeys, size_t *dependency,
+                       size_t *first, size_t *second);
+
+/*
+ * Evaluates the query of a place on a database.
+ * Takes a file, a place and the database. Returns 0 with the answers in `answers`, ascending and each once, as many words each as the head has entries,
+ * and their number in `*count`; or 1 to 6, then 7, 11, 9, 10.
+ */
+uint8_t spernevan_evaluate(const uint8_t *file, size_t file_length, size_t place, const uint32_t *words, size_t words_length,
+                           uint32_t *answers, size_t answers_length, size_t *count);
+
+#ifdef __cplusplus
+}
+#endif
+
+#endif
