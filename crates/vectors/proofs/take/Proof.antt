@@ -1,3 +1,4 @@
+-- `vectors::take` is safe and ends. Assumes nothing.
 use Prim.Native.Nat.{_-_}
 use mathlib.Core.Path.{_≡_}
 use lib.ListN.{length}
@@ -5,9 +6,6 @@ use Rattle.vectors.specs.Scan.{Within}
 use borrow.Author.Needs.{needs}
 use Rattle.vectors.proofs.take.Statement.{statement}
 use Rattle.vectors.proofs.take.Tie as tie
-use Rattle.vectors.proofs.take.Reads as reads
-use Rattle.vectors.proofs.take.Lts as lts
-use Rattle.vectors.proofs.take_byte.Reads as take-byte-reads
 
 abbrev Inv-loop : tie.InvT-loop
 Inv-loop numbers₀ tally₀ input now₀ i₀ i-end numbers tally now i = (i-end ≡ length input) × Within now
@@ -15,31 +13,24 @@ Inv-loop numbers₀ tally₀ input now₀ i₀ i-end numbers tally now i = (i-en
 abbrev μ-loop : tie.MeasureT-loop
 μ-loop numbers₀ tally₀ input now₀ i₀ i-end numbers tally now i = i-end - i
 
--- src/main.rt:74:5
 loop-holds : tie.Need-loop-holds Inv-loop μ-loop
 loop-holds c = search needs
 
--- src/main.rt:75:46
 shared-slice-read-take-byte : tie.Need-shared-slice-read-take-byte Inv-loop μ-loop
 shared-slice-read-take-byte c = search needs
 
--- src/main.rt:75:9
 take-byte-requires : tie.Need-take-byte-requires Inv-loop μ-loop
 take-byte-requires c κs = search needs
 
--- src/main.rt:74:9
 add-i : tie.Need-add-i Inv-loop μ-loop
 add-i c = search needs
 
--- src/main.rt:74:5
 loop-less : tie.Need-loop-less Inv-loop μ-loop
 loop-less c = search needs
 
--- src/main.rt:74:5
 loop-again : tie.Need-loop-again Inv-loop μ-loop
 loop-again c = search needs
 
--- src/main.rt:69:1
 returns : tie.Need-returns Inv-loop μ-loop
 returns c = search needs
 

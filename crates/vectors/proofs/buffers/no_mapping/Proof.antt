@@ -1,10 +1,8 @@
+-- `vectors::buffers::no_mapping` is safe and ends. Assumes nothing.
 use Prim.Native.Nat.{_-_}
 use borrow.Author.Needs.{needs}
 use Rattle.vectors.proofs.buffers.no_mapping.Statement.{statement}
 use Rattle.vectors.proofs.buffers.no_mapping.Tie as tie
-use Rattle.vectors.proofs.buffers.no_mapping.Reads as reads
-use Rattle.vectors.proofs.buffers.no_mapping.Lts as lts
-use Rattle.vectors.proofs.buffers.words_untouched.Reads as words-untouched-reads
 
 abbrev Inv-loop : tie.InvT-loop
 Inv-loop words i₀ i = Unit {0}
@@ -12,39 +10,30 @@ Inv-loop words i₀ i = Unit {0}
 abbrev μ-loop : tie.MeasureT-loop
 μ-loop words i₀ i = 192 - i
 
--- src/buffers.rt:89:5
 loop-holds : tie.Need-loop-holds Inv-loop μ-loop
 loop-holds c = search needs
 
--- src/buffers.rt:90:12
 mul-if1 : tie.Need-mul-if1 Inv-loop μ-loop
 mul-if1 c = search needs
 
--- src/buffers.rt:90:12
 element-copy-out-if1 : tie.Need-element-copy-out-if1 Inv-loop μ-loop
 element-copy-out-if1 c = search needs
 
--- src/buffers.rt:91:13
 returns : tie.Need-returns Inv-loop μ-loop
 returns c = search needs
 
--- src/buffers.rt:89:9
 add-i : tie.Need-add-i Inv-loop μ-loop
 add-i c = search needs
 
--- src/buffers.rt:89:5
 loop-less : tie.Need-loop-less Inv-loop μ-loop
 loop-less c = search needs
 
--- src/buffers.rt:89:5
 loop-again : tie.Need-loop-again Inv-loop μ-loop
 loop-again c = search needs
 
--- src/buffers.rt:94:5
 words-untouched-requires : tie.Need-words-untouched-requires Inv-loop μ-loop
 words-untouched-requires c κs = search needs
 
--- src/buffers.rt:88:1
 returns-2 : tie.Need-returns-2 Inv-loop μ-loop
 returns-2 c = search needs
 

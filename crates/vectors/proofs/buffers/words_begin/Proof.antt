@@ -1,11 +1,10 @@
+-- `vectors::buffers::words_begin` is safe and ends. Assumes nothing.
 use Prim.Native.Nat.{_-_}
 use mathlib.Core.Path.{_≡_}
 use lib.ListN.{length}
 use borrow.Author.Needs.{needs}
 use Rattle.vectors.proofs.buffers.words_begin.Statement.{statement}
 use Rattle.vectors.proofs.buffers.words_begin.Tie as tie
-use Rattle.vectors.proofs.buffers.words_begin.Reads as reads
-use Rattle.vectors.proofs.buffers.words_begin.Lts as lts
 
 abbrev Inv-loop : tie.InvT-loop
 Inv-loop words start i₀ i-end i = i-end ≡ length start
@@ -13,47 +12,36 @@ Inv-loop words start i₀ i-end i = i-end ≡ length start
 abbrev μ-loop : tie.MeasureT-loop
 μ-loop words start i₀ i-end i = i-end - i
 
--- src/buffers.rt:67:9
 returns : tie.Need-returns Inv-loop μ-loop
 returns c = search needs
 
--- src/buffers.rt:69:5
 loop-holds : tie.Need-loop-holds Inv-loop μ-loop
 loop-holds c = search needs
 
--- src/buffers.rt:70:12
 mul-if2 : tie.Need-mul-if2 Inv-loop μ-loop
 mul-if2 c = search needs
 
--- src/buffers.rt:70:12
 element-copy-out-if2 : tie.Need-element-copy-out-if2 Inv-loop μ-loop
 element-copy-out-if2 c = search needs
 
--- src/buffers.rt:70:24
 mul-if2-2 : tie.Need-mul-if2-2 Inv-loop μ-loop
 mul-if2-2 c = search needs
 
--- src/buffers.rt:70:24
 shared-slice-read-if2 : tie.Need-shared-slice-read-if2 Inv-loop μ-loop
 shared-slice-read-if2 c = search needs
 
--- src/buffers.rt:71:13
 returns-2 : tie.Need-returns-2 Inv-loop μ-loop
 returns-2 c = search needs
 
--- src/buffers.rt:69:9
 add-i : tie.Need-add-i Inv-loop μ-loop
 add-i c = search needs
 
--- src/buffers.rt:69:5
 loop-less : tie.Need-loop-less Inv-loop μ-loop
 loop-less c = search needs
 
--- src/buffers.rt:69:5
 loop-again : tie.Need-loop-again Inv-loop μ-loop
 loop-again c = search needs
 
--- src/buffers.rt:65:1
 returns-3 : tie.Need-returns-3 Inv-loop μ-loop
 returns-3 c = search needs
 

@@ -1,11 +1,10 @@
+-- `vectors::numbers::copy_bytes` is safe and ends. Assumes nothing.
 use Prim.Native.Nat.{_-_}
 use mathlib.Core.Path.{_≡_}
 use lib.ListN.{length}
 use borrow.Author.Needs.{needs}
 use Rattle.vectors.proofs.numbers.copy_bytes.Statement.{statement}
 use Rattle.vectors.proofs.numbers.copy_bytes.Tie as tie
-use Rattle.vectors.proofs.numbers.copy_bytes.Reads as reads
-use Rattle.vectors.proofs.numbers.copy_bytes.Lts as lts
 
 abbrev Inv-loop : tie.InvT-loop
 Inv-loop numbers bytes₀ i₀ i-end bytes i = i-end ≡ length numbers
@@ -13,43 +12,33 @@ Inv-loop numbers bytes₀ i₀ i-end bytes i = i-end ≡ length numbers
 abbrev μ-loop : tie.MeasureT-loop
 μ-loop numbers bytes₀ i₀ i-end bytes i = i-end - i
 
--- src/numbers.rt:267:9
 returns : tie.Need-returns Inv-loop μ-loop
 returns c = search needs
 
--- src/numbers.rt:269:5
 loop-holds : tie.Need-loop-holds Inv-loop μ-loop
 loop-holds c = search needs
 
--- src/numbers.rt:270:21
 mul-bytes : tie.Need-mul-bytes Inv-loop μ-loop
 mul-bytes c = search needs
 
--- src/numbers.rt:270:21
 shared-slice-read-bytes : tie.Need-shared-slice-read-bytes Inv-loop μ-loop
 shared-slice-read-bytes c = search needs
 
--- src/numbers.rt:270:20
 cast-bytes : tie.Need-cast-bytes Inv-loop μ-loop
 cast-bytes c = search needs
 
--- src/numbers.rt:270:9
 element-write-bytes : tie.Need-element-write-bytes Inv-loop μ-loop
 element-write-bytes c = search needs
 
--- src/numbers.rt:269:9
 add-i : tie.Need-add-i Inv-loop μ-loop
 add-i c = search needs
 
--- src/numbers.rt:269:5
 loop-less : tie.Need-loop-less Inv-loop μ-loop
 loop-less c = search needs
 
--- src/numbers.rt:269:5
 loop-again : tie.Need-loop-again Inv-loop μ-loop
 loop-again c = search needs
 
--- src/numbers.rt:263:1
 returns-2 : tie.Need-returns-2 Inv-loop μ-loop
 returns-2 c = search needs
 

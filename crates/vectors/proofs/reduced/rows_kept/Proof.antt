@@ -1,10 +1,8 @@
+-- `vectors::reduced::rows_kept` is safe and ends. Assumes nothing.
 use Prim.Native.Nat.{_-_}
 use borrow.Author.Needs.{needs}
 use Rattle.vectors.proofs.reduced.rows_kept.Statement.{statement}
 use Rattle.vectors.proofs.reduced.rows_kept.Tie as tie
-use Rattle.vectors.proofs.reduced.rows_kept.Reads as reads
-use Rattle.vectors.proofs.reduced.rows_kept.Lts as lts
-use Rattle.vectors.proofs.reduced.among.Reads as among-reads
 
 abbrev Inv-loop : tie.InvT-loop
 Inv-loop result chased n m i₀ i = Unit {0}
@@ -12,55 +10,42 @@ Inv-loop result chased n m i₀ i = Unit {0}
 abbrev μ-loop : tie.MeasureT-loop
 μ-loop result chased n m i₀ i = n - i
 
--- src/reduced.rt:65:13
 cast-n : tie.Need-cast-n Inv-loop μ-loop
 cast-n c = search needs
 
--- src/reduced.rt:66:13
 cast-m : tie.Need-cast-m Inv-loop μ-loop
 cast-m c = search needs
 
--- src/reduced.rt:68:9
 returns : tie.Need-returns Inv-loop μ-loop
 returns c = search needs
 
--- src/reduced.rt:71:9
 returns-2 : tie.Need-returns-2 Inv-loop μ-loop
 returns-2 c = search needs
 
--- src/reduced.rt:73:5
 loop-holds : tie.Need-loop-holds Inv-loop μ-loop
 loop-holds c = search needs
 
--- src/reduced.rt:74:12
 among-requires : tie.Need-among-requires Inv-loop μ-loop
 among-requires c κs = search needs
 
--- src/reduced.rt:75:13
 returns-3 : tie.Need-returns-3 Inv-loop μ-loop
 returns-3 c = search needs
 
--- src/reduced.rt:77:13
 among-requires-2 : tie.Need-among-requires-2 Inv-loop μ-loop
 among-requires-2 c κs = search needs
 
--- src/reduced.rt:78:13
 returns-4 : tie.Need-returns-4 Inv-loop μ-loop
 returns-4 c = search needs
 
--- src/reduced.rt:73:9
 add-i : tie.Need-add-i Inv-loop μ-loop
 add-i c = search needs
 
--- src/reduced.rt:73:5
 loop-less : tie.Need-loop-less Inv-loop μ-loop
 loop-less c = search needs
 
--- src/reduced.rt:73:5
 loop-again : tie.Need-loop-again Inv-loop μ-loop
 loop-again c = search needs
 
--- src/reduced.rt:64:1
 returns-5 : tie.Need-returns-5 Inv-loop μ-loop
 returns-5 c = search needs
 

@@ -1,10 +1,8 @@
+-- `vectors::reduced::same_cells` is safe and ends. Assumes nothing.
 use Prim.Native.Nat.{_-_}
 use borrow.Author.Needs.{needs}
 use Rattle.vectors.proofs.reduced.same_cells.Statement.{statement}
 use Rattle.vectors.proofs.reduced.same_cells.Tie as tie
-use Rattle.vectors.proofs.reduced.same_cells.Reads as reads
-use Rattle.vectors.proofs.reduced.same_cells.Lts as lts
-use Rattle.vectors.proofs.reduced.same_cell.Reads as same-cell-reads
 
 abbrev Inv-loop : tie.InvT-loop
 Inv-loop i j a b k₀ k = Unit {0}
@@ -12,63 +10,48 @@ Inv-loop i j a b k₀ k = Unit {0}
 abbrev μ-loop : tie.MeasureT-loop
 μ-loop i j a b k₀ k = 8 - k
 
--- src/reduced.rt:29:5
 loop-holds : tie.Need-loop-holds Inv-loop μ-loop
 loop-holds c = search needs
 
--- src/reduced.rt:30:25
 mul-same-cell : tie.Need-mul-same-cell Inv-loop μ-loop
 mul-same-cell c = search needs
 
--- src/reduced.rt:30:25
 add-same-cell : tie.Need-add-same-cell Inv-loop μ-loop
 add-same-cell c = search needs
 
--- src/reduced.rt:30:23
 mul-same-cell-2 : tie.Need-mul-same-cell-2 Inv-loop μ-loop
 mul-same-cell-2 c = search needs
 
--- src/reduced.rt:30:23
 array-copy-out-same-cell : tie.Need-array-copy-out-same-cell Inv-loop μ-loop
 array-copy-out-same-cell c = search needs
 
--- src/reduced.rt:30:39
 mul-same-cell-3 : tie.Need-mul-same-cell-3 Inv-loop μ-loop
 mul-same-cell-3 c = search needs
 
--- src/reduced.rt:30:39
 add-same-cell-2 : tie.Need-add-same-cell-2 Inv-loop μ-loop
 add-same-cell-2 c = search needs
 
--- src/reduced.rt:30:37
 mul-same-cell-4 : tie.Need-mul-same-cell-4 Inv-loop μ-loop
 mul-same-cell-4 c = search needs
 
--- src/reduced.rt:30:37
 array-copy-out-same-cell-2 : tie.Need-array-copy-out-same-cell-2 Inv-loop μ-loop
 array-copy-out-same-cell-2 c = search needs
 
--- src/reduced.rt:30:13
 same-cell-requires : tie.Need-same-cell-requires Inv-loop μ-loop
 same-cell-requires c κs = search needs
 
--- src/reduced.rt:31:13
 returns : tie.Need-returns Inv-loop μ-loop
 returns c = search needs
 
--- src/reduced.rt:29:9
 add-k : tie.Need-add-k Inv-loop μ-loop
 add-k c = search needs
 
--- src/reduced.rt:29:5
 loop-less : tie.Need-loop-less Inv-loop μ-loop
 loop-less c = search needs
 
--- src/reduced.rt:29:5
 loop-again : tie.Need-loop-again Inv-loop μ-loop
 loop-again c = search needs
 
--- src/reduced.rt:26:1
 returns-2 : tie.Need-returns-2 Inv-loop μ-loop
 returns-2 c = search needs
 
