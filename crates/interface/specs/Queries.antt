@@ -72,7 +72,7 @@ abbrev pub Reducing : Result Record → ℕ → ℕ → Result Reduced → ℕ �
 Reducing (refused n) source target result room words = result ≡ refused n
 Reducing (ok r) source target result room words = (o : Reduced) × IsReduced r source target o × (result ≡ reductionFits room words o)
 
--- What the exported call promises
+-- What `spernevan_reduce` promises: some reduction of the source place, returned and left as above
 pub record ReduceGives (file : List ℕ) (source target : ℕ) (out : List ℕ) (size count : ℕ) (mapping : List ℕ) (number : ℕ) (outAfter : List ℕ) (sizeAfter countAfter : ℕ) (mappingAfter : List ℕ) : Type 0 where
   pub result : Result Reduced
   pub reducing : Reducing (readFile file) source target result (length out) (length mapping)
@@ -108,7 +108,7 @@ Comparing (refused n) p q result images words room = result ≡ refused n
 Comparing (ok r) p q result images words room =
     (c : Comparison) × Compared r p q c × (images ≡ c .images) × (result ≡ comparisonFits words room (schemaOf r) c)
 
--- What the exported call promises
+-- What `spernevan_compare` promises: a comparison of the two places, returned and left as above
 pub record CompareGives (file : List ℕ) (p q said : ℕ) (mapping part : List ℕ) (size number saidAfter : ℕ) (mappingAfter partAfter : List ℕ) (sizeAfter : ℕ) : Type 0 where
   pub result : Result (ℕ × List ℕ)
   pub images : List Cell
@@ -127,7 +127,7 @@ CheckGiven (option.some n) r p q words said number saidAfter = (number ≡ n) ×
 CheckGiven option.none r p q words said number saidAfter =
     (number ≡ 0) × (((saidAfter ≡ 1) × WordsMap r p q words) ⊎ ((saidAfter ≡ 0) × (WordsMap r p q words → ⊥)))
 
--- What the exported call promises: a refusal of the file, then of the places, else the verdict
+-- What `spernevan_check` promises: a refusal of the file, then of the places, else the verdict
 abbrev pub CheckGives : Result Record → ℕ → ℕ → List ℕ → ℕ → ℕ → ℕ → Type 0
 CheckGives (refused n) p q words said number saidAfter = (number ≡ n) × (saidAfter ≡ said)
 CheckGives (ok r) p q words said number saidAfter = CheckGiven (pairRefusal r p q) r p q words said number saidAfter
