@@ -1,0 +1,172 @@
+// The calls on the blank record, which no file stands for: they are made on the record itself, below the interface.
+use crate::buffers::BYTE;
+use crate::buffers::WORD;
+use crate::buffers::untouched;
+use crate::buffers::words_untouched;
+use crate::numbers::Fields;
+use crate::numbers::list;
+use crate::numbers::number;
+use comparison::Checked;
+use database::Answered;
+use writer::Written;
+use record::Answer;
+use record::Cell;
+use record::Columns;
+use record::Dependency;
+use record::Entry;
+use record::calls::blank_record;
+use record::calls::no_query;
+
+// The number of an answer.
+fn refusal_of(answer: Answer) -> u8 {
+    match answer {
+        Answer::Done => 0,
+        Answer::Refused(n) => n,
+    }
+}
+
+// Writing; 255 stands for a buffer that was changed.
+fn write(room: usize) -> u8 {
+    if 8192 < room {
+        return 255;
+    }
+    let mut out = [BYTE; 8192];
+    let written = file::write(blank_record(), &mut out[0..room]);
+    if !untouched(&out, 0) {
+        return 255;
+    }
+    match written {
+        Written::Length(_) => 0,
+        Written::Refused(n) => n,
+    }
+}
+
+// Adding a dependency.
+fn add(relation: u8, left: u8, right: u8) -> u8 {
+    let d = Dependency {
+        relation,
+        left,
+        right,
+    };
+    let outcome = blank_record().add_dependency(d);
+    let answer = outcome.answer;
+    refusal_of(answer)
+}
+
+// Putting a query. Which query it is plays no part: the record is judged first.
+fn put(place: usize) -> u8 {
+    let outcome = blank_record().put(place, no_query());
+    let answer = outcome.answer;
+    refusal_of(answer)
+}
+
+// Dropping a place.
+fn drop_place(place: usize) -> u8 {
+    let outcome = blank_record().drop_query(place);
+    let answer = outcome.answer;
+    refusal_of(answer)
+}
+
+// Reducing.
+fn reduce(source: usize, target: usize) -> u8 {
+    let reduced = reduction::reduce(blank_record(), source, target);
+    let answer = reduced.answer;
+    refusal_of(answer)
+}
+
+// Comparing.
+fn compare(p: usize, q: usize) -> u8 {
+    let compared = comparison::compare(blank_record(), p, q);
+    let verdict = compared.verdict;
+    match verdict {
+        comparison::Verdict::Never => 0,
+        comparison::Verdict::Contained => 0,
+        comparison::Verdict::Apart => 0,
+        comparison::Verdict::Refused(n) => n,
+    }
+}
+
+// Checking a mapping. Which mapping it is plays no part: the record is judged first.
+fn check(p: usize, q: usize) -> u8 {
+    let images = [Cell {
+        entry: Entry::Constant(0),
+    }; 96];
+    let checked = comparison::check_mapping(blank_record(), p, q, images);
+    match checked {
+        Checked::Yes => 0,
+        Checked::No => 0,
+        Checked::Refused(n) => n,
+    }
+}
+
+// Determined columns.
+fn determined(relation: u8, left: u8) -> u8 {
+    let found = blank_record().determined(relation, left);
+    match found {
+        Columns::Determined(_, _) => 0,
+        Columns::Refused(n) => n,
+    }
+}
+
+// Testing a database.
+fn test(words: &[u32]) -> u8 {
+    let found = database::test(blank_record(), words);
+    match found {
+        database::Verdict::Obeys => 0,
+        database::Verdict::Broken(_, _, _) => 0,
+        database::Verdict::Refused(n) => n,
+    }
+}
+
+// Evaluating; 255 stands for a buffer that was changed.
+fn evaluate(place: usize, words: &[u32], room: usize) -> u8 {
+    if 8192 < room {
+        return 255;
+    }
+    let mut answers = [WORD; 8192];
+    let done = database::evaluate(blank_record(), place, words, &mut answers[0..room]);
+    if !words_untouched(&answers, 0) {
+        return 255;
+    }
+    match done {
+        Answered::Count(_) => 0,
+        Answered::Refused(n) => n,
+    }
+}
+
+// A byte among the inputs.
+fn byte(v: &[u32], f: Fields, k: usize) -> u8 {
+    (number(v, f.inputs, k) % 256) as u8
+}
+
+// A place or a length among the inputs.
+fn input(v: &[u32], f: Fields, k: usize) -> usize {
+    number(v, f.inputs, k) as usize
+}
+
+// The number with which a call on the blank record is refused. The chase has no call of its own: reducing begins with it.
+fn called(v: &[u32], f: Fields) -> u8 {
+    match number(v, 0, 0) {
+        1 => write(input(v, f, 0)),
+        3 => add(byte(v, f, 0), byte(v, f, 1), byte(v, f, 2)),
+        4 => put(input(v, f, 0)),
+        5 => drop_place(input(v, f, 0)),
+        6 => reduce(input(v, f, 0), input(v, f, 1)),
+        7 => compare(input(v, f, 0), input(v, f, 1)),
+        8 => check(input(v, f, 0), input(v, f, 1)),
+        9 => determined(byte(v, f, 0), byte(v, f, 1)),
+        10 => test(list(v, f.second)),
+        11 => evaluate(
+            input(v, f, 0),
+            list(v, f.second),
+            number(v, f.room, 0) as usize,
+        ),
+        12 => reduce(input(v, f, 0), 0),
+        _ => 255,
+    }
+}
+
+// Whether a call on the blank record answers as told.
+pub fn blank(v: &[u32], f: Fields) -> bool {
+    called(v, f) as u32 == number(v, f.refusal, 0)
+}
