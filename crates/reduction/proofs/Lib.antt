@@ -2,3 +2,4 @@
 pub mod Shorter
 pub mod Passes
 pub mod Results
+pub mod Pruned

@@ -1,6 +1,6 @@
 // Reducing the query of one place into a vacant one: chase it, lose rows while it can be mapped into itself without one of them, and find a mapping from the
 // query as it was stored.
-mod rows; // rows.rt: a query without one of its rows, and without all that it can do without
+pub mod pruning; // pruning.rt: a query without one of its rows, and without all that it can do without
 
 use record::Answer;
 use record::Cell;
@@ -57,7 +57,7 @@ fn shorten(q: Query, dependencies: [Dependency; 32], held: usize) -> Shortened
 {
     let chased = chase::chase(q, dependencies, held);
     let query = chased.query;
-    let result = rows::prune(query);
+    let result = pruning::prune(query);
     let mapped = mapping::find(q, result);
     let images = mapped.images;
     Shortened {

@@ -8,7 +8,6 @@ use crate::numbers::list;
 use crate::numbers::number;
 use comparison::Checked;
 use database::Answered;
-use writer::Written;
 use record::Answer;
 use record::Cell;
 use record::Columns;
@@ -16,6 +15,7 @@ use record::Dependency;
 use record::Entry;
 use record::calls::blank_record;
 use record::calls::no_query;
+use writer::Written;
 
 // The number of an answer.
 fn refusal_of(answer: Answer) -> u8 {

@@ -1,0 +1,46 @@
+-- A query without the rows that it can do without has the answers of the query, on every database. It is a result of reduction under no dependencies.
+-- Assumes nothing.
+use mathlib.Core.Path.{_≡_, refl, sym, ap, subst, _∙_}
+use mathlib.Core.Logic.{_↔_}
+use mathlib.Core.Bool.{true}
+use mathlib.Core.List.{List, [], List·Memᴰ·not-nil}
+use Prim.Native.Nat.{ℕ}
+use Rattle.record.specs.declared.Query.{Query}
+use Rattle.record.specs.View.{queryOf}
+use Rattle.theory.specs.Query as theory
+use Rattle.theory.specs.Query.{WellFormed, variablesOf, rowEntries, _∈_}
+use Rattle.theory.specs.Database.{Database}
+use Rattle.theory.specs.Answer.{Answer, Mapping}
+use Rattle.theory.specs.Chase.{chase, chaseFor, chaseOn, step, mapFound, firstBroken, firstFound}
+use Rattle.theory.specs.Reduction.{Reduction}
+use Rattle.theory.proofs.Reduction.{reduction-answers, reduction-wellformed}
+use Rattle.reduction.specs.Rows.{IsPruned}
+
+-- Without dependencies the chase rests at once
+chase-nothing : (q : theory.Query) → chase [] q .query ≡ q
+unfolding chase chaseFor chaseOn step mapFound firstBroken firstFound
+chase-nothing q = refl
+
+pruned-reduction : (schema : List ℕ) (q r : Query) → IsPruned schema q r → Reduction [] (queryOf schema q) (queryOf schema r)
+pruned-reduction schema q r p =
+    let is : queryOf schema q ≡ chase [] (queryOf schema q) .query = sym (chase-nothing (queryOf schema q)) in
+    record {
+      head = p .head ∙ ap (λ (x : theory.Query). x .head) is;
+      rows = λ row at. subst (λ (x : theory.Query). row ∈ x .rows) is (p .rows row at);
+      receives =
+          λ some-rows.
+          subst (λ (x : theory.Query). Mapping x (queryOf schema r)) is
+          (p .receives (λ none-left. some-rows (sym (ap (λ (x : theory.Query). x .rows) is) ∙ none-left)));
+      core = p .core;
+    }
+
+module _ (schema : List ℕ) (q r : Query) (p : IsPruned schema q r) where
+  -- The answers are the same
+  pub pruned-answers : (D : Database) (t : List ℕ) → Answer D (queryOf schema q) t ↔ Answer D (queryOf schema r) t
+  pruned-answers D t =
+      reduction-answers [] (queryOf schema q) (queryOf schema r) (pruned-reduction schema q r p) D (λ d at. absurd (List·Memᴰ·not-nil at)) t
+
+  -- Each head variable still occurs in a row
+  pub pruned-safe : WellFormed schema (queryOf schema q) → (v : ℕ) → v ∈ variablesOf (queryOf schema r .head)
+      → v ∈ variablesOf (rowEntries (queryOf schema r .rows))
+  pruned-safe well = reduction-wellformed schema [] (queryOf schema q) (queryOf schema r) well (pruned-reduction schema q r p) .head-safe
