@@ -26,7 +26,7 @@ use Rattle.theory.specs.Chase as chasing
 use Rattle.theory.specs.Containment as containment
 use Rattle.theory.specs.Search as search
 
--- That query, chased with the held dependencies
+-- The query of a place, chased with the held dependencies
 abbrev pub chasedAt : Record → ℕ → theory.Query
 chasedAt r place = chasing.chase (dependenciesOf r) (queryAt r place) .query
 
