@@ -1,2 +1,3 @@
 -- What the calls on a database answer.
 pub mod Calls
+pub mod Meaning
