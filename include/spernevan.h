@@ -4,19 +4,20 @@
  * A record is the bytes of its file, in and out. Nothing is kept between calls and nothing is allocated.
  *
  * Every function returns 0, or the number of the refusal:
- *   1  the bytes do not begin as a file does: fewer than 2 of them, a wrong count of parts, or no room for the offset and length of each part
- *   2  the offset and length of a part are not those that the rule asks for
- *   3  the relation widths are not 1 to 8 numbers from 1 to 8; in a file, also bytes of part 0 that are missing or left over
- *   4  a dependency is not one of the relations', or bytes of part 1 are missing or left over; also a relation or column set that does not exist, asked about
- *   5  a query breaks a limit, or bytes of its part are missing or left over; also a file that ends with a vacant place, the single byte 255
+ *   1  the bytes do not begin as a file does: fewer than 2, a count of parts that is not 2 to 10, or too few for the offset and length of each part
+ *   2  the parts do not follow one another: the first right after the offsets and lengths, the last up to the end of the file
+ *   3  there are not 1 to 8 relations with 1 to 8 columns each; in a file, also bytes of part 0 that are missing or left over
+ *   4  a dependency, or a left set that is asked about, has no left column or names a relation or column that there is not;
+ *      in a file, also more than 32 dependencies, and bytes of part 1 that are missing or left over
+ *   5  a query breaks a limit, or bytes of its part are missing or left over; also a file whose last part is a vacant place, the single byte 255
  *   6  the head of a query has a variable that its rows do not have
  *   7  a place is not 0 to 7
  *   8  the two queries have heads of different lengths
  *   9  a row of the database names no relation of the record, or ends too early
  *  10  a buffer is too short for the result
- *  11  there is no query in the place to be read or dropped
- *  12  there is a query in the place to be filled already
- *  13  there is no room for another dependency: a record holds 32
+ *  11  no query is in the place to be read or dropped
+ *  12  a query is already in the place to be filled
+ *  13  the record has its 32 dependencies already
  * A file that cannot be read is refused with 1 to 6 before anything else, and 10 comes last of all.
  * A refusal leaves every buffer and every number as it was.
  *
