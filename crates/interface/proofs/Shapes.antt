@@ -30,7 +30,8 @@ use Rattle.interface.specs.Queries.{ReducedShape, ComparisonShape}
 long : (F : Field) (n : ℕ) (xs : List (F .Value)) (vs : List Val) → Is (array-field F n .row) (array-field F n .into xs) vs → length xs ≡ n
 long F n xs vs p = mapped-length (F .Value) (F .row .Denot) (F .into) xs n (p .1 .0 .1)
 
-pub query-shaped : (q : Query) (vs : List Val) → Is query.the-row q vs → shapedQuery q ≡ true
+-- A query's arrays
+query-shaped : (q : Query) (vs : List Val) → Is query.the-row q vs → shapedQuery q ≡ true
 query-shaped q vs p =
     let head = long cell.the-field 8 (q .head) _ (p .1 .1 .1 .1 .0) in
     let relations = long u8-field 12 (q .relations) _ (p .1 .1 .1 .1 .1 .0) in
@@ -46,7 +47,8 @@ places-shaped (x ∷ xs) (u ∷ us) p =
     let first = query-shaped (x .query) _ (p .0 .1 .1 .1 .0) in
     let rest = places-shaped xs us (p .1) in rw (first, rest)
 
-pub record-shaped : (r : Record) (vs : List Val) → Is recorded.the-row r vs → shaped r ≡ true
+-- A record's
+record-shaped : (r : Record) (vs : List Val) → Is recorded.the-row r vs → shaped r ≡ true
 record-shaped r vs p =
     let widths = long u8-field 8 (r .widths) _ (p .1 .1 .1 .0) in
     let dependencies = long dependency.the-field 32 (r .dependencies) _ (p .1 .1 .1 .1 .1 .0) in
@@ -54,6 +56,7 @@ record-shaped r vs p =
     let queries = places-shaped (r .places) _ (p .1 .1 .1 .1 .1 .1 .0 .1 .1) in
     rw (widths, dependencies, places, queries)
 
+-- What reducing and comparing give
 pub reduced-shaped : (o : Reduced) (vs : List Val) → Is reduced.the-row o vs → ReducedShape o
 reduced-shaped o vs p = (record-shaped (o .«record») _ (p .1 .1 .1 .0), long cell.the-field 96 (o .images) _ (p .1 .1 .1 .1 .1 .0))
 
