@@ -9,6 +9,7 @@ use lib.Dec.{eqb, leb, ltb}
 use lib.ListN.{length, take, drop, replicate, length-append, length-replicate, length-set}
 use lib.Seq.{take-at}
 use borrow.Author.Tests.{leb-true}
+use Rattle.record.specs.declared.Cell.{Cell}
 use Rattle.record.specs.declared.Query.{Query}
 use Rattle.record.specs.declared.Dependency.{Dependency}
 use Rattle.record.specs.declared.Place.{Place}
@@ -16,11 +17,10 @@ use Rattle.record.specs.declared.Record.{Record}
 use Rattle.record.specs.declared.Answer.{Answer}
 use Rattle.record.specs.declared.Answer.the-variants.{Done, Refused}
 use Rattle.record.specs.declared.Outcome.{Outcome}
-use Rattle.record.specs.View.{schemaOf}
-use Rattle.record.specs.Rule.{between, every, goodDependency, goodQuery, headSafe, goodRecord, noPlace, blankRecord}
-use Rattle.record.specs.Calls.{firstHolding, concluded, broken, above, vacant, withPlace, withDependency, emptyRecord, openRecord, addDependency, putQuery, dropQuery}
-use Rattle.record.specs.Calls as calls
-use Rattle.record.proofs.Tests.{and-left, and-right, every-set}
+use Rattle.record.specs.View.{schemaOf, queryOf}
+use Rattle.record.specs.Rule.{between, every, goodDependency, goodQuery, headSafe, goodPlace, goodRecord, noPlace, blankRecord}
+use Rattle.record.specs.Calls.{queryAt, firstHolding, concluded, broken, above, vacant, filled, withPlace, withDependency, emptyRecord, openRecord, addDependency, putQuery, dropQuery}
+use Rattle.record.proofs.Tests.{and-left, and-right, and-both, every-set}
 use Rattle.record.proofs.Good.{good-record}
 use Rattle.record.proofs.Meaning.{open-keeps, add-keeps, put-keeps, drop-keeps}
 use Rattle.format.specs.Bytes.{Bytes, over}
@@ -28,15 +28,22 @@ use Rattle.format.specs.Parts.{query}
 use Rattle.format.specs.File.{Result, ok, refused, _>>=_, whole, isVacant, placeWith, safeQuery, readPlace, readFile, fileOf, shapedQuery, shaped}
 use Rattle.format.proofs.Directory.{cond-ok}
 use Rattle.format.proofs.Parts.{Narrow, query-lawful}
-use Rattle.format.proofs.Places.{not-ok, bind-ok, whole-get}
+use Rattle.format.proofs.Places.{not-ok, bind-ok, whole-get, read-filled}
 use Rattle.format.proofs.Rules.{good-narrow, good-query}
 use Rattle.format.proofs.RoundTrip.{parts-of, file-written-back, record-read-back}
+use Rattle.comparison.specs.declared.Comparison.{Comparison}
+use Rattle.comparison.specs.declared.Verdict.{Verdict}
+use Rattle.comparison.specs.declared.Verdict.the-variants as verdict
+use Rattle.comparison.specs.Comparison.{chasedAt, verdictOn, judged, Compared}
+use Rattle.theory.specs.Query as theory
+use Rattle.theory.specs.Search as search
 use Rattle.reduction.specs.declared.Reduced.{Reduced}
-use Rattle.interface.specs.Lent.{leaves, fitted, Wrote}
+use Rattle.interface.specs.Lent.{fitted, Wrote}
 use Rattle.interface.specs.Records.{answered, resultOf, stored, putPart}
-use Rattle.interface.specs.Queries.{ReductionGiven, Reducing}
-use Rattle.interface.specs.ReadBack.{FileLeft, WriteLeft, OpenLeft, AddLeft, PutLeft, DropLeft, ReduceLeft}
+use Rattle.interface.specs.Queries.{ReductionGiven, Reducing, comparisonFits, ComparisonGiven, ComparisonShape, Comparing}
+use Rattle.interface.specs.ReadBack.{FileLeft, WriteLeft, OpenLeft, AddLeft, PutLeft, DropLeft, ReduceLeft, CompareLeft}
 use Rattle.interface.proofs.Files.{goes-on}
+use Rattle.interface.proofs.Verdicts.{query-part, comparison-apart, comparison-contained, comparison-never, compared-sound}
 
 -- ---- records that are written whole
 
@@ -125,7 +132,7 @@ module _ (r : Record) (w : Whole r) where
   put-shaped place q s e =
       concluded-shaped
       (firstHolding
-      (broken r ∷ above place ∷ (not (goodQuery (schemaOf r) q), 5) ∷ (not (headSafe (schemaOf r) q), 6) ∷ calls.filled r place ∷ []))
+      (broken r ∷ above place ∷ (not (goodQuery (schemaOf r) q), 5) ∷ (not (headSafe (schemaOf r) q), 6) ∷ filled r place ∷ []))
       r (withPlace r place (placeWith q)) e (λ _. place-shaped place (placeWith q) s)
 
   drop-shaped : (place : ℕ) → dropQuery r place .answer ≡ Done → shaped (dropQuery r place .«record») ≡ true
@@ -203,3 +210,50 @@ reduce-left file source target r e clear out size count mapping outAfter sizeAft
         → readFile (take sizeAfter outAfter) ≡ ok (o .«record»)
     go o w true k = over-read (o .«record») w out outAfter sizeAfter (k .1) (k .2)
     go o w false k = let z : _≡_ {A = ℕ} 0 10 = k .0 in absurd (omega arith)
+
+-- A verdict on a chased query is no refusal
+judged-not : (rows : List (theory.Row theory.Entry)) (mapped : Bool) (n : ℕ) → verdictOn rows mapped ≡ verdict.Refused n → ⊥
+judged-not [] mapped n e = let z : _≡_ {A = ℕ} 0 1 = cc in omega arith
+judged-not (x ∷ xs) true n e = let z : _≡_ {A = ℕ} 0 1 = cc in omega arith
+judged-not (x ∷ xs) false n e = let z : _≡_ {A = ℕ} 0 1 = cc in omega arith
+
+pub compare-left : CompareLeft
+compare-left file hb p q r e clear said mapping part size mappingAfter partAfter sizeAfter g =
+    let (c, is, shape, pictures, same) = subst (λ (x : Result Record). Comparing x p q (g .result) (g .images) (length mapping) (length part)) e (g .comparing) in
+    let k = subst (λ (x : Result (ℕ × List ℕ)). Given x (g .images)) same (g .given) in
+    go c is shape (g .images) k (c .verdict) refl
+  where
+    Given : Result (ℕ × List ℕ) → List Cell → Type 0
+    Given x images = ComparisonGiven x images said mapping part size 0 0 mappingAfter partAfter sizeAfter
+
+    -- a verdict that is told, with bytes
+    told : (n : ℕ) (bytes : List ℕ) (images : List Cell) (fits : Bool) → Given (cond fits (ok (n, bytes)) (refused 10)) images
+        → (n ≡ 0) × (take sizeAfter partAfter ≡ bytes)
+    told n bytes images true k =
+        (sym (k .1), rw (k .3, k .4) (take-at bytes (drop (0 + length bytes) part) (length bytes) refl))
+    told n bytes images false k = let z : _≡_ {A = ℕ} 0 10 = k .0 in absurd (omega arith)
+
+    go : (c : Comparison) → Compared r p q c → ComparisonShape c → (images : List Cell) → Given (comparisonFits (length mapping) (length part) (schemaOf r) c) images
+        → (v : Verdict) → c .verdict ≡ v
+        → (chased : Query) × (readPlace (schemaOf r) true (take sizeAfter partAfter) ≡ ok (placeWith chased)) × (queryOf (schemaOf r) chased ≡ chasedAt r p)
+    go c is shape images k verdict.Apart a =
+        let bytes = query (schemaOf r) .put (c .query) in
+        let same = told 0 bytes images (leb 192 (length mapping) && leb (length bytes) (length part))
+        (subst (λ (x : Result (ℕ × List ℕ)). Given x images) (comparison-apart (length mapping) (length part) (schemaOf r) c a) k) .1 in
+        let good = read-whole file hb r e .0 in (
+          c .query,
+          ap (readPlace (schemaOf r) true) (same ∙ sym (query-part (schemaOf r) (c .query)))
+              ∙ read-filled (schemaOf r) (good-narrow (r .relations) (r .widths) (good-record r good .relations)) true (placeWith (c .query))
+              (and-both (goodPlace (schemaOf r) (placeWith (c .query))) (shapedQuery (c .query)) (compared-sound r p q c is a) (shape .0)) refl,
+          is .chased a .0,
+        )
+    go c is shape images k verdict.Contained a =
+        let z = told 1 [] images (leb 192 (length mapping) && leb 0 (length part))
+        (subst (λ (x : Result (ℕ × List ℕ)). Given x images) (comparison-contained (length mapping) (length part) (schemaOf r) c a) k) .0 in absurd (omega arith)
+    go c is shape images k verdict.Never a =
+        let z = told 2 [] images (leb 192 (length mapping) && leb 0 (length part))
+        (subst (λ (x : Result (ℕ × List ℕ)). Given x images) (comparison-never (length mapping) (length part) (schemaOf r) c a) k) .0 in absurd (omega arith)
+    go c is shape images k (verdict.Refused n) a =
+        let view = verdictOn (chasedAt r p .rows) (search.mappable (queryAt r q) (chasedAt r p)) in
+        let v : view ≡ verdict.Refused n = ap (λ (x : Option ℕ). judged x view) (sym clear) ∙ sym (is .verdict) ∙ a in
+        absurd (judged-not (chasedAt r p .rows) (search.mappable (queryAt r q) (chasedAt r p)) n v)

@@ -41,7 +41,6 @@ use Rattle.theory.specs.Determined.{subset}
 use Rattle.theory.specs.Answer as answer
 use Rattle.theory.proofs.Chase.{chase-chases}
 use Rattle.theory.proofs.Determined.{subset-true, subset-of}
-use Rattle.interface.specs.Lent.{leaves}
 use Rattle.interface.specs.Queries.{wordsOf, imagesIn, reductionFits, ReductionGiven, ReducedShape, Reducing, ReduceGives, verdictFits, comparisonFits, ComparisonGiven, ComparisonShape, Comparing, CompareGives, CheckGiven, CheckGives}
 use Rattle.interface.specs.Steps.{mappingRead, SoundReduction, SoundComparison}
 use Rattle.mapping.specs.declared.Mapped.{Mapped}

@@ -1,19 +1,23 @@
--- What a caller relies on: the file that an accepted call leaves is read as the record after the call. Each statement is proved in `proofs/ReadBack`.
+-- What a caller relies on: the file that an accepted call leaves is read as the record after the call, and so a query part. Each statement is proved in `proofs/ReadBack`.
 -- `Bytes` holds of every file and query part that a call can be given: bytes are below 256.
 use mathlib.Core.Path.{_≡_}
+use mathlib.Core.Bool.{true}
 use mathlib.Core.List.{List}
 use mathlib.Core.Option.{none}
 use Prim.Native.Nat.{ℕ}
 use lib.ListN.{length, take}
+use Rattle.record.specs.declared.Query.{Query}
 use Rattle.record.specs.declared.Record.{Record}
+use Rattle.record.specs.View.{schemaOf, queryOf}
 use Rattle.record.specs.Calls.{openRecord, addDependency, dropQuery}
 use Rattle.format.specs.Bytes.{Bytes}
-use Rattle.format.specs.File.{Result, ok, _>>=_, readFile}
+use Rattle.format.specs.File.{Result, ok, _>>=_, placeWith, readPlace, readFile}
+use Rattle.comparison.specs.Comparison.{chasedAt, pairRefusal}
 use Rattle.reduction.specs.declared.Reduced.{Reduced}
 use Rattle.reduction.specs.Reduced.{reductionRefusal, IsReduced}
 use Rattle.interface.specs.Lent.{Wrote}
 use Rattle.interface.specs.Records.{resultOf, copied, opened, added, putPart, filled, dropped}
-use Rattle.interface.specs.Queries.{ReduceGives}
+use Rattle.interface.specs.Queries.{ReduceGives, CompareGives}
 
 -- A call with the record `after`, which wrote what `given` says of a buffer's room and returned 0: the bytes that it left are read as that record
 abbrev pub FileLeft : Result Record → (ℕ → Result (List ℕ)) → Type 0
@@ -51,3 +55,11 @@ ReduceLeft =
     → (out : List ℕ) (size count : ℕ) (mapping outAfter : List ℕ) (sizeAfter countAfter : ℕ) (mappingAfter : List ℕ)
     → ReduceGives file source target out size count mapping 0 outAfter sizeAfter countAfter mappingAfter
     → (o : Reduced) × IsReduced r source target o × (readFile (take sizeAfter outAfter) ≡ ok (o .«record»))
+
+-- Comparing, once the places are not refused, where it said 0: the query part that it left is read as a query that stands for the first query, chased
+abbrev pub CompareLeft : Type 0
+CompareLeft =
+    (file : List ℕ) → Bytes file → (p q : ℕ) (r : Record) → readFile file ≡ ok r → pairRefusal r p q ≡ none
+    → (said : ℕ) (mapping part : List ℕ) (size : ℕ) (mappingAfter partAfter : List ℕ) (sizeAfter : ℕ)
+    → CompareGives file p q said mapping part size 0 0 mappingAfter partAfter sizeAfter
+    → (chased : Query) × (readPlace (schemaOf r) true (take sizeAfter partAfter) ≡ ok (placeWith chased)) × (queryOf (schemaOf r) chased ≡ chasedAt r p)
