@@ -4,19 +4,20 @@
  * A record is the bytes of its file, in and out. Nothing is kept between calls and nothing is allocated.
  *
  * Every function returns 0, or the number of the refusal:
- *   1  the file has under 2 bytes, its part count is wrong, or its pairs do not fit
- *   2  a pair of the file breaks the offset rule
- *   3  relations break the record's rule, or part 0 has another length than they give
- *   4  the same of dependencies and part 1; also a bad relation or set asked of
- *   5  the same of a query and its part; also a last query part of 255 alone
- *   6  a head variable is in no row
- *   7  a place is above 7
- *   8  head lengths differ
- *   9  a database row is of an unknown relation or cut short
- *  10  what is to be written is longer than the buffer
- *  11  the place to be read or dropped is vacant
- *  12  the place to be filled is filled
- *  13  32 dependencies are held
+ *   1  the bytes do not begin as a file does: fewer than 2, a count of parts that is not 2 to 10, or too few for the offset and length of each part
+ *   2  the parts do not follow one another: the first right after the offsets and lengths, the last up to the end of the file
+ *   3  there are not 1 to 8 relations with 1 to 8 columns each; in a file, also bytes of part 0 that are missing or left over
+ *   4  a dependency, or a left set that is asked about, has no left column or names a relation or column that there is not;
+ *      in a file, also more than 32 dependencies, and bytes of part 1 that are missing or left over
+ *   5  a query breaks a limit, or bytes of its part are missing or left over; also a file whose last part is a vacant place, the single byte 255
+ *   6  the head of a query has a variable that its rows do not have
+ *   7  a place is not 0 to 7
+ *   8  the two queries have heads of different lengths
+ *   9  a row of the database names no relation of the record, or ends too early
+ *  10  a buffer is too short for the result
+ *  11  no query is in the place to be read or dropped
+ *  12  a query is already in the place to be filled
+ *  13  the record has its 32 dependencies already
  * A file that cannot be read is refused with 1 to 6 before anything else, and 10 comes last of all.
  * A refusal leaves every buffer and every number as it was.
  *
@@ -25,6 +26,9 @@
  * Bytes and words of a buffer after those that are written stay as they were.
  *
  * No file is longer than 4420 bytes and no query part than 534, so buffers of SPERNEVAN_FILE and SPERNEVAN_QUERY bytes are never too short.
+ *
+ * For 64-bit x86 Linux only. spernevan_evaluate, and spernevan_test on more than 16384 words, use up to 4.5 MB of stack, every other call under 1 MB:
+ * a thread whose stack is smaller must not make them.
  *
  * A query part is the query as a file has it: head length, row count, head entries, then the rows, each a relation byte and its entries;
  * an entry is a byte (0 constant, 1 variable) and 32 bits, little-endian. Without rows it is the first two bytes alone, the query that has no answers.

@@ -41,8 +41,7 @@ use Rattle.theory.specs.Determined.{subset}
 use Rattle.theory.specs.Answer as answer
 use Rattle.theory.proofs.Chase.{chase-chases}
 use Rattle.theory.proofs.Determined.{subset-true, subset-of}
-use Rattle.interface.specs.Lent.{leaves}
-use Rattle.interface.specs.Queries.{wordsOf, imagesIn, reductionFits, ReductionGiven, Reducing, ReduceGives, verdictFits, comparisonFits, ComparisonGiven, Comparing, CompareGives, CheckGiven, CheckGives}
+use Rattle.interface.specs.Queries.{wordsOf, imagesIn, reductionFits, ReductionGiven, ReducedShape, Reducing, ReduceGives, verdictFits, comparisonFits, ComparisonGiven, ComparisonShape, Comparing, CompareGives, CheckGiven, CheckGives}
 use Rattle.interface.specs.Steps.{mappingRead, SoundReduction, SoundComparison}
 use Rattle.mapping.specs.declared.Mapped.{Mapped}
 
@@ -246,15 +245,15 @@ compared-sound r p q c is apart =
     unrefused (option.some n) v e = let z : _≡_ {A = ℕ} 0 1 = cc in absurd (omega arith)
 
 module _ (file : List ℕ) (source target : ℕ) (out : List ℕ) (size count : ℕ) (mapping : List ℕ) where
-  pub reduce-done : (r : Record) → readFile file ≡ ok r → (o : Reduced) → IsReduced r source target o
+  pub reduce-done : (r : Record) → readFile file ≡ ok r → (o : Reduced) → IsReduced r source target o → ReducedShape o
       → (number : ℕ) (out′ : List ℕ) (size′ count′ : ℕ) (mapping′ : List ℕ)
       → ReductionGiven (reductionFits (length out) (length mapping) o) out size count mapping number out′ size′ count′ mapping′
       → ReduceGives file source target out size count mapping number out′ size′ count′ mapping′
-  reduce-done r e o is number out′ size′ count′ mapping′ w =
+  reduce-done r e o is shape number out′ size′ count′ mapping′ w =
       record {
         result = reductionFits (length out) (length mapping) o;
         reducing =
-            subst (λ (x : Result Record). Reducing x source target (reductionFits (length out) (length mapping) o) (length out) (length mapping)) (sym e) (o, is, refl);
+            subst (λ (x : Result Record). Reducing x source target (reductionFits (length out) (length mapping) o) (length out) (length mapping)) (sym e) (o, is, shape, refl);
         given = w;
       }
 
@@ -267,17 +266,17 @@ module _ (file : List ℕ) (source target : ℕ) (out : List ℕ) (size count : 
       }
 
 module _ (file : List ℕ) (p q said : ℕ) (mapping part : List ℕ) (size : ℕ) where
-  pub compare-done : (r : Record) → readFile file ≡ ok r → (c : Comparison) → Compared r p q c
+  pub compare-done : (r : Record) → readFile file ≡ ok r → (c : Comparison) → Compared r p q c → ComparisonShape c
       → (number said′ : ℕ) (mapping′ part′ : List ℕ) (size′ : ℕ)
       → ComparisonGiven (comparisonFits (length mapping) (length part) (schemaOf r) c) (c .images) said mapping part size number said′ mapping′ part′ size′
       → CompareGives file p q said mapping part size number said′ mapping′ part′ size′
-  compare-done r e c is number said′ mapping′ part′ size′ w =
+  compare-done r e c is shape number said′ mapping′ part′ size′ w =
       record {
         result = comparisonFits (length mapping) (length part) (schemaOf r) c;
         images = c .images;
         comparing =
             subst (λ (x : Result Record). Comparing x p q (comparisonFits (length mapping) (length part) (schemaOf r) c) (c .images) (length mapping) (length part)) (sym e)
-            (c, is, refl, refl);
+            (c, is, shape, refl, refl);
         given = w;
       }
 

@@ -17,7 +17,7 @@ use Rattle.record.specs.View.{schemaOf}
 use Rattle.format.specs.Bytes.{over}
 use Rattle.format.specs.Format.{Reading, none, got, gotIf, getTimes, putAll}
 use Rattle.format.specs.Parts.{entryFrom, query}
-use Rattle.format.specs.File.{Result, ok, refused, _>>=_, readFile, fileOf}
+use Rattle.format.specs.File.{Result, ok, refused, _>>=_, readFile, fileOf, shapedQuery, shaped}
 use Rattle.mapping.specs.Mapped.{imagesOf}
 use Rattle.comparison.specs.declared.Comparison.{Comparison}
 use Rattle.comparison.specs.declared.Verdict.{Verdict}
@@ -68,10 +68,14 @@ ReductionGiven result out size count mapping number outAfter sizeAfter countAfte
     × (sizeAfter ≡ leaves result (λ o. length (fileOf (o .«record»))) size) × (countAfter ≡ leaves result (λ o. o .count) count)
     × (mappingAfter ≡ leaves result (λ o. over mapping 0 (wordsOf (o .images))) mapping)
 
+-- The arrays of a reduction are as long as their types say: without it, shorter ones that read the same would do
+abbrev pub ReducedShape : Reduced → Type 0
+ReducedShape o = (shaped (o .«record») ≡ true) × (length (o .images) ≡ 96)
+
 -- A reduction of a place of the record of a file: a refusal of the file, or what reducing promises. Which one is free, as "Reduction" says
 abbrev pub Reducing : Result Record → ℕ → ℕ → Result Reduced → ℕ → ℕ → Type 0
 Reducing (refused n) source target result room words = result ≡ refused n
-Reducing (ok r) source target result room words = (o : Reduced) × IsReduced r source target o × (result ≡ reductionFits room words o)
+Reducing (ok r) source target result room words = (o : Reduced) × IsReduced r source target o × ReducedShape o × (result ≡ reductionFits room words o)
 
 -- What `spernevan_reduce` promises: some reduction of the source place, returned and left as above
 pub record ReduceGives (file : List ℕ) (source target : ℕ) (out : List ℕ) (size count : ℕ) (mapping : List ℕ) (number : ℕ) (outAfter : List ℕ) (sizeAfter countAfter : ℕ) (mappingAfter : List ℕ) : Type 0 where
@@ -103,11 +107,15 @@ ComparisonGiven result images said mapping part size number saidAfter mappingAft
     × (mappingAfter ≡ leaves result (λ _. over mapping 0 (wordsOf images)) mapping)
     × (partAfter ≡ leaves result (λ t. over part 0 (t .1)) part) × (sizeAfter ≡ leaves result (λ t. length (t .1)) size)
 
+-- The arrays of a comparison are as long as their types say, as those of a reduction
+abbrev pub ComparisonShape : Comparison → Type 0
+ComparisonShape c = (shapedQuery (c .query) ≡ true) × (length (c .images) ≡ 96)
+
 -- A comparison of two places of the record of a file: a refusal of the file, or what comparing promises. Which mapping is free
 abbrev pub Comparing : Result Record → ℕ → ℕ → Result (ℕ × List ℕ) → List Cell → ℕ → ℕ → Type 0
 Comparing (refused n) p q result images words room = result ≡ refused n
 Comparing (ok r) p q result images words room =
-    (c : Comparison) × Compared r p q c × (images ≡ c .images) × (result ≡ comparisonFits words room (schemaOf r) c)
+    (c : Comparison) × Compared r p q c × ComparisonShape c × (images ≡ c .images) × (result ≡ comparisonFits words room (schemaOf r) c)
 
 -- What `spernevan_compare` promises: a comparison of the two places, returned and left as above
 pub record CompareGives (file : List ℕ) (p q said : ℕ) (mapping part : List ℕ) (size number saidAfter : ℕ) (mappingAfter partAfter : List ℕ) (sizeAfter : ℕ) : Type 0 where

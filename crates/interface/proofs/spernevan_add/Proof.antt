@@ -1,7 +1,7 @@
-use Rattle.record.specs.declared.Dependency.{Dependency}
 -- `spernevan_add` gives the file with the dependency, once the file is read. Assumes nothing.
 use mathlib.Core.Path.{sym, ap, _∙_}
 use lib.ListN.{length}
+use Rattle.record.specs.declared.Dependency.{Dependency}
 use Rattle.record.specs.Calls.{addDependency}
 use Rattle.format.specs.File.{fileOf}
 use Rattle.interface.specs.Lent.{fitted}

@@ -3,6 +3,7 @@ use Rattle.record.proofs.Good.{good-record}
 use Rattle.format.specs.File.{readFile}
 use Rattle.interface.proofs.Files.{accepted, turned-down, read-good}
 use Rattle.interface.proofs.Verdicts.{compared-sound, compare-done, compare-refused}
+use Rattle.interface.proofs.Shapes.{comparison-shaped}
 use borrow.Author.Needs.{needs}
 use Rattle.interface.proofs.spernevan_compare.Statement.{statement}
 use Rattle.interface.proofs.spernevan_compare.Tie as tie
@@ -36,7 +37,7 @@ returns : tie.Need-returns
 returns c =
     let a = c .before .before .before .before .before .before .before .before .before .before .before .before .before .before .before .before .before .before .args in
     compare-done (a .file .now) (a .p) (a .q) (a .verdict .now) (a .mapping .now) (a .query .now) (a .size .now) (c .before .before .before .before .before .before .before .before .before .before .before .before .before .before .read .result .«record»)
-    (accepted (readFile (a .file .now)) (c .before .before .before .before .before .before .before .before .before .before .before .before .before .before .read .result) (c .before .before .before .before .before .before .before .before .before .before .before .before .before .before .read .ensures) (c .before .before .before .before .before .before .before .before .before .before .before .before .enum-told .given .1)) (c .before .before .before .before .before .before .before .before .before .compare .result) (c .before .before .before .before .before .before .before .before .before .compare .ensures) _ _ _ _ _ (c .before .before .before .before .store-comparison .ensures)
+    (accepted (readFile (a .file .now)) (c .before .before .before .before .before .before .before .before .before .before .before .before .before .before .read .result) (c .before .before .before .before .before .before .before .before .before .before .before .before .before .before .read .ensures) (c .before .before .before .before .before .before .before .before .before .before .before .before .enum-told .given .1)) (c .before .before .before .before .before .before .before .before .before .compare .result) (c .before .before .before .before .before .before .before .before .before .compare .ensures) (comparison-shaped (c .before .before .before .before .before .before .before .before .before .compare .result) _ (c .before .before .before .before .before .before .before .before .before .compare .ok)) _ _ _ _ _ (c .before .before .before .before .store-comparison .ensures)
 
 returns-2 : tie.Need-returns-2
 returns-2 c =

@@ -2,6 +2,7 @@
 use Rattle.format.specs.File.{readFile}
 use Rattle.interface.proofs.Files.{accepted, turned-down}
 use Rattle.interface.proofs.Verdicts.{reduced-sound, reduce-done, reduce-refused}
+use Rattle.interface.proofs.Shapes.{reduced-shaped}
 use borrow.Author.Needs.{needs}
 use Rattle.interface.proofs.spernevan_reduce.Statement.{statement}
 use Rattle.interface.proofs.spernevan_reduce.Tie as tie
@@ -32,7 +33,7 @@ returns : tie.Need-returns
 returns c =
     let a = c .before .before .before .before .before .before .before .before .before .before .before .before .before .before .before .before .before .args in
     reduce-done (a .file .now) (a .source) (a .target) (a .out .now) (a .size .now) (a .count .now) (a .mapping .now) (c .before .before .before .before .before .before .before .before .before .before .before .before .before .read .result .«record»)
-    (accepted (readFile (a .file .now)) (c .before .before .before .before .before .before .before .before .before .before .before .before .before .read .result) (c .before .before .before .before .before .before .before .before .before .before .before .before .before .read .ensures) (c .before .before .before .before .before .before .before .before .before .before .before .enum-told .given .1)) (c .before .before .before .before .before .before .before .before .before .reduce .result) (c .before .before .before .before .before .before .before .before .before .reduce .ensures) _ _ _ _ _ (c .before .before .before .before .store-reduction .ensures)
+    (accepted (readFile (a .file .now)) (c .before .before .before .before .before .before .before .before .before .before .before .before .before .read .result) (c .before .before .before .before .before .before .before .before .before .before .before .before .before .read .ensures) (c .before .before .before .before .before .before .before .before .before .before .before .enum-told .given .1)) (c .before .before .before .before .before .before .before .before .before .reduce .result) (c .before .before .before .before .before .before .before .before .before .reduce .ensures) (reduced-shaped (c .before .before .before .before .before .before .before .before .before .reduce .result) _ (c .before .before .before .before .before .before .before .before .before .reduce .ok)) _ _ _ _ _ (c .before .before .before .before .store-reduction .ensures)
 
 returns-2 : tie.Need-returns-2
 returns-2 c =
