@@ -40,7 +40,7 @@ MEANINGS = {
 
 
 class Refused(Exception):
-    """The engine turned a call down: `number` is document 01's, `meaning` says it in words."""
+    """The engine turned a call down: `number` is the one that include/spernevan.h explains, `meaning` says it in words."""
 
     def __init__(self, number: int) -> None:
         self.number = number
