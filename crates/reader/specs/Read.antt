@@ -1,15 +1,14 @@
 -- The answers of the reader's functions: the format's readings and results as values of the code's structs and enums.
 use mathlib.Core.Bool.{Bool, true, false}
 use mathlib.Core.List.{List, [], _∷_, map}
-use Prim.Native.Nat.{ℕ, _+_, _*_}
-use lib.ListN.{length, getD, set, replicate}
+use Prim.Native.Nat.{ℕ}
+use lib.ListN.{length, replicate}
 use Rattle.record.specs.declared.Cell.{Cell}
 use Rattle.record.specs.declared.Dependency.{Dependency}
 use Rattle.record.specs.declared.Query.{Query}
 use Rattle.record.specs.declared.Place.{Place}
 use Rattle.record.specs.declared.Answer.the-variants.{Done, Refused}
 use Rattle.record.specs.Rule.{noCell, noQuery, noPlace}
-use Rattle.format.specs.Bytes.{over}
 use Rattle.format.specs.Format.{Reading, none, got, pad}
 use Rattle.format.specs.Parts.{noDependency, flat}
 use Rattle.format.specs.File.{Result, ok, refused}
@@ -22,7 +21,6 @@ use Rattle.reader.specs.declared.RelationsRead.{RelationsRead}
 use Rattle.reader.specs.declared.DependencyRead.{DependencyRead}
 use Rattle.reader.specs.declared.DependencyRead.the-variants.{Found, NoDependency}
 use Rattle.reader.specs.declared.DependenciesRead.{DependenciesRead}
-use Rattle.reader.specs.declared.RowRead.{RowRead}
 use Rattle.reader.specs.declared.RowsRead.{RowsRead}
 use Rattle.reader.specs.declared.QueryRead.{QueryRead}
 use Rattle.reader.specs.declared.PlaceRead.{PlaceRead}
@@ -67,20 +65,6 @@ noDependencies = record { good = false; held = 0; dependencies = replicate 32 no
 abbrev pub dependenciesRead : Result (ℕ × List Dependency) → DependenciesRead
 dependenciesRead (ok ds) = record { good = true; held = ds .0; dependencies = ds .1 }
 dependenciesRead (refused n) = noDependencies
-
--- No row
-abbrev pub noRowRead : RowRead
-noRowRead = record { good = false; relation = 0; cells = replicate 8 noCell; next = 0 }
-
--- The row that was read at a position, and the position after it: the relation byte and 5 bytes a column
-abbrev pub rowRead : List ℕ → ℕ → Reading (ℕ × List Cell) → RowRead
-rowRead schema at none = noRowRead
-rowRead schema at (got r rest) = record { good = true; relation = r .0; cells = r .1; next = at + 1 + 5 * getD schema (r .0) 0 }
-
--- The rows with row r
-abbrev pub withRow : RowsRead → ℕ → ℕ → List Cell → RowsRead
-withRow given r relation row =
-    record { good = given .good; relations = set (given .relations) r relation; cells = over (given .cells) (8 * r) row }
 
 -- No rows
 abbrev pub noRowsRead : RowsRead
