@@ -7,11 +7,12 @@ use Rattle.record.specs.declared.Cell.{Cell}
 use Rattle.record.specs.declared.Dependency.{Dependency}
 use Rattle.record.specs.declared.Query.{Query}
 use Rattle.record.specs.declared.Place.{Place}
+use Rattle.record.specs.declared.Outcome.{Outcome}
 use Rattle.record.specs.declared.Answer.the-variants.{Done, Refused}
 use Rattle.record.specs.Rule.{noCell, noQuery, noPlace}
-use Rattle.format.specs.Format.{Reading, none, got, pad}
+use Rattle.format.specs.Format.{Reading, none, got}
 use Rattle.format.specs.Parts.{noDependency, flat}
-use Rattle.format.specs.File.{Result, ok, refused}
+use Rattle.format.specs.File.{Result, ok, refused, recordWith, outcomeOf}
 use Rattle.reader.specs.declared.ByteRead.{ByteRead}
 use Rattle.reader.specs.declared.ByteRead.the-variants.{Byte, NoByte}
 use Rattle.reader.specs.declared.EntryRead.{EntryRead}
@@ -24,7 +25,6 @@ use Rattle.reader.specs.declared.DependenciesRead.{DependenciesRead}
 use Rattle.reader.specs.declared.RowsRead.{RowsRead}
 use Rattle.reader.specs.declared.QueryRead.{QueryRead}
 use Rattle.reader.specs.declared.PlaceRead.{PlaceRead}
-use Rattle.reader.specs.declared.PlacesRead.{PlacesRead}
 use Rattle.reader.specs.declared.DirectoryRead.{DirectoryRead}
 use Rattle.reader.specs.declared.DirectoryRead.the-variants.{Parts, Broken}
 
@@ -89,10 +89,10 @@ abbrev pub placeRead : Result Place → PlaceRead
 placeRead (ok p) = record { answer = Done; place = p }
 placeRead (refused n) = record { answer = Refused n; place = noPlace }
 
--- The places that were read, blank ones after them
-abbrev pub placesRead : Result (List Place) → PlacesRead
-placesRead (ok ps) = record { answer = Done; places = pad 8 noPlace ps }
-placesRead (refused n) = record { answer = Refused n; places = replicate 8 noPlace }
+-- The record of the given relations and dependencies with the places that were read
+abbrev pub recordRead : ℕ × List ℕ → ℕ × List Dependency → Result (List Place) → Outcome
+recordRead rs ds (ok ps) = outcomeOf (ok (recordWith rs ds ps))
+recordRead rs ds (refused n) = outcomeOf (refused n)
 
 -- The number of parts that the directory gives
 abbrev pub directoryRead : Result (List (List ℕ)) → DirectoryRead

@@ -19,7 +19,7 @@ ghost use Rattle.format.specs.Format.{getByte};
 ghost use Rattle.format.specs.Parts.{relations, dependency, dependencies, entry, entries, rows, query};
 ghost use Rattle.format.specs.File.{whole, refused, isVacant, readPlace, readPlaces, readAll, readFile, outcomeOf, directory, chained, stretch, stretches};
 ghost use Rattle.reader.specs.Safe.{marked, unseen, allSeen};
-ghost use Rattle.reader.specs.Read.{byteRead, entryRead, cellsRead, noRelations, relationsRead, dependencyRead, noDependencies, dependenciesRead, noRowsRead, rowsRead, noQueryRead, queryRead, placeRead, placesRead, directoryRead};
+ghost use Rattle.reader.specs.Read.{byteRead, entryRead, cellsRead, noRelations, relationsRead, dependencyRead, noDependencies, dependenciesRead, noRowsRead, rowsRead, noQueryRead, queryRead, placeRead, recordRead, directoryRead};
 
 // ---- numbers and bytes
 
@@ -557,29 +557,29 @@ fn part(file: &[u8], k: usize) -> &[u8]
 
 // ---- all parts
 
-// The places, or a refusal.
-pub struct PlacesRead {
-    pub answer: Answer,
-    pub places: [Place; 8],
-}
-
-// A refusal of query parts.
-fn no_places(number: u8) -> PlacesRead
-    ensures { λ r. ⌜ r ≡ placesRead (refused number) ⌝ }
+// A refusal: its number and the blank record.
+fn refusal(number: u8) -> Outcome
+    ensures { λ r. ⌜ r ≡ outcomeOf (refused number) ⌝ }
 {
-    let blank = calls::no_place();
-    PlacesRead {
+    Outcome {
         answer: Answer::Refused(number),
-        places: [blank; 8],
+        record: calls::blank_record(),
     }
 }
 
-// The query parts in file order: parts 2 to n - 1 fill places from 0.
-fn read_places(file: &[u8], n: usize, count: u8, widths: [u8; 8]) -> PlacesRead
+// The record of relations, dependencies and the query parts in file order: parts 2 to n - 1 fill places from 0.
+fn read_places(
+    file: &[u8],
+    n: usize,
+    count: u8,
+    widths: [u8; 8],
+    held: u8,
+    dependencies: [Dependency; 32],
+) -> Outcome
     requires { ⌜ goodRelations count widths ≡ true ⌝ }
     requires { ⌜ (2 ≤ n) × (n ≤ 10) × (2 + 4 * n ≤ length (now file)) ⌝ }
     requires { ⌜ chained n (2 + 4 * n) (length (now file)) (drop 2 (now file)) ≡ true ⌝ }
-    ensures { λ r. ⌜ r ≡ placesRead (readPlaces (take count widths) (stretches (n - 2) (now (file .entry)) (drop 10 (now (file .entry))))) ⌝ }
+    ensures { λ r. ⌜ r ≡ recordRead (count, widths) (held, dependencies) (readPlaces (take count widths) (stretches (n - 2) (now (file .entry)) (drop 10 (now (file .entry))))) ⌝ }
 {
     let blank = calls::no_place();
     let mut places = [blank; 8];
@@ -592,23 +592,20 @@ fn read_places(file: &[u8], n: usize, count: u8, widths: [u8; 8]) -> PlacesRead
                 places[k - 2] = place;
             }
             Answer::Refused(number) => {
-                return no_places(number);
+                return refusal(number);
             }
         }
     }
-    PlacesRead {
-        answer: Answer::Done,
+    let record = Record {
+        relations: count,
+        widths,
+        held,
+        dependencies,
         places,
-    }
-}
-
-// A refusal: its number and the blank record.
-fn refusal(number: u8) -> Outcome
-    ensures { λ r. ⌜ r ≡ outcomeOf (refused number) ⌝ }
-{
+    };
     Outcome {
-        answer: Answer::Refused(number),
-        record: calls::blank_record(),
+        answer: Answer::Done,
+        record,
     }
 }
 
@@ -628,27 +625,9 @@ fn read_parts(file: &[u8], n: usize) -> Outcome
     if !second.good {
         return refusal(4);
     }
-    let others = read_places(file, n, count, widths);
-    let answer = others.answer;
-    match answer {
-        Answer::Done => {
-            let held = second.held;
-            let dependencies = second.dependencies;
-            let places = others.places;
-            let record = Record {
-                relations: count,
-                widths,
-                held,
-                dependencies,
-                places,
-            };
-            Outcome {
-                answer: Answer::Done,
-                record,
-            }
-        }
-        Answer::Refused(number) => refusal(number),
-    }
+    let held = second.held;
+    let dependencies = second.dependencies;
+    read_places(file, n, count, widths, held, dependencies)
 }
 
 // Read a file: its record, or the first fault and the blank record.
