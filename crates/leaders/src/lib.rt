@@ -268,8 +268,37 @@ fn violation_in(
     Violation::Absent
 }
 
-// The search with room for a few leaders.
+// The search with room for the leaders of few rows.
 fn violation_few(
+    schema: &[u8],
+    words: &[u32],
+    dependencies: [Dependency; 32],
+    held: usize,
+) -> Violation
+    requires { ⌜ held ≤ 32 ⌝ }
+    requires { ⌜ ((k : ℕ) → k < held → Testable (now schema) (getD dependencies k noDependency)) ⌝ }
+    requires { ⌜ whole (now schema) (now words) ≡ true ⌝ }
+    ensures { λ r. ⌜ r ≡ violationOf (firstBrokenFrom 0 (map dependencyOf (take held dependencies)) (rowsOf (now (schema .entry)) (now (words .entry)))) ⌝ }
+{
+    let mut heads = [0u32; 251];
+    let mut links = [0u32; 256];
+    let mut offsets = [0usize; 256];
+    let mut numbers = [0usize; 256];
+    violation_in(
+        schema,
+        words,
+        dependencies,
+        held,
+        &mut heads,
+        &mut links,
+        &mut offsets,
+        &mut numbers,
+    )
+}
+
+// The search with room for the leaders of some thousand rows. It is compiled apart, since it calls itself: else each search, however small, would
+// touch the stack of its arrays. That call is never made.
+fn violation_some(
     schema: &[u8],
     words: &[u32],
     dependencies: [Dependency; 32],
@@ -284,7 +313,7 @@ fn violation_few(
     let mut links = [0u32; 4096];
     let mut offsets = [0usize; 4096];
     let mut numbers = [0usize; 4096];
-    violation_in(
+    let found = violation_in(
         schema,
         words,
         dependencies,
@@ -293,10 +322,14 @@ fn violation_few(
         &mut links,
         &mut offsets,
         &mut numbers,
-    )
+    );
+    if 32 < held {
+        return violation_some(schema, words, dependencies, 32);
+    }
+    found
 }
 
-// The search with room for many leaders.
+// The search with room for many leaders, compiled apart in the same way.
 fn violation_many(
     schema: &[u8],
     words: &[u32],
@@ -312,7 +345,7 @@ fn violation_many(
     let mut links = [0u32; 131072];
     let mut offsets = [0usize; 131072];
     let mut numbers = [0usize; 131072];
-    violation_in(
+    let found = violation_in(
         schema,
         words,
         dependencies,
@@ -321,7 +354,11 @@ fn violation_many(
         &mut links,
         &mut offsets,
         &mut numbers,
-    )
+    );
+    if 32 < held {
+        return violation_many(schema, words, dependencies, 32);
+    }
+    found
 }
 
 // The first of the held dependencies that the rows break, with its first pair of rows.
@@ -336,8 +373,11 @@ pub fn first_violation(
     requires { ⌜ whole (now schema) (now words) ≡ true ⌝ }
     ensures { λ r. ⌜ r ≡ violationOf (firstBrokenFrom 0 (map dependencyOf (take held dependencies)) (rowsOf (now (schema .entry)) (now (words .entry)))) ⌝ }
 {
-    if words.len() <= 16384 {
+    if words.len() <= 1024 {
         return violation_few(schema, words, dependencies, held);
+    }
+    if words.len() <= 16384 {
+        return violation_some(schema, words, dependencies, held);
     }
     violation_many(schema, words, dependencies, held)
 }

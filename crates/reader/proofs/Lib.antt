@@ -4,6 +4,7 @@ pub mod Positions
 pub mod Filling
 pub mod Counted
 pub mod RowLaws
+pub mod ReadingRows
 pub mod Safety
 pub mod QueryLaws
 pub mod Stretches

@@ -3,23 +3,23 @@ use mathlib.Core.Path.{_≡_, refl, sym, ap, _∙_, subst}
 use mathlib.Core.Bool.{Bool, true, false, _&&_}
 use mathlib.Core.List.{List, [], _∷_, _++_, map, append-assoc}
 use Prim.Native.Nat.{ℕ, zero, suc, _+_, _*_, _-_, _≤_, _<_}
+use native.Mathlib.Nat.{zero-add}
 use native.Mathlib.Numerals.{add-one}
 use native.Mathlib.Omega.{arith}
 use lib.Dec.{ltb, leb}
-use lib.ListN.{length, getD, take, drop, set}
-use lib.Seq.{drop-drop, take-at, drop-at, length-take-le}
+use lib.ListN.{length, getD, take, drop, set, replicate, length-append, length-set, length-replicate, replicate-append-replicate, take-append-drop}
+use lib.Seq.{drop-drop, take-at, drop-at, length-take-le, set-append-left}
 use borrow.Author.Tests.{le-ltb, lt-ltb, leb-true}
 use Rattle.record.specs.declared.Cell.{Cell}
 use Rattle.record.specs.Rule.{noCell}
 use Rattle.format.specs.Bytes.{number, over}
 use Rattle.format.specs.Format.{Reading, none, got, gotIf, mapReading, getTimes, getByte, byte, sequence, pad, padded}
 use Rattle.format.specs.Parts.{entry, isEntry, entryFrom, entries, row, chunk, flat}
-use Rattle.format.proofs.Lists.{and-iff, length-pad}
+use Rattle.format.proofs.Lists.{and-iff, length-pad, drop-replicate}
 use Rattle.format.proofs.Parts.{Narrow, narrow-at}
 use Rattle.format.proofs.Formats.{not-got, gotIf-true, andThen-got, mapReading-got}
 use Rattle.reader.specs.declared.CellsRead.{CellsRead}
-use Rattle.reader.specs.declared.RowRead.{RowRead}
-use Rattle.reader.specs.Read.{cellsRead, noRowRead, rowRead}
+use Rattle.reader.specs.Read.{cellsRead}
 use Rattle.reader.proofs.Positions.{byte-past, byte-bad, byte-good}
 use Rattle.reader.proofs.Counted.{sequence-none, sequence-got}
 
@@ -127,21 +127,6 @@ row-bounds schema s at r rest narrow h e =
     subst (λ (r : ℕ × List Cell). (length (r .1) ≡ 8) × (drop (at + 1 + 5 * getD schema (r .0) 0) s ≡ rest) × (at + 1 + 5 * getD schema (r .0) 0 ≤ length s)) {x = (b, cs)} ep
     (l, d′, omega arith)
 
--- ---- the row reader's answer
-
-pub row-none : (schema : List ℕ) (at : ℕ) (o : Reading (ℕ × List Cell)) (r : RowRead) → r ≡ rowRead schema at o → r .good ≡ false → o ≡ none
-row-none schema at none r e g = refl
-row-none schema at (got x rest) r e g = absurd (true-false (sym (ap (λ (r : RowRead). r .good) e) ∙ g))
-
-pub row-some : (schema : List ℕ) (at : ℕ) (o : Reading (ℕ × List Cell)) (r : RowRead) → r ≡ rowRead schema at o → r .good ≡ true
-    → (rest : List ℕ) × (o ≡ got (r .relation, r .cells) rest) × (r .next ≡ at + 1 + 5 * getD schema (r .relation) 0)
-row-some schema at none r e g = absurd (true-false (sym g ∙ ap (λ (r : RowRead). r .good) e))
-row-some schema at (got x rest) r e g = (
-  rest,
-  ap (λ (r : RowRead). got (r .relation, r .cells) rest) (sym e),
-  ap (λ (r : RowRead). r .next) e ∙ ap (λ (r : RowRead). at + 1 + 5 * getD schema (r .relation) 0) (sym e),
-)
-
 -- ---- rows in flat arrays
 
 drop-over : {A : Type 0} (k : ℕ) (xs : List A) (i : ℕ) (ys : List A) → k ≤ length xs → drop k (over xs (k + i) ys) ≡ over (drop k xs) i ys
@@ -177,3 +162,33 @@ chunk-set (y ∷ rs) cells (suc r) x cs h l k =
     let d : drop 8 (over cells (8 * suc r) cs) ≡ over (drop 8 cells) (8 * r) cs = ap (λ (m : ℕ). drop 8 (over cells m cs)) n ∙ drop-over 8 cells (8 * r) cs lt in
     ap {B = List (ℕ × List Cell)} (λ c. (y, c) ∷ chunk (set rs r x) (drop 8 (over cells (8 * suc r) cs))) t
     ∙ ap {B = List (ℕ × List Cell)} (λ c. (y, take 8 cells) ∷ chunk (set rs r x) c) d ∙ ap {B = List (ℕ × List Cell)} (λ c. (y, take 8 cells) ∷ c) ih
+
+set-append-right : {A : Type 0} (xs ys : List A) (i : ℕ) (y : A) → set (xs ++ ys) (length xs + i) y ≡ xs ++ set ys i y
+set-append-right [] ys i y = rw zero-add
+set-append-right {A = A} (x ∷ xs) ys i y =
+    let n : length (x ∷ xs) + i ≡ suc (length xs + i) = omega arith in
+    ap (λ (m : ℕ). set (x ∷ xs ++ ys) m y) n ∙ ap {B = List A} (λ zs. x ∷ zs) (set-append-right xs ys i y)
+
+-- a store into what is written over a list
+pub set-over : {A : Type 0} (xs : List A) (k i : ℕ) (y : A) (ys : List A) → k ≤ length xs → i < length ys → set (over xs k ys) (k + i) y ≡ over xs k (set ys i y)
+set-over {A = A} xs k i y ys h l =
+    let lt : length (take k xs) ≡ k = length-take-le k xs h in
+    let la : k + i < length (take k xs ++ ys) = simp length-append (omega arith) in
+    let e : set (take k xs ++ ys) (k + i) y ≡ take k xs ++ set ys i y =
+    ap (λ (m : ℕ). set (take k xs ++ ys) (m + i) y) (sym lt) ∙ set-append-right (take k xs) ys i y in
+    set-append-left (take k xs ++ ys) (drop (k + length ys) xs) (k + i) y la ∙ rw (e, length-set ys i y)
+
+-- blanks over blanks
+pub blank-over : {A : Type 0} (xs : List A) (k n m : ℕ) (blank : A) → drop k xs ≡ replicate m blank → n ≤ m → over xs k (replicate n blank) ≡ xs
+blank-over {A = A} xs k n m blank e h =
+    let d : drop (k + n) xs ≡ replicate (m - n) blank = sym (drop-drop n k xs) ∙ ap (λ (ys : List A). drop n ys) e ∙ drop-replicate n m blank in
+    let t : n + (m - n) ≡ m = omega arith in
+    let j : replicate n blank ++ replicate (m - n) blank ≡ replicate m blank = replicate-append-replicate n (m - n) blank ∙ rw t in
+    rw (length-replicate n blank, d, append-assoc (take k xs) (replicate n blank) (replicate (m - n) blank), j, ← e) (take-append-drop k xs)
+
+-- what stands after what is written over a list
+pub drop-past-over : {A : Type 0} (xs : List A) (k n : ℕ) (ys : List A) → k ≤ length xs → length ys ≡ n → drop (k + n) (over xs k ys) ≡ drop (k + n) xs
+drop-past-over xs k n ys h e =
+    let lt : length (take k xs) ≡ k = length-take-le k xs h in
+    let l : length (take k xs ++ ys) ≡ k + n = length-append (take k xs) ys ∙ rw (lt, e) in
+    drop-at (take k xs ++ ys) (drop (k + length ys) xs) (k + n) l ∙ rw e

@@ -16,10 +16,10 @@ ghost use lib.ListN.{length, take, drop, getD};
 ghost use Rattle.record.specs.Rule.{between, goodRelations};
 ghost use Rattle.format.specs.Bytes.{number};
 ghost use Rattle.format.specs.Format.{getByte};
-ghost use Rattle.format.specs.Parts.{relations, dependency, dependencies, entry, entries, row, rows, query};
+ghost use Rattle.format.specs.Parts.{relations, dependency, dependencies, entry, entries, rows, query};
 ghost use Rattle.format.specs.File.{whole, refused, isVacant, readPlace, readPlaces, readAll, readFile, outcomeOf, directory, chained, stretch, stretches};
 ghost use Rattle.reader.specs.Safe.{marked, unseen, allSeen};
-ghost use Rattle.reader.specs.Read.{byteRead, entryRead, cellsRead, noRelations, relationsRead, dependencyRead, noDependencies, dependenciesRead, noRowRead, rowRead, withRow, noRowsRead, rowsRead, noQueryRead, queryRead, placeRead, placesRead, directoryRead};
+ghost use Rattle.reader.specs.Read.{byteRead, entryRead, cellsRead, noRelations, relationsRead, dependencyRead, noDependencies, dependenciesRead, noRowsRead, rowsRead, noQueryRead, queryRead, placeRead, recordRead, directoryRead};
 
 // ---- numbers and bytes
 
@@ -270,72 +270,11 @@ fn read_dependencies(part: &[u8], count: u8, widths: [u8; 8]) -> DependenciesRea
 
 // ---- rows
 
-// A row: its relation, its cells, and the position after it.
-pub struct RowRead {
-    pub good: bool,
-    pub relation: u8,
-    pub cells: [Cell; 8],
-    pub next: usize,
-}
-
-// No row.
-fn no_row() -> RowRead
-    ensures { λ r. ⌜ r ≡ noRowRead ⌝ }
-{
-    RowRead {
-        good: false,
-        relation: 0,
-        cells: [Cell {
-            entry: Entry::Constant(0),
-        }; 8],
-        next: 0,
-    }
-}
-
-// The row at a position: the relation byte and one entry a column.
-fn read_row(part: &[u8], at: usize, count: u8, widths: [u8; 8]) -> RowRead
-    requires { ⌜ goodRelations count widths ≡ true ⌝ }
-    ensures { λ r. ⌜ r ≡ rowRead (take count widths) at (row (take count widths) .get (drop at (now (part .entry)))) ⌝ }
-{
-    if part.len() <= at {
-        return no_row();
-    }
-    let relation = part[at];
-    if count <= relation {
-        return no_row();
-    }
-    let width = widths[relation as usize] as usize;
-    let read = read_entries(part, at + 1, width);
-    if !read.good {
-        return no_row();
-    }
-    let cells = read.cells;
-    RowRead {
-        good: true,
-        relation,
-        cells,
-        next: at + 1 + 5 * width,
-    }
-}
-
 // The relations and cells of some rows.
 pub struct RowsRead {
     pub good: bool,
     pub relations: [u8; 12],
     pub cells: [Cell; 96],
-}
-
-// The rows with row r.
-fn with_row(given: RowsRead, r: usize, relation: u8, row: [Cell; 8]) -> RowsRead
-    requires { ⌜ r < 12 ⌝ }
-    ensures { λ x. ⌜ x ≡ withRow given r relation row ⌝ }
-{
-    let mut rows = given;
-    rows.relations[r] = relation;
-    for c in 0..8 {
-        rows.cells[8 * r + c] = row[c];
-    }
-    rows
 }
 
 // No rows.
@@ -351,35 +290,48 @@ fn no_rows() -> RowsRead
     }
 }
 
-// The rows from a position to the end of the part.
+// The rows from a position to the end of the part: for each the relation byte and one entry a column, which are stored where they belong.
 fn read_rows(part: &[u8], start: usize, size: usize, count: u8, widths: [u8; 8]) -> RowsRead
     requires { ⌜ goodRelations count widths ≡ true ⌝ }
     requires { ⌜ start ≤ length (now part) ⌝ }
     requires { ⌜ size ≤ 12 ⌝ }
     ensures { λ r. ⌜ r ≡ rowsRead (whole 5 (rows (take count widths) size .get (drop start (now (part .entry))))) ⌝ }
 {
-    let mut rows = RowsRead {
-        good: true,
-        relations: [0; 12],
-        cells: [Cell {
-            entry: Entry::Constant(0),
-        }; 96],
-    };
+    let mut relations = [0; 12];
+    let mut cells = [Cell {
+        entry: Entry::Constant(0),
+    }; 96];
     let mut at = start;
     for r in 0..size {
-        let row = read_row(part, at, count, widths);
-        if !row.good {
+        if part.len() <= at {
             return no_rows();
         }
-        let relation = row.relation;
-        let cells = row.cells;
-        rows = with_row(rows, r, relation, cells);
-        at = row.next;
+        let relation = part[at];
+        if count <= relation {
+            return no_rows();
+        }
+        let width = widths[relation as usize] as usize;
+        for i in 0..width {
+            match read_entry(part, at + 1 + 5 * i) {
+                EntryRead::Read(e) => {
+                    cells[8 * r + i] = Cell { entry: e };
+                }
+                EntryRead::NoEntry => {
+                    return no_rows();
+                }
+            }
+        }
+        relations[r] = relation;
+        at = at + 1 + 5 * width;
     }
     if at < part.len() {
         return no_rows();
     }
-    rows
+    RowsRead {
+        good: true,
+        relations,
+        cells,
+    }
 }
 
 // ---- the head's variables
@@ -605,29 +557,29 @@ fn part(file: &[u8], k: usize) -> &[u8]
 
 // ---- all parts
 
-// The places, or a refusal.
-pub struct PlacesRead {
-    pub answer: Answer,
-    pub places: [Place; 8],
-}
-
-// A refusal of query parts.
-fn no_places(number: u8) -> PlacesRead
-    ensures { λ r. ⌜ r ≡ placesRead (refused number) ⌝ }
+// A refusal: its number and the blank record.
+fn refusal(number: u8) -> Outcome
+    ensures { λ r. ⌜ r ≡ outcomeOf (refused number) ⌝ }
 {
-    let blank = calls::no_place();
-    PlacesRead {
+    Outcome {
         answer: Answer::Refused(number),
-        places: [blank; 8],
+        record: calls::blank_record(),
     }
 }
 
-// The query parts in file order: parts 2 to n - 1 fill places from 0.
-fn read_places(file: &[u8], n: usize, count: u8, widths: [u8; 8]) -> PlacesRead
+// The record of relations, dependencies and the query parts in file order: parts 2 to n - 1 fill places from 0.
+fn read_places(
+    file: &[u8],
+    n: usize,
+    count: u8,
+    widths: [u8; 8],
+    held: u8,
+    dependencies: [Dependency; 32],
+) -> Outcome
     requires { ⌜ goodRelations count widths ≡ true ⌝ }
     requires { ⌜ (2 ≤ n) × (n ≤ 10) × (2 + 4 * n ≤ length (now file)) ⌝ }
     requires { ⌜ chained n (2 + 4 * n) (length (now file)) (drop 2 (now file)) ≡ true ⌝ }
-    ensures { λ r. ⌜ r ≡ placesRead (readPlaces (take count widths) (stretches (n - 2) (now (file .entry)) (drop 10 (now (file .entry))))) ⌝ }
+    ensures { λ r. ⌜ r ≡ recordRead (count, widths) (held, dependencies) (readPlaces (take count widths) (stretches (n - 2) (now (file .entry)) (drop 10 (now (file .entry))))) ⌝ }
 {
     let blank = calls::no_place();
     let mut places = [blank; 8];
@@ -640,23 +592,20 @@ fn read_places(file: &[u8], n: usize, count: u8, widths: [u8; 8]) -> PlacesRead
                 places[k - 2] = place;
             }
             Answer::Refused(number) => {
-                return no_places(number);
+                return refusal(number);
             }
         }
     }
-    PlacesRead {
-        answer: Answer::Done,
+    let record = Record {
+        relations: count,
+        widths,
+        held,
+        dependencies,
         places,
-    }
-}
-
-// A refusal: its number and the blank record.
-fn refusal(number: u8) -> Outcome
-    ensures { λ r. ⌜ r ≡ outcomeOf (refused number) ⌝ }
-{
+    };
     Outcome {
-        answer: Answer::Refused(number),
-        record: calls::blank_record(),
+        answer: Answer::Done,
+        record,
     }
 }
 
@@ -676,27 +625,9 @@ fn read_parts(file: &[u8], n: usize) -> Outcome
     if !second.good {
         return refusal(4);
     }
-    let others = read_places(file, n, count, widths);
-    let answer = others.answer;
-    match answer {
-        Answer::Done => {
-            let held = second.held;
-            let dependencies = second.dependencies;
-            let places = others.places;
-            let record = Record {
-                relations: count,
-                widths,
-                held,
-                dependencies,
-                places,
-            };
-            Outcome {
-                answer: Answer::Done,
-                record,
-            }
-        }
-        Answer::Refused(number) => refusal(number),
-    }
+    let held = second.held;
+    let dependencies = second.dependencies;
+    read_places(file, n, count, widths, held, dependencies)
 }
 
 // Read a file: its record, or the first fault and the blank record.

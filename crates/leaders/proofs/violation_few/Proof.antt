@@ -29,10 +29,10 @@ violation-in-requires c κs = let s = c .before .before .before .before .before 
     (
       s .pre .1 .1,
       record {
-        bucket = omega (arith, length-replicate {A = ℕ} 4093 0);
+        bucket = omega (arith, length-replicate {A = ℕ} 251 0);
         linked = refl;
         numbered = refl;
-        small = omega (arith, length-replicate {A = ℕ} 4096 0);
+        small = omega (arith, length-replicate {A = ℕ} 256 0);
       },
     ),
   ),

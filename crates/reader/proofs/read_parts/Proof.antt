@@ -11,10 +11,9 @@ use lib.ListN.{take, drop}
 use denote.Ref.{now}
 use Rattle.record.specs.declared.Dependency.{Dependency}
 use Rattle.record.specs.declared.Place.{Place}
-use Rattle.record.specs.declared.Answer.the-variants.{Done, Refused}
-use Rattle.record.specs.Rule.{goodRelations, noPlace}
+use Rattle.record.specs.Rule.{goodRelations}
 use Rattle.format.specs.Bytes.{number, Bytes}
-use Rattle.format.specs.Format.{Reading, none, got, pad}
+use Rattle.format.specs.Format.{Reading, none, got}
 use Rattle.format.specs.Parts.{relations, dependencies}
 use Rattle.format.specs.File.{Result, ok, refused, _>>=_, whole, stretch, stretches, readPlaces, recordWith, readParts, readAll, outcomeOf}
 use Rattle.format.proofs.Lists.{every-parts}
@@ -23,8 +22,7 @@ use Rattle.format.proofs.Rules.{good-relations}
 use Rattle.format.proofs.Places.{whole-get}
 use Rattle.reader.specs.declared.RelationsRead.{RelationsRead}
 use Rattle.reader.specs.declared.DependenciesRead.{DependenciesRead}
-use Rattle.reader.specs.declared.PlacesRead.{PlacesRead}
-use Rattle.reader.specs.Read.{relationsRead, dependenciesRead, placesRead}
+use Rattle.reader.specs.Read.{relationsRead, dependenciesRead, recordRead}
 use Rattle.format.proofs.Arrays.{bytes-known}
 use Rattle.reader.proofs.Stretches.{tableAt, stretches-cons, stretch-fits}
 use Rattle.reader.proofs.read_parts.Statement.{statement}
@@ -74,14 +72,6 @@ dependencies-some : (o : Result (ℕ × List Dependency)) (r : DependenciesRead)
 dependencies-some (ok ds) r e g = ap (λ (r : DependenciesRead). ok (r .held, r .dependencies)) (sym e)
 dependencies-some (refused n) r e g = let t : r .good ≡ false = ap (λ (r : DependenciesRead). r .good) e in let z : _≡_ {A = ℕ} 0 1 = cc in absurd (omega arith)
 
-places-bad : (o : Result (List Place)) (r : PlacesRead) (m : ℕ) → r ≡ placesRead o → r .answer ≡ Refused m → o ≡ refused m
-places-bad (ok ps) r m e g = let t : r .answer ≡ Done = ap (λ (r : PlacesRead). r .answer) e in let z : _≡_ {A = ℕ} 0 1 = cc in absurd (omega arith)
-places-bad (refused l) r m e g = let t : r .answer ≡ Refused l = ap (λ (r : PlacesRead). r .answer) e in let s : l ≡ m = cc in rw s
-
-places-some : (o : Result (List Place)) (r : PlacesRead) → r ≡ placesRead o → r .answer ≡ Done → (ps : List Place) × (o ≡ ok ps) × (r .places ≡ pad 8 noPlace ps)
-places-some (ok ps) r e g = (ps, refl, ap (λ (r : PlacesRead). r .places) e)
-places-some (refused m) r e g = let t : r .answer ≡ Refused m = ap (λ (r : PlacesRead). r .answer) e in let z : _≡_ {A = ℕ} 0 1 = cc in absurd (omega arith)
-
 -- ---- the parts by their results
 
 module _ (part0 part1 : List ℕ) (parts : List (List ℕ)) where
@@ -95,13 +85,13 @@ module _ (part0 part1 : List ℕ) (parts : List (List ℕ)) where
     parts-4 w = rw (w₀, w)
 
     module _ (ds : ℕ × List Dependency) (w₁ : whole 4 (dependencies (take (rs .0) (rs .1)) .get part1) ≡ ok ds) where
-      parts-places : (m : ℕ) → readPlaces (take (rs .0) (rs .1)) parts ≡ refused m → readParts part0 part1 parts ≡ refused m
+      parts-places : outcomeOf (readParts part0 part1 parts) ≡ recordRead rs ds (readPlaces (take (rs .0) (rs .1)) parts)
       unfolding readParts _>>=_
-      parts-places m w = rw (w₀, w₁, w)
-
-      parts-done : (ps : List Place) → readPlaces (take (rs .0) (rs .1)) parts ≡ ok ps → readParts part0 part1 parts ≡ ok (recordWith rs ds ps)
-      unfolding readParts _>>=_
-      parts-done ps w = rw (w₀, w₁, w)
+      parts-places = rw (w₀, w₁) (same (readPlaces (take (rs .0) (rs .1)) parts))
+        where
+          same : (o : Result (List Place)) → outcomeOf (o >>= (λ ps. ok (recordWith rs ds ps))) ≡ recordRead rs ds o
+          same (ok ps) = refl
+          same (refused m) = refl
 
 -- ---- the whole file, part by part
 
@@ -132,25 +122,13 @@ module _ (file : List ℕ) (n : ℕ) (low : 2 ≤ n) (part0 : List ℕ) (e₀ : 
         let w₁ = whole-refused 4 (dependencies (take (rs .count) (rs .widths)) .get part1) m w in
         sym (ap outcomeOf (all file n low part0 part1 e₀ e₁ ∙ parts-4 part0 part1 (stretches (n - 2) file (drop 10 file)) (rs .count, rs .widths) w₀ w₁))
 
-    module _ (g₁ : ds .good ≡ true) (ps : PlacesRead) (ep : ps ≡ placesRead (readPlaces (take (rs .count) (rs .widths)) (stretches (n - 2) file (drop 10 file)))) where
-      refuses-places : (m : ℕ) → ps .answer ≡ Refused m → outcomeOf (refused m) ≡ outcomeOf (readAll (stretches n file (drop 2 file)))
-      refuses-places m g =
-          let w₀ = relations-some (whole 3 (relations .get part0)) rs er g₀ in
-          let w₁ = dependencies-some (whole 4 (dependencies (take (rs .count) (rs .widths)) .get part1)) ds ed g₁ in
-          let w₂ = places-bad (readPlaces (take (rs .count) (rs .widths)) (stretches (n - 2) file (drop 10 file))) ps m ep g in
-          sym (ap outcomeOf (all file n low part0 part1 e₀ e₁ ∙ parts-places part0 part1 (stretches (n - 2) file (drop 10 file)) (rs .count, rs .widths) w₀ (ds .held, ds .dependencies) w₁ m w₂))
-
-      accepts-all : ps .answer ≡ Done
-          → record { answer = Done; «record» = record { relations = rs .count; widths = rs .widths; held = ds .held; dependencies = ds .dependencies; places = ps .places } }
-          ≡ outcomeOf (readAll (stretches n file (drop 2 file)))
-      accepts-all g =
-          let w₀ = relations-some (whole 3 (relations .get part0)) rs er g₀ in
-          let w₁ = dependencies-some (whole 4 (dependencies (take (rs .count) (rs .widths)) .get part1)) ds ed g₁ in
-          let (all-places, w₂, same) = places-some (readPlaces (take (rs .count) (rs .widths)) (stretches (n - 2) file (drop 10 file))) ps ep g in
-          let done : readAll (stretches n file (drop 2 file)) ≡ ok (recordWith (rs .count, rs .widths) (ds .held, ds .dependencies) all-places) =
-          all file n low part0 part1 e₀ e₁ ∙ parts-done part0 part1 (stretches (n - 2) file (drop 10 file)) (rs .count, rs .widths) w₀ (ds .held, ds .dependencies) w₁ all-places w₂ in
-          (λ i. record { answer = Done; «record» = record { relations = rs .count; widths = rs .widths; held = ds .held; dependencies = ds .dependencies; places = same i } })
-          ∙ sym (ap outcomeOf done)
+    reads-places : ds .good ≡ true
+        → recordRead (rs .count, rs .widths) (ds .held, ds .dependencies) (readPlaces (take (rs .count) (rs .widths)) (stretches (n - 2) file (drop 10 file)))
+        ≡ outcomeOf (readAll (stretches n file (drop 2 file)))
+    reads-places g₁ =
+        let w₀ = relations-some (whole 3 (relations .get part0)) rs er g₀ in
+        let w₁ = dependencies-some (whole 4 (dependencies (take (rs .count) (rs .widths)) .get part1)) ds ed g₁ in
+        sym (ap outcomeOf (all file n low part0 part1 e₀ e₁) ∙ parts-places part0 part1 (stretches (n - 2) file (drop 10 file)) (rs .count, rs .widths) w₀ (ds .held, ds .dependencies) w₁)
 
 part-requires : tie.Need-part-requires
 part-requires c κs =
@@ -183,24 +161,12 @@ returns-2 c =
 
 read-places-requires : tie.Need-read-places-requires
 read-places-requires c κs =
-    (good-count (c .before .before .before .before .before .before .before .before .before .before .args .file .now) (c .before .before .before .before .before .before .before .before .before .before .args .n) (c .before .before .before .before .before .before .before .before .before .before .pre .0 .0) (now (c .before .before .before .before .before .before .before .before .part .result)) (c .before .before .before .before .before .before .before .before .part .ensures) (c .before .before .before .before .before .before .before .read-relations .result) (c .before .before .before .before .before .before .before .read-relations .ensures) (bytes-known (c .before .before .before .before .before .before .before .before .before .before .args .file .now) (λ i. c .before .before .before .before .before .before .before .before .before .shared-slice-known .given i .fits)) (not-false (c .before .before .before .before .before .before .before .read-relations .result .good) (c .before .before .before .before .before .if1 .left)), (c .before .before .before .before .before .before .before .before .before .before .pre .0, c .before .before .before .before .before .before .before .before .before .before .pre .1))
-
-enum-told : tie.Need-enum-told
-enum-told c = search needs
-
-enum-known-answer : tie.Need-enum-known-answer
-enum-known-answer c = search needs
-
-refusal-requires-3 : tie.Need-refusal-requires-3
-refusal-requires-3 c κs = search needs
+    (good-count (c .before .before .before .before .before .before .before .before .before .before .before .args .file .now) (c .before .before .before .before .before .before .before .before .before .before .before .args .n) (c .before .before .before .before .before .before .before .before .before .before .before .pre .0 .0) (now (c .before .before .before .before .before .before .before .before .before .part .result)) (c .before .before .before .before .before .before .before .before .before .part .ensures) (c .before .before .before .before .before .before .before .before .read-relations .result) (c .before .before .before .before .before .before .before .before .read-relations .ensures) (bytes-known (c .before .before .before .before .before .before .before .before .before .before .before .args .file .now) (λ i. c .before .before .before .before .before .before .before .before .before .before .shared-slice-known .given i .fits)) (not-false (c .before .before .before .before .before .before .before .before .read-relations .result .good) (c .before .before .before .before .before .before .if1 .left)), (c .before .before .before .before .before .before .before .before .before .before .before .pre .0, c .before .before .before .before .before .before .before .before .before .before .before .pre .1))
 
 returns-3 : tie.Need-returns-3
 returns-3 c =
-    accepts-all (c .before .before .before .before .before .before .before .before .before .before .before .before .before .before .before .args .file .now) (c .before .before .before .before .before .before .before .before .before .before .before .before .before .before .before .args .n) (c .before .before .before .before .before .before .before .before .before .before .before .before .before .before .before .pre .0 .0) (now (c .before .before .before .before .before .before .before .before .before .before .before .before .before .part .result)) (c .before .before .before .before .before .before .before .before .before .before .before .before .before .part .ensures) (c .before .before .before .before .before .before .before .before .before .before .before .before .read-relations .result) (c .before .before .before .before .before .before .before .before .before .before .before .before .read-relations .ensures) (now (c .before .before .before .before .before .before .before .before .part2 .result)) (c .before .before .before .before .before .before .before .before .part2 .ensures) (not-false (c .before .before .before .before .before .before .before .before .before .before .before .before .read-relations .result .good) (c .before .before .before .before .before .before .before .before .before .before .if1 .left)) (c .before .before .before .before .before .before .before .read-dependencies .result) (c .before .before .before .before .before .before .before .read-dependencies .ensures) (not-false (c .before .before .before .before .before .before .before .read-dependencies .result .good) (c .before .before .before .before .before .if2 .left)) (c .before .before .before .before .read-places .result) (c .before .before .before .before .read-places .ensures) (c .before .before .enum-told .given .1)
-
-returns-4 : tie.Need-returns-4
-returns-4 c =
-    c .refusal3 .ensures ∙ refuses-places (c .before .before .before .before .before .before .before .before .before .before .before .before .before .before .before .args .file .now) (c .before .before .before .before .before .before .before .before .before .before .before .before .before .before .before .args .n) (c .before .before .before .before .before .before .before .before .before .before .before .before .before .before .before .pre .0 .0) (now (c .before .before .before .before .before .before .before .before .before .before .before .before .before .part .result)) (c .before .before .before .before .before .before .before .before .before .before .before .before .before .part .ensures) (c .before .before .before .before .before .before .before .before .before .before .before .before .read-relations .result) (c .before .before .before .before .before .before .before .before .before .before .before .before .read-relations .ensures) (now (c .before .before .before .before .before .before .before .before .part2 .result)) (c .before .before .before .before .before .before .before .before .part2 .ensures) (not-false (c .before .before .before .before .before .before .before .before .before .before .before .before .read-relations .result .good) (c .before .before .before .before .before .before .before .before .before .before .if1 .left)) (c .before .before .before .before .before .before .before .read-dependencies .result) (c .before .before .before .before .before .before .before .read-dependencies .ensures) (not-false (c .before .before .before .before .before .before .before .read-dependencies .result .good) (c .before .before .before .before .before .if2 .left)) (c .before .before .before .before .read-places .result) (c .before .before .before .before .read-places .ensures) (c .before .before .answer .given .0 .0) (c .before .before .answer .given .1)
+    let s = c .before .before .before .before .before .before .before .before .before .before .before .before in
+    c .read-places .ensures ∙ reads-places (s .args .file .now) (s .args .n) (s .pre .0 .0) (now (c .before .before .before .before .before .before .before .before .before .before .part .result)) (c .before .before .before .before .before .before .before .before .before .before .part .ensures) (c .before .before .before .before .before .before .before .before .before .read-relations .result) (c .before .before .before .before .before .before .before .before .before .read-relations .ensures) (now (c .before .before .before .before .before .part2 .result)) (c .before .before .before .before .before .part2 .ensures) (not-false (c .before .before .before .before .before .before .before .before .before .read-relations .result .good) (c .before .before .before .before .before .before .before .if1 .left)) (c .before .before .before .before .read-dependencies .result) (c .before .before .before .before .read-dependencies .ensures) (not-false (c .before .before .before .before .read-dependencies .result .good) (c .before .before .if2 .left))
 
 pub read-parts-spec : {M : Type 1} → statement M
 read-parts-spec =
@@ -215,8 +181,4 @@ read-parts-spec =
     refusal-requires-2
     returns-2
     read-places-requires
-    enum-told
-    enum-known-answer
-    refusal-requires-3
-    returns-3
-    returns-4)
+    returns-3)

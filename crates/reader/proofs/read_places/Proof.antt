@@ -8,44 +8,48 @@ use native.Mathlib.Omega.{arith}
 use lib.Dec.{eqb}
 use lib.ListN.{length, take, drop, set, replicate, length-set}
 use denote.Ref.{now}
+use Rattle.record.specs.declared.Dependency.{Dependency}
 use Rattle.record.specs.declared.Place.{Place}
+use Rattle.record.specs.declared.Outcome.{Outcome}
 use Rattle.record.specs.declared.Answer.the-variants.{Done, Refused}
 use Rattle.record.specs.Rule.{noPlace}
 use Rattle.format.specs.Bytes.{over}
-use Rattle.format.specs.File.{Result, ok, refused, _>>=_, stretch, stretches, readPlace, noneLeft, readPlaces}
+use Rattle.format.specs.File.{Result, ok, refused, _>>=_, stretch, stretches, readPlace, noneLeft, readPlaces, outcomeOf}
 use Rattle.format.proofs.Lists.{over-nil, over-set, pad-over}
 use Rattle.reader.specs.declared.PlaceRead.{PlaceRead}
-use Rattle.reader.specs.declared.PlacesRead.{PlacesRead}
-use Rattle.reader.specs.Read.{placeRead, placesRead}
+use Rattle.reader.specs.Read.{placeRead, recordRead}
 use Rattle.reader.proofs.Stretches.{tableAt, stretches-cons, stretch-fits}
 use Rattle.reader.proofs.read_places.Statement.{statement}
 use Rattle.reader.proofs.read_places.Tie as tie
 use Rattle.reader.proofs.read_places.Reads as reads
 use Rattle.reader.proofs.read_places.Lts as lts
-use Rattle.reader.proofs.no_places.Reads as no-places-reads
+use Rattle.reader.proofs.refusal.Reads as refusal-reads
 use Rattle.reader.proofs.part.Reads as part-reads
 use Rattle.reader.proofs.read_place.Reads as read-place-reads
 
--- The answer with the places read so far and the others laid over what follows them
-abbrev placesOver : List Place → ℕ → Result (List Place) → PlacesRead
-placesOver places i (ok ps) = record { answer = Done; places = over places i ps }
-placesOver places i (refused m) = record { answer = Refused m; places = replicate 8 noPlace }
+-- The record with the places read so far and the others laid over what follows them
+abbrev recordOver : ℕ × List ℕ → ℕ × List Dependency → List Place → ℕ → Result (List Place) → Outcome
+recordOver rs ds places i (ok ps) =
+    record { answer = Done; «record» = record { relations = rs .0; widths = rs .1; held = ds .0; dependencies = ds .1; places = over places i ps } }
+recordOver rs ds places i (refused m) = outcomeOf (refused m)
 
 -- What has been read of the query parts
-record At (schema file : List ℕ) (n : ℕ) (places : List Place) (k : ℕ) : Type 0 where
+record At (rs : ℕ × List ℕ) (ds : ℕ × List Dependency) (schema file : List ℕ) (n : ℕ) (places : List Place) (k : ℕ) : Type 0 where
   low : 2 ≤ k
   high : k ≤ n
   long : length places ≡ 8
-  rest : placesRead (readPlaces schema (stretches (n - 2) file (drop 10 file))) ≡ placesOver places (k - 2) (readPlaces schema (stretches (n - k) file (tableAt file k)))
+  rest : recordRead rs ds (readPlaces schema (stretches (n - 2) file (drop 10 file))) ≡ recordOver rs ds places (k - 2) (readPlaces schema (stretches (n - k) file (tableAt file k)))
 
-starts : (o : Result (List Place)) → placesRead o ≡ placesOver (replicate 8 noPlace) 0 o
-starts (ok ps) = λ i. record { answer = Done; places = pad-over 8 noPlace ps i }
-starts (refused m) = refl
+module _ (rs : ℕ × List ℕ) (ds : ℕ × List Dependency) where
+  starts : (o : Result (List Place)) → recordRead rs ds o ≡ recordOver rs ds (replicate 8 noPlace) 0 o
+  starts (ok ps) =
+      λ i. record { answer = Done; «record» = record { relations = rs .0; widths = rs .1; held = ds .0; dependencies = ds .1; places = pad-over 8 noPlace ps i } }
+  starts (refused m) = refl
 
-begins : (schema file : List ℕ) (n : ℕ) (p : Place) → p ≡ noPlace → 2 ≤ n → At schema file n (replicate 8 p) 2
-begins schema file n p e h =
-    subst (λ (p : Place). At schema file n (replicate 8 p) 2) (sym e)
-    (record { low = omega arith; high = h; long = refl; rest = starts (readPlaces schema (stretches (n - 2) file (drop 10 file))) })
+  begins : (schema file : List ℕ) (n : ℕ) (p : Place) → p ≡ noPlace → 2 ≤ n → At rs ds schema file n (replicate 8 p) 2
+  begins schema file n p e h =
+      subst (λ (p : Place). At rs ds schema file n (replicate 8 p) 2) (sym e)
+      (record { low = omega arith; high = h; long = refl; rest = starts (readPlaces schema (stretches (n - 2) file (drop 10 file))) })
 
 none-zero : (file table : List ℕ) → noneLeft (stretches 0 file table) ≡ true
 unfolding stretches noneLeft
@@ -73,11 +77,12 @@ split-refused : (schema : List ℕ) (p : List ℕ) (ps : List (List ℕ)) (m : �
 unfolding readPlaces _>>=_
 split-refused schema p ps m e = rw e
 
-stored : (places : List Place) (i : ℕ) (place : Place) (o : Result (List Place)) → i < length places
-    → placesOver places i (o >>= (λ ps. ok (place ∷ ps))) ≡ placesOver (set places i place) (suc i) o
+stored : (rs : ℕ × List ℕ) (ds : ℕ × List Dependency) (places : List Place) (i : ℕ) (place : Place) (o : Result (List Place)) → i < length places
+    → recordOver rs ds places i (o >>= (λ ps. ok (place ∷ ps))) ≡ recordOver rs ds (set places i place) (suc i) o
 unfolding _>>=_
-stored places i place (ok ps) h = λ j. record { answer = Done; places = sym (over-set places i place ps h) j }
-stored places i place (refused m) h = refl
+stored rs ds places i place (ok ps) h =
+    λ j. record { answer = Done; «record» = record { relations = rs .0; widths = rs .1; held = ds .0; dependencies = ds .1; places = sym (over-set places i place ps h) j } }
+stored rs ds places i place (refused m) h = refl
 
 -- the place reader's answer
 place-some : (o : Result Place) (r : PlaceRead) → r ≡ placeRead o → r .answer ≡ Done → o ≡ ok (r .place)
@@ -88,7 +93,7 @@ place-none : (o : Result Place) (r : PlaceRead) (m : ℕ) → r ≡ placeRead o 
 place-none (ok p) r m e g = let t : r .answer ≡ Done = ap (λ (r : PlaceRead). r .answer) e in let z : _≡_ {A = ℕ} 0 1 = cc in absurd (omega arith)
 place-none (refused l) r m e g = let t : r .answer ≡ Refused l = ap (λ (r : PlaceRead). r .answer) e in let s : l ≡ m = cc in rw s
 
-module _ (schema file : List ℕ) (n : ℕ) (places : List Place) (k : ℕ) (f : At schema file n places k) (h : k < n) (few : n ≤ 10)
+module _ (rs : ℕ × List ℕ) (ds : ℕ × List Dependency) (schema file : List ℕ) (n : ℕ) (places : List Place) (k : ℕ) (f : At rs ds schema file n places k) (h : k < n) (few : n ≤ 10)
     (p : List ℕ) (ep : p ≡ stretch file (tableAt file k)) (r : PlaceRead) (er : r ≡ placeRead (readPlace schema (eqb (k + 1) n) p)) where
   others : List (List ℕ)
   others = stretches (n - (k + 1)) file (tableAt file (k + 1))
@@ -101,7 +106,7 @@ module _ (schema file : List ℕ) (n : ℕ) (places : List Place) (k : ℕ) (f :
   unfolding others
   last = ap (λ (t : Bool). readPlace schema t p) (last-part n k file (tableAt file (k + 1)) h)
 
-  goes-on : r .answer ≡ Done → At schema file n (set places (k - 2) (r .place)) (k + 1)
+  goes-on : r .answer ≡ Done → At rs ds schema file n (set places (k - 2) (r .place)) (k + 1)
   unfolding others
   goes-on g =
       let low = f .low in
@@ -112,36 +117,37 @@ module _ (schema file : List ℕ) (n : ℕ) (places : List Place) (k : ℕ) (f :
         low = omega arith;
         high = omega arith;
         long = length-set places (k - 2) (r .place) ∙ f .long;
-        rest = f .rest ∙ ap (placesOver places (k - 2)) (this ∙ split schema p others (r .place) (last ∙ o))
-            ∙ stored places (k - 2) (r .place) (readPlaces schema others) (omega arith)
-            ∙ ap (λ (i : ℕ). placesOver (set places (k - 2) (r .place)) i (readPlaces schema others)) m;
+        rest = f .rest ∙ ap (recordOver rs ds places (k - 2)) (this ∙ split schema p others (r .place) (last ∙ o))
+            ∙ stored rs ds places (k - 2) (r .place) (readPlaces schema others) (omega arith)
+            ∙ ap (λ (i : ℕ). recordOver rs ds (set places (k - 2) (r .place)) i (readPlaces schema others)) m;
       }
 
-  stops : (m : ℕ) → r .answer ≡ Refused m → placesRead (refused m) ≡ placesRead (readPlaces schema (stretches (n - 2) file (drop 10 file)))
+  stops : (m : ℕ) → r .answer ≡ Refused m → outcomeOf (refused m) ≡ recordRead rs ds (readPlaces schema (stretches (n - 2) file (drop 10 file)))
   stops m g =
       let o = place-none (readPlace schema (eqb (k + 1) n) p) r m er g in
-      sym (f .rest ∙ ap (placesOver places (k - 2)) (this ∙ split-refused schema p others m (last ∙ o)))
+      sym (f .rest ∙ ap (recordOver rs ds places (k - 2)) (this ∙ split-refused schema p others m (last ∙ o)))
 
-ended : (schema file : List ℕ) (n : ℕ) (places : List Place) (k : ℕ) → At schema file n places k → n ≤ k
-    → record { answer = Done; places = places } ≡ placesRead (readPlaces schema (stretches (n - 2) file (drop 10 file)))
+ended : (rs : ℕ × List ℕ) (ds : ℕ × List Dependency) (schema file : List ℕ) (n : ℕ) (places : List Place) (k : ℕ) → At rs ds schema file n places k → n ≤ k
+    → record { answer = Done; «record» = record { relations = rs .0; widths = rs .1; held = ds .0; dependencies = ds .1; places = places } }
+    ≡ recordRead rs ds (readPlaces schema (stretches (n - 2) file (drop 10 file)))
 unfolding readPlaces stretches
-ended schema file n places k f h =
+ended rs ds schema file n places k f h =
     let m : n - k ≡ 0 = omega arith in
-    sym (f .rest ∙ ap (λ (j : ℕ). placesOver places (k - 2) (readPlaces schema (stretches j file (tableAt file k)))) m
-    ∙ (λ i. record { answer = Done; places = over-nil places (k - 2) i }))
+    sym (f .rest ∙ ap (λ (j : ℕ). recordOver rs ds places (k - 2) (readPlaces schema (stretches j file (tableAt file k)))) m
+    ∙ (λ i. record { answer = Done; «record» = record { relations = rs .0; widths = rs .1; held = ds .0; dependencies = ds .1; places = over-nil places (k - 2) i } }))
 
 abbrev Inv-loop : tie.InvT-loop
-Inv-loop file n count widths places₀ k₀ places k = At (take count widths) file n places k
+Inv-loop file n count widths held dependencies places₀ k₀ places k = At (count, widths) (held, dependencies) (take count widths) file n places k
 
 abbrev μ-loop : tie.MeasureT-loop
-μ-loop file n count widths places₀ k₀ places k = n - k
+μ-loop file n count widths held dependencies places₀ k₀ places k = n - k
 
 no-place-requires : tie.Need-no-place-requires Inv-loop μ-loop
 no-place-requires c κs = search needs
 
 loop-holds : tie.Need-loop-holds Inv-loop μ-loop
 loop-holds c =
-    begins (take (c .before .before .args .count) (c .before .before .args .widths)) (c .before .before .args .file .now) (c .before .before .args .n) (c .no-place .result) (c .no-place .ensures) (c .before .before .pre .1 .0 .0)
+    begins (c .before .before .args .count, c .before .before .args .widths) (c .before .before .args .held, c .before .before .args .dependencies) (take (c .before .before .args .count) (c .before .before .args .widths)) (c .before .before .args .file .now) (c .before .before .args .n) (c .no-place .result) (c .no-place .ensures) (c .before .before .pre .1 .0 .0)
 
 part-requires : tie.Need-part-requires Inv-loop μ-loop
 part-requires c κs =
@@ -168,12 +174,12 @@ array-set-from-places c = search needs
 enum-known-answer : tie.Need-enum-known-answer Inv-loop μ-loop
 enum-known-answer c = search needs
 
-no-places-requires : tie.Need-no-places-requires Inv-loop μ-loop
-no-places-requires c κs = search needs
+refusal-requires : tie.Need-refusal-requires Inv-loop μ-loop
+refusal-requires c κs = search needs
 
 returns : tie.Need-returns Inv-loop μ-loop
 returns c =
-    c .no-places .ensures ∙ stops (take (c .before .before .before .before .before .before .before .before .before .before .args .count) (c .before .before .before .before .before .before .before .before .before .before .args .widths)) (c .before .before .before .before .before .before .before .before .before .before .args .file .now) (c .before .before .before .before .before .before .before .before .before .before .args .n) (c .before .before .before .before .before .before .before .loop .places) (c .before .before .before .before .before .before .before .loop .k) (c .before .before .before .before .before .before .before .loop .inv) (c .before .before .before .before .before .before .loop-test .taken) (c .before .before .before .before .before .before .before .before .before .before .pre .1 .0 .1) (now (c .before .before .before .before .before .part .result)) (c .before .before .before .before .before .part .ensures) (c .before .before .before .before .read-place .result) (c .before .before .before .before .read-place .ensures) (c .before .before .answer .given .0 .0) (c .before .before .answer .given .1)
+    c .refusal .ensures ∙ stops (c .before .before .before .before .before .before .before .before .before .before .args .count, c .before .before .before .before .before .before .before .before .before .before .args .widths) (c .before .before .before .before .before .before .before .before .before .before .args .held, c .before .before .before .before .before .before .before .before .before .before .args .dependencies) (take (c .before .before .before .before .before .before .before .before .before .before .args .count) (c .before .before .before .before .before .before .before .before .before .before .args .widths)) (c .before .before .before .before .before .before .before .before .before .before .args .file .now) (c .before .before .before .before .before .before .before .before .before .before .args .n) (c .before .before .before .before .before .before .before .loop .places) (c .before .before .before .before .before .before .before .loop .k) (c .before .before .before .before .before .before .before .loop .inv) (c .before .before .before .before .before .before .loop-test .taken) (c .before .before .before .before .before .before .before .before .before .before .pre .1 .0 .1) (now (c .before .before .before .before .before .part .result)) (c .before .before .before .before .before .part .ensures) (c .before .before .before .before .read-place .result) (c .before .before .before .before .read-place .ensures) (c .before .before .answer .given .0 .0) (c .before .before .answer .given .1)
 
 add-k : tie.Need-add-k Inv-loop μ-loop
 add-k c = search needs
@@ -183,11 +189,11 @@ loop-less c = search needs
 
 loop-again : tie.Need-loop-again Inv-loop μ-loop
 loop-again c =
-    goes-on (take (c .before .before .before .before .before .before .before .before .before .args .count) (c .before .before .before .before .before .before .before .before .before .args .widths)) (c .before .before .before .before .before .before .before .before .before .args .file .now) (c .before .before .before .before .before .before .before .before .before .args .n) (c .before .before .before .before .before .before .loop .places) (c .before .before .before .before .before .before .loop .k) (c .before .before .before .before .before .before .loop .inv) (c .before .before .before .before .before .loop-test .taken) (c .before .before .before .before .before .before .before .before .before .pre .1 .0 .1) (now (c .before .before .before .before .part .result)) (c .before .before .before .before .part .ensures) (c .before .before .before .read-place .result) (c .before .before .before .read-place .ensures) (c .before .enum-told .given .1)
+    goes-on (c .before .before .before .before .before .before .before .before .before .args .count, c .before .before .before .before .before .before .before .before .before .args .widths) (c .before .before .before .before .before .before .before .before .before .args .held, c .before .before .before .before .before .before .before .before .before .args .dependencies) (take (c .before .before .before .before .before .before .before .before .before .args .count) (c .before .before .before .before .before .before .before .before .before .args .widths)) (c .before .before .before .before .before .before .before .before .before .args .file .now) (c .before .before .before .before .before .before .before .before .before .args .n) (c .before .before .before .before .before .before .loop .places) (c .before .before .before .before .before .before .loop .k) (c .before .before .before .before .before .before .loop .inv) (c .before .before .before .before .before .loop-test .taken) (c .before .before .before .before .before .before .before .before .before .pre .1 .0 .1) (now (c .before .before .before .before .part .result)) (c .before .before .before .before .part .ensures) (c .before .before .before .read-place .result) (c .before .before .before .read-place .ensures) (c .before .enum-told .given .1)
 
 returns-2 : tie.Need-returns-2 Inv-loop μ-loop
 returns-2 c =
-    ended (take (c .before .before .before .before .args .count) (c .before .before .before .before .args .widths)) (c .before .before .before .before .args .file .now) (c .before .before .before .before .args .n) (c .before .loop .places) (c .before .loop .k) (c .before .loop .inv) (c .loop-test .left)
+    ended (c .before .before .before .before .args .count, c .before .before .before .before .args .widths) (c .before .before .before .before .args .held, c .before .before .before .before .args .dependencies) (take (c .before .before .before .before .args .count) (c .before .before .before .before .args .widths)) (c .before .before .before .before .args .file .now) (c .before .before .before .before .args .n) (c .before .loop .places) (c .before .loop .k) (c .before .loop .inv) (c .loop-test .left)
 
 pub read-places-spec : {M : Type 1} → statement M
 read-places-spec =
@@ -205,7 +211,7 @@ read-places-spec =
     mul-places
     array-set-from-places
     enum-known-answer
-    no-places-requires
+    refusal-requires
     returns
     add-k
     loop-less

@@ -1,165 +1,247 @@
+-- `read_rows` reads the rows one after another, and the entries of each into their cells.
+-- Assumes nothing.
 use borrow.Author.Needs.{needs}
-use borrow.Author.Tests.{not-true, not-false}
-use mathlib.Core.Path.{_≡_, sym, ap, refl, _∙_, subst}
-use mathlib.Core.Bool.{true, false}
+use mathlib.Core.Path.{_≡_, sym, ap, refl, _∙_}
 use mathlib.Core.List.{List}
 use Prim.Native.Nat.{ℕ, _+_, _*_, _-_, _≤_, _<_}
 use native.Mathlib.Omega.{arith}
-use lib.ListN.{length, take, drop, set, replicate, length-set}
-use lib.Seq.{take-all}
-use Rattle.record.specs.declared.Cell.{Cell}
-use Rattle.record.specs.Rule.{noCell}
-use Rattle.format.specs.Bytes.{over}
-use Rattle.format.specs.Format.{Reading, none, got, padded}
-use Rattle.format.specs.Parts.{row, noRow, rows, chunk, flat}
-use Rattle.format.specs.File.{ok, whole}
-use Rattle.format.proofs.Lists.{over-length}
-use Rattle.format.proofs.Parts.{Narrow, map-chunk, flat-chunk}
-use Rattle.format.proofs.Rules.{length-chunk, good-narrow}
-use Rattle.reader.specs.declared.RowRead.{RowRead}
-use Rattle.reader.specs.declared.RowsRead.{RowsRead}
-use Rattle.reader.specs.Read.{rowRead, withRow, noRowsRead, rowsRead}
-use Rattle.reader.proofs.Filling.{Filling, filling-starts, filling-turns, filling-fails, filling-ends}
-use Rattle.reader.proofs.Counted.{whole-none, got-long, got-ends}
-use Rattle.reader.proofs.RowLaws.{row-bounds, row-none, row-some, chunk-set}
+use lib.ListN.{length, take, drop, getD}
+use Rattle.format.proofs.Rules.{good-narrow}
+use Rattle.format.proofs.Schema.{count-bounds, schema-length}
+use Rattle.reader.proofs.RowLaws.{row-past, row-unknown}
+use Rattle.reader.proofs.ReadingRows.{At, InRow, begins, fails, too-long, accepted, known-row, row-begins, row-goes-on, row-stops, row-ends}
 use Rattle.reader.proofs.read_rows.Statement.{statement}
 use Rattle.reader.proofs.read_rows.Tie as tie
 use Rattle.reader.proofs.read_rows.Reads as reads
 use Rattle.reader.proofs.read_rows.Lts as lts
 use Rattle.reader.proofs.no_rows.Reads as no-rows-reads
-use Rattle.reader.proofs.read_row.Reads as read-row-reads
-use Rattle.reader.proofs.with_row.Reads as with-row-reads
+use Rattle.reader.proofs.read_entry.Reads as read-entry-reads
 
--- The rows from the start on, as the format reads them
-Whole : List ℕ → List ℕ → ℕ → ℕ → Reading (List (ℕ × List Cell))
-Whole schema part start size = rows schema size .get (drop start part)
+abbrev Inv-loop2 : tie.InvT-loop2
+Inv-loop2 part start size count widths relations cells₀ at r relation width i₀ cells i = InRow (take count widths) part at r width cells₀ cells i
 
--- What has been read of the rows
-record At (schema part : List ℕ) (start size : ℕ) (have : RowsRead) (at r : ℕ) : Type 0 where
-  few : r ≤ size
-  inside : at ≤ length part
-  relations-long : length (have .relations) ≡ 12
-  cells-long : length (have .cells) ≡ 96
-  good : have .good ≡ true
-  reading : Filling (row schema .get) (Whole schema part start size) size (chunk (have .relations) (have .cells)) r (drop at part)
-
-begins : (schema part : List ℕ) (start size : ℕ) → start ≤ length part
-    → At schema part start size (record { good = true; relations = replicate 12 0; cells = replicate 96 noCell }) start 0
-unfolding Whole rows padded chunk
-begins schema part start size h =
-    record {
-      few = omega arith;
-      inside = h;
-      relations-long = refl;
-      cells-long = refl;
-      good = refl;
-      reading = filling-starts (row schema .get) 12 noRow size (drop start part);
-    }
-
-goes-on : (schema part : List ℕ) (start size : ℕ) (have : RowsRead) (at r : ℕ) (read : RowRead) (more : RowsRead) → Narrow schema → At schema part start size have at r
-    → r < size → size ≤ 12 → read ≡ rowRead schema at (row schema .get (drop at part)) → read .good ≡ true
-    → more ≡ withRow have r (read .relation) (read .cells) → At schema part start size more (read .next) (r + 1)
-goes-on schema part start size have at r read more narrow f h few e g w =
-    let (rest, er, en) = row-some schema at (row schema .get (drop at part)) read e g in
-    let (lc, d, k) = row-bounds schema part at (read .relation, read .cells) rest narrow (f .inside) er in
-    let lr = f .relations-long in
-    let ll = f .cells-long in
-    let turned : Filling (row schema .get) (Whole schema part start size) size (set (chunk (have .relations) (have .cells)) r (read .relation, read .cells)) (r + 1) rest =
-    filling-turns (f .reading) (read .relation, read .cells) rest h (rw length-chunk (omega arith)) er in
-    let same : chunk (set (have .relations) r (read .relation)) (over (have .cells) (8 * r) (read .cells)) ≡ set (chunk (have .relations) (have .cells)) r (read .relation, read .cells) =
-    chunk-set (have .relations) (have .cells) r (read .relation) (read .cells) (omega arith) (omega arith) lc in
-    subst (λ (x : RowsRead). At schema part start size x (read .next) (r + 1)) (sym w)
-    (record {
-      few = omega arith;
-      inside = rw en k;
-      relations-long = length-set (have .relations) r (read .relation) ∙ lr;
-      cells-long = over-length (have .cells) (read .cells) (8 * r) (omega arith) ∙ ll;
-      good = f .good;
-      reading = rw (same, en, d) turned;
-    })
-
-fails : (schema part : List ℕ) (start size : ℕ) (have : RowsRead) (at r : ℕ) (read : RowRead) → At schema part start size have at r
-    → r < size → read ≡ rowRead schema at (row schema .get (drop at part)) → read .good ≡ false → noRowsRead ≡ rowsRead (whole 5 (Whole schema part start size))
-fails schema part start size have at r read f h e g =
-    sym (ap rowsRead (whole-none 5 (Whole schema part start size) (filling-fails (f .reading) h (row-none schema at (row schema .get (drop at part)) read e g))))
-
-too-long : (schema part : List ℕ) (start size : ℕ) (have : RowsRead) (at r : ℕ) → At schema part start size have at r → size ≤ r → at < length part
-    → noRowsRead ≡ rowsRead (whole 5 (Whole schema part start size))
-too-long schema part start size have at r f h l =
-    sym (ap rowsRead (got-long 5 (Whole schema part start size) (chunk (have .relations) (have .cells)) part at (filling-ends (f .reading) h) l))
-
-accepted : (schema part : List ℕ) (start size : ℕ) (have : RowsRead) (at r : ℕ) → At schema part start size have at r → size ≤ r → length part ≤ at
-    → have ≡ rowsRead (whole 5 (Whole schema part start size))
-accepted schema part start size have at r f h l =
-    let w : whole 5 (Whole schema part start size) ≡ ok (chunk (have .relations) (have .cells)) =
-    got-ends 5 (Whole schema part start size) (chunk (have .relations) (have .cells)) part at (filling-ends (f .reading) h) l in
-    let cells : have .cells ≡ flat (chunk (have .relations) (have .cells)) =
-    sym (flat-chunk (have .relations) (have .cells) ∙ take-all (8 * length (have .relations)) (have .cells) (omega (arith, f .cells-long, f .relations-long))) in
-    let same : have ≡ rowsRead (ok (chunk (have .relations) (have .cells))) =
-    λ i. record { good = f .good i; relations = sym (map-chunk (have .relations) (have .cells)) i; cells = cells i } in
-    same ∙ sym (ap rowsRead w)
+abbrev μ-loop2 : tie.MeasureT-loop2
+μ-loop2 part start size count widths relations cells₀ at r relation width i₀ cells i = width - i
 
 abbrev Inv-loop : tie.InvT-loop
-Inv-loop part start size count widths rows₀ at₀ r₀ rows at r = At (take count widths) part start size rows at r
+Inv-loop part start size count widths relations₀ cells₀ at₀ r₀ relations cells at r = At (take count widths) part start size relations cells at r
 
 abbrev μ-loop : tie.MeasureT-loop
-μ-loop part start size count widths rows₀ at₀ r₀ rows at r = size - r
+μ-loop part start size count widths relations₀ cells₀ at₀ r₀ relations cells at r = size - r
 
-loop-holds : tie.Need-loop-holds Inv-loop μ-loop
+loop-holds : tie.Need-loop-holds Inv-loop2 μ-loop2 Inv-loop μ-loop
 loop-holds c =
-    begins (take (c .before .args .count) (c .before .args .widths)) (c .before .args .part .now) (c .before .args .start) (c .before .args .size) (c .before .pre .1 .0)
+    let s = c .before in
+    let a = s .args in
+    let S = take (a .count) (a .t5) in
+    let X = a .part .now in
+    begins S X (a .start) (a .size) (s .pre .1 .0)
 
-read-row-requires : tie.Need-read-row-requires Inv-loop μ-loop
-read-row-requires c κs = search needs
-
-no-rows-requires : tie.Need-no-rows-requires Inv-loop μ-loop
+no-rows-requires : tie.Need-no-rows-requires Inv-loop2 μ-loop2 Inv-loop μ-loop
 no-rows-requires c κs = search needs
 
-returns : tie.Need-returns Inv-loop μ-loop
-unfolding Whole
+returns : tie.Need-returns Inv-loop2 μ-loop2 Inv-loop μ-loop
 returns c =
-    c .no-rows .ensures ∙ fails (take (c .before .before .before .before .before .before .before .args .count) (c .before .before .before .before .before .before .before .args .widths)) (c .before .before .before .before .before .before .before .args .part .now) (c .before .before .before .before .before .before .before .args .start) (c .before .before .before .before .before .before .before .args .size) (c .before .before .before .before .before .loop .rows) (c .before .before .before .before .before .loop .at) (c .before .before .before .before .before .loop .r) (c .before .before .before .read-row .result) (c .before .before .before .before .before .loop .inv) (c .before .before .before .before .loop-test .taken) (c .before .before .before .read-row .ensures) (not-true (c .before .before .before .read-row .result .good) (c .before .if1 .taken))
+    let s = c .before .before .before .before .before in
+    let a = s .args in
+    let S = take (a .count) (a .t5) in
+    let X = a .part .now in
+    let l = c .before .before .before .loop in
+    c .no-rows .ensures ∙ fails S X (a .start) (a .size) (l .relations) (l .cells) (l .at) (l .r) (l .inv) (c .before .before .loop-test .taken) (row-past S X (l .at) (c .before .if1 .taken))
 
-with-row-requires : tie.Need-with-row-requires Inv-loop μ-loop
-with-row-requires c κs = search needs
+shared-slice-read-relation : tie.Need-shared-slice-read-relation Inv-loop2 μ-loop2 Inv-loop μ-loop
+shared-slice-read-relation c = search needs
 
-add-r : tie.Need-add-r Inv-loop μ-loop
-add-r c = search needs
-
-loop-less : tie.Need-loop-less Inv-loop μ-loop
-loop-less c = search needs
-
-loop-again : tie.Need-loop-again Inv-loop μ-loop
-loop-again c =
-    goes-on (take (c .before .before .before .before .before .before .before .before .args .count) (c .before .before .before .before .before .before .before .before .args .widths)) (c .before .before .before .before .before .before .before .before .args .part .now) (c .before .before .before .before .before .before .before .before .args .start) (c .before .before .before .before .before .before .before .before .args .size) (c .before .before .before .before .before .before .loop .rows) (c .before .before .before .before .before .before .loop .at) (c .before .before .before .before .before .before .loop .r) (c .before .before .before .before .read-row .result) (c .with-row .result) (good-narrow (c .before .before .before .before .before .before .before .before .args .count) (c .before .before .before .before .before .before .before .before .args .widths) (c .before .before .before .before .before .before .before .before .pre .0)) (c .before .before .before .before .before .before .loop .inv) (c .before .before .before .before .before .loop-test .taken) (c .before .before .before .before .before .before .before .before .pre .1 .1) (c .before .before .before .before .read-row .ensures) (not-false (c .before .before .before .before .read-row .result .good) (c .before .before .if1 .left)) (c .with-row .ensures)
-
-no-rows-requires-2 : tie.Need-no-rows-requires-2 Inv-loop μ-loop
+no-rows-requires-2 : tie.Need-no-rows-requires-2 Inv-loop2 μ-loop2 Inv-loop μ-loop
 no-rows-requires-2 c κs = search needs
 
-returns-2 : tie.Need-returns-2 Inv-loop μ-loop
-unfolding Whole
+returns-2 : tie.Need-returns-2 Inv-loop2 μ-loop2 Inv-loop μ-loop
 returns-2 c =
-    c .no-rows2 .ensures ∙ too-long (take (c .before .before .before .before .before .args .count) (c .before .before .before .before .before .args .widths)) (c .before .before .before .before .before .args .part .now) (c .before .before .before .before .before .args .start) (c .before .before .before .before .before .args .size) (c .before .before .before .loop .rows) (c .before .before .before .loop .at) (c .before .before .before .loop .r) (c .before .before .before .loop .inv) (c .before .before .loop-test .left) (c .before .if2 .taken)
+    let s = c .before .before .before .before .before .before .before in
+    let a = s .args in
+    let S = take (a .count) (a .t5) in
+    let X = a .part .now in
+    let l = c .before .before .before .before .before .loop in
+    let long : length (a .t5) ≡ 8 = search needs in
+    let unknown : length S ≤ getD X (l .at) 0 = rw (schema-length (a .count) (a .t5) (s .pre .0) long) (c .before .if2 .taken) in
+    c .no-rows2 .ensures ∙ fails S X (a .start) (a .size) (l .relations) (l .cells) (l .at) (l .r) (l .inv) (c .before .before .before .before .loop-test .taken) (row-unknown S X (l .at) (c .before .before .before .if1 .left) unknown)
 
-returns-3 : tie.Need-returns-3 Inv-loop μ-loop
-unfolding Whole
+cast-width : tie.Need-cast-width Inv-loop2 μ-loop2 Inv-loop μ-loop
+cast-width c = search needs
+
+array-read-width : tie.Need-array-read-width Inv-loop2 μ-loop2 Inv-loop μ-loop
+array-read-width c =
+    let s = c .before .before .before .before .before .before in
+    let a = s .args in
+    let S = take (a .count) (a .t5) in
+    let X = a .part .now in
+    let long : length (a .t5) ≡ 8 = search needs in
+    omega (arith, count-bounds (a .count) (a .t5) (s .pre .0) long .1)
+
+cast-width-2 : tie.Need-cast-width-2 Inv-loop2 μ-loop2 Inv-loop μ-loop
+cast-width-2 c = search needs
+
+loop2-holds : tie.Need-loop2-holds Inv-loop2 μ-loop2 Inv-loop μ-loop
+loop2-holds c =
+    let s = c .before .before .before .before .before .before in
+    let a = s .args in
+    let S = take (a .count) (a .t5) in
+    let X = a .part .now in
+    let l = c .before .before .before .before .loop in
+    let long : length (a .t5) ≡ 8 = search needs in
+    row-begins S X (a .start) (a .size) (l .relations) (l .cells) (l .at) (l .r) (l .inv) (getD (a .t5) (getD X (l .at) 0) 0) (known-row (a .count) (a .t5) X (l .at) (s .pre .0) long (c .before .before .if1 .left) (c .if2 .left)) (search needs)
+
+add-read-entry : tie.Need-add-read-entry Inv-loop2 μ-loop2 Inv-loop μ-loop
+add-read-entry c = search needs
+
+mul-read-entry : tie.Need-mul-read-entry Inv-loop2 μ-loop2 Inv-loop μ-loop
+mul-read-entry c = search needs
+
+add-read-entry-2 : tie.Need-add-read-entry-2 Inv-loop2 μ-loop2 Inv-loop μ-loop
+add-read-entry-2 c = search needs
+
+read-entry-requires : tie.Need-read-entry-requires Inv-loop2 μ-loop2 Inv-loop μ-loop
+read-entry-requires c κs = search needs
+
+enum-known-e : tie.Need-enum-known-e Inv-loop2 μ-loop2 Inv-loop μ-loop
+enum-known-e c = search needs
+
+mul-cells : tie.Need-mul-cells Inv-loop2 μ-loop2 Inv-loop μ-loop
+mul-cells c = search needs
+
+add-cells : tie.Need-add-cells Inv-loop2 μ-loop2 Inv-loop μ-loop
+add-cells c = search needs
+
+mul-cells-2 : tie.Need-mul-cells-2 Inv-loop2 μ-loop2 Inv-loop μ-loop
+mul-cells-2 c = search needs
+
+array-set-from-cells : tie.Need-array-set-from-cells Inv-loop2 μ-loop2 Inv-loop μ-loop
+array-set-from-cells c = search needs
+
+enum-told : tie.Need-enum-told Inv-loop2 μ-loop2 Inv-loop μ-loop
+enum-told c = search needs
+
+no-rows-requires-3 : tie.Need-no-rows-requires-3 Inv-loop2 μ-loop2 Inv-loop μ-loop
+no-rows-requires-3 c κs = search needs
+
+returns-3 : tie.Need-returns-3 Inv-loop2 μ-loop2 Inv-loop μ-loop
 returns-3 c =
-    accepted (take (c .before .before .before .before .args .count) (c .before .before .before .before .args .widths)) (c .before .before .before .before .args .part .now) (c .before .before .before .before .args .start) (c .before .before .before .before .args .size) (c .before .before .loop .rows) (c .before .before .loop .at) (c .before .before .loop .r) (c .before .before .loop .inv) (c .before .loop-test .left) (c .if2 .left)
+    let s = c .before .before .before .before .before .before .before .before .before .before .before .before in
+    let a = s .args in
+    let S = take (a .count) (a .t5) in
+    let X = a .part .now in
+    let l = c .before .before .before .before .before .before .before .before .before .before .loop in
+    let m = c .before .before .before .before .before .loop2 in
+    let o = c .before .before .before .read-entry in
+    c .no-rows3 .ensures ∙ fails S X (a .start) (a .size) (l .relations) (l .cells) (l .at) (l .r) (l .inv) (c .before .before .before .before .before .before .before .before .before .loop-test .taken)
+    (row-stops S X (l .at) (l .r) (getD (a .t5) (getD X (l .at) 0) 0) (l .cells) (m .cells) (m .i) (m .inv) (o .result) (o .ensures) (c .before .enum-told .given .1) (c .before .before .before .before .loop2-test .taken))
+
+add-i : tie.Need-add-i Inv-loop2 μ-loop2 Inv-loop μ-loop
+add-i c = search needs
+
+loop2-less : tie.Need-loop2-less Inv-loop2 μ-loop2 Inv-loop μ-loop
+loop2-less c = search needs
+
+loop2-again : tie.Need-loop2-again Inv-loop2 μ-loop2 Inv-loop μ-loop
+loop2-again c =
+    let s = c .before .before .before .before .before .before .before .before .before .before .before .before in
+    let a = s .args in
+    let S = take (a .count) (a .t5) in
+    let X = a .part .now in
+    let l = c .before .before .before .before .before .before .before .before .before .before .loop in
+    let m = c .before .before .before .before .before .loop2 in
+    let o = c .before .before .before .read-entry in
+    row-goes-on S X (l .at) (l .r) (getD (a .t5) (getD X (l .at) 0) 0) (l .cells) (m .cells) (m .i) (m .inv) (o .result) (o .ensures) (c .before .e .given .0 .0) (c .before .e .given .1) (search needs) (l .inv .cells-long) (c .before .before .before .before .loop2-test .taken)
+
+array-write-relations : tie.Need-array-write-relations Inv-loop2 μ-loop2 Inv-loop μ-loop
+array-write-relations c = search needs
+
+add-at : tie.Need-add-at Inv-loop2 μ-loop2 Inv-loop μ-loop
+add-at c = search needs
+
+mul-at : tie.Need-mul-at Inv-loop2 μ-loop2 Inv-loop μ-loop
+mul-at c = search needs
+
+add-at-2 : tie.Need-add-at-2 Inv-loop2 μ-loop2 Inv-loop μ-loop
+add-at-2 c = search needs
+
+add-r : tie.Need-add-r Inv-loop2 μ-loop2 Inv-loop μ-loop
+add-r c = search needs
+
+loop-less : tie.Need-loop-less Inv-loop2 μ-loop2 Inv-loop μ-loop
+loop-less c = search needs
+
+loop-again : tie.Need-loop-again Inv-loop2 μ-loop2 Inv-loop μ-loop
+loop-again c =
+    let s = c .before .before .before .before .before .before .before .before in
+    let a = s .args in
+    let S = take (a .count) (a .t5) in
+    let X = a .part .now in
+    let l = c .before .before .before .before .before .before .loop in
+    let m = c .before .loop2 in
+    row-ends S X (a .start) (a .size) (l .relations) (l .cells) (m .cells) (l .at) (l .r) (getD (a .t5) (getD X (l .at) 0) 0) (m .i) (good-narrow (a .count) (a .t5) (s .pre .0)) (l .inv) (m .inv) (c .before .before .before .before .before .loop-test .taken) (s .pre .1 .1) (c .loop2-test .left)
+
+no-rows-requires-4 : tie.Need-no-rows-requires-4 Inv-loop2 μ-loop2 Inv-loop μ-loop
+no-rows-requires-4 c κs = search needs
+
+returns-4 : tie.Need-returns-4 Inv-loop2 μ-loop2 Inv-loop μ-loop
+returns-4 c =
+    let s = c .before .before .before .before .before in
+    let a = s .args in
+    let S = take (a .count) (a .t5) in
+    let X = a .part .now in
+    let l = c .before .before .before .loop in
+    c .no-rows4 .ensures ∙ too-long S X (a .start) (a .size) (l .relations) (l .cells) (l .at) (l .r) (l .inv) (c .before .before .loop-test .left) (c .before .if3 .taken)
+
+returns-5 : tie.Need-returns-5 Inv-loop2 μ-loop2 Inv-loop μ-loop
+returns-5 c =
+    let s = c .before .before .before .before in
+    let a = s .args in
+    let S = take (a .count) (a .t5) in
+    let X = a .part .now in
+    let l = c .before .before .loop in
+    accepted S X (a .start) (a .size) (l .relations) (l .cells) (l .at) (l .r) (l .inv) (c .before .loop-test .left) (c .if3 .left)
 
 pub read-rows-spec : {M : Type 1} → statement M
 read-rows-spec =
     tie.close
     (tie.spec
+    Inv-loop2
+    μ-loop2
     Inv-loop
     μ-loop
     loop-holds
-    read-row-requires
     no-rows-requires
     returns
-    with-row-requires
+    shared-slice-read-relation
+    no-rows-requires-2
+    returns-2
+    cast-width
+    array-read-width
+    cast-width-2
+    loop2-holds
+    add-read-entry
+    mul-read-entry
+    add-read-entry-2
+    read-entry-requires
+    enum-known-e
+    mul-cells
+    add-cells
+    mul-cells-2
+    array-set-from-cells
+    enum-told
+    no-rows-requires-3
+    returns-3
+    add-i
+    loop2-less
+    loop2-again
+    array-write-relations
+    add-at
+    mul-at
+    add-at-2
     add-r
     loop-less
     loop-again
-    no-rows-requires-2
-    returns-2
-    returns-3)
+    no-rows-requires-4
+    returns-4
+    returns-5)

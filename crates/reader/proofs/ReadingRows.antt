@@ -1,0 +1,173 @@
+-- A loop that reads rows into flat arrays, entry by entry: what has been read of all rows, and of the row at hand.
+use mathlib.Core.Path.{_≡_, sym, ap, refl, _∙_, subst}
+use mathlib.Core.Bool.{true, false}
+use mathlib.Core.List.{List}
+use Prim.Native.Nat.{ℕ, _+_, _*_, _-_, _≤_, _<_}
+use native.Mathlib.Nat.{add-zero}
+use native.Mathlib.Omega.{arith}
+use lib.ListN.{length, take, drop, getD, set, replicate, length-set}
+use lib.Seq.{take-all, drop-drop}
+use Rattle.record.specs.declared.Entry.{Entry}
+use Rattle.record.specs.declared.Cell.{Cell}
+use Rattle.record.specs.Rule.{noCell, goodRelations}
+use Rattle.format.specs.Bytes.{over}
+use Rattle.format.specs.Format.{Reading, none, got, padded}
+use Rattle.format.specs.Parts.{entry, entries, row, noRow, rows, chunk, flat}
+use Rattle.format.specs.File.{ok, whole}
+use Rattle.format.proofs.Lists.{drop-replicate}
+use Rattle.format.proofs.Parts.{Narrow, map-chunk, flat-chunk}
+use Rattle.format.proofs.Rules.{length-chunk}
+use Rattle.format.proofs.Schema.{schema-length, schema-at, width-bounds}
+use Rattle.reader.specs.declared.EntryRead.{EntryRead}
+use Rattle.reader.specs.declared.EntryRead.the-variants.{Read, NoEntry}
+use Rattle.reader.specs.declared.RowsRead.{RowsRead}
+use Rattle.reader.specs.Read.{entryRead, noRowsRead, rowsRead}
+use Rattle.reader.proofs.Positions.{entry-read, entry-none}
+use Rattle.reader.proofs.Filling.{Filling, filling-starts, filling-turns, filling-fails, filling-ends}
+use Rattle.reader.proofs.Counted.{whole-none, got-long, got-ends}
+use Rattle.reader.proofs.RowLaws.{row-bad, row-good, row-bounds, chunk-set, set-over, blank-over, drop-past-over}
+
+-- The rows from the start on, as the format reads them
+abbrev pub Whole : List ℕ → List ℕ → ℕ → ℕ → Reading (List (ℕ × List Cell))
+Whole schema part start size = rows schema size .get (drop start part)
+
+-- What has been read of the rows: r of them, up to a position; the cells after them are blank
+pub record At (schema part : List ℕ) (start size : ℕ) (relations : List ℕ) (cells : List Cell) (at r : ℕ) : Type 0 where
+  pub few : r ≤ size
+  pub inside : at ≤ length part
+  pub relations-long : length relations ≡ 12
+  pub cells-long : length cells ≡ 96
+  pub blank : drop (8 * r) cells ≡ replicate (96 - 8 * r) noCell
+  pub reading : Filling (row schema .get) (Whole schema part start size) size (chunk relations cells) r (drop at part)
+
+-- At a position stands the relation of a row that is this wide
+pub record Known (schema part : List ℕ) (at width : ℕ) : Type 0 where
+  pub inside : at < length part
+  pub known : getD part at 0 < length schema
+  pub wide : getD schema (getD part at 0) 0 ≡ width
+  pub narrow : width ≤ 8
+
+-- What has been read of row r, which starts at a position: i of its entries, over the cells before them
+pub record InRow (schema part : List ℕ) (at r width : ℕ) (before cells : List Cell) (i : ℕ) : Type 0 where
+  pub of : Known schema part at width
+  pub few : i ≤ width
+  pub small : width ≤ 8
+  pub row : List Cell
+  pub long : length row ≡ 8
+  pub cells-long : length cells ≡ 96
+  pub stored : cells ≡ over before (8 * r) row
+  pub reading : Filling (entry .get) (entries width .get (drop (at + 1) part)) width row i (drop (at + 1 + 5 * i) part)
+
+pub known-row : (count : ℕ) (widths part : List ℕ) (at : ℕ) → goodRelations count widths ≡ true → length widths ≡ 8 → at < length part → getD part at 0 < count
+    → Known (take count widths) part at (getD widths (getD part at 0) 0)
+known-row count widths part at good long inside k =
+    record {
+      inside = inside;
+      known = rw (schema-length count widths good long) k;
+      wide = schema-at count widths good long (getD part at 0) k;
+      narrow = width-bounds count widths good long (getD part at 0) k .1;
+    }
+
+pub begins : (schema part : List ℕ) (start size : ℕ) → start ≤ length part
+    → At schema part start size (replicate 12 0) (replicate 96 noCell) start 0
+unfolding rows padded chunk
+begins schema part start size h =
+    record {
+      few = omega arith;
+      inside = h;
+      relations-long = refl;
+      cells-long = refl;
+      blank = refl;
+      reading = filling-starts (row schema .get) 12 noRow size (drop start part);
+    }
+
+module _ (schema part : List ℕ) (start size : ℕ) (relations : List ℕ) (cells : List Cell) (at r : ℕ) (f : At schema part start size relations cells at r) where
+  -- a row that can't be read
+  pub fails : r < size → row schema .get (drop at part) ≡ none → noRowsRead ≡ rowsRead (whole 5 (Whole schema part start size))
+  fails h e = sym (ap rowsRead (whole-none 5 (Whole schema part start size) (filling-fails (f .reading) h e)))
+
+  pub too-long : size ≤ r → at < length part → noRowsRead ≡ rowsRead (whole 5 (Whole schema part start size))
+  too-long h l = sym (ap rowsRead (got-long 5 (Whole schema part start size) (chunk relations cells) part at (filling-ends (f .reading) h) l))
+
+  pub accepted : size ≤ r → length part ≤ at → record { good = true; relations = relations; cells = cells } ≡ rowsRead (whole 5 (Whole schema part start size))
+  accepted h l =
+      let w : whole 5 (Whole schema part start size) ≡ ok (chunk relations cells) =
+      got-ends 5 (Whole schema part start size) (chunk relations cells) part at (filling-ends (f .reading) h) l in
+      let e : cells ≡ flat (chunk relations cells) =
+      sym (flat-chunk relations cells ∙ take-all (8 * length relations) cells (omega (arith, f .cells-long, f .relations-long))) in
+      let same : record { good = true; relations = relations; cells = cells } ≡ rowsRead (ok (chunk relations cells)) =
+      λ i. record { good = true; relations = sym (map-chunk relations cells) i; cells = e i } in
+      same ∙ sym (ap rowsRead w)
+
+  pub row-begins : (width : ℕ) → Known schema part at width → r < 12 → InRow schema part at r width cells cells 0
+  unfolding entries padded
+  row-begins width k h =
+      record {
+        of = k;
+        few = omega arith;
+        small = k .narrow;
+        row = replicate 8 noCell;
+        long = refl;
+        cells-long = f .cells-long;
+        stored = sym (blank-over cells (8 * r) 8 (96 - 8 * r) noCell (f .blank) (omega arith));
+        reading = rw add-zero (filling-starts (entry .get) 8 noCell width (drop (at + 1) part));
+      }
+
+module _ (schema part : List ℕ) (at r width : ℕ) (before cells : List Cell) (i : ℕ) (g : InRow schema part at r width before cells i) (o : EntryRead)
+    (p : o ≡ entryRead (entry .get (drop (at + 1 + 5 * i) part))) where
+  pub row-goes-on : (e : Entry) → o ≡ Read e → r < 12 → length before ≡ 96 → i < width
+      → InRow schema part at r width before (set cells (8 * r + i) (record { entry = e })) (i + 1)
+  row-goes-on e q few lb h =
+      let read : entry .get (drop (at + 1 + 5 * i) part) ≡ got (record { entry = e }) (drop 5 (drop (at + 1 + 5 * i) part)) = entry-read (drop (at + 1 + 5 * i) part) e (sym q ∙ p) in
+      let k : at + 1 + 5 * i + 5 ≡ at + 1 + 5 * (i + 1) = omega arith in
+      let d : drop 5 (drop (at + 1 + 5 * i) part) ≡ drop (at + 1 + 5 * (i + 1)) part = drop-drop 5 (at + 1 + 5 * i) part ∙ ap (λ (m : ℕ). drop m part) k in
+      let lr : length (g .row) ≡ 8 = g .long in
+      let l : i < 8 = omega (arith, g .small) in
+      record {
+        of = g .of;
+        few = omega arith;
+        small = g .small;
+        row = set (g .row) i (record { entry = e });
+        long = length-set (g .row) i (record { entry = e }) ∙ lr;
+        cells-long = length-set cells (8 * r + i) (record { entry = e }) ∙ g .cells-long;
+        stored = ap (λ (cs : List Cell). set cs (8 * r + i) (record { entry = e })) (g .stored)
+            ∙ set-over before (8 * r) i (record { entry = e }) (g .row) (omega arith) (omega arith);
+        reading = rw (← d) (filling-turns (g .reading) (record { entry = e }) (drop 5 (drop (at + 1 + 5 * i) part)) h (omega arith) read);
+      }
+
+  pub row-stops : o ≡ NoEntry → i < width → row schema .get (drop at part) ≡ none
+  row-stops q h =
+      row-bad schema part at (g .of .inside) (g .of .known) (rw (g .of .wide) (filling-fails (g .reading) h (entry-none (drop (at + 1 + 5 * i) part) (sym q ∙ p))))
+
+-- a row that is read to its end is one row more
+pub row-ends : (schema part : List ℕ) (start size : ℕ) (relations : List ℕ) (before cells : List Cell) (at r width i : ℕ) → Narrow schema
+    → At schema part start size relations before at r → InRow schema part at r width before cells i → r < size → size ≤ 12 → width ≤ i
+    → At schema part start size (set relations r (getD part at 0)) cells (at + 1 + 5 * width) (r + 1)
+row-ends schema part start size relations before cells at r width i narrow f g h few ended =
+    let same : getD schema (getD part at 0) 0 ≡ width = g .of .wide in
+    let rest : List ℕ = drop (at + 1 + 5 * i) part in
+    let relation : ℕ = getD part at 0 in
+    let er : row schema .get (drop at part) ≡ got (relation, g .row) rest =
+    row-good schema part at (g .of .inside) (g .of .known) (g .row) rest (rw same (filling-ends (g .reading) ended)) in
+    let (lc, d, k) = row-bounds schema part at (relation, g .row) rest narrow (f .inside) er in
+    let d′ : drop (at + 1 + 5 * width) part ≡ rest = rw (← same) d in
+    let k′ : at + 1 + 5 * width ≤ length part = rw (← same) k in
+    let lr : length relations ≡ 12 = f .relations-long in
+    let ll : length before ≡ 96 = f .cells-long in
+    let turned : Filling (row schema .get) (Whole schema part start size) size (set (chunk relations before) r (relation, g .row)) (r + 1) rest =
+    filling-turns (f .reading) (relation, g .row) rest h (rw length-chunk (omega arith)) er in
+    let chunks : chunk (set relations r relation) (over before (8 * r) (g .row)) ≡ set (chunk relations before) r (relation, g .row) =
+    chunk-set relations before r relation (g .row) (omega arith) (omega arith) lc in
+    let n : 8 * r + 8 ≡ 8 * (r + 1) = omega arith in
+    let m : 96 - 8 * r - 8 ≡ 96 - 8 * (r + 1) = omega arith in
+    let after : drop (8 * (r + 1)) (over before (8 * r) (g .row)) ≡ replicate (96 - 8 * (r + 1)) noCell =
+    ap (λ (x : ℕ). drop x (over before (8 * r) (g .row))) (sym n) ∙ drop-past-over before (8 * r) 8 (g .row) (omega arith) lc
+    ∙ sym (drop-drop 8 (8 * r) before) ∙ ap (λ (cs : List Cell). drop 8 cs) (f .blank) ∙ drop-replicate 8 (96 - 8 * r) noCell ∙ ap (λ (x : ℕ). replicate x noCell) m in
+    record {
+      few = omega arith;
+      inside = k′;
+      relations-long = length-set relations r relation ∙ lr;
+      cells-long = g .cells-long;
+      blank = rw (g .stored) after;
+      reading = rw (g .stored, chunks, d′) turned;
+    }
