@@ -62,9 +62,6 @@ pub const CALLS: [&str; 13] = [
     "read", "write", "open", "add", "put", "drop", "reduce", "compare", "check", "determined", "test", "evaluate", "chase",
 ];
 
-/// The most that a vector asks of an evaluation that places the rows one by one.
-const WAYS: usize = 20_000;
-
 /// A record of moderate size, now and then a large or the blank one.
 fn record(r: &mut Random) -> Record {
     if r.percent(3) {
@@ -260,30 +257,6 @@ fn any_words(r: &mut Random, record: &Record, query: Option<&Query>) -> Vec<u32>
     words
 }
 
-/// How far a search would go that places one row after another on the facts as they come, repeats included; it stops at the limit.
-fn ways(query: &Query, facts: &[Fact], limit: usize) -> usize {
-    fn place(query: &Query, facts: &[Fact], at: usize, values: &mut [Option<u32>; VARIABLES], left: &mut usize) {
-        if at == query.rows.len() {
-            return;
-        }
-        for fact in facts.iter().filter(|f| f.relation == query.rows[at].relation) {
-            let before = *values;
-            let fits = query.rows[at].entries.iter().zip(&fact.values).all(|(e, x)| match e {
-                Constant(c) => c == x,
-                Variable(v) => *values[*v as usize].get_or_insert(*x) == *x,
-            });
-            if fits && *left > 0 {
-                *left -= 1;
-                place(query, facts, at + 1, values, left);
-            }
-            *values = before;
-        }
-    }
-    let mut left = limit;
-    place(query, facts, 0, &mut [None; VARIABLES], &mut left);
-    limit - left
-}
-
 fn any_mapping(r: &mut Random, s: &Query, t: &Query) -> Mapping {
     let mut mapping = find(s, t).unwrap_or([Constant(0); VARIABLES]);
     let entries: Vec<Entry> = t.rows.iter().flat_map(|x| x.entries.clone()).collect();
@@ -447,7 +420,7 @@ fn line(r: &mut Random, call: usize) -> Line {
             let mut due = 0;
             if let (Some(query), Ok(facts)) = (&query, facts(&record.widths, &words)) {
                 due = answers_within(query, &facts, 400).len() * query.head_length as usize;
-                if due > 400 || ways(query, &facts, WAYS) == WAYS {
+                if due > 400 {
                     continue;
                 }
             }
