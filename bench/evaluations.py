@@ -1,0 +1,86 @@
+#!/usr/bin/env python3
+"""Times evaluations of queries that can be carried into the database in very many ways, through the C interface.
+
+usage: bench/evaluations.py [LIBRARY]    (default: python/spernevan/libspernevan.so, which python/build makes)
+
+Relations R and S have two columns. A database has random rows of R, over so many values, and a few of S. Reading the file is
+included. A time is the best of 3 calls. An evaluation that takes five seconds makes the exit status 1. Whether the answers are
+right is for the vectors to say.
+"""
+import array
+import ctypes
+import os
+import random
+import sys
+import time
+
+from comparisons import clique, cycle, free, grid, labels, path
+from hard_queries import archive, edges, part
+
+LIMIT = 5000.0
+DATABASES = ((20, 100), (100, 1000), (1000, 10000))
+
+
+def cases():
+    """Name, the variables of the head, rows."""
+    yield 'path of 12, one end', [0], edges(path(12))
+    yield 'path of 12, the other end', [12], edges(path(12))
+    yield 'path of 12, no head', [], edges(path(12))
+    yield 'path of 12 to a row of S, one end', [0], edges(path(11)) + labels(edges([(11, 12)]))
+    yield 'path of 11 to a row that fails', [0], edges(path(11)) + labels(edges([(11, 11)]))
+    yield 'path of 4, both ends', [0, 4], edges(path(4))
+    yield 'path of 8, both ends', [0, 8], edges(path(8))
+    yield 'twelve free rows, no head', [], edges(free(12))
+    yield 'twelve free rows, one variable', [0], edges(free(12))
+    yield 'eleven free rows and one that fails', [0], edges(free(11)) + labels(edges([(90, 90)]))
+    yield 'star of twelve, its centre', [0], edges([(0, i) for i in range(1, 13)])
+    yield 'star of six branches of two', [0], edges([(0, i) for i in range(1, 7)] + [(i, i + 10) for i in range(1, 7)])
+    yield '3-cycle', [0, 1, 2], edges(cycle(3))
+    yield '12-cycle, no head', [], edges(cycle(12))
+    yield '6-cycle, one variable', [0], edges(cycle(6))
+    yield 'grid of 3 by 3, no head', [], edges(grid(3, 3))
+    yield 'four mutual neighbours', [0, 1, 2, 3], edges(clique(4))
+
+
+def graph(values, rows):
+    r = random.Random(rows)
+    words = array.array('I')
+    for _ in range(rows):
+        words.extend((0, r.randrange(values), r.randrange(values)))
+    for k in range(10):
+        words.extend((1, k, k + 1))
+    return words
+
+
+def main():
+    here = os.path.dirname(os.path.abspath(__file__))
+    default = os.path.join(here, '..', 'python', 'spernevan', 'libspernevan.so')
+    library = ctypes.CDLL(sys.argv[1] if len(sys.argv) > 1 else default)
+    library.spernevan_evaluate.restype = ctypes.c_uint8
+    n = ctypes.c_size_t
+    room = 4_000_000
+    answers = (ctypes.c_uint32 * room)()
+    count = ctypes.c_size_t()
+    slow = False
+    for name, head, rows in cases():
+        data = archive([2, 2], [], [part(rows, ['v%d' % v for v in head])])
+        cells = []
+        for values, size in DATABASES:
+            words = graph(values, size)
+            lent = (ctypes.c_uint32 * len(words)).from_buffer(words)
+            best = None
+            for _ in range(3):
+                start = time.perf_counter()
+                refusal = library.spernevan_evaluate(data, n(len(data)), n(0), lent, n(len(words)), answers, n(room), ctypes.byref(count))
+                took = 1000 * (time.perf_counter() - start)
+                best = took if best is None else min(best, took)
+                if took > LIMIT / 2:
+                    break
+            slow = slow or best >= LIMIT
+            cells.append('%9.2f ms %8s' % (best, count.value if refusal == 0 else '(%d)' % refusal))
+        print('%-40s %s' % (name, '  '.join(cells)), flush=True)
+    sys.exit(1 if slow else 0)
+
+
+if __name__ == "__main__":
+    main()
