@@ -72,7 +72,7 @@ uint8_t spernevan_open(const uint8_t *widths, size_t widths_length, uint8_t *out
 /*
  * Adds a dependency after those held.
  * Takes a file, a relation, a left set (bit c for column c) and a right column.
- * Returns 0 with the new file in `out` and its length in `*length`; or 1 to 6, 4, 13, 10.
+ * Returns 0 with the new file in `out` and its length in `*length`; or 1 to 6, then 4, 13, 10.
  */
 uint8_t spernevan_add(const uint8_t *file, size_t file_length, uint8_t relation, uint8_t left, uint8_t right,
                       uint8_t *out, size_t out_length, size_t *length);

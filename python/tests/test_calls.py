@@ -386,6 +386,51 @@ class Random(Calls):
         want = [(x, y) for x in range(80) for y in range(80)]
         self.assertEqual(record.evaluate(0, [(0, (n,)) for n in range(80)]), want)
 
+    def test_large_databases(self):
+        """On either side of each size at which the engine takes larger tables."""
+        record = Record.open([2, 2]).add(0, [0], 1)
+        joined = record.put(0, rule(record, "ans(z, x) :- R0(x, y), R1(y, z)"))
+        joined = joined.put(1, rule(record, "ans(z) :- R0(x, y), R1(y, z)"))
+        joined = joined.put(2, rule(record, "ans() :- R0(x, y), R1(y, x)"))
+        joined = joined.put(3, rule(record, "ans(a) :- R1(a, b), R1(b, c), R1(c, d), R1(d, e), R1(e, f), R0(f, g)"))
+        rng = random.Random(6)
+        for n in (40, 43, 170, 172, 600, 690, 2700, 2800, 9000):
+            left = [(rng.randrange(2 * n), rng.randrange(n)) for _ in range(n)]
+            right = [(rng.randrange(n), rng.randrange(n)) for _ in range(n)]
+            rows = [row for pair in zip(left, right) for row in ((0, pair[0]), (1, pair[1]))]
+            after = {}
+            for y, z in right:
+                after.setdefault(y, set()).add(z)
+            both = {(z, x) for x, y in left for z in after.get(y, ())}
+            self.assertEqual(joined.evaluate(0, rows), sorted(both))
+            self.assertEqual(joined.evaluate(1, rows), sorted({(z,) for z, _ in both}))
+            self.assertEqual(joined.evaluate(2, rows), [()] if any(x in after.get(y, ()) for x, y in left) else [])
+            reached = {x for x, _ in left}
+            for _ in range(5):
+                reached = {y for y, zs in after.items() if zs & reached}
+            self.assertEqual(joined.evaluate(3, rows), sorted((y,) for y in reached))
+            first, broken = {}, None
+            for k, (x, y) in enumerate(left):
+                i = first.setdefault(x, k)
+                if left[i][1] != y and (broken is None or 2 * i < broken[1]):
+                    broken = (0, 2 * i, 2 * k)
+            self.assertEqual(record.test(rows), broken and Broken(*broken))
+
+    def test_more_answers_than_a_batch(self):
+        record = Record.open([1])
+        record = record.put(0, rule(record, "ans(x, y) :- R0(x), R0(y)"))
+        want = [(x, y) for x in range(300) for y in range(300)]
+        self.assertEqual(record.evaluate(0, [(0, (n,)) for n in reversed(range(300))]), want)
+
+    def test_very_many_ways(self):
+        """Each database row six times, rows of the query that hang together loosely."""
+        record = Record.open([2])
+        record = record.put(0, rule(record, "ans(x) :- " + ", ".join(["R0(x, y)"] + ["R0(a%d, b%d)" % (k, k) for k in range(11)])))
+        record = record.put(1, rule(record, "ans(a0, a12) :- " + ", ".join("R0(a%d, a%d)" % (k, k + 1) for k in range(12))))
+        rows = [(0, (n, (n + step) % 20)) for n in range(20) for step in (1, 2)] * 6
+        self.assertEqual(record.evaluate(0, rows), [(n,) for n in range(20)])
+        self.assertEqual(record.evaluate(1, rows), sorted((n, (n + k) % 20) for n in range(20) for k in range(12, 25)))
+
     def test_no_rows(self):
         record = Record.open([1]).add(0, [0], 0)
         record = record.put(0, rule(record, "ans(x) :- R0(x)"))
