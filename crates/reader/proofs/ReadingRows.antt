@@ -2,9 +2,12 @@
 use mathlib.Core.Path.{_≡_, sym, ap, refl, _∙_, subst}
 use mathlib.Core.Bool.{true, false}
 use mathlib.Core.List.{List}
-use Prim.Native.Nat.{ℕ, _+_, _*_, _-_, _≤_, _<_}
+use Prim.Native.Nat.{ℕ, _+_, _*_, _-_, _^_, _≤_, _<_}
 use native.Mathlib.Nat.{add-zero}
 use native.Mathlib.Omega.{arith}
+use borrow.Author.Needs.{needs}
+use mir.Syntax.{w8, w64}
+use mir.Val.{Fits}
 use lib.ListN.{length, take, drop, getD, set, replicate, length-set}
 use lib.Seq.{take-all, drop-drop}
 use Rattle.record.specs.declared.Entry.{Entry}
@@ -171,3 +174,57 @@ row-ends schema part start size relations before cells at r width i narrow f g h
       blank = rw (g .stored) after;
       reading = rw (g .stored, chunks, d′) turned;
     }
+
+-- ---- the numbers of the loops
+
+-- the position after one in the part is a word
+pub next-fits : (at length : ℕ) → at < length → length * 1 < 2 ^ 63 → Fits w64 (at + 1)
+next-fits at length inside room = search needs
+
+-- and so is one that an entry of the row starts at, or the row ends at
+pub entry-fits : (at length n : ℕ) → at < length → length * 1 < 2 ^ 63 → n ≤ 8 → Fits w64 (at + 1 + 5 * n)
+entry-fits at length n inside room h = search needs
+
+-- the bytes of a row's entries are few
+pub entries-fit : (n : ℕ) → n ≤ 8 → Fits w64 (5 * n)
+entries-fit n h = search needs
+
+-- a number below a byte is a word
+pub relation-fits : (relation count : ℕ) → relation < count → Fits w8 count → Fits w64 relation
+relation-fits relation count h f = search needs
+
+-- a row that is still to be read is one of twelve
+pub row-inside : (r size : ℕ) → r < size → size ≤ 12 → r < 12
+row-inside r size h few = omega arith
+
+-- its cells are among the 96
+pub cell-inside : (r size i width : ℕ) → r < size → size ≤ 12 → i < width → width ≤ 8 → 8 * r + i < 96
+cell-inside r size i width h few l narrow = omega arith
+
+-- a cell's index is a word
+pub cell-fits : (n : ℕ) → n < 96 → Fits w64 n
+cell-fits n h = search needs
+
+-- and so is its offset in bytes
+pub offset-fits : (n : ℕ) → n < 96 → Fits w64 (n * 8)
+offset-fits n h = search needs
+
+-- the first cell of a row has an index that is a word
+pub row-fits : (r size : ℕ) → r < size → size ≤ 12 → Fits w64 (8 * r)
+row-fits r size h few = search needs
+
+-- the number of rows read is a word
+pub next-row-fits : (r size : ℕ) → r < size → size ≤ 12 → Fits w64 (r + 1)
+next-row-fits r size h few = search needs
+
+-- the number of entries read is a word
+pub next-entry-fits : (i width : ℕ) → i < width → width ≤ 8 → Fits w64 (i + 1)
+next-entry-fits i width h narrow = search needs
+
+-- one more is read, so fewer are left
+pub fewer-left : (i width : ℕ) → i < width → width - (i + 1) < width - i
+fewer-left i width h = omega arith
+
+-- no more entries of a row are read than it can have
+pub short : {schema part : List ℕ} {at r width : ℕ} {before cells : List Cell} {i : ℕ} → InRow schema part at r width before cells i → i ≤ 8
+short g = omega (arith, g .few, g .small)
