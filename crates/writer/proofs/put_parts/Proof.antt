@@ -1,7 +1,7 @@
 use borrow.Author.Needs.{needs}
 use mathlib.Core.Path.{_≡_, refl}
-use mathlib.Core.List.{map}
-use Prim.Native.Nat.{_+_, _*_}
+use mathlib.Core.List.{List, [], _++_, map}
+use Prim.Native.Nat.{ℕ, _+_, _*_, _^_, _≤_, _<_}
 use native.Mathlib.Omega.{arith}
 use lib.ListN.{length, take}
 use Rattle.record.specs.View.{schemaOf}
@@ -10,7 +10,7 @@ use Rattle.format.specs.File.{join, putPlace}
 use Rattle.writer.specs.Pieces.{dependencyBytes}
 use Rattle.format.proofs.Arrays.{length-mapped}
 use Rattle.format.proofs.Schema.{count-bounds}
-use Rattle.writer.proofs.Stores.{run-starts, run-turns}
+use Rattle.writer.proofs.Stores.{Run, run-starts, run-turns}
 use Rattle.writer.proofs.RecordParts.{good-parts, held-few, first-long, second-long, parts-long}
 use Rattle.writer.proofs.put_parts.Statement.{statement}
 use Rattle.writer.proofs.put_parts.Tie as tie
@@ -20,165 +20,91 @@ use Rattle.writer.proofs.put_dependencies.Reads as put-dependencies-rea
 use Rattle.writer.proofs.put_places.Reads as put-places-reads
 use Rattle.writer.proofs.put_relations.Reads as put-relations-reads
 
+-- ---- what holds at each place, proved where it first does
+widths-long : (c : tie.Start) → length (c .args .given .widths) ≡ 8
+widths-long c = search (length-mapped, needs)
+
+list-long : (c : tie.Start) → length (c .args .given .dependencies) ≡ 32
+list-long c = search (length-mapped, needs)
+
+-- The bytes of each part
+abbrev relationBytes : tie.Start → List ℕ
+relationBytes c = relations .put (c .args .given .relations, c .args .given .widths)
+
+abbrev listBytes : tie.Start → List ℕ
+listBytes c = dependencyBytes (c .args .given .held) (c .args .given .dependencies)
+
+abbrev placeBytes : tie.Start → List ℕ
+placeBytes c = join (map (putPlace (schemaOf (c .args .given))) (take (c .args .n) (c .args .given .places)))
+
+-- Where the second part starts, and the third
+abbrev second : tie.Start → ℕ
+second c = c .args .start + 1 + c .args .given .relations
+
+abbrev third : tie.Start → ℕ
+third c = second c + 1 + 3 * c .args .given .held
+
+relations-long : (c : tie.Start) → length (relationBytes c) ≡ 1 + c .args .given .relations
+relations-long c = first-long (c .args .given) (c .pre .0) (widths-long c) (list-long c)
+
+dependencies-long : (c : tie.Start) → length (listBytes c) ≡ 1 + 3 * c .args .given .held
+dependencies-long c = second-long (c .args .given) (c .pre .0) (widths-long c) (list-long c)
+
+room : (c : tie.Start) → third c + length (placeBytes c) ≤ length (c .args .buffer .now)
+room c = omega (arith, parts-long (c .args .given) (c .pre .0) (widths-long c) (list-long c) (c .args .n), c .pre .1 .1)
+
+short : (c : tie.Start) → length (c .args .buffer .now) < 2 ^ 63
+short c = search needs
+
+first-run : (c : tie.After-put-relations) → Run (c .before .before .before .before .before .before .args .buffer .now) (c .before .before .before .before .before .before .args .start) ([] ++ relationBytes (c .before .before .before .before .before .before)) (c .put-relations .last .0) (second (c .before .before .before .before .before .before))
+first-run c =
+    run-turns (run-starts (c .before .before .before .before .before .before .args .buffer .now) (c .before .before .before .before .before .before .args .start)) (relationBytes (c .before .before .before .before .before .before)) (c .put-relations .last .0) (second (c .before .before .before .before .before .before)) (omega (arith, relations-long (c .before .before .before .before .before .before), room (c .before .before .before .before .before .before))) (c .put-relations .ensures) (omega (arith, relations-long (c .before .before .before .before .before .before)))
+
+second-run : (c : tie.After-put-dependencies) → Run (c .before .before .before .before .before .before .before .before .before .before .args .buffer .now) (c .before .before .before .before .before .before .before .before .before .before .args .start) ([] ++ relationBytes (c .before .before .before .before .before .before .before .before .before .before) ++ listBytes (c .before .before .before .before .before .before .before .before .before .before)) (c .put-dependencies .last .0) (third (c .before .before .before .before .before .before .before .before .before .before))
+second-run c =
+    run-turns (first-run (c .before .before .before .before)) (listBytes (c .before .before .before .before .before .before .before .before .before .before)) (c .put-dependencies .last .0) (third (c .before .before .before .before .before .before .before .before .before .before)) (omega (arith, dependencies-long (c .before .before .before .before .before .before .before .before .before .before), room (c .before .before .before .before .before .before .before .before .before .before))) (c .put-dependencies .ensures) (omega (arith, dependencies-long (c .before .before .before .before .before .before .before .before .before .before)))
+
+third-run : (c : tie.After-put-places) → Run (c .before .before .before .before .before .before .before .before .before .before .before .before .before .before .args .buffer .now) (c .before .before .before .before .before .before .before .before .before .before .before .before .before .before .args .start) ([] ++ relationBytes (c .before .before .before .before .before .before .before .before .before .before .before .before .before .before) ++ listBytes (c .before .before .before .before .before .before .before .before .before .before .before .before .before .before) ++ placeBytes (c .before .before .before .before .before .before .before .before .before .before .before .before .before .before)) (c .put-places .last .0) (third (c .before .before .before .before .before .before .before .before .before .before .before .before .before .before) + length (placeBytes (c .before .before .before .before .before .before .before .before .before .before .before .before .before .before)))
+third-run c = run-turns (second-run (c .before .before .before .before)) (placeBytes (c .before .before .before .before .before .before .before .before .before .before .before .before .before .before)) (c .put-places .last .0) (third (c .before .before .before .before .before .before .before .before .before .before .before .before .before .before) + length (placeBytes (c .before .before .before .before .before .before .before .before .before .before .before .before .before .before))) (room (c .before .before .before .before .before .before .before .before .before .before .before .before .before .before)) (c .put-places .ensures) refl
+
+-- ---- the needs
 add-first : tie.Need-add-first
-add-first c =
-    let given = c .before .before .before .before .args .given in
-    let good = c .before .before .before .before .pre .0 in
-    let lw : length (given .widths) ≡ 8 = search (length-mapped, needs) in
-    let ld : length (given .dependencies) ≡ 32 = search (length-mapped, needs) in
-    let all = parts-long given good lw ld (c .before .before .before .before .args .n) in
-    let room = c .before .before .before .before .pre .1 .1 in
-    let few = held-few given good in
-    omega (arith, all, room, few)
+add-first c = omega (arith, room (c .before .before .before .before), short (c .before .before .before .before))
 
 cast-first : tie.Need-cast-first
 cast-first c = search needs
 
 add-first-2 : tie.Need-add-first-2
-add-first-2 c =
-    let given = c .before .before .before .before .args .given in
-    let good = c .before .before .before .before .pre .0 in
-    let lw : length (given .widths) ≡ 8 = search (length-mapped, needs) in
-    let ld : length (given .dependencies) ≡ 32 = search (length-mapped, needs) in
-    let all = parts-long given good lw ld (c .before .before .before .before .args .n) in
-    let room = c .before .before .before .before .pre .1 .1 in
-    let few = held-few given good in
-    omega (arith, all, room, few)
+add-first-2 c = omega (arith, room (c .before .before .before .before), short (c .before .before .before .before))
 
 add-second : tie.Need-add-second
-add-second c =
-    let given = c .before .before .before .before .args .given in
-    let good = c .before .before .before .before .pre .0 in
-    let lw : length (given .widths) ≡ 8 = search (length-mapped, needs) in
-    let ld : length (given .dependencies) ≡ 32 = search (length-mapped, needs) in
-    let all = parts-long given good lw ld (c .before .before .before .before .args .n) in
-    let room = c .before .before .before .before .pre .1 .1 in
-    let few = held-few given good in
-    omega (arith, all, room, few)
+add-second c = omega (arith, room (c .before .before .before .before), short (c .before .before .before .before))
 
 cast-second : tie.Need-cast-second
 cast-second c = search needs
 
 mul-second : tie.Need-mul-second
-mul-second c =
-    let given = c .before .before .before .before .args .given in
-    let good = c .before .before .before .before .pre .0 in
-    let lw : length (given .widths) ≡ 8 = search (length-mapped, needs) in
-    let ld : length (given .dependencies) ≡ 32 = search (length-mapped, needs) in
-    let all = parts-long given good lw ld (c .before .before .before .before .args .n) in
-    let room = c .before .before .before .before .pre .1 .1 in
-    let few = held-few given good in
-    omega (arith, all, room, few)
+mul-second c = omega (arith, room (c .before .before .before .before), short (c .before .before .before .before))
 
 add-second-2 : tie.Need-add-second-2
-add-second-2 c =
-    let given = c .before .before .before .before .args .given in
-    let good = c .before .before .before .before .pre .0 in
-    let lw : length (given .widths) ≡ 8 = search (length-mapped, needs) in
-    let ld : length (given .dependencies) ≡ 32 = search (length-mapped, needs) in
-    let all = parts-long given good lw ld (c .before .before .before .before .args .n) in
-    let room = c .before .before .before .before .pre .1 .1 in
-    let few = held-few given good in
-    omega (arith, all, room, few)
+add-second-2 c = omega (arith, room (c .before .before .before .before), short (c .before .before .before .before))
 
 put-relations-requires : tie.Need-put-relations-requires
-put-relations-requires c κs =
-    let given = c .before .before .before .before .before .args .given in
-    let good = c .before .before .before .before .before .pre .0 in
-    let lw : length (given .widths) ≡ 8 = search (length-mapped, needs) in
-    let ld : length (given .dependencies) ≡ 32 = search (length-mapped, needs) in
-    let all = parts-long given good lw ld (c .before .before .before .before .before .args .n) in
-    let room = c .before .before .before .before .before .pre .1 .1 in
-    let counts = count-bounds (given .relations) (given .widths) (good-parts given good .0) lw in
-    let few = held-few given good in
-    (counts .1, omega (arith, all, room))
+put-relations-requires c κs = (count-bounds (c .before .before .before .before .before .args .given .relations) (c .before .before .before .before .before .args .given .widths) (good-parts (c .before .before .before .before .before .args .given) (c .before .before .before .before .before .pre .0) .0) (widths-long (c .before .before .before .before .before)) .1, omega (arith, room (c .before .before .before .before .before)))
 
 put-dependencies-requires : tie.Need-put-dependencies-requires
-put-dependencies-requires c κs =
-    let given = c .before .before .before .before .before .before .before .before .before .args .given in
-    let good = c .before .before .before .before .before .before .before .before .before .pre .0 in
-    let lw : length (given .widths) ≡ 8 = search (length-mapped, needs) in
-    let ld : length (given .dependencies) ≡ 32 = search (length-mapped, needs) in
-    let all = parts-long given good lw ld (c .before .before .before .before .before .before .before .before .before .args .n) in
-    let room = c .before .before .before .before .before .before .before .before .before .pre .1 .1 in
-    let counts = count-bounds (given .relations) (given .widths) (good-parts given good .0) lw in
-    let few = held-few given good in
-    let buffer = c .before .before .before .before .before .before .before .before .before .args .buffer .now in
-    let start = c .before .before .before .before .before .before .before .before .before .args .start in
-    let a = relations .put (given .relations, given .widths) in
-    let b = dependencyBytes (given .held) (given .dependencies) in
-    let la = first-long given good lw ld in
-    let lb = second-long given good lw ld in
-    let r0 = run-starts buffer start in
-    let r1 = run-turns r0 a (c .before .before .before .put-relations .last .0) (start + 1 + given .relations) (omega (arith, la, all, room)) (c .before .before .before .put-relations .ensures) (omega (arith, la)) in
-    (few, omega (arith, r1 .long, all, room))
+put-dependencies-requires c κs = (held-few (c .before .before .before .before .before .before .before .before .before .args .given) (c .before .before .before .before .before .before .before .before .before .pre .0), omega (arith, first-run (c .before .before .before) .long, room (c .before .before .before .before .before .before .before .before .before)))
 
 put-places-requires : tie.Need-put-places-requires
 put-places-requires c κs =
-    let given = c .before .before .before .before .before .before .before .before .before .before .before .before .before .args .given in
-    let good = c .before .before .before .before .before .before .before .before .before .before .before .before .before .pre .0 in
-    let lw : length (given .widths) ≡ 8 = search (length-mapped, needs) in
-    let ld : length (given .dependencies) ≡ 32 = search (length-mapped, needs) in
-    let all = parts-long given good lw ld (c .before .before .before .before .before .before .before .before .before .before .before .before .before .args .n) in
-    let room = c .before .before .before .before .before .before .before .before .before .before .before .before .before .pre .1 .1 in
-    let counts = count-bounds (given .relations) (given .widths) (good-parts given good .0) lw in
-    let few = held-few given good in
-    let buffer = c .before .before .before .before .before .before .before .before .before .before .before .before .before .args .buffer .now in
-    let start = c .before .before .before .before .before .before .before .before .before .before .before .before .before .args .start in
-    let a = relations .put (given .relations, given .widths) in
-    let b = dependencyBytes (given .held) (given .dependencies) in
-    let la = first-long given good lw ld in
-    let lb = second-long given good lw ld in
-    let r0 = run-starts buffer start in
-    let r1 = run-turns r0 a (c .before .before .before .before .before .before .before .put-relations .last .0) (start + 1 + given .relations) (omega (arith, la, all, room)) (c .before .before .before .before .before .before .before .put-relations .ensures) (omega (arith, la)) in
-    let r2 = run-turns r1 b (c .before .before .before .put-dependencies .last .0) (start + 1 + given .relations + 1 + 3 * given .held) (omega (arith, lb, all, room)) (c .before .before .before .put-dependencies .ensures) (omega (arith, lb)) in
-    (good-parts given good .0, (good-parts given good .2, (c .before .before .before .before .before .before .before .before .before .before .before .before .before .pre .1 .0, omega (arith, r2 .long, all, room))))
+    let parts = good-parts (c .before .before .before .before .before .before .before .before .before .before .before .before .before .args .given) (c .before .before .before .before .before .before .before .before .before .before .before .before .before .pre .0) in
+    (parts .0, (parts .2, (c .before .before .before .before .before .before .before .before .before .before .before .before .before .pre .1 .0, omega (arith, second-run (c .before .before .before) .long, room (c .before .before .before .before .before .before .before .before .before .before .before .before .before)))))
 
 same-length : tie.Need-same-length
-same-length c =
-    let given = c .before .before .before .before .before .before .before .before .before .before .before .before .before .before .before .before .args .given in
-    let good = c .before .before .before .before .before .before .before .before .before .before .before .before .before .before .before .before .pre .0 in
-    let lw : length (given .widths) ≡ 8 = search (length-mapped, needs) in
-    let ld : length (given .dependencies) ≡ 32 = search (length-mapped, needs) in
-    let all = parts-long given good lw ld (c .before .before .before .before .before .before .before .before .before .before .before .before .before .before .before .before .args .n) in
-    let room = c .before .before .before .before .before .before .before .before .before .before .before .before .before .before .before .before .pre .1 .1 in
-    let counts = count-bounds (given .relations) (given .widths) (good-parts given good .0) lw in
-    let few = held-few given good in
-    let buffer = c .before .before .before .before .before .before .before .before .before .before .before .before .before .before .before .before .args .buffer .now in
-    let start = c .before .before .before .before .before .before .before .before .before .before .before .before .before .before .before .before .args .start in
-    let a = relations .put (given .relations, given .widths) in
-    let b = dependencyBytes (given .held) (given .dependencies) in
-    let la = first-long given good lw ld in
-    let lb = second-long given good lw ld in
-    let r0 = run-starts buffer start in
-    let r1 = run-turns r0 a (c .before .before .before .before .before .before .before .before .before .before .put-relations .last .0) (start + 1 + given .relations) (omega (arith, la, all, room)) (c .before .before .before .before .before .before .before .before .before .before .put-relations .ensures) (omega (arith, la)) in
-    let r2 = run-turns r1 b (c .before .before .before .before .before .before .put-dependencies .last .0) (start + 1 + given .relations + 1 + 3 * given .held) (omega (arith, lb, all, room)) (c .before .before .before .before .before .before .put-dependencies .ensures) (omega (arith, lb)) in
-    let d = join (map (putPlace (schemaOf given)) (take (c .before .before .before .before .before .before .before .before .before .before .before .before .before .before .before .before .args .n) (given .places))) in
-    let r3 = run-turns r2 d (c .before .before .put-places .last .0) (start + 1 + given .relations + 1 + 3 * given .held + length d) (omega (arith, all, room)) (c .before .before .put-places .ensures) refl in
-    r3 .long
+same-length c = third-run (c .before .before) .long
 
 returns : tie.Need-returns
-returns c =
-    let given = c .before .before .before .before .before .before .before .before .before .before .before .before .before .before .before .before .args .given in
-    let good = c .before .before .before .before .before .before .before .before .before .before .before .before .before .before .before .before .pre .0 in
-    let lw : length (given .widths) ≡ 8 = search (length-mapped, needs) in
-    let ld : length (given .dependencies) ≡ 32 = search (length-mapped, needs) in
-    let all = parts-long given good lw ld (c .before .before .before .before .before .before .before .before .before .before .before .before .before .before .before .before .args .n) in
-    let room = c .before .before .before .before .before .before .before .before .before .before .before .before .before .before .before .before .pre .1 .1 in
-    let counts = count-bounds (given .relations) (given .widths) (good-parts given good .0) lw in
-    let few = held-few given good in
-    let buffer = c .before .before .before .before .before .before .before .before .before .before .before .before .before .before .before .before .args .buffer .now in
-    let start = c .before .before .before .before .before .before .before .before .before .before .before .before .before .before .before .before .args .start in
-    let a = relations .put (given .relations, given .widths) in
-    let b = dependencyBytes (given .held) (given .dependencies) in
-    let la = first-long given good lw ld in
-    let lb = second-long given good lw ld in
-    let r0 = run-starts buffer start in
-    let r1 = run-turns r0 a (c .before .before .before .before .before .before .before .before .before .before .put-relations .last .0) (start + 1 + given .relations) (omega (arith, la, all, room)) (c .before .before .before .before .before .before .before .before .before .before .put-relations .ensures) (omega (arith, la)) in
-    let r2 = run-turns r1 b (c .before .before .before .before .before .before .put-dependencies .last .0) (start + 1 + given .relations + 1 + 3 * given .held) (omega (arith, lb, all, room)) (c .before .before .before .before .before .before .put-dependencies .ensures) (omega (arith, lb)) in
-    let d = join (map (putPlace (schemaOf given)) (take (c .before .before .before .before .before .before .before .before .before .before .before .before .before .before .before .before .args .n) (given .places))) in
-    let r3 = run-turns r2 d (c .before .before .put-places .last .0) (start + 1 + given .relations + 1 + 3 * given .held + length d) (omega (arith, all, room)) (c .before .before .put-places .ensures) refl in
-    r3 .written
+returns c = third-run (c .before .before) .written
 
 pub put-parts-spec : {M : Type 1} → statement M
 put-parts-spec =

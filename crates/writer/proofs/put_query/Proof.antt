@@ -2,7 +2,7 @@ use borrow.Author.Needs.{needs}
 use mathlib.Core.Path.{_≡_, sym, ap, refl, _∙_}
 use mathlib.Core.Bool.{cond}
 use mathlib.Core.List.{List, [], _∷_, _++_}
-use Prim.Native.Nat.{ℕ, _+_, _*_, _-_, _≤_, _<_}
+use Prim.Native.Nat.{ℕ, _+_, _*_, _-_, _^_, _≤_, _<_}
 use native.Mathlib.Omega.{arith}
 use lib.Dec.{eqb}
 use lib.ListN.{length, take, set, length-append, length-set}
@@ -82,71 +82,65 @@ module _ (schema buffer : List ℕ) (at : ℕ) (q : Query) (lh : length (q .head
           e₃ ∙ ap (λ (b : List ℕ). over b (at + 2 + 5 * used) (rowBytes schema q)) second-over ∙ ap (λ (m : ℕ). over (over buffer at front) m (rowBytes schema q)) n
           ∙ over-over buffer at front (rowBytes schema q) (omega (arith, total, head-long)) ∙ ap (over buffer at) (sym put-pieces)
 
+-- ---- what holds at each place, proved where it first does
+head-cells : (c : tie.Start) → length (c .args .q .head) ≡ 8
+head-cells c = search (length-mapped, needs)
+
+short : (c : tie.Start) → length (c .args .buffer .now) < 2 ^ 63
+short c = search needs
+
+two : (c : tie.Start) → c .args .at + 2 ≤ length (c .args .buffer .now)
+two c = omega (arith, length-query (take (c .args .count) (c .args .widths)) (c .args .q), c .pre .1 .1)
+
+used : (c : tie.After-head-in-use) → c .head-in-use .result ≤ 8
+used c = used-fits (take (c .before .before .args .count) (c .before .before .args .widths)) (c .before .before .args .buffer .now) (c .before .before .args .at) (c .before .before .args .q) (head-cells (c .before .before)) (c .before .before .pre .1 .0 .0) (c .before .before .pre .1 .1) (c .head-in-use .result) (c .head-in-use .ensures)
+
+rows-fit : (c : tie.After-put-entries) → c .before .before .before .before .before .args .at + 2 + 5 * c .before .before .before .head-in-use .result + length (rowBytes (take (c .before .before .before .before .before .args .count) (c .before .before .before .before .before .args .widths)) (c .before .before .before .before .before .args .q)) ≤ length (c .put-entries .last .0)
+rows-fit c = room-rows (take (c .before .before .before .before .before .args .count) (c .before .before .before .before .before .args .widths)) (c .before .before .before .before .before .args .buffer .now) (c .before .before .before .before .before .args .at) (c .before .before .before .before .before .args .q) (head-cells (c .before .before .before .before .before)) (c .before .before .before .before .before .pre .1 .0 .0) (c .before .before .before .before .before .pre .1 .1) (c .before .before .before .head-in-use .result) (c .before .before .before .head-in-use .ensures) (c .put-entries .last .0) (c .put-entries .ensures)
+
+rows-at : (c : tie.After-put-entries) → c .before .before .before .before .before .args .at + 2 + 5 * c .before .before .before .head-in-use .result < 2 ^ 63
+rows-at c = omega (arith, rows-fit c, second-long (take (c .before .before .before .before .before .args .count) (c .before .before .before .before .before .args .widths)) (c .before .before .before .before .before .args .buffer .now) (c .before .before .before .before .before .args .at) (c .before .before .before .before .before .args .q) (head-cells (c .before .before .before .before .before)) (c .before .before .before .before .before .pre .1 .0 .0) (c .before .before .before .before .before .pre .1 .1) (c .before .before .before .head-in-use .result) (c .before .before .before .head-in-use .ensures) (c .put-entries .last .0) (c .put-entries .ensures), short (c .before .before .before .before .before))
+
+-- ---- the needs
 slice-write-buffer : tie.Need-slice-write-buffer
-slice-write-buffer c =
-    let lh : length (c .before .args .q .head) ≡ 8 = search (length-mapped, needs) in
-    let long = length-query (take (c .before .args .count) (c .before .args .widths)) (c .before .args .q) in
-    omega (arith, c .before .pre .1 .1)
+slice-write-buffer c = omega (arith, two (c .before))
 
 add-buffer : tie.Need-add-buffer
-add-buffer c = search needs
+add-buffer c = omega (arith, two (c .before), short (c .before))
 
 slice-write-buffer-2 : tie.Need-slice-write-buffer-2
-slice-write-buffer-2 c =
-    let lh : length (c .before .args .q .head) ≡ 8 = search (length-mapped, needs) in
-    let long = length-query (take (c .before .args .count) (c .before .args .widths)) (c .before .args .q) in
-    simp length-set (omega (arith, c .before .pre .1 .1))
+slice-write-buffer-2 c = simp length-set (omega (arith, two (c .before)))
 
 head-in-use-requires : tie.Need-head-in-use-requires
 head-in-use-requires c κs = search needs
 
 add-put-entries : tie.Need-add-put-entries
-add-put-entries c =
-    let lh : length (c .before .before .before .before .args .q .head) ≡ 8 = search (length-mapped, needs) in
-    let long = length-query (take (c .before .before .before .before .args .count) (c .before .before .before .before .args .widths)) (c .before .before .before .before .args .q) in
-    omega (arith, c .before .before .before .before .pre .1 .1)
+add-put-entries c = omega (arith, two (c .before .before .before .before), short (c .before .before .before .before))
 
 put-entries-requires : tie.Need-put-entries-requires
-put-entries-requires c κs =
-    let lh : length (c .before .before .before .before .args .q .head) ≡ 8 = search (length-mapped, needs) in
-    let long = length-query (take (c .before .before .before .before .args .count) (c .before .before .before .before .args .widths)) (c .before .before .before .before .args .q) in
-    (used-fits (take (c .before .before .before .before .args .count) (c .before .before .before .before .args .widths)) (c .before .before .before .before .args .buffer .now) (c .before .before .before .before .args .at) (c .before .before .before .before .args .q) lh (c .before .before .before .before .pre .1 .0 .0) (c .before .before .before .before .pre .1 .1) (c .before .before .head-in-use .result) (c .before .before .head-in-use .ensures), room-head (take (c .before .before .before .before .args .count) (c .before .before .before .before .args .widths)) (c .before .before .before .before .args .buffer .now) (c .before .before .before .before .args .at) (c .before .before .before .before .args .q) lh (c .before .before .before .before .pre .1 .0 .0) (c .before .before .before .before .pre .1 .1) (c .before .before .head-in-use .result) (c .before .before .head-in-use .ensures))
+put-entries-requires c κs = (used (c .before .before), room-head (take (c .before .before .before .before .args .count) (c .before .before .before .before .args .widths)) (c .before .before .before .before .args .buffer .now) (c .before .before .before .before .args .at) (c .before .before .before .before .args .q) (head-cells (c .before .before .before .before)) (c .before .before .before .before .pre .1 .0 .0) (c .before .before .before .before .pre .1 .1) (c .before .before .head-in-use .result) (c .before .before .head-in-use .ensures))
 
 add-put-rows : tie.Need-add-put-rows
-add-put-rows c =
-    let lh : length (c .before .before .before .before .before .before .before .before .before .before .args .q .head) ≡ 8 = search (length-mapped, needs) in
-    omega (arith, used-fits (take (c .before .before .before .before .before .before .before .before .before .before .args .count) (c .before .before .before .before .before .before .before .before .before .before .args .widths)) (c .before .before .before .before .before .before .before .before .before .before .args .buffer .now) (c .before .before .before .before .before .before .before .before .before .before .args .at) (c .before .before .before .before .before .before .before .before .before .before .args .q) lh (c .before .before .before .before .before .before .before .before .before .before .pre .1 .0 .0) (c .before .before .before .before .before .before .before .before .before .before .pre .1 .1) (c .before .before .before .before .before .before .before .before .head-in-use .result) (c .before .before .before .before .before .before .before .before .head-in-use .ensures), room-rows (take (c .before .before .before .before .before .before .before .before .before .before .args .count) (c .before .before .before .before .before .before .before .before .before .before .args .widths)) (c .before .before .before .before .before .before .before .before .before .before .args .buffer .now) (c .before .before .before .before .before .before .before .before .before .before .args .at) (c .before .before .before .before .before .before .before .before .before .before .args .q) lh (c .before .before .before .before .before .before .before .before .before .before .pre .1 .0 .0) (c .before .before .before .before .before .before .before .before .before .before .pre .1 .1) (c .before .before .before .before .before .before .before .before .head-in-use .result) (c .before .before .before .before .before .before .before .before .head-in-use .ensures) (c .before .before .before .before .before .put-entries .last .0) (c .before .before .before .before .before .put-entries .ensures), second-long (take (c .before .before .before .before .before .before .before .before .before .before .args .count) (c .before .before .before .before .before .before .before .before .before .before .args .widths)) (c .before .before .before .before .before .before .before .before .before .before .args .buffer .now) (c .before .before .before .before .before .before .before .before .before .before .args .at) (c .before .before .before .before .before .before .before .before .before .before .args .q) lh (c .before .before .before .before .before .before .before .before .before .before .pre .1 .0 .0) (c .before .before .before .before .before .before .before .before .before .before .pre .1 .1) (c .before .before .before .before .before .before .before .before .head-in-use .result) (c .before .before .before .before .before .before .before .before .head-in-use .ensures) (c .before .before .before .before .before .put-entries .last .0) (c .before .before .before .before .before .put-entries .ensures))
+add-put-rows c = omega (arith, rows-at (c .before .before .before .before .before))
 
 mul-put-rows : tie.Need-mul-put-rows
-mul-put-rows c =
-    let lh : length (c .before .before .before .before .before .before .before .before .before .before .args .q .head) ≡ 8 = search (length-mapped, needs) in
-    omega (arith, used-fits (take (c .before .before .before .before .before .before .before .before .before .before .args .count) (c .before .before .before .before .before .before .before .before .before .before .args .widths)) (c .before .before .before .before .before .before .before .before .before .before .args .buffer .now) (c .before .before .before .before .before .before .before .before .before .before .args .at) (c .before .before .before .before .before .before .before .before .before .before .args .q) lh (c .before .before .before .before .before .before .before .before .before .before .pre .1 .0 .0) (c .before .before .before .before .before .before .before .before .before .before .pre .1 .1) (c .before .before .before .before .before .before .before .before .head-in-use .result) (c .before .before .before .before .before .before .before .before .head-in-use .ensures), room-rows (take (c .before .before .before .before .before .before .before .before .before .before .args .count) (c .before .before .before .before .before .before .before .before .before .before .args .widths)) (c .before .before .before .before .before .before .before .before .before .before .args .buffer .now) (c .before .before .before .before .before .before .before .before .before .before .args .at) (c .before .before .before .before .before .before .before .before .before .before .args .q) lh (c .before .before .before .before .before .before .before .before .before .before .pre .1 .0 .0) (c .before .before .before .before .before .before .before .before .before .before .pre .1 .1) (c .before .before .before .before .before .before .before .before .head-in-use .result) (c .before .before .before .before .before .before .before .before .head-in-use .ensures) (c .before .before .before .before .before .put-entries .last .0) (c .before .before .before .before .before .put-entries .ensures), second-long (take (c .before .before .before .before .before .before .before .before .before .before .args .count) (c .before .before .before .before .before .before .before .before .before .before .args .widths)) (c .before .before .before .before .before .before .before .before .before .before .args .buffer .now) (c .before .before .before .before .before .before .before .before .before .before .args .at) (c .before .before .before .before .before .before .before .before .before .before .args .q) lh (c .before .before .before .before .before .before .before .before .before .before .pre .1 .0 .0) (c .before .before .before .before .before .before .before .before .before .before .pre .1 .1) (c .before .before .before .before .before .before .before .before .head-in-use .result) (c .before .before .before .before .before .before .before .before .head-in-use .ensures) (c .before .before .before .before .before .put-entries .last .0) (c .before .before .before .before .before .put-entries .ensures))
+mul-put-rows c = omega (arith, used (c .before .before .before .before .before .before .before .before))
 
 add-put-rows-2 : tie.Need-add-put-rows-2
-add-put-rows-2 c =
-    let lh : length (c .before .before .before .before .before .before .before .before .before .before .args .q .head) ≡ 8 = search (length-mapped, needs) in
-    omega (arith, used-fits (take (c .before .before .before .before .before .before .before .before .before .before .args .count) (c .before .before .before .before .before .before .before .before .before .before .args .widths)) (c .before .before .before .before .before .before .before .before .before .before .args .buffer .now) (c .before .before .before .before .before .before .before .before .before .before .args .at) (c .before .before .before .before .before .before .before .before .before .before .args .q) lh (c .before .before .before .before .before .before .before .before .before .before .pre .1 .0 .0) (c .before .before .before .before .before .before .before .before .before .before .pre .1 .1) (c .before .before .before .before .before .before .before .before .head-in-use .result) (c .before .before .before .before .before .before .before .before .head-in-use .ensures), room-rows (take (c .before .before .before .before .before .before .before .before .before .before .args .count) (c .before .before .before .before .before .before .before .before .before .before .args .widths)) (c .before .before .before .before .before .before .before .before .before .before .args .buffer .now) (c .before .before .before .before .before .before .before .before .before .before .args .at) (c .before .before .before .before .before .before .before .before .before .before .args .q) lh (c .before .before .before .before .before .before .before .before .before .before .pre .1 .0 .0) (c .before .before .before .before .before .before .before .before .before .before .pre .1 .1) (c .before .before .before .before .before .before .before .before .head-in-use .result) (c .before .before .before .before .before .before .before .before .head-in-use .ensures) (c .before .before .before .before .before .put-entries .last .0) (c .before .before .before .before .before .put-entries .ensures), second-long (take (c .before .before .before .before .before .before .before .before .before .before .args .count) (c .before .before .before .before .before .before .before .before .before .before .args .widths)) (c .before .before .before .before .before .before .before .before .before .before .args .buffer .now) (c .before .before .before .before .before .before .before .before .before .before .args .at) (c .before .before .before .before .before .before .before .before .before .before .args .q) lh (c .before .before .before .before .before .before .before .before .before .before .pre .1 .0 .0) (c .before .before .before .before .before .before .before .before .before .before .pre .1 .1) (c .before .before .before .before .before .before .before .before .head-in-use .result) (c .before .before .before .before .before .before .before .before .head-in-use .ensures) (c .before .before .before .before .before .put-entries .last .0) (c .before .before .before .before .before .put-entries .ensures))
+add-put-rows-2 c = omega (arith, rows-at (c .before .before .before .before .before))
 
 cast-put-rows : tie.Need-cast-put-rows
 cast-put-rows c = search needs
 
 put-rows-requires : tie.Need-put-rows-requires
-put-rows-requires c κs =
-    let lh : length (c .before .before .before .before .before .before .before .before .before .before .args .q .head) ≡ 8 = search (length-mapped, needs) in
-    let long = length-query (take (c .before .before .before .before .before .before .before .before .before .before .args .count) (c .before .before .before .before .before .before .before .before .before .before .args .widths)) (c .before .before .before .before .before .before .before .before .before .before .args .q) in
-    (c .before .before .before .before .before .before .before .before .before .before .pre .0, (c .before .before .before .before .before .before .before .before .before .before .pre .1 .0 .1, room-rows (take (c .before .before .before .before .before .before .before .before .before .before .args .count) (c .before .before .before .before .before .before .before .before .before .before .args .widths)) (c .before .before .before .before .before .before .before .before .before .before .args .buffer .now) (c .before .before .before .before .before .before .before .before .before .before .args .at) (c .before .before .before .before .before .before .before .before .before .before .args .q) lh (c .before .before .before .before .before .before .before .before .before .before .pre .1 .0 .0) (c .before .before .before .before .before .before .before .before .before .before .pre .1 .1) (c .before .before .before .before .before .before .before .before .head-in-use .result) (c .before .before .before .before .before .before .before .before .head-in-use .ensures) (c .before .before .before .before .before .put-entries .last .0) (c .before .before .before .before .before .put-entries .ensures)))
+put-rows-requires c κs = (c .before .before .before .before .before .before .before .before .before .before .pre .0, (c .before .before .before .before .before .before .before .before .before .before .pre .1 .0 .1, rows-fit (c .before .before .before .before .before)))
 
 same-length : tie.Need-same-length
-same-length c =
-    let lh : length (c .before .before .before .before .before .before .before .before .before .before .before .before .before .args .q .head) ≡ 8 = search (length-mapped, needs) in
-    let long = length-query (take (c .before .before .before .before .before .before .before .before .before .before .before .before .before .args .count) (c .before .before .before .before .before .before .before .before .before .before .before .before .before .args .widths)) (c .before .before .before .before .before .before .before .before .before .before .before .before .before .args .q) in
-    third-long (take (c .before .before .before .before .before .before .before .before .before .before .before .before .before .args .count) (c .before .before .before .before .before .before .before .before .before .before .before .before .before .args .widths)) (c .before .before .before .before .before .before .before .before .before .before .before .before .before .args .buffer .now) (c .before .before .before .before .before .before .before .before .before .before .before .before .before .args .at) (c .before .before .before .before .before .before .before .before .before .before .before .before .before .args .q) lh (c .before .before .before .before .before .before .before .before .before .before .before .before .before .pre .1 .0 .0) (c .before .before .before .before .before .before .before .before .before .before .before .before .before .pre .1 .1) (c .before .before .before .before .before .before .before .before .before .before .before .head-in-use .result) (c .before .before .before .before .before .before .before .before .before .before .before .head-in-use .ensures) (c .before .before .before .before .before .before .before .before .put-entries .last .0) (c .before .before .before .before .before .before .before .before .put-entries .ensures) (c .before .before .put-rows .last .0) (c .before .before .put-rows .ensures .0)
+same-length c = third-long (take (c .before .before .before .before .before .before .before .before .before .before .before .before .before .args .count) (c .before .before .before .before .before .before .before .before .before .before .before .before .before .args .widths)) (c .before .before .before .before .before .before .before .before .before .before .before .before .before .args .buffer .now) (c .before .before .before .before .before .before .before .before .before .before .before .before .before .args .at) (c .before .before .before .before .before .before .before .before .before .before .before .before .before .args .q) (head-cells (c .before .before .before .before .before .before .before .before .before .before .before .before .before)) (c .before .before .before .before .before .before .before .before .before .before .before .before .before .pre .1 .0 .0) (c .before .before .before .before .before .before .before .before .before .before .before .before .before .pre .1 .1) (c .before .before .before .before .before .before .before .before .before .before .before .head-in-use .result) (c .before .before .before .before .before .before .before .before .before .before .before .head-in-use .ensures) (c .before .before .before .before .before .before .before .before .put-entries .last .0) (c .before .before .before .before .before .before .before .before .put-entries .ensures) (c .before .before .put-rows .last .0) (c .before .before .put-rows .ensures .0)
 
 returns : tie.Need-returns
 returns c =
-    let lh : length (c .before .before .before .before .before .before .before .before .before .before .before .before .before .args .q .head) ≡ 8 = search (length-mapped, needs) in
-    let long = length-query (take (c .before .before .before .before .before .before .before .before .before .before .before .before .before .args .count) (c .before .before .before .before .before .before .before .before .before .before .before .before .before .args .widths)) (c .before .before .before .before .before .before .before .before .before .before .before .before .before .args .q) in
-    (third-over (take (c .before .before .before .before .before .before .before .before .before .before .before .before .before .args .count) (c .before .before .before .before .before .before .before .before .before .before .before .before .before .args .widths)) (c .before .before .before .before .before .before .before .before .before .before .before .before .before .args .buffer .now) (c .before .before .before .before .before .before .before .before .before .before .before .before .before .args .at) (c .before .before .before .before .before .before .before .before .before .before .before .before .before .args .q) lh (c .before .before .before .before .before .before .before .before .before .before .before .before .before .pre .1 .0 .0) (c .before .before .before .before .before .before .before .before .before .before .before .before .before .pre .1 .1) (c .before .before .before .before .before .before .before .before .before .before .before .head-in-use .result) (c .before .before .before .before .before .before .before .before .before .before .before .head-in-use .ensures) (c .before .before .before .before .before .before .before .before .put-entries .last .0) (c .before .before .before .before .before .before .before .before .put-entries .ensures) (c .before .before .put-rows .last .0) (c .before .before .put-rows .ensures .0), omega (arith, c .before .before .put-rows .ensures .1, total (take (c .before .before .before .before .before .before .before .before .before .before .before .before .before .args .count) (c .before .before .before .before .before .before .before .before .before .before .before .before .before .args .widths)) (c .before .before .before .before .before .before .before .before .before .before .before .before .before .args .buffer .now) (c .before .before .before .before .before .before .before .before .before .before .before .before .before .args .at) (c .before .before .before .before .before .before .before .before .before .before .before .before .before .args .q) lh (c .before .before .before .before .before .before .before .before .before .before .before .before .before .pre .1 .0 .0) (c .before .before .before .before .before .before .before .before .before .before .before .before .before .pre .1 .1) (c .before .before .before .before .before .before .before .before .before .before .before .head-in-use .result) (c .before .before .before .before .before .before .before .before .before .before .before .head-in-use .ensures)))
+    (third-over (take (c .before .before .before .before .before .before .before .before .before .before .before .before .before .args .count) (c .before .before .before .before .before .before .before .before .before .before .before .before .before .args .widths)) (c .before .before .before .before .before .before .before .before .before .before .before .before .before .args .buffer .now) (c .before .before .before .before .before .before .before .before .before .before .before .before .before .args .at) (c .before .before .before .before .before .before .before .before .before .before .before .before .before .args .q) (head-cells (c .before .before .before .before .before .before .before .before .before .before .before .before .before)) (c .before .before .before .before .before .before .before .before .before .before .before .before .before .pre .1 .0 .0) (c .before .before .before .before .before .before .before .before .before .before .before .before .before .pre .1 .1) (c .before .before .before .before .before .before .before .before .before .before .before .head-in-use .result) (c .before .before .before .before .before .before .before .before .before .before .before .head-in-use .ensures) (c .before .before .before .before .before .before .before .before .put-entries .last .0) (c .before .before .before .before .before .before .before .before .put-entries .ensures) (c .before .before .put-rows .last .0) (c .before .before .put-rows .ensures .0), omega (arith, c .before .before .put-rows .ensures .1, total (take (c .before .before .before .before .before .before .before .before .before .before .before .before .before .args .count) (c .before .before .before .before .before .before .before .before .before .before .before .before .before .args .widths)) (c .before .before .before .before .before .before .before .before .before .before .before .before .before .args .buffer .now) (c .before .before .before .before .before .before .before .before .before .before .before .before .before .args .at) (c .before .before .before .before .before .before .before .before .before .before .before .before .before .args .q) (head-cells (c .before .before .before .before .before .before .before .before .before .before .before .before .before)) (c .before .before .before .before .before .before .before .before .before .before .before .before .before .pre .1 .0 .0) (c .before .before .before .before .before .before .before .before .before .before .before .before .before .pre .1 .1) (c .before .before .before .before .before .before .before .before .before .before .before .head-in-use .result) (c .before .before .before .before .before .before .before .before .before .before .before .head-in-use .ensures)))
 
 pub put-query-spec : {M : Type 1} → statement M
 put-query-spec =

@@ -2,7 +2,7 @@ use borrow.Author.Needs.{needs}
 use borrow.Author.Tests.{le-leb, lt-leb}
 use mathlib.Core.Path.{_≡_, sym, ap, refl, _∙_}
 use mathlib.Core.Bool.{true, false}
-use mathlib.Core.List.{List, map}
+use mathlib.Core.List.{List, [], _++_, map}
 use Prim.Native.Nat.{ℕ, _+_, _*_, _≤_, _<_}
 use native.Mathlib.Omega.{arith}
 use lib.Dec.{leb}
@@ -17,7 +17,7 @@ use Rattle.writer.specs.Pieces.{directoryBytes, partBytes}
 use Rattle.writer.specs.Write.{written, bufferAfter}
 use Rattle.format.proofs.Arrays.{length-mapped}
 use Rattle.format.proofs.Schema.{count-bounds}
-use Rattle.writer.proofs.Stores.{run-starts, run-turns}
+use Rattle.writer.proofs.Stores.{Run, run-starts, run-turns}
 use Rattle.writer.proofs.RecordParts.{good-parts, held-few, parts-long, file-split, file-long}
 use Rattle.writer.proofs.write_good.Statement.{statement}
 use Rattle.writer.proofs.write_good.Tie as tie
@@ -39,153 +39,130 @@ module _ (r : Record) (good : goodRecord r ≡ true) (buffer : List ℕ) (size :
       let t : leb (length (fileOf r)) (length buffer) ≡ true = le-leb (length (fileOf r)) (length buffer) (omega arith) in
       rw (good, t) (ap Length es, e)
 
+-- ---- what holds at each place, proved where it first does
+widths-long : (c : tie.Start) → length (c .args .given .widths) ≡ 8
+widths-long c = search (length-mapped, needs)
+
+list-long : (c : tie.Start) → length (c .args .given .dependencies) ≡ 32
+list-long c = search (length-mapped, needs)
+
+places-long : (c : tie.Start) → length (c .args .given .places) ≡ 8
+places-long c = search (length-mapped, needs)
+
+counts : (c : tie.Start) → c .args .given .relations ≤ 8
+counts c = count-bounds (c .args .given .relations) (c .args .given .widths) (good-parts (c .args .given) (c .pre) .0) (widths-long c) .1
+
+-- The directory, where n parts are places
+abbrev directory : tie.Start → ℕ → List ℕ
+directory c n = directoryBytes n (1 + c .args .given .relations) (1 + 3 * c .args .given .held) (map (putPlace (schemaOf (c .args .given))) (take n (c .args .given .places)))
+
+-- The whole length
+abbrev whole : tie.Start → ℕ → ℕ → ℕ
+whole c n others = 2 + 4 * (n + 2) + (1 + c .args .given .relations) + (1 + 3 * c .args .given .held) + others
+
+held : (c : tie.After-up-to-filled) → c .up-to-filled .result ≤ length (c .before .before .before .before .args .given .places)
+held c = rw (places-long (c .before .before .before .before)) (c .up-to-filled .ensures .1)
+
+lengths : (c : tie.After-places-length) → (length (directory (c .before .before .before .before .before) (c .before .up-to-filled .result)) ≡ 2 + 4 * (c .before .up-to-filled .result + 2))
+    × (whole (c .before .before .before .before .before) (c .before .up-to-filled .result) (c .places-length .result) ≡ length (fileOf (c .before .before .before .before .before .args .given)))
+lengths c =
+    file-long (c .before .before .before .before .before .args .given) (c .before .before .before .before .before .pre) (widths-long (c .before .before .before .before .before)) (list-long (c .before .before .before .before .before)) (c .before .up-to-filled .result) (c .places-length .result) (c .before .up-to-filled .ensures .0) (held (c .before)) (c .places-length .ensures .0)
+
+parts : (c : tie.After-places-length) → 1 + c .before .before .before .before .before .args .given .relations + (1 + 3 * c .before .before .before .before .before .args .given .held) + c .places-length .result ≡ length (partBytes (c .before .before .before .before .before .args .given) (c .before .up-to-filled .result))
+parts c = omega (arith, parts-long (c .before .before .before .before .before .args .given) (c .before .before .before .before .before .pre) (widths-long (c .before .before .before .before .before)) (list-long (c .before .before .before .before .before)) (c .before .up-to-filled .result), c .places-length .ensures .0)
+
+first-run : (c : tie.After-put-directory)
+    → Run (c .before .before .before .before .before .before .before .before .args .buffer .now) 0 ([] ++ directory (c .before .before .before .before .before .before .before .before) (c .before .before .before .before .up-to-filled .result)) (c .put-directory .last .0) (2 + 4 * (c .before .before .before .before .up-to-filled .result + 2))
+first-run c =
+    run-turns (run-starts (c .before .before .before .before .before .before .before .before .args .buffer .now) 0) (directory (c .before .before .before .before .before .before .before .before) (c .before .before .before .before .up-to-filled .result)) (c .put-directory .last .0) (2 + 4 * (c .before .before .before .before .up-to-filled .result + 2))
+    (omega (arith, lengths (c .before .before .before) .0, c .before .before .if1 .left)) (c .put-directory .ensures) (omega (arith, lengths (c .before .before .before) .0))
+
+second-run : (c : tie.After-put-parts)
+    → Run (c .before .before .before .before .before .before .before .before .before .before .before .before .args .buffer .now) 0 ([] ++ directory (c .before .before .before .before .before .before .before .before .before .before .before .before) (c .before .before .before .before .before .before .before .before .up-to-filled .result) ++ partBytes (c .before .before .before .before .before .before .before .before .before .before .before .before .args .given) (c .before .before .before .before .before .before .before .before .up-to-filled .result)) (c .put-parts .last .0)
+      (2 + 4 * (c .before .before .before .before .before .before .before .before .up-to-filled .result + 2) + length (partBytes (c .before .before .before .before .before .before .before .before .before .before .before .before .args .given) (c .before .before .before .before .before .before .before .before .up-to-filled .result)))
+second-run c =
+    run-turns (first-run (c .before .before .before .before)) (partBytes (c .before .before .before .before .before .before .before .before .before .before .before .before .args .given) (c .before .before .before .before .before .before .before .before .up-to-filled .result)) (c .put-parts .last .0) (2 + 4 * (c .before .before .before .before .before .before .before .before .up-to-filled .result + 2) + length (partBytes (c .before .before .before .before .before .before .before .before .before .before .before .before .args .given) (c .before .before .before .before .before .before .before .before .up-to-filled .result)))
+    (omega (arith, parts (c .before .before .before .before .before .before .before), c .before .before .before .before .before .before .if1 .left)) (c .put-parts .ensures) refl
+
+-- ---- the needs
 up-to-filled-requires : tie.Need-up-to-filled-requires
-up-to-filled-requires c κs = search needs
+up-to-filled-requires c κs = tt
 
 cast-first : tie.Need-cast-first
-cast-first c = search needs
+cast-first c = omega (arith, counts (c .before .before .before .before))
 
 add-first : tie.Need-add-first
-add-first c = search needs
+add-first c = omega (arith, counts (c .before .before .before .before))
 
 cast-second : tie.Need-cast-second
-cast-second c = search needs
+cast-second c = omega (arith, held-few (c .before .before .before .before .args .given) (c .before .before .before .before .pre))
 
 mul-second : tie.Need-mul-second
-mul-second c = search needs
+mul-second c = omega (arith, held-few (c .before .before .before .before .args .given) (c .before .before .before .before .pre))
 
 add-second : tie.Need-add-second
-add-second c = search needs
+add-second c = omega (arith, held-few (c .before .before .before .before .args .given) (c .before .before .before .before .pre))
 
 places-length-requires : tie.Need-places-length-requires
 places-length-requires c κs =
-    let given = c .before .before .before .before .args .given in
-    let good = c .before .before .before .before .pre in
-    let lw : length (given .widths) ≡ 8 = search (length-mapped, needs) in
-    let ld : length (given .dependencies) ≡ 32 = search (length-mapped, needs) in
-    let lp : length (given .places) ≡ 8 = search (length-mapped, needs) in
-    let few = held-few given good in
-    let counts = count-bounds (given .relations) (given .widths) (good-parts given good .0) lw .1 in
-    let n = c .up-to-filled .result in
-    let eight = c .up-to-filled .ensures .1 in
-    (good-parts given good .0, (good-parts given good .2, eight))
+    let parts = good-parts (c .before .before .before .before .args .given) (c .before .before .before .before .pre) in
+    (parts .0, (parts .2, c .up-to-filled .ensures .1))
 
 add-size : tie.Need-add-size
-add-size c = search needs
+add-size c = omega (arith, c .before .up-to-filled .ensures .1)
 
 mul-size : tie.Need-mul-size
-mul-size c = search needs
+mul-size c = omega (arith, c .before .up-to-filled .ensures .1)
 
 add-size-2 : tie.Need-add-size-2
-add-size-2 c = search needs
+add-size-2 c = omega (arith, c .before .up-to-filled .ensures .1)
 
 add-size-3 : tie.Need-add-size-3
-add-size-3 c = search needs
+add-size-3 c = omega (arith, c .before .up-to-filled .ensures .1, counts (c .before .before .before .before .before))
 
 add-size-4 : tie.Need-add-size-4
-add-size-4 c = search needs
+add-size-4 c = omega (arith, c .before .up-to-filled .ensures .1, counts (c .before .before .before .before .before), held-few (c .before .before .before .before .before .args .given) (c .before .before .before .before .before .pre))
 
 add-size-5 : tie.Need-add-size-5
-add-size-5 c = search needs
+add-size-5 c = omega (arith, c .before .up-to-filled .ensures .1, counts (c .before .before .before .before .before), held-few (c .before .before .before .before .before .args .given) (c .before .before .before .before .before .pre), c .places-length .ensures .1)
 
 returns : tie.Need-returns
-returns c =
-    let given = c .before .before .before .before .before .before .args .given in
-    let good = c .before .before .before .before .before .before .pre in
-    let lw : length (given .widths) ≡ 8 = search (length-mapped, needs) in
-    let ld : length (given .dependencies) ≡ 32 = search (length-mapped, needs) in
-    let lp : length (given .places) ≡ 8 = search (length-mapped, needs) in
-    let few = held-few given good in
-    let counts = count-bounds (given .relations) (given .widths) (good-parts given good .0) lw .1 in
-    let n = c .before .before .up-to-filled .result in
-    let eight = c .before .before .up-to-filled .ensures .1 in
-    let lengths = file-long given good lw ld n (c .before .places-length .result) (c .before .before .up-to-filled .ensures .0) (omega (arith, lp, eight)) (c .before .places-length .ensures .0) in
-    refused given good (c .before .before .before .before .before .before .args .buffer .now) (2 + 4 * (n + 2) + (1 + given .relations) + (1 + 3 * given .held) + c .before .places-length .result) (lengths .1) (c .if1 .taken)
+returns c = refused (c .before .before .before .before .before .before .args .given) (c .before .before .before .before .before .before .pre) (c .before .before .before .before .before .before .args .buffer .now) (whole (c .before .before .before .before .before .before) (c .before .before .up-to-filled .result) (c .before .places-length .result)) (lengths (c .before) .1) (c .if1 .taken)
 
 put-directory-requires : tie.Need-put-directory-requires
 put-directory-requires c κs =
-    let given = c .before .before .before .before .before .before .before .args .given in
-    let good = c .before .before .before .before .before .before .before .pre in
-    let lw : length (given .widths) ≡ 8 = search (length-mapped, needs) in
-    let ld : length (given .dependencies) ≡ 32 = search (length-mapped, needs) in
-    let lp : length (given .places) ≡ 8 = search (length-mapped, needs) in
-    let few = held-few given good in
-    let counts = count-bounds (given .relations) (given .widths) (good-parts given good .0) lw .1 in
-    let n = c .before .before .before .up-to-filled .result in
-    let eight = c .before .before .before .up-to-filled .ensures .1 in
-    let lengths = file-long given good lw ld n (c .before .before .places-length .result) (c .before .before .before .up-to-filled .ensures .0) (omega (arith, lp, eight)) (c .before .before .places-length .ensures .0) in
-    (good-parts given good .0, (good-parts given good .2, ((eight, omega (arith, counts), omega (arith, few)), omega (arith, c .before .if1 .left))))
+    let parts = good-parts (c .before .before .before .before .before .before .before .args .given) (c .before .before .before .before .before .before .before .pre) in
+    (
+      parts .0,
+      (
+        parts .2,
+        ((c .before .before .before .up-to-filled .ensures .1, omega (arith, counts (c .before .before .before .before .before .before .before)), omega (arith, held-few (c .before .before .before .before .before .before .before .args .given) (c .before .before .before .before .before .before .before .pre))), omega (arith, c .before .if1 .left)),
+      ),
+    )
 
 add-put-parts : tie.Need-add-put-parts
-add-put-parts c = search needs
+add-put-parts c = omega (arith, c .before .before .before .before .before .before .before .up-to-filled .ensures .1)
 
 mul-put-parts : tie.Need-mul-put-parts
-mul-put-parts c = search needs
+mul-put-parts c = omega (arith, c .before .before .before .before .before .before .before .up-to-filled .ensures .1)
 
 add-put-parts-2 : tie.Need-add-put-parts-2
-add-put-parts-2 c = search needs
+add-put-parts-2 c = omega (arith, c .before .before .before .before .before .before .before .up-to-filled .ensures .1)
 
 put-parts-requires : tie.Need-put-parts-requires
-put-parts-requires c κs =
-    let given = c .before .before .before .before .before .before .before .before .before .before .before .args .given in
-    let good = c .before .before .before .before .before .before .before .before .before .before .before .pre in
-    let lw : length (given .widths) ≡ 8 = search (length-mapped, needs) in
-    let ld : length (given .dependencies) ≡ 32 = search (length-mapped, needs) in
-    let lp : length (given .places) ≡ 8 = search (length-mapped, needs) in
-    let few = held-few given good in
-    let counts = count-bounds (given .relations) (given .widths) (good-parts given good .0) lw .1 in
-    let n = c .before .before .before .before .before .before .before .up-to-filled .result in
-    let eight = c .before .before .before .before .before .before .before .up-to-filled .ensures .1 in
-    let lengths = file-long given good lw ld n (c .before .before .before .before .before .before .places-length .result) (c .before .before .before .before .before .before .before .up-to-filled .ensures .0) (omega (arith, lp, eight)) (c .before .before .before .before .before .before .places-length .ensures .0) in
-    let buffer = c .before .before .before .before .before .before .before .before .before .before .before .args .buffer .now in
-    let dir = directoryBytes n (1 + given .relations) (1 + 3 * given .held) (map (putPlace (schemaOf given)) (take n (given .places))) in
-    let r0 = run-starts buffer 0 in
-    let r1 = run-turns r0 dir (c .before .before .before .put-directory .last .0) (2 + 4 * (n + 2)) (omega (arith, lengths .0, c .before .before .before .before .before .if1 .left)) (c .before .before .before .put-directory .ensures) (omega (arith, lengths .0)) in
-    let all = parts-long given good lw ld n in
-    (good, (eight, omega (arith, r1 .long, all, c .before .before .before .before .before .before .places-length .ensures .0, c .before .before .before .before .before .if1 .left)))
+put-parts-requires c κs = (c .before .before .before .before .before .before .before .before .before .before .before .pre, (c .before .before .before .before .before .before .before .up-to-filled .ensures .1, omega (arith, first-run (c .before .before .before) .long, parts (c .before .before .before .before .before .before), c .before .before .before .before .before .if1 .left)))
 
 same-length : tie.Need-same-length
-same-length c =
-    let given = c .before .before .before .before .before .before .before .before .before .before .before .before .before .before .args .given in
-    let good = c .before .before .before .before .before .before .before .before .before .before .before .before .before .before .pre in
-    let lw : length (given .widths) ≡ 8 = search (length-mapped, needs) in
-    let ld : length (given .dependencies) ≡ 32 = search (length-mapped, needs) in
-    let lp : length (given .places) ≡ 8 = search (length-mapped, needs) in
-    let few = held-few given good in
-    let counts = count-bounds (given .relations) (given .widths) (good-parts given good .0) lw .1 in
-    let n = c .before .before .before .before .before .before .before .before .before .before .up-to-filled .result in
-    let eight = c .before .before .before .before .before .before .before .before .before .before .up-to-filled .ensures .1 in
-    let lengths = file-long given good lw ld n (c .before .before .before .before .before .before .before .before .before .places-length .result) (c .before .before .before .before .before .before .before .before .before .before .up-to-filled .ensures .0) (omega (arith, lp, eight)) (c .before .before .before .before .before .before .before .before .before .places-length .ensures .0) in
-    let buffer = c .before .before .before .before .before .before .before .before .before .before .before .before .before .before .args .buffer .now in
-    let dir = directoryBytes n (1 + given .relations) (1 + 3 * given .held) (map (putPlace (schemaOf given)) (take n (given .places))) in
-    let r0 = run-starts buffer 0 in
-    let r1 = run-turns r0 dir (c .before .before .before .before .before .before .put-directory .last .0) (2 + 4 * (n + 2)) (omega (arith, lengths .0, c .before .before .before .before .before .before .before .before .if1 .left)) (c .before .before .before .before .before .before .put-directory .ensures) (omega (arith, lengths .0)) in
-    let all = parts-long given good lw ld n in
-    let r2 = run-turns r1 (partBytes given n) (c .before .before .put-parts .last .0) (2 + 4 * (n + 2) + length (partBytes given n))
-    (omega (arith, all, c .before .before .before .before .before .before .before .before .before .places-length .ensures .0, c .before .before .before .before .before .before .before .before .if1 .left)) (c .before .before .put-parts .ensures) refl in
-    r2 .long
+same-length c = second-run (c .before .before) .long
 
 returns-2 : tie.Need-returns-2
 returns-2 c =
     let given = c .before .before .before .before .before .before .before .before .before .before .before .before .before .before .args .given in
     let good = c .before .before .before .before .before .before .before .before .before .before .before .before .before .before .pre in
-    let lw : length (given .widths) ≡ 8 = search (length-mapped, needs) in
-    let ld : length (given .dependencies) ≡ 32 = search (length-mapped, needs) in
-    let lp : length (given .places) ≡ 8 = search (length-mapped, needs) in
-    let few = held-few given good in
-    let counts = count-bounds (given .relations) (given .widths) (good-parts given good .0) lw .1 in
-    let n = c .before .before .before .before .before .before .before .before .before .before .up-to-filled .result in
-    let eight = c .before .before .before .before .before .before .before .before .before .before .up-to-filled .ensures .1 in
-    let lengths = file-long given good lw ld n (c .before .before .before .before .before .before .before .before .before .places-length .result) (c .before .before .before .before .before .before .before .before .before .before .up-to-filled .ensures .0) (omega (arith, lp, eight)) (c .before .before .before .before .before .before .before .before .before .places-length .ensures .0) in
     let buffer = c .before .before .before .before .before .before .before .before .before .before .before .before .before .before .args .buffer .now in
-    let dir = directoryBytes n (1 + given .relations) (1 + 3 * given .held) (map (putPlace (schemaOf given)) (take n (given .places))) in
-    let r0 = run-starts buffer 0 in
-    let r1 = run-turns r0 dir (c .before .before .before .before .before .before .put-directory .last .0) (2 + 4 * (n + 2)) (omega (arith, lengths .0, c .before .before .before .before .before .before .before .before .if1 .left)) (c .before .before .before .before .before .before .put-directory .ensures) (omega (arith, lengths .0)) in
-    let all = parts-long given good lw ld n in
-    let r2 = run-turns r1 (partBytes given n) (c .before .before .put-parts .last .0) (2 + 4 * (n + 2) + length (partBytes given n))
-    (omega (arith, all, c .before .before .before .before .before .before .before .before .before .places-length .ensures .0, c .before .before .before .before .before .before .before .before .if1 .left)) (c .before .before .put-parts .ensures) refl in
-    let split = file-split given good lw ld n (c .before .before .before .before .before .before .before .before .before .before .up-to-filled .ensures .0) (omega (arith, lp, eight)) in
-    done given good buffer (2 + 4 * (n + 2) + (1 + given .relations) + (1 + 3 * given .held) + c .before .before .before .before .before .before .before .before .before .places-length .result) (lengths .1) (c .before .before .put-parts .last .0) (c .before .before .before .before .before .before .before .before .if1 .left) (r2 .written ∙ ap (over buffer 0) (sym split))
+    let n = c .before .before .before .before .before .before .before .before .before .before .up-to-filled .result in
+    let split = file-split given good (widths-long (c .before .before .before .before .before .before .before .before .before .before .before .before .before .before)) (list-long (c .before .before .before .before .before .before .before .before .before .before .before .before .before .before)) n (c .before .before .before .before .before .before .before .before .before .before .up-to-filled .ensures .0) (held (c .before .before .before .before .before .before .before .before .before .before)) in
+    done given good buffer (whole (c .before .before .before .before .before .before .before .before .before .before .before .before .before .before) n (c .before .before .before .before .before .before .before .before .before .places-length .result)) (lengths (c .before .before .before .before .before .before .before .before .before) .1) (c .before .before .put-parts .last .0) (c .before .before .before .before .before .before .before .before .if1 .left) (second-run (c .before .before) .written ∙ ap (over buffer 0) (sym split))
 
 pub write-good-spec : {M : Type 1} → statement M
 write-good-spec =
