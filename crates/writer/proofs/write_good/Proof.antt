@@ -79,7 +79,7 @@ first-run c =
 
 second-run : (c : tie.After-put-parts)
     → Run (c .before .before .before .before .before .before .before .before .before .before .before .before .args .buffer .now) 0 ([] ++ directory (c .before .before .before .before .before .before .before .before .before .before .before .before) (c .before .before .before .before .before .before .before .before .up-to-filled .result) ++ partBytes (c .before .before .before .before .before .before .before .before .before .before .before .before .args .given) (c .before .before .before .before .before .before .before .before .up-to-filled .result)) (c .put-parts .last .0)
-      (2 + 4 * (c .before .before .before .before .before .before .before .before .up-to-filled .result + 2) + length (partBytes (c .before .before .before .before .before .before .before .before .before .before .before .before .args .given) (c .before .before .before .before .before .before .before .before .up-to-filled .result)))
+    (2 + 4 * (c .before .before .before .before .before .before .before .before .up-to-filled .result + 2) + length (partBytes (c .before .before .before .before .before .before .before .before .before .before .before .before .args .given) (c .before .before .before .before .before .before .before .before .up-to-filled .result)))
 second-run c =
     run-turns (first-run (c .before .before .before .before)) (partBytes (c .before .before .before .before .before .before .before .before .before .before .before .before .args .given) (c .before .before .before .before .before .before .before .before .up-to-filled .result)) (c .put-parts .last .0) (2 + 4 * (c .before .before .before .before .before .before .before .before .up-to-filled .result + 2) + length (partBytes (c .before .before .before .before .before .before .before .before .before .before .before .before .args .given) (c .before .before .before .before .before .before .before .before .up-to-filled .result)))
     (omega (arith, parts (c .before .before .before .before .before .before .before), c .before .before .before .before .before .before .if1 .left)) (c .put-parts .ensures) refl
@@ -131,8 +131,7 @@ returns c = refused (c .before .before .before .before .before .before .args .gi
 
 put-directory-requires : tie.Need-put-directory-requires
 put-directory-requires c κs =
-    let parts = good-parts (c .before .before .before .before .before .before .before .args .given) (c .before .before .before .before .before .before .before .pre) in
-    (
+    let parts = good-parts (c .before .before .before .before .before .before .before .args .given) (c .before .before .before .before .before .before .before .pre) in (
       parts .0,
       (
         parts .2,
