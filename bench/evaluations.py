@@ -28,7 +28,7 @@ def cases():
     yield 'path of 12, no head', [], edges(path(12))
     yield 'path of 12 to a row of S, one end', [0], edges(path(11)) + labels(edges([(11, 12)]))
     yield 'path of 11 to a row that fails', [0], edges(path(11)) + labels(edges([(11, 11)]))
-    yield 'path of 4, both ends', [0, 4], edges(path(4))
+    yield 'path of 2, both ends', [0, 2], edges(path(2))
     yield 'path of 8, both ends', [0, 8], edges(path(8))
     yield 'twelve free rows, no head', [], edges(free(12))
     yield 'twelve free rows, one variable', [0], edges(free(12))
@@ -65,7 +65,7 @@ def main():
     for name, head, rows in cases():
         data = archive([2, 2], [], [part(rows, ['v%d' % v for v in head])])
         cells = []
-        for values, size in DATABASES:
+        for values, size in DATABASES[:2] if name == 'path of 8, both ends' else DATABASES:  # a million answers there
             words = graph(values, size)
             lent = (ctypes.c_uint32 * len(words)).from_buffer(words)
             best = None
