@@ -27,7 +27,7 @@
  *
  * No file is longer than 4420 bytes and no query part than 534, so buffers of SPERNEVAN_FILE and SPERNEVAN_QUERY bytes are never too short.
  *
- * For 64-bit x86 Linux only. spernevan_evaluate, and spernevan_test on more than 16384 words, use up to 6 MB of stack, every other call under 1 MB:
+ * For 64-bit x86 Linux only. spernevan_evaluate, and spernevan_test on more than 16384 words, use up to 5 MB of stack, every other call under 1 MB:
  * a thread whose stack is smaller must not make them.
  *
  * A query part is the query as a file has it: head length, row count, head entries, then the rows, each a relation byte and its entries;
