@@ -394,7 +394,7 @@ class Random(Calls):
         joined = joined.put(2, rule(record, "ans() :- R0(x, y), R1(y, x)"))
         joined = joined.put(3, rule(record, "ans(a) :- R1(a, b), R1(b, c), R1(c, d), R1(d, e), R1(e, f), R0(f, g)"))
         rng = random.Random(6)
-        for n in (40, 43, 170, 172, 600, 690, 2700, 2800, 9000):
+        for n in (40, 43, 170, 172, 600, 690, 2700, 2800, 9000, 65600):
             left = [(rng.randrange(2 * n), rng.randrange(n)) for _ in range(n)]
             right = [(rng.randrange(n), rng.randrange(n)) for _ in range(n)]
             rows = [row for pair in zip(left, right) for row in ((0, pair[0]), (1, pair[1]))]
