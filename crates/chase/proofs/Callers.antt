@@ -9,13 +9,13 @@ use borrow.Author.Tests.{leb-true, ltb-true, lt-ltb}
 use lib.Dec.{eqb, leb, ltb}
 use lib.ListN.{length, take, drop, getD, replicate}
 use lib.Seq.{getD-take}
-use Rattle.record.specs.declared.Query.{Query}
-use Rattle.record.specs.declared.Dependency.{Dependency}
-use Rattle.record.specs.View.{queryOf}
-use Rattle.record.specs.Rule.{every, between, isZero, blankDependency, inUse, goodRelations, goodDependency, goodDependencies, goodQuery, headSafe}
+use Rattle.query.specs.declared.Query.{Query}
+use Rattle.query.specs.declared.Dependency.{Dependency}
+use Rattle.query.specs.View.{queryOf, heldOf}
+use Rattle.lists.specs.Tests.{every, between, isZero, inUse}
+use Rattle.query.specs.Rule.{blankDependency, goodRelations, goodDependency, goodDependencies, goodQuery, headSafe, noDependency}
 use Rattle.chase.specs.declared.Chased.{Chased}
-use Rattle.chase.specs.Wide.{heldOf}
-use Rattle.chase.specs.Outcome.{noDependency, Chasable, IsChased}
+use Rattle.chase.specs.Outcome.{Chasable, IsChased}
 use Rattle.chase.proofs.Good.{every-getD, every-weaken, good-parts}
 use Rattle.theory.specs.Query as theory
 use Rattle.theory.specs.Query.{constant, variable, rowEntries, variablesOf, variableCount, _∈_}

@@ -9,12 +9,12 @@ use native.Mathlib.Omega.{arith}
 use borrow.Author.Tests.{eq-eqb, ne-eqb}
 use lib.ListN.{take, drop, getD, List·getD-map}
 use lib.Seq.{getD-take, getD-drop}
-use Rattle.record.specs.declared.Entry as stored
-use Rattle.record.specs.declared.Cell.{Cell}
-use Rattle.record.specs.declared.Query.{Query}
-use Rattle.record.specs.declared.Dependency.{Dependency}
-use Rattle.record.specs.View.{entryOf, columnsFrom, columnsOf, dependencyOf}
-use Rattle.record.specs.Rule.{noCell}
+use Rattle.query.specs.declared.Entry as stored
+use Rattle.query.specs.declared.Cell.{Cell}
+use Rattle.query.specs.declared.Query.{Query}
+use Rattle.query.specs.declared.Dependency.{Dependency}
+use Rattle.query.specs.View.{entryOf, columnsFrom, columnsOf, dependencyOf}
+use Rattle.query.specs.Rule.{noCell}
 use Rattle.chase.specs.Wide.{rowAt, wideRow}
 use Rattle.theory.specs.Query.{Entry, constant, Row, column, sameEntry}
 use Rattle.theory.specs.Chase.{agree, breaks}

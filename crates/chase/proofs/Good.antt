@@ -9,12 +9,13 @@ use borrow.Author.Tests.{eqb-true, le-leb}
 use lib.Dec.{eqb, leb, ltb}
 use lib.ListN.{length, take, drop, getD}
 use lib.Seq.{drop-drop, length-take-le}
-use Rattle.record.specs.declared.Entry.{Entry}
-use Rattle.record.specs.declared.Entry.the-variants.{Constant, Variable}
-use Rattle.record.specs.declared.Cell.{Cell}
-use Rattle.record.specs.declared.Query.{Query}
-use Rattle.record.specs.View.{entryOf}
-use Rattle.record.specs.Rule.{every, inUse, isZero, blankEntry, blankCell, goodEntry, goodCell, goodRow, goodRows, headInUse, goodQuery, noCell, neverQuery}
+use Rattle.query.specs.declared.Entry.{Entry}
+use Rattle.query.specs.declared.Entry.the-variants.{Constant, Variable}
+use Rattle.query.specs.declared.Cell.{Cell}
+use Rattle.query.specs.declared.Query.{Query}
+use Rattle.query.specs.View.{entryOf}
+use Rattle.lists.specs.Tests.{every, inUse, isZero}
+use Rattle.query.specs.Rule.{blankEntry, blankCell, goodEntry, goodCell, goodRow, goodRows, headInUse, goodQuery, noCell, neverQuery}
 use Rattle.chase.specs.Wide.{substituteEntry, substituteCell, mapCells}
 use Rattle.chase.proofs.Lists.{take-map, drop-map}
 use Rattle.theory.specs.Query.{constant}

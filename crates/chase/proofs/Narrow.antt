@@ -9,10 +9,11 @@ use Prim.Native.Nat.{ℕ, zero, suc, _+_, _*_, _≤_, _<_}
 use native.Mathlib.Omega.{arith}
 use lib.ListN.{length, take, drop, getD, List·getD-map}
 use lib.Seq.{drop-cons, drop-drop, take-take}
-use Rattle.record.specs.declared.Cell.{Cell}
-use Rattle.record.specs.declared.Query as stored
-use Rattle.record.specs.View.{entryOf, entriesOf, rowsOf, queryOf}
-use Rattle.record.specs.Rule.{every, blankCell, goodRows, goodQuery}
+use Rattle.query.specs.declared.Cell.{Cell}
+use Rattle.query.specs.declared.Query as stored
+use Rattle.query.specs.View.{entryOf, entriesOf, rowsOf, queryOf}
+use Rattle.lists.specs.Tests.{every}
+use Rattle.query.specs.Rule.{blankCell, goodRows, goodQuery}
 use Rattle.chase.specs.Wide.{wideRows, wideQuery, differing, firstDiffering}
 use Rattle.chase.proofs.Lists.{take-map, map-square}
 use Rattle.chase.proofs.Good.{blank-entry, good-row, good-parts}

@@ -11,18 +11,19 @@ use native.Mathlib.Omega.{arith}
 use lib.Dec.{eqb}
 use lib.ListN.{length, take, drop, getD, length-append, length-take, length-map}
 use lib.Seq.{length-take-le}
-use Rattle.record.specs.declared.Entry as stored-entry
-use Rattle.record.specs.declared.Entry.the-variants.{Constant, Variable}
-use Rattle.record.specs.declared.Cell.{Cell}
-use Rattle.record.specs.declared.Dependency as stored-dependency
-use Rattle.record.specs.declared.Query as stored
-use Rattle.record.specs.View.{entryOf, entriesOf, queryOf}
-use Rattle.record.specs.Rule.{every, between, goodEntry, goodCell, goodQuery, neverQuery, noCell}
+use Rattle.query.specs.declared.Entry as stored-entry
+use Rattle.query.specs.declared.Entry.the-variants.{Constant, Variable}
+use Rattle.query.specs.declared.Cell.{Cell}
+use Rattle.query.specs.declared.Dependency as stored-dependency
+use Rattle.query.specs.declared.Query as stored
+use Rattle.query.specs.View.{entryOf, entriesOf, queryOf, heldOf}
+use Rattle.lists.specs.Tests.{every, between}
+use Rattle.query.specs.Rule.{goodEntry, goodCell, goodQuery, neverQuery, noCell}
 use Rattle.chase.specs.declared.Found.the-variants.{Rest, Step}
 use Rattle.chase.specs.declared.Resolution.{Resolution}
 use Rattle.chase.specs.declared.Resolution.the-variants.{Clash, Replace}
 use Rattle.chase.specs.declared.Chased as stored-chased
-use Rattle.chase.specs.Wide.{wideRow, wideRows, wideQuery, heldOf, firstDiffering, foundOf, goodFound, resolutionOf, substituteEntry, substituteCell, mapCells}
+use Rattle.chase.specs.Wide.{wideRow, wideRows, wideQuery, firstDiffering, foundOf, goodFound, resolutionOf, substituteEntry, substituteCell, mapCells}
 use Rattle.chase.specs.Outcome.{IsChased}
 use Rattle.chase.proofs.Lists.{drop-map, take-replicate, map-replicate}
 use Rattle.chase.proofs.View.{StandsFor, entriesOf-take}

@@ -9,13 +9,12 @@ use native.Mathlib.Nat.{sub-zero}
 use native.Mathlib.Numerals.{add-one}
 use native.Mathlib.Omega.{arith}
 use lib.ListN.{length, take, drop, getD}
-use Rattle.record.specs.declared.Entry as stored-entry
-use Rattle.record.specs.declared.Dependency as stored-dependency
-use Rattle.record.specs.declared.Query.{Query}
-use Rattle.record.specs.View.{entryOf, dependencyOf}
-use Rattle.record.specs.Rule.{noCell}
+use Rattle.query.specs.declared.Entry as stored-entry
+use Rattle.query.specs.declared.Dependency as stored-dependency
+use Rattle.query.specs.declared.Query.{Query}
+use Rattle.query.specs.View.{entryOf, dependencyOf}
+use Rattle.query.specs.Rule.{noCell, noDependency}
 use Rattle.chase.specs.Wide.{wideRow, wideRows, firstDiffering}
-use Rattle.chase.specs.Outcome.{noDependency}
 use Rattle.chase.proofs.Lists.{left-cons, left-none}
 use Rattle.chase.proofs.Columns.{wide-column}
 use Rattle.theory.specs.Query.{Entry, Row}

@@ -6,11 +6,11 @@ use Prim.Native.Nat.{ℕ, _+_, _≤_, _<_}
 use lib.Dec.{ltb}
 use lib.ListN.{length, take, drop, getD}
 use borrow.Author.Tests.{eq-eqb, ne-eqb}
-use Rattle.record.specs.declared.Entry.{Entry}
-use Rattle.record.specs.declared.Entry.the-variants.{Constant, Variable}
-use Rattle.record.specs.declared.Cell.{Cell}
-use Rattle.record.specs.View.{entryOf, entriesOf}
-use Rattle.record.specs.Rule.{noCell}
+use Rattle.query.specs.declared.Entry.{Entry}
+use Rattle.query.specs.declared.Entry.the-variants.{Constant, Variable}
+use Rattle.query.specs.declared.Cell.{Cell}
+use Rattle.query.specs.View.{entryOf, entriesOf}
+use Rattle.query.specs.Rule.{noCell}
 use Rattle.chase.proofs.Lists.{left-cons, left-none}
 use Rattle.chase.specs.Wide.{substituteEntry, substituteCell, entryInHead}
 use Rattle.theory.specs.Query.{variable, variablesOf, member}

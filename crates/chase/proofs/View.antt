@@ -7,10 +7,10 @@ use native.Mathlib.Nat.{not-suc-le-zero, le-of-suc-le-suc}
 use native.Mathlib.Omega.{arith}
 use lib.ListN.{length, take, drop, getD, List·getD-map}
 use lib.Seq.{getD-take, getD-drop, length-take-le, drop-drop}
-use Rattle.record.specs.declared.Cell.{Cell}
-use Rattle.record.specs.declared.Query as stored
-use Rattle.record.specs.View.{entryOf, entriesOf, rowsOf, queryOf}
-use Rattle.record.specs.Rule.{noCell}
+use Rattle.query.specs.declared.Cell.{Cell}
+use Rattle.query.specs.declared.Query as stored
+use Rattle.query.specs.View.{entryOf, entriesOf, rowsOf, queryOf}
+use Rattle.query.specs.Rule.{noCell}
 use Rattle.chase.specs.Wide.{mapCells}
 use Rattle.chase.proofs.Lists.{take-map, drop-map, map-square}
 use Rattle.theory.specs.Query.{Entry, constant, Row, column, mapRow, mapQuery}

@@ -4,17 +4,12 @@ use mathlib.Core.Bool.{true}
 use mathlib.Core.List.{List}
 use Prim.Native.Nat.{ℕ, _≤_, _<_}
 use lib.ListN.{getD}
-use Rattle.record.specs.declared.Query.{Query}
-use Rattle.record.specs.declared.Dependency.{Dependency}
-use Rattle.record.specs.View.{queryOf}
-use Rattle.record.specs.Rule.{goodQuery}
+use Rattle.query.specs.declared.Query.{Query}
+use Rattle.query.specs.declared.Dependency.{Dependency}
+use Rattle.query.specs.View.{queryOf, heldOf}
+use Rattle.query.specs.Rule.{goodQuery, noDependency}
 use Rattle.chase.specs.declared.Chased.{Chased}
-use Rattle.chase.specs.Wide.{heldOf}
 use Rattle.theory.specs.Chase as chasing
-
--- A dependency of zeros, which stands past the end of the array
-abbrev pub noDependency : Dependency
-noDependency = record { relation = 0; left = 0; right = 0 }
 
 -- What the chase asks of its caller, so that each cell that it reads is there: every good query and good dependencies have it
 pub record Chasable (q : Query) (dependencies : List Dependency) (held : ℕ) : Type 0 where

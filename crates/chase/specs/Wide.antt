@@ -7,13 +7,13 @@ use mathlib.Core.Option.{Option, none, some}
 use Prim.Native.Nat.{ℕ, zero, suc, _*_}
 use lib.Dec.{eqb}
 use lib.ListN.{take, drop, getD}
-use Rattle.record.specs.declared.Entry.{Entry}
-use Rattle.record.specs.declared.Entry.the-variants.{Constant, Variable}
-use Rattle.record.specs.declared.Cell.{Cell}
-use Rattle.record.specs.declared.Query.{Query}
-use Rattle.record.specs.declared.Dependency.{Dependency}
-use Rattle.record.specs.View.{entryOf, entriesOf, dependencyOf}
-use Rattle.record.specs.Rule.{goodEntry}
+use Rattle.query.specs.declared.Entry.{Entry}
+use Rattle.query.specs.declared.Entry.the-variants.{Constant, Variable}
+use Rattle.query.specs.declared.Cell.{Cell}
+use Rattle.query.specs.declared.Query.{Query}
+use Rattle.query.specs.declared.Dependency.{Dependency}
+use Rattle.query.specs.View.{entryOf, entriesOf, dependencyOf}
+use Rattle.query.specs.Rule.{goodEntry}
 use Rattle.chase.specs.declared.Found.{Found}
 use Rattle.chase.specs.declared.Found.the-variants.{Rest, Step}
 use Rattle.chase.specs.declared.Resolution.{Resolution}
@@ -40,10 +40,6 @@ wideRows q i (suc n) = wideRow q i ∷ wideRows q (suc i) n
 -- The query of the wide rows
 abbrev pub wideQuery : Query → theory.Query
 wideQuery q = record { head = entriesOf (take (q .arity) (q .head)); rows = wideRows q 0 (q .size) }
-
--- The held dependencies
-abbrev pub heldOf : List Dependency → ℕ → List database.Dependency
-heldOf dependencies held = map dependencyOf (take held dependencies)
 
 -- ---- the search
 

@@ -2,18 +2,19 @@
 // the survivor of its two entries, the replacement, and the whole. The widths of the relations play no part: where a row has no column its cell holds
 // constant 0, as in every row of its relation.
 
-use record::Cell;
-use record::Dependency;
-use record::Entry;
-use record::Query;
+use query::Cell;
+use query::Dependency;
+use query::Entry;
+use query::Query;
 ghost use mathlib.Core.Path.{_≡_};
 ghost use mathlib.Core.Bool.{Bool, true};
 ghost use mathlib.Core.List.{List, map};
 ghost use Prim.Native.Nat.{ℕ, _≤_, _<_};
 ghost use lib.ListN.{take, getD};
-ghost use Rattle.record.specs.View.{entryOf, entriesOf, columnsOf, dependencyOf};
-ghost use Rattle.record.specs.Rule.{noCell, goodCell, goodQuery, neverQuery, every, between};
-ghost use Rattle.chase.specs.Wide.{rowAt, wideRow, wideQuery, heldOf, firstDiffering, foundOf, goodFound, entryInHead, resolutionOf, Survivor, substituteCell, mapCells};
+ghost use Rattle.query.specs.View.{entryOf, entriesOf, columnsOf, dependencyOf, heldOf};
+ghost use Rattle.query.specs.Rule.{noCell, goodCell, goodQuery, neverQuery};
+ghost use Rattle.lists.specs.Tests.{every, between};
+ghost use Rattle.chase.specs.Wide.{rowAt, wideRow, wideQuery, firstDiffering, foundOf, goodFound, entryInHead, resolutionOf, Survivor, substituteCell, mapCells};
 ghost use Rattle.chase.specs.Outcome.{Chasable, IsChased};
 ghost use Rattle.theory.specs.Query as theory;
 ghost use Rattle.theory.specs.Chase as chasing;

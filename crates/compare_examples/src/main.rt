@@ -4,10 +4,10 @@
 use comparison::Checked;
 use comparison::Comparison;
 use comparison::Verdict;
-use record::Cell;
-use record::Dependency;
-use record::Entry;
-use record::Query;
+use query::Cell;
+use query::Dependency;
+use query::Entry;
+use query::Query;
 use record::Record;
 use record::calls;
 
@@ -94,7 +94,7 @@ fn query(arity: u8, size: u8, b: Entry, c: Entry) -> Query {
     let v0 = Cell {
         entry: Entry::Variable(0),
     };
-    let mut q = calls::no_query();
+    let mut q = query::no_query();
     q.arity = arity;
     q.size = size;
     if 0 < arity {

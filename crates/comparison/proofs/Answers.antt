@@ -9,16 +9,19 @@ use Prim.Native.Nat.{ℕ, _≤_, _<_}
 use native.Mathlib.Omega.{arith}
 use lib.ListN.{length, take}
 use Rattle.record.specs.Calls.{storedAt, queryAt}
-use Rattle.record.specs.declared.Cell.{Cell}
-use Rattle.record.specs.declared.Query.{Query}
-use Rattle.record.specs.declared.Dependency.{Dependency}
+use Rattle.query.specs.declared.Cell.{Cell}
+use Rattle.query.specs.declared.Query.{Query}
+use Rattle.query.specs.declared.Dependency.{Dependency}
 use Rattle.record.specs.declared.Place.{Place}
 use Rattle.record.specs.declared.Record.{Record}
-use Rattle.record.specs.View.{rowsOf, queryOf, schemaOf, dependenciesOf}
-use Rattle.record.specs.Rule.{every, between, goodPlace, goodQuery, goodRelations, goodDependencies, goodRecord, noCell, noQuery}
-use Rattle.record.proofs.Tests.{and-left, and-right}
-use Rattle.record.proofs.Good.{good-query}
-use Rattle.record.proofs.Shape.{row-count}
+use Rattle.query.specs.View.{rowsOf, queryOf}
+use Rattle.record.specs.View.{schemaOf, dependenciesOf}
+use Rattle.lists.specs.Tests.{every, between}
+use Rattle.record.specs.Rule.{goodPlace, goodRecord}
+use Rattle.query.specs.Rule.{goodQuery, goodRelations, goodDependencies, noCell, noQuery}
+use Rattle.lists.proofs.Tests.{and-left, and-right}
+use Rattle.query.proofs.Good.{good-query}
+use Rattle.query.proofs.Shape.{row-count}
 use Rattle.chase.specs.declared.Chased.{Chased}
 use Rattle.chase.specs.Outcome.{Chasable, IsChased}
 use Rattle.chase.proofs.Callers.{chasable}

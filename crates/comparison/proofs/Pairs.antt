@@ -9,7 +9,7 @@ use Prim.Native.Nat.{ℕ, _≤_, _<_}
 use native.Mathlib.Omega.{arith}
 use lib.Dec.{eqb, ltb}
 use borrow.Author.Tests.{ltb-true, eqb-true, lt-ltb, le-ltb, eq-eqb, ne-eqb, not-true, not-false}
-use Rattle.record.specs.declared.Query.{Query}
+use Rattle.query.specs.declared.Query.{Query}
 use Rattle.record.specs.declared.Record.{Record}
 use Rattle.record.specs.declared.Lookup.the-variants as lookup
 use Rattle.record.specs.Rule.{goodRecord}

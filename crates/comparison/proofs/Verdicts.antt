@@ -9,15 +9,20 @@ use mathlib.Core.Option.{Option, none, some}
 use Prim.Native.Nat.{ℕ, _*_, _≤_, _<_}
 use native.Mathlib.Omega.{arith}
 use lib.ListN.{length, getD, replicate}
-use Rattle.record.specs.declared.Cell.{Cell}
-use Rattle.record.specs.declared.Query.{Query}
+use Rattle.query.specs.declared.Cell.{Cell}
+use Rattle.query.specs.declared.Query.{Query}
 use Rattle.record.specs.declared.Place.{Place}
 use Rattle.record.specs.declared.Record.{Record}
-use Rattle.record.specs.View.{queryOf, schemaOf, dependenciesOf}
-use Rattle.record.specs.Rule.{every, between, blankQuery, goodPlace, goodQuery, headSafe, goodRecord, noCell, noPlace, noQuery}
+use Rattle.query.specs.View.{queryOf}
+use Rattle.record.specs.View.{schemaOf, dependenciesOf}
+use Rattle.lists.specs.Tests.{every, between}
+use Rattle.query.specs.Rule.{blankQuery, goodQuery, headSafe, noCell, noQuery}
+use Rattle.record.specs.Rule.{goodPlace, goodRecord, noPlace}
 use Rattle.record.specs.Calls.{isFilled, storedAt, queryAt}
-use Rattle.record.proofs.Good.{good-record, good-query}
+use Rattle.record.proofs.Good.{good-record}
+use Rattle.query.proofs.Good.{good-query}
 use Rattle.record.proofs.Stored as stored
+use Rattle.query.proofs.Stored as query-stored
 use Rattle.chase.proofs.Callers.{good-widths}
 use Rattle.chase.proofs.Good.{every-getD}
 use Rattle.theory.specs.Query as theory
@@ -172,7 +177,7 @@ module _ (r : Record) (p q : ℕ) (accepted : pairRefusal r p q ≡ none) where
         fits = omega (arith, long, good-query (schemaOf r) (storedAt r p) (known .good-p) .size)
 
         formed : theory.WellFormed (schemaOf r) (queryAt r p)
-        formed = stored.well-formed (schemaOf r) (known .narrow) (storedAt r p) (known .good-p) fits (known .safe-p)
+        formed = query-stored.well-formed (schemaOf r) (known .narrow) (storedAt r p) (known .good-p) fits (known .safe-p)
 
         shown : containment.Counterexample (schemaOf r) (dependenciesOf r) (queryAt r p) (queryAt r q)
             (containment.frozenRows base (queryOf (schemaOf r) query)) (containment.frozenHead base (queryOf (schemaOf r) query))
@@ -182,5 +187,5 @@ module _ (r : Record) (p q : ℕ) (accepted : pairRefusal r p q ≡ none) where
             containment.Counterexample (schemaOf r) (dependenciesOf r) (queryAt r p) (queryAt r q) (containment.frozenRows base C) (containment.frozenHead base C))
             (sym is)
             (counterexample (schemaOf r) (dependenciesOf r) (queryAt r p) (queryAt r q) base (formed .rows-fit)
-            (stored.constants-below (schemaOf r) (known .narrow) (storedAt r p) (known .good-p))
-            (stored.constants-below (schemaOf r) (known .narrow) (storedAt r q) (known .good-q)) (omega arith) filled not)
+            (query-stored.constants-below (schemaOf r) (known .narrow) (storedAt r p) (known .good-p))
+            (query-stored.constants-below (schemaOf r) (known .narrow) (storedAt r q) (known .good-q)) (omega arith) filled not)

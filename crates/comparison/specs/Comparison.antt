@@ -7,11 +7,13 @@ use mathlib.Core.Option.{Option, none, some}
 use Prim.Native.Nat.{ℕ}
 use lib.Dec.{eqb}
 use lib.ListN.{getD, replicate}
-use Rattle.record.specs.declared.Cell.{Cell}
-use Rattle.record.specs.declared.Query.{Query}
+use Rattle.query.specs.declared.Cell.{Cell}
+use Rattle.query.specs.declared.Query.{Query}
 use Rattle.record.specs.declared.Record.{Record}
-use Rattle.record.specs.View.{queryOf, schemaOf, dependenciesOf}
-use Rattle.record.specs.Rule.{goodQuery, noCell, noPlace, noQuery}
+use Rattle.query.specs.View.{queryOf}
+use Rattle.record.specs.View.{schemaOf, dependenciesOf}
+use Rattle.query.specs.Rule.{goodQuery, noCell, noQuery}
+use Rattle.record.specs.Rule.{noPlace}
 use Rattle.record.specs.Calls.{firstHolding, broken, above, vacant, storedAt, queryAt}
 use Rattle.mapping.specs.Mapped.{imagesOf}
 use Rattle.comparison.specs.declared.Verdict.{Verdict}

@@ -5,10 +5,10 @@ use mathlib.Core.Option.{Option, none, some}
 use Prim.Native.Nat.{ℕ}
 use lib.ListN.{replicate}
 use Rattle.record.specs.Calls.{storedAt}
-use Rattle.record.specs.declared.Query.{Query}
-use Rattle.record.specs.declared.Dependency.{Dependency}
+use Rattle.query.specs.declared.Query.{Query}
+use Rattle.query.specs.declared.Dependency.{Dependency}
 use Rattle.record.specs.declared.Record.{Record}
-use Rattle.record.specs.Rule.{noCell, noQuery}
+use Rattle.query.specs.Rule.{noCell, noQuery}
 use Rattle.comparison.specs.declared.Pair.{Pair}
 use Rattle.comparison.specs.declared.Pair.the-variants as pair
 use Rattle.comparison.specs.declared.Verdict.{Verdict}

@@ -1,12 +1,12 @@
 // Comparing two places of a record, and checking a mapping between their queries.
 
-use record::Cell;
-use record::Dependency;
-use record::Entry;
+use query::Cell;
+use query::Dependency;
+use query::Entry;
 use record::Lookup;
-use record::Query;
+use query::Query;
 use record::Record;
-use record::calls::no_query;
+use query::no_query;
 use record::calls::number;
 use record::calls::place_at;
 use record::calls::stored;

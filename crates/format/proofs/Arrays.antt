@@ -9,7 +9,7 @@ use lib.ListN.{length, getD, drop, set, length-map}
 use lib.Seq.{drop-cons}
 use borrow.Author.Tests.{lt-ltb}
 use Rattle.record.specs.declared.Place.{Place}
-use Rattle.record.specs.Rule.{every}
+use Rattle.lists.specs.Tests.{every}
 use Rattle.format.specs.Bytes.{Bytes, over}
 use Rattle.format.proofs.Lists.{and-both, over-set}
 

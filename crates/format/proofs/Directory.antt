@@ -8,7 +8,7 @@ use lib.Dec.{eqb, leb, ltb}
 use lib.ListN.{length, take, drop, length-append, length-take, length-drop, take-append-drop}
 use lib.Seq.{take-at, drop-at, length-take-le, drop-drop, take-add, drop-length}
 use borrow.Author.Tests.{eqb-true, eq-eqb, leb-true, le-leb}
-use Rattle.record.specs.Rule.{between, every}
+use Rattle.lists.specs.Tests.{between, every}
 use Rattle.format.specs.Bytes.{number, digits, Bytes}
 use Rattle.format.specs.File.{Result, ok, refused, chained, stretches, tableFits, directory, tableOf, join, assemble}
 use Rattle.format.proofs.Lists.{and-left, and-right, and-both, and-iff, every-parts, bytes-++}

@@ -8,7 +8,7 @@ use lib.Dec.{eqb}
 use lib.ListN.{length, take, drop, replicate, length-append, length-take, length-drop, length-replicate, take-append-drop}
 use lib.Seq.{take-at, drop-at, length-take-le}
 use borrow.Author.Tests.{eqb-true, eq-eqb}
-use Rattle.record.specs.Rule.{every, inUse}
+use Rattle.lists.specs.Tests.{every, inUse}
 use Rattle.format.specs.Bytes.{Bytes}
 use Rattle.format.specs.Format.{Reading, none, got, andThen, mapReading, gotIf, Format, Lawful, getByte, byte, sequence, putAll, getTimes, pad, padded, via}
 use Rattle.format.proofs.Lists.{and-left, and-right, and-both, and-iff, every-parts, every-replicate, all-blank, drop-replicate, length-pad, bytes-++}

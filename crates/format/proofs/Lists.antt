@@ -9,7 +9,7 @@ use native.Mathlib.Numerals.{add-one}
 use native.Mathlib.Omega.{arith}
 use lib.ListN.{length, getD, take, drop, set, replicate, length-append, length-take, length-drop, length-replicate, take-append-drop, length-set}
 use lib.Seq.{take-append-seam, drop-append-seam, take-append-le, take-at, drop-at, take-suc-set, drop-set-lt, drop-drop, take-length, take-append-add, length-take-le}
-use Rattle.record.specs.Rule.{every}
+use Rattle.lists.specs.Tests.{every}
 use Rattle.format.specs.Bytes.{Bytes, over}
 use Rattle.format.specs.Format.{pad}
 

@@ -7,7 +7,7 @@ use native.Mathlib.Omega.{arith}
 use lib.Dec.{ltb, lit<, eqb}
 use borrow.Author.Tests.{ltb-true}
 use lib.ListN.{length, getD, take, drop}
-use Rattle.record.specs.Rule.{every}
+use Rattle.lists.specs.Tests.{every}
 use Rattle.format.specs.Bytes.{number, digits, Bytes}
 use Rattle.format.proofs.Lists.{and-left, and-right}
 

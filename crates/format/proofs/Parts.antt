@@ -9,15 +9,16 @@ use lib.Dec.{eqb, leb, ltb, lit<, lit≤}
 use lib.ListN.{length, take, drop, getD, replicate, length-append, length-take, length-drop, take-append-drop, drop-of-length-le}
 use lib.Seq.{take-at, drop-at, length-take-le, take-all}
 use borrow.Author.Tests.{eqb-true, eq-eqb, leb-true, le-leb, ltb-true, eqb-false, ne-eqb}
-use Rattle.record.specs.declared.Entry.{Entry}
-use Rattle.record.specs.declared.Entry.the-variants.{Constant, Variable}
-use Rattle.record.specs.declared.Cell.{Cell}
-use Rattle.record.specs.declared.Query.{Query}
-use Rattle.record.specs.declared.Dependency.{Dependency}
-use Rattle.record.specs.Rule.{between, every, inUse, isZero, blankEntry, blankCell, blankDependency, goodDependency, goodEntry, goodCell, noCell}
+use Rattle.query.specs.declared.Entry.{Entry}
+use Rattle.query.specs.declared.Entry.the-variants.{Constant, Variable}
+use Rattle.query.specs.declared.Cell.{Cell}
+use Rattle.query.specs.declared.Query.{Query}
+use Rattle.query.specs.declared.Dependency.{Dependency}
+use Rattle.lists.specs.Tests.{between, every, inUse, isZero}
+use Rattle.query.specs.Rule.{blankEntry, blankCell, blankDependency, goodDependency, goodEntry, goodCell, noCell, noDependency}
 use Rattle.format.specs.Bytes.{number, digits, Bytes}
 use Rattle.format.specs.Format.{Reading, none, got, gotIf, Format, Lawful, byte, sequence, padded, via}
-use Rattle.format.specs.Parts.{relations, noDependency, dependencyAt, dependency, dependencies, putEntry, isEntry, entryFrom, entry, entries, row, noRow, blankRow, rows, chunk, flat, Fields, queryWith, fieldsOf, fullCells, query}
+use Rattle.format.specs.Parts.{relations, dependencyAt, dependency, dependencies, putEntry, isEntry, entryFrom, entry, entries, row, noRow, blankRow, rows, chunk, flat, Fields, queryWith, fieldsOf, fullCells, query}
 use Rattle.format.proofs.Lists.{and-left, and-right, and-both, and-iff, every-parts, every-join, every-weaken, every-getD, all-blank, bytes-++}
 use Rattle.format.proofs.Numbers.{number-digits, digits-number, length-digits}
 use Rattle.format.proofs.Formats.{not-got, gotIf-true, byte-lawful, sequence-lawful, padded-lawful, via-lawful}

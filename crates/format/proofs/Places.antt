@@ -8,10 +8,12 @@ use lib.Dec.{eqb, leb, ltb, lit≤}
 use lib.ListN.{length, take, drop, getD, replicate, length-map, take-append-drop}
 use lib.Seq.{length-take-le}
 use borrow.Author.Tests.{eqb-true, eq-eqb}
-use Rattle.record.specs.declared.Cell.{Cell}
-use Rattle.record.specs.declared.Query.{Query}
+use Rattle.query.specs.declared.Cell.{Cell}
+use Rattle.query.specs.declared.Query.{Query}
 use Rattle.record.specs.declared.Place.{Place}
-use Rattle.record.specs.Rule.{every, isZero, blankCell, blankQuery, goodQuery, goodPlace, headSafe, noCell, noQuery, noPlace}
+use Rattle.lists.specs.Tests.{every, isZero}
+use Rattle.query.specs.Rule.{blankCell, blankQuery, goodQuery, headSafe, noCell, noQuery}
+use Rattle.record.specs.Rule.{goodPlace, noPlace}
 use Rattle.format.specs.Bytes.{Bytes}
 use Rattle.format.specs.Format.{Reading, none, got, Format, Lawful, byte, sequence, via, pad}
 use Rattle.format.specs.Parts.{query}

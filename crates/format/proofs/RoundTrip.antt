@@ -10,11 +10,13 @@ use lib.Dec.{eqb, leb, ltb, lit≤}
 use lib.ListN.{length, take, drop, getD, replicate, length-map, take-append-drop, length-append}
 use lib.Seq.{length-take-le, take-at}
 use borrow.Author.Tests.{eqb-true, eq-eqb, leb-true}
-use Rattle.record.specs.declared.Dependency.{Dependency}
+use Rattle.query.specs.declared.Dependency.{Dependency}
 use Rattle.record.specs.declared.Place.{Place}
 use Rattle.record.specs.declared.Record.{Record}
 use Rattle.record.specs.View.{schemaOf}
-use Rattle.record.specs.Rule.{every, goodPlace, goodRelations, goodDependencies, goodQuery, goodRecord, headSafe, blankQuery, noPlace}
+use Rattle.lists.specs.Tests.{every}
+use Rattle.record.specs.Rule.{goodPlace, goodRecord, noPlace}
+use Rattle.query.specs.Rule.{goodRelations, goodDependencies, goodQuery, headSafe, blankQuery}
 use Rattle.format.specs.Bytes.{Bytes}
 use Rattle.format.specs.Format.{Format, Lawful, pad}
 use Rattle.format.specs.Parts.{relations, dependencies, query}
@@ -88,7 +90,7 @@ parts-read r k =
 -- ---- an accepted file written back
 
 no-place-sound : (schema : List ℕ) → sound schema noPlace ≡ true
-unfolding Rattle.record.specs.Rule.blankQuery every
+unfolding Rattle.query.specs.Rule.blankQuery every
 no-place-sound schema = refl
 
 -- places that were read, and blank ones after them

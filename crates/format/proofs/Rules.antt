@@ -8,10 +8,11 @@ use lib.Dec.{eqb, leb, ltb}
 use lib.ListN.{length, take, drop, getD, replicate, length-append, length-take, length-drop, take-append-drop, length-map}
 use lib.Seq.{length-take-le, drop-drop}
 use borrow.Author.Tests.{eqb-true, eq-eqb, leb-true, le-leb}
-use Rattle.record.specs.declared.Cell.{Cell}
-use Rattle.record.specs.declared.Query.{Query}
-use Rattle.record.specs.declared.Dependency.{Dependency}
-use Rattle.record.specs.Rule.{between, every, inUse, isZero, blankCell, blankDependency, blankQuery, goodDependency, goodCell, goodRow, goodRows, goodRelations, goodDependencies, goodQuery, headInUse, noCell, noQuery}
+use Rattle.query.specs.declared.Cell.{Cell}
+use Rattle.query.specs.declared.Query.{Query}
+use Rattle.query.specs.declared.Dependency.{Dependency}
+use Rattle.lists.specs.Tests.{between, every, inUse, isZero}
+use Rattle.query.specs.Rule.{blankCell, blankDependency, blankQuery, goodDependency, goodCell, goodRow, goodRows, goodRelations, goodDependencies, goodQuery, headInUse, noCell, noQuery}
 use Rattle.format.specs.Format.{Format, byte, sequence, padded, via}
 use Rattle.format.specs.Parts.{relations, dependency, dependencies, entry, entries, row, noRow, blankRow, rows, chunk, flat, Fields, queryWith, fieldsOf, fullCells, query}
 use Rattle.format.specs.File.{shapedQuery}

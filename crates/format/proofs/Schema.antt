@@ -11,8 +11,9 @@ use lib.Dec.{eqb, ltb, leb, lit<}
 use lib.ListN.{length, take, drop, getD}
 use lib.Seq.{length-take-le, getD-take}
 use borrow.Author.Tests.{leb-true, ltb-true, ltb-false, lt-ltb, le-ltb, eq-eqb, ne-eqb}
-use Rattle.record.specs.declared.Dependency.{Dependency}
-use Rattle.record.specs.Rule.{between, every, isZero, goodRelations, goodDependency}
+use Rattle.query.specs.declared.Dependency.{Dependency}
+use Rattle.lists.specs.Tests.{between, every, isZero}
+use Rattle.query.specs.Rule.{goodRelations, goodDependency}
 use Rattle.format.proofs.Lists.{and-iff, every-getD}
 
 module _ (count : ℕ) (widths : List ℕ) (good : goodRelations count widths ≡ true) (long : length widths ≡ 8) where

@@ -5,7 +5,7 @@ use mathlib.Core.List.{List, [], _∷_, _++_}
 use Prim.Native.Nat.{ℕ, zero, suc, _+_, _*_, _/_, _%_}
 use lib.Dec.{ltb}
 use lib.ListN.{length, getD, take, drop}
-use Rattle.record.specs.Rule.{every}
+use Rattle.lists.specs.Tests.{every}
 
 -- The little-endian number of the first k bytes
 unfoldable pub number : ℕ → List ℕ → ℕ

@@ -4,15 +4,17 @@ use mathlib.Core.List.{List, [], _∷_, _++_, map}
 use Prim.Native.Nat.{ℕ, zero, suc, _+_, _*_}
 use lib.Dec.{eqb, ltb, leb}
 use lib.ListN.{length, getD, take, drop}
-use Rattle.record.specs.declared.Query.{Query}
-use Rattle.record.specs.declared.Dependency.{Dependency}
+use Rattle.query.specs.declared.Query.{Query}
+use Rattle.query.specs.declared.Dependency.{Dependency}
 use Rattle.record.specs.declared.Place.{Place}
 use Rattle.record.specs.declared.Record.{Record}
 use Rattle.record.specs.declared.Answer.{Answer}
 use Rattle.record.specs.declared.Answer.the-variants.{Done, Refused}
 use Rattle.record.specs.declared.Outcome.{Outcome}
 use Rattle.record.specs.View.{schemaOf}
-use Rattle.record.specs.Rule.{between, every, headSafe, noPlace, blankRecord}
+use Rattle.lists.specs.Tests.{between, every}
+use Rattle.query.specs.Rule.{headSafe}
+use Rattle.record.specs.Rule.{noPlace, blankRecord}
 use Rattle.format.specs.Bytes.{number, digits}
 use Rattle.format.specs.Format.{Reading, none, got, Format, pad}
 use Rattle.format.specs.Parts.{relations, dependencies, query}

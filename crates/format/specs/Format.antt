@@ -6,7 +6,7 @@ use mathlib.Core.List.{List, [], _∷_, _++_}
 use Prim.Native.Nat.{ℕ, zero, suc}
 use lib.Dec.{eqb}
 use lib.ListN.{length, take, drop, replicate}
-use Rattle.record.specs.Rule.{inUse}
+use Rattle.lists.specs.Tests.{inUse}
 use Rattle.format.specs.Bytes.{Bytes}
 
 -- What is read off the front of some bytes: nothing good, or a value and the bytes after it

@@ -5,12 +5,13 @@ use mathlib.Core.List.{List, [], _∷_, _++_, map}
 use Prim.Native.Nat.{ℕ, zero, suc}
 use lib.Dec.{eqb, ltb, leb}
 use lib.ListN.{length, getD, take, drop, replicate}
-use Rattle.record.specs.declared.Entry.{Entry}
-use Rattle.record.specs.declared.Entry.the-variants.{Constant, Variable}
-use Rattle.record.specs.declared.Cell.{Cell}
-use Rattle.record.specs.declared.Query.{Query}
-use Rattle.record.specs.declared.Dependency.{Dependency}
-use Rattle.record.specs.Rule.{between, every, isZero, blankCell, blankDependency, goodDependency, goodEntry, goodCell, noCell}
+use Rattle.query.specs.declared.Entry.{Entry}
+use Rattle.query.specs.declared.Entry.the-variants.{Constant, Variable}
+use Rattle.query.specs.declared.Cell.{Cell}
+use Rattle.query.specs.declared.Query.{Query}
+use Rattle.query.specs.declared.Dependency.{Dependency}
+use Rattle.lists.specs.Tests.{between, every, isZero}
+use Rattle.query.specs.Rule.{blankCell, blankDependency, goodDependency, goodEntry, goodCell, noCell, noDependency}
 use Rattle.format.specs.Bytes.{number, digits}
 use Rattle.format.specs.Format.{Reading, none, gotIf, Format, byte, sequence, padded, via}
 
@@ -19,10 +20,6 @@ use Rattle.format.specs.Format.{Reading, none, gotIf, Format, byte, sequ
 -- Part 0: the count of relations, then a width byte each
 unfoldable pub relations : Format (ℕ × List ℕ)
 relations = sequence (byte (between 1 8)) (λ n. padded 8 0 isZero n (byte (between 1 8)))
-
--- A dependency that is not in use
-abbrev pub noDependency : Dependency
-noDependency = record { relation = 0; left = 0; right = 0 }
 
 -- The dependency that three bytes stand for
 abbrev pub dependencyAt : List ℕ → Dependency

@@ -8,10 +8,10 @@ use native.Mathlib.Omega.{arith}
 use lib.ListN.{length, getD, drop, set, replicate, length-replicate, drop-of-length-le}
 use lib.Seq.{drop-cons, drop-drop}
 use borrow.Author.Tests.{ne-eqb, lt-leb, le-leb}
-use Rattle.record.specs.declared.Entry.{Entry}
-use Rattle.record.specs.declared.Entry.the-variants.{Constant, Variable}
-use Rattle.record.specs.declared.Cell.{Cell}
-use Rattle.record.specs.Rule.{noCell}
+use Rattle.query.specs.declared.Entry.{Entry}
+use Rattle.query.specs.declared.Entry.the-variants.{Constant, Variable}
+use Rattle.query.specs.declared.Cell.{Cell}
+use Rattle.query.specs.Rule.{noCell}
 use Rattle.format.specs.Bytes.{over}
 use Rattle.format.specs.Format.{Reading, none, got, gotIf, mapReading, getTimes, putAll, pad}
 use Rattle.format.specs.Parts.{entryFrom}

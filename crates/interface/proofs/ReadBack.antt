@@ -9,18 +9,21 @@ use lib.Dec.{eqb, leb, ltb}
 use lib.ListN.{length, take, drop, replicate, length-append, length-replicate, length-set}
 use lib.Seq.{take-at}
 use borrow.Author.Tests.{leb-true}
-use Rattle.record.specs.declared.Cell.{Cell}
-use Rattle.record.specs.declared.Query.{Query}
-use Rattle.record.specs.declared.Dependency.{Dependency}
+use Rattle.query.specs.declared.Cell.{Cell}
+use Rattle.query.specs.declared.Query.{Query}
+use Rattle.query.specs.declared.Dependency.{Dependency}
 use Rattle.record.specs.declared.Place.{Place}
 use Rattle.record.specs.declared.Record.{Record}
 use Rattle.record.specs.declared.Answer.{Answer}
 use Rattle.record.specs.declared.Answer.the-variants.{Done, Refused}
 use Rattle.record.specs.declared.Outcome.{Outcome}
-use Rattle.record.specs.View.{schemaOf, queryOf}
-use Rattle.record.specs.Rule.{between, every, goodDependency, goodQuery, headSafe, goodPlace, goodRecord, noPlace, blankRecord}
+use Rattle.record.specs.View.{schemaOf}
+use Rattle.query.specs.View.{queryOf}
+use Rattle.lists.specs.Tests.{between, every}
+use Rattle.query.specs.Rule.{goodDependency, goodQuery, headSafe}
+use Rattle.record.specs.Rule.{goodPlace, goodRecord, noPlace, blankRecord}
 use Rattle.record.specs.Calls.{queryAt, firstHolding, concluded, broken, above, vacant, filled, withPlace, withDependency, emptyRecord, openRecord, addDependency, putQuery, dropQuery}
-use Rattle.record.proofs.Tests.{and-left, and-right, and-both, every-set}
+use Rattle.lists.proofs.Tests.{and-left, and-right, and-both, every-set}
 use Rattle.record.proofs.Good.{good-record}
 use Rattle.record.proofs.Meaning.{open-keeps, add-keeps, put-keeps, drop-keeps}
 use Rattle.format.specs.Bytes.{Bytes, over}

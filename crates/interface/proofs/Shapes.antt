@@ -9,11 +9,11 @@ use denote.Array.{each}
 use denote.Laws.{Is}
 use denote.Shadow.{shadow}
 use denote.Struct.Field.{Field, u8-field, array-field}
-use Rattle.record.specs.declared.Query.{Query}
+use Rattle.query.specs.declared.Query.{Query}
 use Rattle.record.specs.declared.Place.{Place}
 use Rattle.record.specs.declared.Record.{Record}
-use Rattle.record.specs.Rule.{every}
-use Rattle.record.proofs.Tail.{mapped-length}
+use Rattle.lists.specs.Tests.{every}
+use Rattle.lists.proofs.Loops.{mapped-length}
 use Rattle.record.proofs.Cell as cell
 use Rattle.record.proofs.Dependency as dependency
 use Rattle.record.proofs.Query as query

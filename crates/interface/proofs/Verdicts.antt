@@ -11,12 +11,13 @@ use lib.Dec.{leb}
 use lib.ListN.{length}
 use borrow.Author.Tests.{le-leb, lt-leb}
 use Rattle.record.specs.Calls.{queryAt}
-use Rattle.record.specs.declared.Cell.{Cell}
-use Rattle.record.specs.declared.Query.{Query}
+use Rattle.query.specs.declared.Cell.{Cell}
+use Rattle.query.specs.declared.Query.{Query}
 use Rattle.record.specs.declared.Record.{Record}
 use Rattle.record.specs.declared.Answer.the-variants.{Done, Refused}
 use Rattle.record.specs.View.{schemaOf, dependenciesOf}
-use Rattle.record.specs.Rule.{headSafe, goodRecord}
+use Rattle.query.specs.Rule.{headSafe}
+use Rattle.record.specs.Rule.{goodRecord}
 use Rattle.record.proofs.Kept.{filled-place}
 use Rattle.format.specs.Bytes.{over}
 use Rattle.format.specs.Format.{Reading, none, got}

@@ -9,9 +9,9 @@ use Prim.Native.Nat.{ℕ}
 use lib.Dec.{eqb, leb}
 use lib.ListN.{length}
 use Rattle.record.specs.Calls.{queryAt}
-use Rattle.record.specs.declared.Entry.{Entry}
-use Rattle.record.specs.declared.Entry.the-variants.{Constant, Variable}
-use Rattle.record.specs.declared.Cell.{Cell}
+use Rattle.query.specs.declared.Entry.{Entry}
+use Rattle.query.specs.declared.Entry.the-variants.{Constant, Variable}
+use Rattle.query.specs.declared.Cell.{Cell}
 use Rattle.record.specs.declared.Record.{Record}
 use Rattle.record.specs.View.{schemaOf}
 use Rattle.format.specs.Bytes.{over}

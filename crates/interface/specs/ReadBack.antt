@@ -6,9 +6,10 @@ use mathlib.Core.List.{List}
 use mathlib.Core.Option.{none}
 use Prim.Native.Nat.{ℕ}
 use lib.ListN.{length, take}
-use Rattle.record.specs.declared.Query.{Query}
+use Rattle.query.specs.declared.Query.{Query}
 use Rattle.record.specs.declared.Record.{Record}
-use Rattle.record.specs.View.{schemaOf, queryOf}
+use Rattle.record.specs.View.{schemaOf}
+use Rattle.query.specs.View.{queryOf}
 use Rattle.record.specs.Calls.{openRecord, addDependency, dropQuery}
 use Rattle.format.specs.Bytes.{Bytes}
 use Rattle.format.specs.File.{Result, ok, _>>=_, placeWith, readPlace, readFile}

@@ -12,7 +12,7 @@ use database::Answered;
 use database::Verdict;
 use record::Answer;
 use record::Columns;
-use record::Dependency;
+use query::Dependency;
 use record::Record;
 ghost use mathlib.Core.Path.{_≡_};
 ghost use lib.ListN.{length};

@@ -7,8 +7,8 @@ use native.Mathlib.Omega.{arith}
 use lib.Dec.{eqb, ltb}
 use borrow.Author.Tests.{eqb-true, eqb-false, ltb-true, ltb-false}
 use lib.ListN.{length, getD}
-use Rattle.record.specs.View.{dependencyOf, columnsOf}
-use Rattle.record.specs.declared.Dependency.{Dependency}
+use Rattle.query.specs.View.{dependencyOf, columnsOf}
+use Rattle.query.specs.declared.Dependency.{Dependency}
 use Rattle.chains.specs.Chains.{lastBelow}
 use Rattle.chains.proofs.Chains.{last-le, last-none, last-key}
 use Rattle.rows.specs.Words.{spanAt}

@@ -7,7 +7,7 @@ use lib.ListN.{drop, getD}
 use lib.Seq.{getD-take, getD-drop}
 use Rattle.theory.specs.Query.{Row, column}
 use Rattle.theory.specs.Database.{Agree}
-use Rattle.record.specs.View.{columnsFrom, columnsOf}
+use Rattle.query.specs.View.{columnsFrom, columnsOf}
 use Rattle.rows.specs.Words.{spanAt}
 use Rattle.rows.proofs.Columns.{columns-short, columns-set, columns-clear}
 use Rattle.leaders.specs.Hash.{hashFrom}

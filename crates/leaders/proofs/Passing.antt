@@ -10,8 +10,8 @@ use lib.ListN.{length, take, drop, getD, set, length-set, length-drop, drop-of-l
 use lib.Seq.{getD-drop, getD-set-same, getD-set-other, drop-drop, drop-length, take-all}
 use Rattle.theory.specs.Query.{Row, column}
 use Rattle.theory.specs.Database.{Database, Agree}
-use Rattle.record.specs.View.{dependencyOf, columnsOf}
-use Rattle.record.specs.declared.Dependency.{Dependency}
+use Rattle.query.specs.View.{dependencyOf, columnsOf}
+use Rattle.query.specs.declared.Dependency.{Dependency}
 use Rattle.chains.specs.Chains.{Chained}
 use Rattle.chains.proofs.Chains.{chained-agree}
 use Rattle.rows.specs.Words.{whole, rowsFrom, rowsOf, wholeFrom, spanAt, rowAt, Next}

@@ -4,8 +4,8 @@ use mathlib.Core.Bool.{true, false}
 use mathlib.Core.List.{List}
 use Prim.Native.Nat.{ℕ, _+_, _≤_, _<_}
 use lib.ListN.{length, getD}
-use Rattle.record.specs.View.{dependencyOf}
-use Rattle.record.specs.declared.Dependency.{Dependency}
+use Rattle.query.specs.View.{dependencyOf}
+use Rattle.query.specs.declared.Dependency.{Dependency}
 use Rattle.chains.specs.Chains.{Chained}
 use Rattle.rows.specs.Words.{spanAt}
 use Rattle.rows.specs.Testing.{agreeRows}

@@ -5,8 +5,8 @@ use mathlib.Core.List.{List}
 use Prim.Native.Nat.{ℕ, _+_, _<_}
 use lib.Dec.{ltb}
 use lib.ListN.{length, drop, getD}
-use Rattle.record.specs.View.{dependencyOf}
-use Rattle.record.specs.declared.Dependency.{Dependency}
+use Rattle.query.specs.View.{dependencyOf}
+use Rattle.query.specs.declared.Dependency.{Dependency}
 use Rattle.rows.specs.Words.{rowsOf}
 use Rattle.rows.specs.Testing.{firstPairFrom}
 use Rattle.rows.specs.Found.{From}

@@ -3,7 +3,7 @@
 // leader that a row of its group differs from is the first row of the first broken pair.
 // The leaders stand in lent slices: `offsets` has the word at which each begins, `numbers` its position among the rows, and `heads` and
 // `links` are hash chains over their left values. A row for which there is no room is one that may be the first of a broken pair.
-use record::Dependency;
+use query::Dependency;
 use rows::Pair;
 use rows::Partner;
 use rows::Violation;
@@ -13,10 +13,11 @@ ghost use mathlib.Core.Bool.{true};
 ghost use Prim.Native.Nat.{_+_, _^_, _≤_, _<_};
 ghost use mathlib.Core.List.{map};
 ghost use lib.ListN.{length, take, getD};
-ghost use Rattle.record.specs.View.{dependencyOf};
+ghost use Rattle.query.specs.View.{dependencyOf};
 ghost use Rattle.rows.specs.Words.{whole, rowsOf, spanAt};
 ghost use Rattle.rows.specs.Testing.{firstPairFrom, firstBrokenFrom};
-ghost use Rattle.rows.specs.Found.{pairOf, violationOf, Testable, noDependency};
+ghost use Rattle.rows.specs.Found.{pairOf, violationOf, Testable};
+ghost use Rattle.query.specs.Rule.{noDependency};
 ghost use Rattle.leaders.specs.Hash.{bucketOf};
 ghost use Rattle.leaders.specs.Table.{Table, Led};
 ghost use Rattle.leaders.specs.Walked.{Member, Room, Walked, earlierOf, Skips};

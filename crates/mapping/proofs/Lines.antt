@@ -19,14 +19,15 @@ use Rattle.theory.specs.Answer.{valueOf, IsMapping}
 use Rattle.theory.proofs.Lists.{getD-mem}
 use Rattle.theory.proofs.Members.{row-of-entry}
 use Rattle.theory.proofs.Entries.{constant-variable, variablesOf-mem, mem-variablesOf, row-rowEntries}
-use Rattle.record.specs.declared.Cell.{Cell}
-use Rattle.record.specs.declared.Query.{Query}
-use Rattle.record.specs.View.{entryOf, queryOf}
-use Rattle.record.specs.Rule.{every, inUse, goodCell, blankCell, headInUse, goodQuery, noCell}
-use Rattle.record.proofs.Tests.{below-or-past, every-getD, used-blank, used-all}
-use Rattle.record.proofs.Good.{GoodQuery, good-query}
-use Rattle.record.proofs.Stored.{Within, entry-within, row-at, row-parts}
-use Rattle.record.proofs.Shape.{head-length, row-count, rowFrom, row-is, column-is, head-is, blank-cell}
+use Rattle.query.specs.declared.Cell.{Cell}
+use Rattle.query.specs.declared.Query.{Query}
+use Rattle.query.specs.View.{entryOf, queryOf}
+use Rattle.lists.specs.Tests.{every, inUse}
+use Rattle.query.specs.Rule.{goodCell, blankCell, headInUse, goodQuery, noCell}
+use Rattle.lists.proofs.Tests.{below-or-past, every-getD, used-blank, used-all}
+use Rattle.query.proofs.Good.{GoodQuery, good-query}
+use Rattle.query.proofs.Stored.{Within, entry-within, row-at, row-parts}
+use Rattle.query.proofs.Shape.{head-length, row-count, rowFrom, row-is, column-is, head-is, blank-cell}
 use Rattle.mapping.specs.Mapped.{cellAt, entryAt, Narrow}
 use Rattle.mapping.proofs.Wide.{Wide}
 

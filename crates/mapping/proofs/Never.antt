@@ -9,9 +9,9 @@ use lib.ListN.{take, replicate}
 use Rattle.theory.specs.Answer.{Mapping}
 use Rattle.theory.proofs.Carry.{mapping-target}
 use Rattle.theory.proofs.Lists.{bool-cases}
-use Rattle.record.specs.declared.Query.{Query}
-use Rattle.record.specs.View.{rowsOf, queryOf}
-use Rattle.record.specs.Rule.{goodQuery, noCell}
+use Rattle.query.specs.declared.Query.{Query}
+use Rattle.query.specs.View.{rowsOf, queryOf}
+use Rattle.query.specs.Rule.{goodQuery, noCell}
 use Rattle.mapping.specs.declared.Mapped.{Mapped}
 use Rattle.mapping.specs.Mapped.{Narrow, Finds}
 

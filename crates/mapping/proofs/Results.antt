@@ -10,12 +10,12 @@ use lib.ListN.{getD, length, replicate, List·getD-eq-default}
 use Rattle.theory.specs.Query.{Entry, constant, variable}
 use Rattle.theory.specs.Answer.{valueOf}
 use Rattle.theory.specs.Containment.{freeze}
-use Rattle.record.specs.declared.Cell.{Cell}
-use Rattle.record.specs.declared.Query.{Query}
-use Rattle.record.specs.View.{entryOf}
-use Rattle.record.specs.Rule.{noCell}
-use Rattle.record.proofs.Good.{good-query}
-use Rattle.record.proofs.Stored.{Within}
+use Rattle.query.specs.declared.Cell.{Cell}
+use Rattle.query.specs.declared.Query.{Query}
+use Rattle.query.specs.View.{entryOf}
+use Rattle.query.specs.Rule.{noCell}
+use Rattle.query.proofs.Good.{good-query}
+use Rattle.query.proofs.Stored.{Within}
 use Rattle.search.specs.Solution.{Solution}
 use Rattle.mapping.specs.Tests.{Tells}
 use Rattle.mapping.specs.Agree.{IsDomain, IsTable}

@@ -14,10 +14,10 @@ use lib.ListN.{getD, length, List·getD-eq-default}
 use Rattle.theory.specs.Query.{Entry, constant, variable}
 use Rattle.theory.specs.Answer.{valueOf}
 use Rattle.theory.specs.Containment.{freeze}
-use Rattle.record.specs.declared.Cell.{Cell}
-use Rattle.record.specs.View.{entryOf}
-use Rattle.record.specs.Rule.{noCell}
-use Rattle.record.proofs.Stored.{Within}
+use Rattle.query.specs.declared.Cell.{Cell}
+use Rattle.query.specs.View.{entryOf}
+use Rattle.query.specs.Rule.{noCell}
+use Rattle.query.proofs.Stored.{Within}
 use Rattle.search.specs.Solution.{Solution}
 use Rattle.mapping.specs.Agree.{rowStart, imageStart, candidatesOf, Repeats, Together, Possible, IsDomain, IsTable}
 use Rattle.mapping.specs.Mapped.{entryIn, imagesOf, Assigned}

@@ -9,10 +9,10 @@ use lib.Dec.{ltb}
 use lib.ListN.{getD, replicate}
 use Rattle.theory.specs.Query as theory
 use Rattle.theory.specs.Answer.{valueOf, IsMapping, Mapping}
-use Rattle.record.specs.declared.Cell.{Cell}
-use Rattle.record.specs.declared.Query.{Query}
-use Rattle.record.specs.View.{entryOf, queryOf}
-use Rattle.record.specs.Rule.{goodQuery, noCell}
+use Rattle.query.specs.declared.Cell.{Cell}
+use Rattle.query.specs.declared.Query.{Query}
+use Rattle.query.specs.View.{entryOf, queryOf}
+use Rattle.query.specs.Rule.{goodQuery, noCell}
 use Rattle.mapping.specs.Tests.{Tells}
 use Rattle.mapping.specs.declared.Mapped.{Mapped}
 use Rattle.mapping.specs.Agree.{rowStart, imageStart}

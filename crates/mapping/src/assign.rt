@@ -1,8 +1,8 @@
 // The images of a source's variables, from the images of its rows.
 use crate::table::image_at;
 use crate::table::row_at;
-use record::Cell;
-use record::Entry;
+use query::Cell;
+use query::Entry;
 ghost use Prim.Native.Nat.{ℕ, _+_, _≤_, _<_};
 ghost use lib.ListN.{getD};
 ghost use Rattle.mapping.specs.Tests.{choiceOf};

@@ -1,12 +1,12 @@
 // Whether given images carry entries, rows and a head of a source to those of a target.
-use record::Cell;
-use record::Entry;
+use query::Cell;
+use query::Entry;
 ghost use mathlib.Core.Path.{_≡_};
 ghost use Prim.Native.Nat.{ℕ, _+_, _≤_, _<_};
 ghost use Rattle.theory.specs.Query.{constant, sameEntry};
 ghost use Rattle.theory.specs.Answer.{valueOf};
 ghost use Rattle.mapping.specs.Tests.{Tells};
-ghost use Rattle.record.specs.View.{entryOf};
+ghost use Rattle.query.specs.View.{entryOf};
 ghost use Rattle.mapping.specs.Mapped.{imagesOf, Carried, Lands, Stands, RestBlank};
 
 // Whether two entries are the same constant or the same variable.

@@ -1,13 +1,13 @@
 // A query in one line: the cells of its rows, then those of its head; and the same as numbers. Rows and head are 8 wide, blanks included.
-use record::Cell;
-use record::Entry;
-use record::Query;
+use query::Cell;
+use query::Entry;
+use query::Query;
 ghost use mathlib.Core.Path.{_≡_};
 ghost use Prim.Native.Nat.{ℕ, _<_};
 ghost use lib.ListN.{getD};
 ghost use Rattle.theory.specs.Containment.{freeze};
-ghost use Rattle.record.specs.View.{entryOf};
-ghost use Rattle.record.specs.Rule.{noCell};
+ghost use Rattle.query.specs.View.{entryOf};
+ghost use Rattle.query.specs.Rule.{noCell};
 ghost use Rattle.mapping.specs.Mapped.{cellAt, entryIn};
 
 // The cells of the rows, then the cells of the head.

@@ -13,9 +13,9 @@ use crate::cells::flat;
 use crate::cells::numbers;
 use crate::table::domains;
 use crate::table::table;
-use record::Cell;
-use record::Entry;
-use record::Query;
+use query::Cell;
+use query::Entry;
+use query::Query;
 ghost use mathlib.Core.Path.{_≡_};
 ghost use Rattle.mapping.specs.Mapped.{noMapping, Storable, Finds, Checks};
 

@@ -8,7 +8,7 @@ use native.Mathlib.Omega.{arith}
 use lib.ListN.{length, getD, drop, drop-of-length-le}
 use lib.Seq.{drop-cons}
 use lib.Dec.{leb, leb·zero}
-use Rattle.record.specs.Rule.{between}
+use Rattle.lists.specs.Tests.{between}
 use Rattle.format.specs.Format.{Reading, none, got, gotIf, andThen, mapReading, Format, getByte, byte, sequence}
 use Rattle.format.specs.File.{Result, ok, refused, whole}
 use Rattle.reader.specs.declared.ByteRead.the-variants.{Byte, NoByte}

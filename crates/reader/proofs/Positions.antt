@@ -8,15 +8,16 @@ use native.Mathlib.Nat.{add-zero}
 use lib.ListN.{length, getD, drop, drop-of-length-le, length-drop}
 use lib.Seq.{drop-cons, getD-drop, drop-drop}
 use borrow.Author.Tests.{le-leb, lt-leb, ne-eqb}
-use Rattle.record.specs.Rule.{between, goodDependency}
+use Rattle.lists.specs.Tests.{between}
+use Rattle.query.specs.Rule.{goodDependency}
 use Rattle.format.specs.Format.{Reading, none, got, gotIf, getByte}
 use Rattle.format.specs.Bytes.{number}
 use Rattle.format.specs.Parts.{dependency, dependencyAt, entry, isEntry, entryFrom}
-use Rattle.record.specs.declared.Entry.{Entry}
-use Rattle.record.specs.declared.Cell.{Cell}
-use Rattle.record.specs.declared.Dependency.{Dependency}
+use Rattle.query.specs.declared.Entry.{Entry}
+use Rattle.query.specs.declared.Cell.{Cell}
+use Rattle.query.specs.declared.Dependency.{Dependency}
 use Rattle.reader.specs.declared.DependencyRead.the-variants.{Found, NoDependency}
-use Rattle.record.specs.declared.Entry.the-variants.{Constant, Variable}
+use Rattle.query.specs.declared.Entry.the-variants.{Constant, Variable}
 use Rattle.reader.specs.declared.EntryRead.the-variants.{Read, NoEntry}
 use Rattle.reader.specs.Read.{entryRead, dependencyRead}
 use lib.Dec.{leb}

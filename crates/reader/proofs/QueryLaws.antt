@@ -6,8 +6,8 @@ use Prim.Native.Nat.{ℕ, zero, suc, _+_, _*_, _≤_, _<_}
 use native.Mathlib.Omega.{arith}
 use lib.Dec.{eqb, leb}
 use lib.ListN.{length, drop}
-use Rattle.record.specs.declared.Cell.{Cell}
-use Rattle.record.specs.declared.Query.{Query}
+use Rattle.query.specs.declared.Cell.{Cell}
+use Rattle.query.specs.declared.Query.{Query}
 use Rattle.format.specs.Format.{Reading, none, got, mapReading, Format, getByte, byte, sequence, via}
 use Rattle.format.specs.Parts.{entries, rows, flat, Fields, queryWith, fieldsOf, fullCells, query}
 use Rattle.format.specs.File.{Result, ok, refused, whole}

@@ -10,9 +10,9 @@ use mir.Syntax.{w8, w64}
 use mir.Val.{Fits}
 use lib.ListN.{length, take, drop, getD, set, replicate, length-set}
 use lib.Seq.{take-all, drop-drop}
-use Rattle.record.specs.declared.Entry.{Entry}
-use Rattle.record.specs.declared.Cell.{Cell}
-use Rattle.record.specs.Rule.{noCell, goodRelations}
+use Rattle.query.specs.declared.Entry.{Entry}
+use Rattle.query.specs.declared.Cell.{Cell}
+use Rattle.query.specs.Rule.{noCell, goodRelations}
 use Rattle.format.specs.Bytes.{over}
 use Rattle.format.specs.Format.{Reading, none, got, padded}
 use Rattle.format.specs.Parts.{entry, entries, row, noRow, rows, chunk, flat}

@@ -10,8 +10,8 @@ use lib.Dec.{ltb, leb}
 use lib.ListN.{length, getD, take, drop, set, replicate, length-append, length-set, length-replicate, replicate-append-replicate, take-append-drop}
 use lib.Seq.{drop-drop, take-at, drop-at, length-take-le, set-append-left}
 use borrow.Author.Tests.{le-ltb, lt-ltb, leb-true}
-use Rattle.record.specs.declared.Cell.{Cell}
-use Rattle.record.specs.Rule.{noCell}
+use Rattle.query.specs.declared.Cell.{Cell}
+use Rattle.query.specs.Rule.{noCell}
 use Rattle.format.specs.Bytes.{number, over}
 use Rattle.format.specs.Format.{Reading, none, got, gotIf, mapReading, getTimes, getByte, byte, sequence, pad, padded}
 use Rattle.format.specs.Parts.{entry, isEntry, entryFrom, entries, row, chunk, flat}

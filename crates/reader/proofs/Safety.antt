@@ -10,12 +10,13 @@ use lib.Dec.{eqb, ltb, leb}
 use lib.ListN.{length, getD, take, drop, set, replicate, length-set, length-drop, take-append-drop, getD-replicate}
 use lib.Seq.{getD-set-same, getD-set-other, take-take, drop-drop, length-take-le}
 use borrow.Author.Tests.{eqb-true, eqb-false, leb-true, eq-eqb}
-use Rattle.record.specs.declared.Entry.{Entry}
-use Rattle.record.specs.declared.Entry.the-variants.{Constant, Variable}
-use Rattle.record.specs.declared.Cell.{Cell}
-use Rattle.record.specs.declared.Query.{Query}
-use Rattle.record.specs.View.{entryOf, entriesOf, rowsOf, queryOf}
-use Rattle.record.specs.Rule.{every, inUse, blankEntry, blankCell, goodEntry, goodCell, goodRow, goodRows, goodQuery, headInUse, headSafe, noCell}
+use Rattle.query.specs.declared.Entry.{Entry}
+use Rattle.query.specs.declared.Entry.the-variants.{Constant, Variable}
+use Rattle.query.specs.declared.Cell.{Cell}
+use Rattle.query.specs.declared.Query.{Query}
+use Rattle.query.specs.View.{entryOf, entriesOf, rowsOf, queryOf}
+use Rattle.lists.specs.Tests.{every, inUse}
+use Rattle.query.specs.Rule.{blankEntry, blankCell, goodEntry, goodCell, goodRow, goodRows, goodQuery, headInUse, headSafe, noCell}
 use Rattle.theory.specs.Query.{variablesOf, rowEntries, member}
 use Rattle.theory.specs.Query as theory
 use Rattle.theory.specs.Determined.{subset}

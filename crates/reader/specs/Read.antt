@@ -3,15 +3,17 @@ use mathlib.Core.Bool.{Bool, true, false}
 use mathlib.Core.List.{List, [], _∷_, map}
 use Prim.Native.Nat.{ℕ}
 use lib.ListN.{length, replicate}
-use Rattle.record.specs.declared.Cell.{Cell}
-use Rattle.record.specs.declared.Dependency.{Dependency}
-use Rattle.record.specs.declared.Query.{Query}
+use Rattle.query.specs.declared.Cell.{Cell}
+use Rattle.query.specs.declared.Dependency.{Dependency}
+use Rattle.query.specs.declared.Query.{Query}
 use Rattle.record.specs.declared.Place.{Place}
 use Rattle.record.specs.declared.Outcome.{Outcome}
 use Rattle.record.specs.declared.Answer.the-variants.{Done, Refused}
-use Rattle.record.specs.Rule.{noCell, noQuery, noPlace}
+use Rattle.query.specs.Rule.{noCell, noQuery}
+use Rattle.record.specs.Rule.{noPlace}
 use Rattle.format.specs.Format.{Reading, none, got}
-use Rattle.format.specs.Parts.{noDependency, flat}
+use Rattle.format.specs.Parts.{flat}
+use Rattle.query.specs.Rule.{noDependency}
 use Rattle.format.specs.File.{Result, ok, refused, recordWith, outcomeOf}
 use Rattle.reader.specs.declared.ByteRead.{ByteRead}
 use Rattle.reader.specs.declared.ByteRead.the-variants.{Byte, NoByte}

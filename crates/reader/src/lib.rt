@@ -1,19 +1,20 @@
 // The record of a file. The directory names the parts; each part is read as the very stretch of the file that its pair names.
 use record::Answer;
-use record::Cell;
-use record::Dependency;
-use record::Entry;
+use query::Cell;
+use query::Dependency;
+use query::Entry;
 use record::Outcome;
 use record::Place;
-use record::Query;
+use query::Query;
 use record::Record;
 use record::calls;
-use record::rule;
+use query::rule;
 ghost use mathlib.Core.Path.{_≡_};
 ghost use mathlib.Core.Bool.{true};
 ghost use Prim.Native.Nat.{_+_, _-_, _*_, _≤_, _<_};
 ghost use lib.ListN.{length, take, drop, getD};
-ghost use Rattle.record.specs.Rule.{between, goodRelations};
+ghost use Rattle.lists.specs.Tests.{between};
+ghost use Rattle.query.specs.Rule.{goodRelations};
 ghost use Rattle.format.specs.Bytes.{number};
 ghost use Rattle.format.specs.Format.{getByte};
 ghost use Rattle.format.specs.Parts.{relations, dependency, dependencies, entry, entries, rows, query};
@@ -397,7 +398,7 @@ fn no_query_read() -> QueryRead
 {
     QueryRead {
         good: false,
-        query: calls::no_query(),
+        query: query::no_query(),
     }
 }
 

@@ -7,14 +7,16 @@ use Prim.Native.Nat.{ℕ, _<_}
 use native.Mathlib.Omega.{arith}
 use lib.ListN.{length, take, getD}
 use lib.Seq.{getD-set-same, getD-set-other}
-use Rattle.record.specs.declared.Query.{Query}
-use Rattle.record.specs.declared.Dependency.{Dependency}
+use Rattle.query.specs.declared.Query.{Query}
+use Rattle.query.specs.declared.Dependency.{Dependency}
 use Rattle.record.specs.declared.Place.{Place}
 use Rattle.record.specs.declared.Record.{Record}
 use Rattle.record.specs.View.{schemaOf}
-use Rattle.record.specs.Rule.{every, goodRelations, goodDependency, blankDependency, goodQuery, headSafe, blankQuery, goodPlace, goodRecord, noPlace}
+use Rattle.lists.specs.Tests.{every}
+use Rattle.query.specs.Rule.{goodRelations, goodDependency, blankDependency, goodQuery, headSafe, blankQuery}
+use Rattle.record.specs.Rule.{goodPlace, goodRecord, noPlace}
 use Rattle.record.specs.Calls.{withPlace, withDependency, emptyRecord}
-use Rattle.record.proofs.Tests.{and-both, every-set, every-replicate, used-more}
+use Rattle.lists.proofs.Tests.{and-both, every-set, every-replicate, used-more}
 use Rattle.record.proofs.Good.{good-record, make-record}
 
 pub filled-place : (schema : List ℕ) (q : Query) → goodQuery schema q ≡ true → headSafe schema q ≡ true

@@ -1,13 +1,13 @@
 -- What the calls' equations come to: the statements of `specs/Meaning`. Assumes nothing.
 use mathlib.Core.Path.{_≡_, refl, sym, ap, subst, _∙_}
 use mathlib.Core.Logic.{_↔_}
-use mathlib.Core.Bool.{Bool, true, false, not, _&&_}
+use mathlib.Core.Bool.{Bool, true, not, _&&_}
 use mathlib.Core.List.{List, [], _∷_, _++_}
 use mathlib.Core.Option.{Option, none, some}
 use Prim.Native.Nat.{ℕ, _+_, _-_, _^_, _<_}
 use native.Mathlib.Nat.{lt-of-lt-of-le}
 use native.Mathlib.Omega.{arith}
-use lib.Dec.{eqb, leb}
+use lib.Dec.{eqb}
 use lib.ListN.{length, getD, replicate}
 use lib.Pow.{pow-mono}
 use borrow.Author.Tests.{eqb-false, not-false}
@@ -16,21 +16,23 @@ use Rattle.theory.specs.Database as database
 use Rattle.theory.proofs.Lists.{member-mem, mem-member}
 use Rattle.theory.specs.Determined.{Determines, determined}
 use Rattle.theory.proofs.Determined.{determined-exact}
-use Rattle.record.specs.declared.Query.{Query}
-use Rattle.record.specs.declared.Dependency.{Dependency}
+use Rattle.query.specs.declared.Dependency.{Dependency}
 use Rattle.record.specs.declared.Record.{Record}
 use Rattle.record.specs.declared.Answer.the-variants as answer
-use Rattle.record.specs.declared.Outcome.{Outcome}
 use Rattle.record.specs.declared.Columns.the-variants as columns
-use Rattle.record.specs.View.{columnsFrom, columnsOf, schemaOf, dependenciesOf}
-use Rattle.record.specs.Rule.{between, every, goodSet, goodRelations, goodDependency, goodQuery, headSafe, goodRecord, noPlace, blankRecord}
-use Rattle.record.specs.Calls.{firstHolding, concluded, broken, above, vacant, filled, withPlace, withDependency, emptyRecord, openRecord, addDependency, putQuery, dropQuery, maskOf, columnsAnswer, determinedColumns}
+use Rattle.query.specs.View.{columnsFrom, columnsOf, maskOf}
+use Rattle.record.specs.View.{schemaOf, dependenciesOf}
+use Rattle.lists.specs.Tests.{between, every}
+use Rattle.query.specs.Rule.{goodSet, goodRelations, goodDependency, goodQuery, headSafe}
+use Rattle.record.specs.Rule.{goodRecord, noPlace, blankRecord}
+use Rattle.record.specs.Calls.{firstHolding, concluded, broken, above, vacant, filled, withPlace, withDependency, emptyRecord, openRecord, addDependency, putQuery, dropQuery, columnsAnswer, determinedColumns}
 use Rattle.record.specs.Meaning.{OpenKeeps, AddKeeps, PutKeeps, DropKeeps, BlankBroken, DeterminedMeans}
-use Rattle.record.specs.Closure.{growMask}
-use Rattle.record.proofs.Good.{good-record, good-set}
+use Rattle.closure.specs.Closure.{growMask}
+use Rattle.record.proofs.Good.{good-record}
+use Rattle.query.proofs.Good.{good-set}
 use Rattle.record.proofs.Stored.{narrow, dependencies-fit}
-use Rattle.record.proofs.Masks.{same-columns, columns-member, columns-count}
-use Rattle.record.proofs.Closure.{is-columns, determined-mask, grow-lt}
+use Rattle.closure.proofs.Masks.{same-columns, columns-member, columns-count}
+use Rattle.closure.proofs.Closure.{is-columns, determined-mask, grow-lt}
 use Rattle.record.proofs.Refusals.{none-holds}
 use Rattle.record.proofs.Outcomes.{widths-judged}
 use Rattle.record.proofs.Kept.{filled-place, empty-place, place-kept, dependency-kept, opened-good}

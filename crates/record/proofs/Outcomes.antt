@@ -15,19 +15,23 @@ use borrow.Author.Tests.{lt-ltb, le-ltb, lt-leb, eq-eqb, ne-eqb}
 use Rattle.theory.specs.Database as database
 use Rattle.theory.specs.Query.{_∈_}
 use Rattle.theory.specs.Determined.{determined}
-use Rattle.record.specs.declared.Query.{Query}
-use Rattle.record.specs.declared.Dependency.{Dependency}
+use Rattle.query.specs.declared.Query.{Query}
+use Rattle.query.specs.declared.Dependency.{Dependency}
 use Rattle.record.specs.declared.Lookup.the-variants as lookup
 use Rattle.record.specs.declared.Record.{Record}
 use Rattle.record.specs.declared.Columns.the-variants as columns
-use Rattle.record.specs.View.{columnsOf, schemaOf, dependenciesOf}
-use Rattle.record.specs.Rule.{between, every, goodSet, rightNarrow, blankDependency, isZero, goodRelations, blankRecord, goodRecord, goodDependency, goodQuery, headSafe, noPlace}
-use Rattle.record.specs.Calls.{firstHolding, concluded, broken, above, vacant, filled, placeAt, filledPlace, vacantPlace, withPlace, withDependency, emptyRecord, openRecord, addDependency, putQuery, dropQuery, maskOf, determinedColumns}
-use Rattle.record.specs.Closure.{growMask}
-use Rattle.record.proofs.Tests.{every-replicate, every-weaken, used-good}
-use Rattle.record.proofs.Good.{good-record, good-dependency, good-set}
+use Rattle.query.specs.View.{columnsOf, maskOf}
+use Rattle.record.specs.View.{schemaOf, dependenciesOf}
+use Rattle.lists.specs.Tests.{between, every, isZero}
+use Rattle.query.specs.Rule.{goodSet, rightNarrow, blankDependency, goodRelations, goodDependency, goodQuery, headSafe}
+use Rattle.record.specs.Rule.{blankRecord, goodRecord, noPlace}
+use Rattle.record.specs.Calls.{firstHolding, concluded, broken, above, vacant, filled, placeAt, filledPlace, vacantPlace, withPlace, withDependency, emptyRecord, openRecord, addDependency, putQuery, dropQuery, determinedColumns}
+use Rattle.closure.specs.Closure.{growMask}
+use Rattle.lists.proofs.Tests.{every-replicate, every-weaken, used-good}
+use Rattle.record.proofs.Good.{good-record}
+use Rattle.query.proofs.Good.{good-dependency, good-set}
 use Rattle.record.proofs.Stored.{narrow, dependencies-fit}
-use Rattle.record.proofs.Closure.{held-length, determined-mask, determined-count}
+use Rattle.closure.proofs.Closure.{held-length, determined-mask, determined-count}
 use Rattle.record.proofs.Refusals.{first-goes, found-refused, filled-at, vacant-at, place-refused, vacant-refused}
 
 and-true-right : (b : Bool) → b && true ≡ b

@@ -1,25 +1,27 @@
 -- What each call on the record alone answers: the refusals in document 01's order, and the record after the call.
-use mathlib.Core.Bool.{Bool, true, false, cond, not, _&&_}
+use mathlib.Core.Bool.{Bool, true, cond, not, _&&_}
 use mathlib.Core.List.{List, [], _∷_, _++_}
 use mathlib.Core.Option.{Option, none, some}
-use Prim.Native.Nat.{ℕ, _+_, _-_, _^_}
-use lib.Dec.{eqb, ltb, leb}
+use Prim.Native.Nat.{ℕ, _+_, _-_}
+use lib.Dec.{eqb, ltb}
 use lib.ListN.{length, getD, set, replicate}
 use Rattle.theory.specs.Query as theory
 use Rattle.theory.specs.Determined.{determined}
-use Rattle.record.specs.declared.Query.{Query}
-use Rattle.record.specs.declared.Dependency.{Dependency}
+use Rattle.query.specs.declared.Query.{Query}
+use Rattle.query.specs.declared.Dependency.{Dependency}
 use Rattle.record.specs.declared.Place.{Place}
 use Rattle.record.specs.declared.Record.{Record}
-use Rattle.record.specs.declared.Answer.{Answer}
 use Rattle.record.specs.declared.Answer.the-variants as answer
 use Rattle.record.specs.declared.Outcome.{Outcome}
 use Rattle.record.specs.declared.Lookup.{Lookup}
 use Rattle.record.specs.declared.Lookup.the-variants as lookup
 use Rattle.record.specs.declared.Columns.{Columns}
 use Rattle.record.specs.declared.Columns.the-variants as columns
-use Rattle.record.specs.View.{columnsOf, queryOf, schemaOf, dependenciesOf}
-use Rattle.record.specs.Rule.{between, every, goodSet, goodDependency, goodQuery, headSafe, goodRecord, noDependency, noPlace, blankRecord}
+use Rattle.query.specs.View.{columnsOf, queryOf, maskOf}
+use Rattle.record.specs.View.{schemaOf, dependenciesOf}
+use Rattle.lists.specs.Tests.{between, every}
+use Rattle.query.specs.Rule.{goodSet, goodDependency, goodQuery, headSafe, noDependency}
+use Rattle.record.specs.Rule.{goodRecord, noPlace, blankRecord}
 
 -- ---- refusals
 
@@ -124,11 +126,6 @@ putQuery r place q =
 -- Drop a filled place: 14; 7; 11
 unfoldable pub dropQuery : Record → ℕ → Outcome
 dropQuery r place = concluded (firstHolding (broken r ∷ above place ∷ vacant r place ∷ [])) r (withPlace r place noPlace)
-
--- The mask of a set of columns: bit c for column c
-unfoldable pub maskOf : List ℕ → ℕ
-maskOf [] = 0
-maskOf (c ∷ cs) = 2 ^ c + maskOf cs
 
 -- The answer about determined columns: refused with a number, or the set of columns and how many they are
 abbrev pub columnsAnswer : Option ℕ → List ℕ → Columns

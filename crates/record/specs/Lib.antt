@@ -3,4 +3,3 @@ pub mod View
 pub mod Rule
 pub mod Calls
 pub mod Meaning
-pub mod Closure

@@ -1,135 +1,13 @@
--- Document 01's "The record" as tests on the record's fields: what refusals 3, 4, 5, 6 and 14 judge. The lengths of the arrays are the types'.
-use mathlib.Core.Bool.{Bool, true, false, cond, not, _&&_}
-use mathlib.Core.List.{List, [], _∷_}
-use Prim.Native.Nat.{ℕ, zero, suc, _*_, _^_}
-use lib.Dec.{eqb, ltb, leb}
-use lib.ListN.{length, take, drop, getD, replicate}
-use Rattle.record.specs.declared.Entry.{Entry}
-use Rattle.record.specs.declared.Entry.the-variants.{Constant, Variable}
-use Rattle.record.specs.declared.Cell.{Cell}
-use Rattle.record.specs.declared.Query.{Query}
-use Rattle.record.specs.declared.Dependency.{Dependency}
+-- "The record" as tests on its fields: what refusal 14 judges. The lengths of the arrays are the types'.
+use mathlib.Core.Bool.{Bool, false, cond, _&&_}
+use mathlib.Core.List.{List}
+use Prim.Native.Nat.{ℕ}
+use lib.ListN.{replicate}
 use Rattle.record.specs.declared.Place.{Place}
 use Rattle.record.specs.declared.Record.{Record}
-use Rattle.record.specs.View.{entriesOf, queryOf, schemaOf}
-use Rattle.theory.specs.Query as theory
-use Rattle.theory.specs.Determined as determined
-
--- ---- what is in use, and what is not
-
--- Whether n is at least low and at most high
-abbrev pub between : ℕ → ℕ → ℕ → Bool
-between low high n = leb low n && leb n high
-
--- Whether each element of a list passes a test
-unfoldable pub every : {A : Type 0} → (A → Bool) → List A → Bool
-every test [] = true
-every test (x ∷ xs) = test x && every test xs
-
--- Whether the first n elements of an array are good and those after them, which are not in use, are blank
-abbrev pub inUse : {A : Type 0} → ℕ → (A → Bool) → (A → Bool) → List A → Bool
-inUse n good blank xs = every good (take n xs) && every blank (drop n xs)
-
--- A number that is not in use is 0
-abbrev pub isZero : ℕ → Bool
-isZero n = eqb n 0
-
--- Whether an entry is constant 0
-abbrev pub blankEntry : Entry → Bool
-blankEntry (Constant n) = eqb n 0
-blankEntry (Variable v) = false
-
--- An entry that is not in use is constant 0
-abbrev pub blankCell : Cell → Bool
-blankCell c = blankEntry (c .entry)
-
--- A dependency that is not in use is all 0
-abbrev pub blankDependency : Dependency → Bool
-blankDependency d = isZero (d .relation) && isZero (d .left) && isZero (d .right)
-
--- A query that is not in use is all 0
-unfoldable pub blankQuery : Query → Bool
-blankQuery q = isZero (q .arity) && isZero (q .size) && every blankCell (q .head) && every isZero (q .relations) && every blankCell (q .cells)
-
--- ---- relations and dependencies
-
--- 1 to 8 relations, each of 1 to 8 columns
-unfoldable pub goodRelations : ℕ → List ℕ → Bool
-goodRelations relations widths = between 1 8 relations && inUse relations (between 1 8) isZero widths
-
--- A known relation and a nonempty set of its columns: what refusal 4 asks of a question about determined columns
-unfoldable pub goodSet : List ℕ → ℕ → ℕ → Bool
-goodSet schema relation left = ltb relation (length schema) && not (eqb left 0) && ltb left (2 ^ getD schema relation 0)
-
--- A known relation, a nonempty set of its columns and one of its columns
-unfoldable pub goodDependency : List ℕ → Dependency → Bool
-goodDependency schema d =
-    ltb (d .relation) (length schema) && not (eqb (d .left) 0) && ltb (d .left) (2 ^ getD schema (d .relation) 0)
-    && ltb (d .right) (getD schema (d .relation) 0)
-
--- The right column of a dependency is one of 8
-abbrev pub rightNarrow : Dependency → Bool
-rightNarrow d = ltb (d .right) 8
-
--- 0 to 32 dependencies
-unfoldable pub goodDependencies : List ℕ → ℕ → List Dependency → Bool
-goodDependencies schema held dependencies = leb held 32 && inUse held (goodDependency schema) blankDependency dependencies
-
--- ---- queries
-
--- A constant is at most 2,147,483,647, a variable at most 95
-abbrev pub goodEntry : Entry → Bool
-goodEntry (Constant n) = leb n 2147483647
-goodEntry (Variable v) = leb v 95
-
--- The entry of a cell is good
-abbrev pub goodCell : Cell → Bool
-goodCell c = goodEntry (c .entry)
-
--- A row names a known relation and has one entry a column; its cells are 8
-abbrev pub goodRow : List ℕ → ℕ → List Cell → Bool
-goodRow schema relation cells = ltb relation (length schema) && inUse (getD schema relation 0) goodCell blankCell cells
-
--- Each row is good, a row's cells starting 8 after those of the row before
-unfoldable pub goodRows : List ℕ → List ℕ → List Cell → Bool
-goodRows schema [] cells = true
-goodRows schema (relation ∷ relations) cells = goodRow schema relation (take 8 cells) && goodRows schema relations (drop 8 cells)
-
--- How many head entries are in use: never, which has no rows, has a head length but no head entries
-abbrev pub headInUse : Query → ℕ
-headInUse q = cond (eqb (q .size) 0) 0 (q .arity)
-
--- A head of 0 to 8 entries and 0 to 12 rows, everything not in use blank: what refusal 5 asks of a query
-unfoldable pub goodQuery : List ℕ → Query → Bool
-goodQuery schema q =
-    leb (q .arity) 8 && leb (q .size) 12 && inUse (headInUse q) goodCell blankCell (q .head)
-    && goodRows schema (take (q .size) (q .relations)) (q .cells)
-    && every isZero (drop (q .size) (q .relations)) && every blankCell (drop (8 * q .size) (q .cells))
-
--- Whether an entry is variable v
-abbrev pub isVariable : ℕ → Entry → Bool
-isVariable v (Constant n) = false
-isVariable v (Variable w) = eqb v w
-
--- The entry of a cell is variable v
-abbrev pub namesVariable : ℕ → Cell → Bool
-namesVariable v c = isVariable v (c .entry)
-
--- Whether an entry is a constant or one of the given variables
-abbrev pub safeEntry : List ℕ → Entry → Bool
-safeEntry variables (Constant n) = true
-safeEntry variables (Variable v) = theory.member v variables
-
--- The entry of a cell is a constant or one of the given variables
-abbrev pub safeCell : List ℕ → Cell → Bool
-safeCell variables c = safeEntry variables (c .entry)
-
--- Each head variable occurs in a row: what refusal 6 asks of a query
-unfoldable pub headSafe : List ℕ → Query → Bool
-headSafe schema q =
-    determined.subset (theory.variablesOf (queryOf schema q .head)) (theory.variablesOf (theory.rowEntries (queryOf schema q .rows)))
-
--- ---- the whole record
+use Rattle.record.specs.View.{schemaOf}
+use Rattle.lists.specs.Tests.{every}
+use Rattle.query.specs.Rule.{blankQuery, goodRelations, goodDependencies, goodQuery, headSafe, noDependency, noQuery}
 
 -- A filled place holds a good query with a safe head, a vacant one holds nothing
 abbrev pub goodPlace : List ℕ → Place → Bool
@@ -142,22 +20,6 @@ goodRecord r =
     && every (goodPlace (schemaOf r)) (r .places)
 
 -- ---- blank values
-
--- The cell of an entry that is not in use
-abbrev pub noCell : Cell
-noCell = record { entry = Constant 0 }
-
--- The dependency of a slot that is not in use
-abbrev pub noDependency : Dependency
-noDependency = record { relation = 0; left = 0; right = 0 }
-
--- The query of a vacant place
-abbrev pub noQuery : Query
-noQuery = record { arity = 0; size = 0; head = replicate 8 noCell; relations = replicate 12 0; cells = replicate 96 noCell }
-
--- The never query with a head of n entries
-abbrev pub neverQuery : ℕ → Query
-neverQuery n = record { arity = n; size = 0; head = replicate 8 noCell; relations = replicate 12 0; cells = replicate 96 noCell }
 
 -- A vacant place
 abbrev pub noPlace : Place

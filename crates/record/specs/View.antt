@@ -1,54 +1,11 @@
--- The meaning of the record's fields: the theory's queries and dependencies that they stand for. One definition for every width and row count.
-use mathlib.Core.Bool.{cond}
-use mathlib.Core.List.{List, [], _∷_, map}
-use Prim.Native.Nat.{ℕ, zero, suc, _/_, _%_}
-use lib.Dec.{eqb}
-use lib.ListN.{take, drop, getD}
-use Rattle.record.specs.declared.Entry.{Entry}
-use Rattle.record.specs.declared.Entry.the-variants.{Constant, Variable}
-use Rattle.record.specs.declared.Cell.{Cell}
-use Rattle.record.specs.declared.Query.{Query}
-use Rattle.record.specs.declared.Dependency.{Dependency}
+-- The meaning of the record's fields: its schema and its dependencies.
+use mathlib.Core.List.{List}
+use Prim.Native.Nat.{ℕ}
+use lib.ListN.{take}
+use Rattle.query.specs.declared.Dependency.{Dependency}
 use Rattle.record.specs.declared.Record.{Record}
-use Rattle.theory.specs.Query as theory
 use Rattle.theory.specs.Database as database
-
--- The entry that an enum value stands for
-abbrev pub entryOf : Entry → theory.Entry
-entryOf (Constant n) = theory.constant n
-entryOf (Variable v) = theory.variable v
-
--- The entries that some cells stand for
-abbrev pub entriesOf : List Cell → List theory.Entry
-entriesOf cells = map (λ c. entryOf (c .entry)) cells
-
--- The rows of the given relations: a row's cells start 8 after those of the row before, and it has as many entries as its relation has columns
-unfoldable pub rowsOf : List ℕ → List ℕ → List Cell → List (theory.Row theory.Entry)
-rowsOf widths [] cells = []
-rowsOf widths (relation ∷ relations) cells =
-    record { relation = relation; values = entriesOf (take (getD widths relation 0) cells) } ∷ rowsOf widths relations (drop 8 cells)
-
--- The query that a stored query stands for
-abbrev pub queryOf : List ℕ → Query → theory.Query
-queryOf widths q =
-    record {
-      head = entriesOf (take (q .arity) (q .head));
-      rows = rowsOf widths (take (q .size) (q .relations)) (q .cells);
-    }
-
--- The columns of a mask, ascending from a start: bit c stands for column c
-unfoldable pub columnsFrom : ℕ → ℕ → ℕ → List ℕ
-columnsFrom start zero mask = []
-columnsFrom start (suc n) mask =
-    cond (eqb (mask % 2) 1) (start ∷ columnsFrom (suc start) n (mask / 2)) (columnsFrom (suc start) n (mask / 2))
-
--- The columns of a mask of 8 bits
-abbrev pub columnsOf : ℕ → List ℕ
-columnsOf mask = columnsFrom 0 8 mask
-
--- The dependency that a stored one stands for
-abbrev pub dependencyOf : Dependency → database.Dependency
-dependencyOf d = record { relation = d .relation; left = columnsOf (d .left); right = d .right }
+use Rattle.query.specs.View.{heldOf}
 
 -- The widths of the relations that a record has: its schema
 abbrev pub schemaOf : Record → List ℕ
@@ -56,4 +13,4 @@ schemaOf r = take (r .relations) (r .widths)
 
 -- The dependencies that a record holds, in held order
 abbrev pub dependenciesOf : Record → List database.Dependency
-dependenciesOf r = map dependencyOf (take (r .held) (r .dependencies))
+dependenciesOf r = heldOf (r .dependencies) (r .held)

@@ -1,25 +1,19 @@
 // The calls that change or ask the record alone. Each takes the record by value and hands it back with the answer; a refused call hands it back unchanged.
 use crate::Answer;
-use crate::Cell;
 use crate::Columns;
-use crate::Dependency;
-use crate::Entry;
 use crate::Lookup;
 use crate::Outcome;
 use crate::Place;
-use crate::Query;
 use crate::Record;
-use crate::rule;
+use query::Dependency;
+use query::Query;
 ghost use mathlib.Core.Path.{_≡_};
 ghost use mathlib.Core.Option.{none, some};
 ghost use mathlib.Core.Bool.{true};
-ghost use mathlib.Core.List.{_++_, map};
+ghost use mathlib.Core.List.{_++_};
 ghost use Prim.Native.Nat.{_-_, _<_, _≤_};
-ghost use lib.ListN.{length, take, replicate};
-ghost use Rattle.theory.specs.Determined.{adds};
-ghost use Rattle.record.specs.View.{columnsOf, dependencyOf};
-ghost use Rattle.record.specs.Closure.{nextMask, growMask};
-ghost use Rattle.record.specs.Rule.{every, rightNarrow, noQuery, noPlace, blankRecord};
+ghost use lib.ListN.{length, replicate};
+ghost use Rattle.record.specs.Rule.{noPlace, blankRecord};
 ghost use Rattle.record.specs.Calls.{concluded, placeAt, filledPlace, vacantPlace, storedAt, emptyRecord, openRecord, addDependency, putQuery, dropQuery, determinedColumns, numberOf};
 
 // A call is done.
@@ -73,29 +67,13 @@ pub fn stored(given: Record, place: usize) -> Query
     at.query
 }
 
-// The query of a vacant place.
-pub fn no_query() -> Query
-    ensures { λ r. ⌜ r ≡ noQuery ⌝ }
-{
-    let blank = Cell {
-        entry: Entry::Constant(0),
-    };
-    Query {
-        arity: 0,
-        size: 0,
-        head: [blank; 8],
-        relations: [0; 12],
-        cells: [blank; 96],
-    }
-}
-
 // A vacant place.
 pub fn no_place() -> Place
     ensures { λ r. ⌜ r ≡ noPlace ⌝ }
 {
     Place {
         filled: false,
-        query: no_query(),
+        query: query::no_query(),
     }
 }
 
@@ -137,49 +115,6 @@ fn padded_widths(widths: &[u8]) -> [u8; 8]
     padded
 }
 
-// Whether a dependency adds its right column to the known columns of a relation.
-fn adds_column(d: Dependency, relation: u8, mask: u8) -> bool
-    requires { ⌜ d .right < 8 ⌝ }
-    ensures { λ r. ⌜ r ≡ adds relation (columnsOf mask) (dependencyOf d) ⌝ }
-{
-    let left = d.left;
-    let right = d.right;
-    if d.relation != relation {
-        return false;
-    }
-    if left & mask != left {
-        return false;
-    }
-    (mask >> right) % 2 != 1
-}
-
-// The known columns with the right column of the first dependency that adds one.
-fn next_columns(held: usize, dependencies: [Dependency; 32], relation: u8, mask: u8) -> u8
-    requires { ⌜ (held ≤ 32) × (every rightNarrow (take held dependencies) ≡ true) ⌝ }
-    ensures { λ r. ⌜ r ≡ nextMask (map dependencyOf (take held dependencies)) relation mask ⌝ }
-{
-    for i in 0..held {
-        let d = dependencies[i];
-        if adds_column(d, relation, mask) {
-            let right = d.right;
-            return mask | (1 << right);
-        }
-    }
-    mask
-}
-
-// The columns that a set of columns determines: each dependency adds at most once.
-fn closed_columns(held: usize, dependencies: [Dependency; 32], relation: u8, left: u8) -> u8
-    requires { ⌜ (held ≤ 32) × (every rightNarrow (take held dependencies) ≡ true) ⌝ }
-    ensures { λ r. ⌜ r ≡ growMask held (map dependencyOf (take held dependencies)) relation left ⌝ }
-{
-    let mut mask = left;
-    for _ in 0..held {
-        mask = next_columns(held, dependencies, relation, mask);
-    }
-    mask
-}
-
 impl Record {
     // Open a record from relation widths.
     pub fn open(widths: &[u8]) -> Outcome
@@ -190,7 +125,7 @@ impl Record {
         }
         let relations = widths.len() as u8;
         let padded = padded_widths(widths);
-        if !rule::relations_good(relations, padded) {
+        if !query::rule::relations_good(relations, padded) {
             return refused(3, blank_record());
         }
         done(opened(relations, padded))
@@ -257,10 +192,10 @@ impl Record {
         let Lookup::At(_) = found else {
             return refused(number(found), self);
         };
-        if !rule::query_good(relations, widths, q) {
+        if !query::rule::query_good(relations, widths, q) {
             return refused(5, self);
         }
-        if !rule::head_safe(relations, widths, q) {
+        if !query::rule::head_safe(relations, widths, q) {
             return refused(6, self);
         }
         let found = self.vacant_place(place);
@@ -285,7 +220,7 @@ impl Record {
         if !self.whole() {
             return refused(14, self);
         }
-        if !rule::dependency_good(relations, widths, d) {
+        if !query::rule::dependency_good(relations, widths, d) {
             return refused(4, self);
         }
         if held == 32 {
@@ -308,10 +243,10 @@ impl Record {
         if !self.whole() {
             return Columns::Refused(14);
         }
-        if !rule::set_good(relations, widths, relation, left) {
+        if !query::rule::set_good(relations, widths, relation, left) {
             return Columns::Refused(4);
         }
-        let mask = closed_columns(held as usize, dependencies, relation, left);
+        let mask = closure::closed_columns(held as usize, dependencies, relation, left);
         Columns::Determined(mask, u8::count_ones(mask) as u8)
     }
 }

@@ -2,12 +2,12 @@
 // A line is what was asked, with the number of the case, and the answer: done, or the refusal's number, or a set of columns (bit c for
 // column c) and its size. Relation 0 is R with columns a, b, and relation 1 is S with columns a, b, c.
 use record::Answer;
-use record::Cell;
+use query::Cell;
 use record::Columns;
-use record::Dependency;
-use record::Entry;
+use query::Dependency;
+use query::Entry;
 use record::Outcome;
-use record::Query;
+use query::Query;
 use record::Record;
 use record::calls;
 
@@ -69,7 +69,7 @@ fn open_widths() {
 
 // A query with an empty head and that many rows, the first R(e, 0), the others R(0, 0).
 fn rows(size: u8, e: Entry) -> Query {
-    let mut q = calls::no_query();
+    let mut q = query::no_query();
     q.size = size;
     q.cells[0] = Cell { entry: e };
     q

@@ -2,10 +2,10 @@
 // A line is the source, the target and the answer: the refusal's number; never, with the length of the head; or the number of rows, the first row, the head's
 // first two entries and the images of v0, v1, v2; then the number of replacements. Relation 0 is R with columns a, b.
 use record::Answer;
-use record::Cell;
-use record::Dependency;
-use record::Entry;
-use record::Query;
+use query::Cell;
+use query::Dependency;
+use query::Entry;
+use query::Query;
 use record::Record;
 use record::calls;
 use reduction::Reduced;
@@ -86,7 +86,7 @@ fn query(arity: u8, shown: Entry, size: u8, b: Entry, c: Entry) -> Query {
     let v0 = Cell {
         entry: Entry::Variable(0),
     };
-    let mut q = calls::no_query();
+    let mut q = query::no_query();
     q.arity = arity;
     q.size = size;
     if 0 < size {

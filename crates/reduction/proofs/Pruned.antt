@@ -5,8 +5,8 @@ use mathlib.Core.Logic.{_↔_}
 use mathlib.Core.Bool.{true}
 use mathlib.Core.List.{List, [], List·Memᴰ·not-nil}
 use Prim.Native.Nat.{ℕ}
-use Rattle.record.specs.declared.Query.{Query}
-use Rattle.record.specs.View.{queryOf}
+use Rattle.query.specs.declared.Query.{Query}
+use Rattle.query.specs.View.{queryOf}
 use Rattle.theory.specs.Query as theory
 use Rattle.theory.specs.Query.{WellFormed, variablesOf, rowEntries, _∈_}
 use Rattle.theory.specs.Database.{Database}

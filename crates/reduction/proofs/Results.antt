@@ -10,22 +10,25 @@ use native.Mathlib.Omega.{arith}
 use borrow.Author.Tests.{le-leb, lt-ltb, le-ltb}
 use lib.Dec.{ltb}
 use lib.ListN.{length, getD, replicate}
-use Rattle.record.specs.declared.Query.{Query}
-use Rattle.record.specs.declared.Dependency.{Dependency}
+use Rattle.query.specs.declared.Query.{Query}
+use Rattle.query.specs.declared.Dependency.{Dependency}
 use Rattle.record.specs.declared.Place.{Place}
 use Rattle.record.specs.declared.Record.{Record}
 use Rattle.record.specs.declared.Answer.the-variants as answer
 use Rattle.record.specs.declared.Lookup.the-variants as lookup
-use Rattle.record.specs.View.{queryOf, schemaOf, dependenciesOf}
-use Rattle.record.specs.Rule.{every, between, goodDependencies, goodQuery, headSafe, goodRecord, noCell, noPlace}
+use Rattle.query.specs.View.{queryOf, heldOf}
+use Rattle.record.specs.View.{schemaOf, dependenciesOf}
+use Rattle.lists.specs.Tests.{every, between}
+use Rattle.query.specs.Rule.{goodDependencies, goodQuery, headSafe, noCell}
+use Rattle.record.specs.Rule.{goodRecord, noPlace}
 use Rattle.record.specs.Calls.{firstHolding, above, vacant, filled, placeAt, isFilled, filledPlace, vacantPlace, withPlace, storedAt}
-use Rattle.record.proofs.Tests.{and-both}
+use Rattle.lists.proofs.Tests.{and-both}
 use Rattle.record.proofs.Good.{good-record}
-use Rattle.record.proofs.Stored.{place-good, filled-parts, well-formed}
+use Rattle.record.proofs.Stored.{place-good, filled-parts}
+use Rattle.query.proofs.Stored.{well-formed}
 use Rattle.record.proofs.Kept.{filled-place, place-kept, place-read}
 use Rattle.record.proofs.Refusals.{found-refused, filled-at, vacant-at, place-refused, vacant-refused}
 use Rattle.chase.specs.declared.Chased.{Chased}
-use Rattle.chase.specs.Wide.{heldOf}
 use Rattle.chase.specs.Outcome.{IsChased}
 use Rattle.chase.proofs.Callers.{good-widths, width-le, chased-count}
 use Rattle.theory.specs.Query as theory

@@ -6,11 +6,13 @@ use mathlib.Core.List.{List, [], _∷_}
 use mathlib.Core.Option.{Option, none, some}
 use Prim.Native.Nat.{ℕ, _≤_}
 use lib.ListN.{getD, length, replicate}
-use Rattle.record.specs.declared.Query.{Query}
+use Rattle.query.specs.declared.Query.{Query}
 use Rattle.record.specs.declared.Record.{Record}
 use Rattle.record.specs.declared.Answer.the-variants as answer
-use Rattle.record.specs.View.{queryOf, schemaOf, dependenciesOf}
-use Rattle.record.specs.Rule.{goodRecord, noCell, noPlace}
+use Rattle.query.specs.View.{queryOf}
+use Rattle.record.specs.View.{schemaOf, dependenciesOf}
+use Rattle.record.specs.Rule.{goodRecord, noPlace}
+use Rattle.query.specs.Rule.{noCell}
 use Rattle.record.specs.Calls.{firstHolding, broken, above, vacant, filled, withPlace, storedAt, queryAt}
 use Rattle.mapping.specs.Mapped.{imagesOf}
 use Rattle.reduction.specs.declared.Reduced.{Reduced}

@@ -4,12 +4,15 @@ use mathlib.Core.Bool.{true}
 use mathlib.Core.List.{List, []}
 use Prim.Native.Nat.{ℕ, _<_}
 use lib.ListN.{replicate}
-use Rattle.record.specs.declared.Query.{Query}
-use Rattle.record.specs.declared.Dependency.{Dependency}
+use Rattle.query.specs.declared.Query.{Query}
+use Rattle.query.specs.declared.Dependency.{Dependency}
 use Rattle.record.specs.declared.Record.{Record}
 use Rattle.record.specs.declared.Answer.the-variants as answer
-use Rattle.record.specs.View.{queryOf, schemaOf, dependenciesOf}
-use Rattle.record.specs.Rule.{every, between, goodDependencies, goodQuery, headSafe, goodRecord, noCell}
+use Rattle.query.specs.View.{queryOf}
+use Rattle.record.specs.View.{schemaOf, dependenciesOf}
+use Rattle.lists.specs.Tests.{every, between}
+use Rattle.query.specs.Rule.{goodDependencies, goodQuery, headSafe, noCell}
+use Rattle.record.specs.Rule.{goodRecord}
 use Rattle.record.specs.Calls.{isFilled, withPlace, storedAt, queryAt}
 use Rattle.mapping.specs.Mapped.{imagesOf}
 use Rattle.theory.specs.Database as database

@@ -3,19 +3,20 @@
 pub mod pruning; // pruning.rt: a query without one of its rows, and without all that it can do without
 
 use record::Answer;
-use record::Cell;
-use record::Dependency;
-use record::Entry;
+use query::Cell;
+use query::Dependency;
+use query::Entry;
 use record::Lookup;
 use record::Place;
-use record::Query;
+use query::Query;
 use record::Record;
 ghost use mathlib.Core.Path.{_≡_};
 ghost use mathlib.Core.Bool.{true};
 ghost use mathlib.Core.List.{List};
 ghost use Prim.Native.Nat.{ℕ};
-ghost use Rattle.record.specs.Rule.{every, between, goodQuery, headSafe};
-ghost use Rattle.chase.specs.Wide.{heldOf};
+ghost use Rattle.lists.specs.Tests.{every, between};
+ghost use Rattle.query.specs.Rule.{goodQuery, headSafe};
+ghost use Rattle.query.specs.View.{heldOf};
 ghost use Rattle.reduction.specs.Reduced.{refusal, IsReduced};
 ghost use Rattle.reduction.specs.Steps.{Shortenable, IsShortened, Reducible, IsStored};
 

@@ -13,14 +13,15 @@ use Rattle.theory.specs.Answer.{valueOf, IsMapping}
 use Rattle.theory.proofs.Lists.{mem-dec}
 use Rattle.theory.proofs.Entries.{variablesOf-mem, row-rowEntries}
 use Rattle.theory.proofs.Members.{row-of-entry}
-use Rattle.record.specs.declared.Entry.{Entry}
-use Rattle.record.specs.declared.Entry.the-variants.{Constant, Variable}
-use Rattle.record.specs.declared.Cell.{Cell}
-use Rattle.record.specs.declared.Query.{Query}
-use Rattle.record.specs.View.{entryOf, queryOf}
-use Rattle.record.specs.Rule.{every, goodEntry, goodCell, goodQuery, noCell}
-use Rattle.record.proofs.Tests.{every-made, every-replicate}
-use Rattle.record.proofs.Stored.{Within, head-within, entries-within}
+use Rattle.query.specs.declared.Entry.{Entry}
+use Rattle.query.specs.declared.Entry.the-variants.{Constant, Variable}
+use Rattle.query.specs.declared.Cell.{Cell}
+use Rattle.query.specs.declared.Query.{Query}
+use Rattle.query.specs.View.{entryOf, queryOf}
+use Rattle.lists.specs.Tests.{every}
+use Rattle.query.specs.Rule.{goodEntry, goodCell, goodQuery, noCell}
+use Rattle.lists.proofs.Tests.{every-made, every-replicate}
+use Rattle.query.proofs.Stored.{Within, head-within, entries-within}
 use Rattle.text.specs.Stored.{imageOf}
 
 -- An entry within the limits is good

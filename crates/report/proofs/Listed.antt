@@ -7,14 +7,18 @@ use Prim.Native.Nat.{ℕ, _+_, _≤_, _<_}
 use native.Mathlib.Omega.{arith}
 use lib.ListN.{length, getD, set, replicate, length-set, length-replicate}
 use lib.Seq.{getD-set-same}
-use Rattle.record.specs.declared.Cell.{Cell}
-use Rattle.record.specs.declared.Query.{Query}
+use Rattle.query.specs.declared.Cell.{Cell}
+use Rattle.query.specs.declared.Query.{Query}
 use Rattle.record.specs.declared.Place.{Place}
 use Rattle.record.specs.declared.Record.{Record}
-use Rattle.record.specs.View.{schemaOf, dependenciesOf, queryOf}
-use Rattle.record.specs.Rule.{every, goodCell, goodQuery, goodPlace, goodRecord, noPlace}
+use Rattle.record.specs.View.{schemaOf, dependenciesOf}
+use Rattle.query.specs.View.{queryOf}
+use Rattle.lists.specs.Tests.{every}
+use Rattle.query.specs.Rule.{goodCell, goodQuery}
+use Rattle.record.specs.Rule.{goodPlace, goodRecord, noPlace}
 use Rattle.record.specs.Calls.{isFilled, storedAt, queryAt}
-use Rattle.record.proofs.Good.{good-query, good-record}
+use Rattle.query.proofs.Good.{good-query}
+use Rattle.record.proofs.Good.{good-record}
 use Rattle.record.proofs.Stored as stored
 use Rattle.reduction.specs.declared.Reduced.{Reduced}
 use Rattle.reduction.specs.Reduced.{reductionRefusal, Reduces, IsReduced}

@@ -12,10 +12,11 @@ use lib.Seq.{getD-set-same, getD-set-other}
 use borrow.Author.Tests.{eqb-true, eqb-false, lt-ltb}
 use Rattle.record.specs.declared.Place.{Place}
 use Rattle.record.specs.declared.Record.{Record}
-use Rattle.record.specs.View.{schemaOf, queryOf}
+use Rattle.record.specs.View.{schemaOf}
+use Rattle.query.specs.View.{queryOf}
 use Rattle.record.specs.Rule.{goodPlace, goodRecord, noPlace}
 use Rattle.record.specs.Calls.{firstHolding, broken, above, vacant, filled, isFilled, queryAt}
-use Rattle.record.proofs.Tests.{every-set, every-replicate}
+use Rattle.lists.proofs.Tests.{every-set, every-replicate}
 use Rattle.record.proofs.Good.{good-record, make-record}
 use Rattle.record.proofs.Stored.{place-good}
 use Rattle.record.proofs.Kept.{empty-place}

@@ -9,8 +9,9 @@ use borrow.Author.Tests.{lt-ltb}
 use Rattle.record.specs.declared.Record.{Record}
 use Rattle.record.specs.declared.Answer.the-variants.{Done, Refused}
 use Rattle.record.specs.declared.Outcome.{Outcome}
-use Rattle.record.specs.Rule.{every, goodRecord}
-use Rattle.record.proofs.Tests.{and-both}
+use Rattle.lists.specs.Tests.{every}
+use Rattle.record.specs.Rule.{goodRecord}
+use Rattle.lists.proofs.Tests.{and-both}
 use Rattle.format.specs.Bytes.{Bytes}
 use Rattle.format.specs.File.{Result, ok, refused, readFile, outcomeOf}
 use Rattle.format.proofs.RoundTrip.{file-written-back}

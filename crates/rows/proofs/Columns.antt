@@ -11,8 +11,8 @@ use lib.ListN.{length, take, drop, getD, List·getD-map}
 use lib.Seq.{getD-take, getD-drop}
 use Rattle.theory.specs.Query.{Row, Entry, constant, column, mapRow, sameEntry}
 use Rattle.theory.specs.Chase.{agree, breaks}
-use Rattle.record.specs.View.{columnsFrom, columnsOf, dependencyOf}
-use Rattle.record.specs.declared.Dependency.{Dependency}
+use Rattle.query.specs.View.{columnsFrom, columnsOf, dependencyOf}
+use Rattle.query.specs.declared.Dependency.{Dependency}
 use Rattle.rows.specs.Words.{spanAt}
 use Rattle.rows.specs.Testing.{agreeRows, breaksRows}
 

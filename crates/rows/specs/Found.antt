@@ -7,7 +7,7 @@ use Prim.Native.Nat.{ℕ, _+_, _^_, _≤_, _<_}
 use lib.ListN.{length, drop, getD}
 use Rattle.theory.specs.Query.{Row}
 use Rattle.theory.specs.Database as database
-use Rattle.record.specs.declared.Dependency.{Dependency}
+use Rattle.query.specs.declared.Dependency.{Dependency}
 use Rattle.rows.specs.Words.{whole}
 use Rattle.rows.specs.declared.Partner.{Partner}
 use Rattle.rows.specs.declared.Partner.the-variants as partner
@@ -37,10 +37,6 @@ pub record Testable (schema : List ℕ) (d : Dependency) : Type 0 where
   pub narrow : getD schema (d .relation) 0 ≤ 8
   pub left-fits : d .left < 2 ^ getD schema (d .relation) 0
   pub right-fits : d .right < getD schema (d .relation) 0
-
--- The dependency of a slot that is not in use
-abbrev pub noDependency : Dependency
-noDependency = record { relation = 0; left = 0; right = 0 }
 
 -- The rows of the words from `at` on, the first of them at position n
 pub record From (schema words : List ℕ) (at n : ℕ) : Type 0 where

@@ -1,11 +1,11 @@
 // The rows of a database that arrives as words: the walk that judges them, and the rows that break a dependency with a given one.
 // `schema` is the width of each relation.
-use record::Dependency;
+use query::Dependency;
 ghost use mathlib.Core.Path.{_≡_};
 ghost use mathlib.Core.Bool.{true};
 ghost use Prim.Native.Nat.{_+_, _^_, _≤_, _<_};
 ghost use lib.ListN.{length, drop, getD};
-ghost use Rattle.record.specs.View.{dependencyOf};
+ghost use Rattle.query.specs.View.{dependencyOf};
 ghost use Rattle.theory.specs.Chase.{firstPassing};
 ghost use Rattle.rows.specs.Words.{whole, spanAt, rowAt, Next};
 ghost use Rattle.rows.specs.Testing.{agreeRows, breaksRows, breaksWith, rowsAt};

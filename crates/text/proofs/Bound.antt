@@ -8,12 +8,13 @@ use lib.Dec.{eqb, ltb}
 use lib.ListN.{length, take, drop, getD, length-append, length-take}
 use lib.Seq.{length-take-le}
 use borrow.Author.Tests.{leb-true, ltb-true}
-use Rattle.record.specs.declared.Cell.{Cell}
-use Rattle.record.specs.declared.Entry.{Entry}
-use Rattle.record.specs.declared.Entry.the-variants.{Constant, Variable}
-use Rattle.record.specs.declared.Query.{Query}
-use Rattle.record.specs.View.{entryOf, entriesOf, rowsOf, queryOf}
-use Rattle.record.specs.Rule.{every, goodEntry, goodCell, goodRow, goodRows, goodQuery}
+use Rattle.query.specs.declared.Cell.{Cell}
+use Rattle.query.specs.declared.Entry.{Entry}
+use Rattle.query.specs.declared.Entry.the-variants.{Constant, Variable}
+use Rattle.query.specs.declared.Query.{Query}
+use Rattle.query.specs.View.{entryOf, entriesOf, rowsOf, queryOf}
+use Rattle.lists.specs.Tests.{every}
+use Rattle.query.specs.Rule.{goodEntry, goodCell, goodRow, goodRows, goodQuery}
 use Rattle.theory.specs.Query as theory
 use Rattle.text.specs.Text.{field, entryText, entriesText, newline, placeWord, rowsWord, keptWord, replacedWord, placeLine, neverLine, headLine, rowWord, rowLine, rowsText, nextWord, equals, imageText, imagesText, mapLine, passing, above, occurring, placeText}
 use Rattle.text.specs.Stored.{imageOf, narrow, placeRoom}

@@ -9,12 +9,13 @@ use lib.Dec.{eqb, ltb, leb}
 use lib.ListN.{length, take, drop, getD, take-append-drop}
 use lib.Seq.{take-take, drop-drop, length-take-le}
 use borrow.Author.Tests.{leb-true, ltb-true, eqb-true, le-leb}
-use Rattle.record.specs.declared.Cell.{Cell}
-use Rattle.record.specs.declared.Entry.{Entry}
-use Rattle.record.specs.declared.Entry.the-variants.{Constant, Variable}
-use Rattle.record.specs.declared.Query.{Query}
-use Rattle.record.specs.View.{entryOf, entriesOf, rowsOf, queryOf}
-use Rattle.record.specs.Rule.{every, inUse, isZero, blankEntry, blankCell, goodEntry, goodCell, goodRow, goodRows, headInUse, goodQuery}
+use Rattle.query.specs.declared.Cell.{Cell}
+use Rattle.query.specs.declared.Entry.{Entry}
+use Rattle.query.specs.declared.Entry.the-variants.{Constant, Variable}
+use Rattle.query.specs.declared.Query.{Query}
+use Rattle.query.specs.View.{entryOf, entriesOf, rowsOf, queryOf}
+use Rattle.lists.specs.Tests.{every, inUse, isZero}
+use Rattle.query.specs.Rule.{blankEntry, blankCell, goodEntry, goodCell, goodRow, goodRows, headInUse, goodQuery}
 use Rattle.theory.specs.Query as theory
 use Rattle.theory.specs.Query.{variablesOf, rowEntries}
 use Rattle.text.specs.Text.{above}

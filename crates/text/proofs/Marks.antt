@@ -12,11 +12,11 @@ use lib.Seq.{drop-cons, drop-drop, getD-set-same, getD-set-other}
 use borrow.Author.Tests.{eqb-true, eqb-false, ne-eqb}
 use Rattle.theory.specs.Query as theory
 use Rattle.theory.specs.Query.{variablesOf, member}
-use Rattle.record.specs.declared.Cell.{Cell}
-use Rattle.record.specs.declared.Entry.{Entry}
-use Rattle.record.specs.declared.Entry.the-variants.{Constant, Variable}
-use Rattle.record.specs.View.{entryOf, entriesOf}
-use Rattle.record.specs.Rule.{noCell}
+use Rattle.query.specs.declared.Cell.{Cell}
+use Rattle.query.specs.declared.Entry.{Entry}
+use Rattle.query.specs.declared.Entry.the-variants.{Constant, Variable}
+use Rattle.query.specs.View.{entryOf, entriesOf}
+use Rattle.query.specs.Rule.{noCell}
 use Rattle.text.specs.Text.{passing, above}
 use Rattle.text.specs.Stored.{marks, marked}
 

@@ -7,10 +7,11 @@ use native.Mathlib.Omega.{arith}
 use lib.Dec.{ltb, leb}
 use lib.ListN.{length, take, drop, getD, length-take}
 use borrow.Author.Tests.{ltb-true, eqb-true, le-leb, lt-ltb}
-use Rattle.record.specs.declared.Cell.{Cell}
-use Rattle.record.specs.declared.Query.{Query}
-use Rattle.record.specs.View.{entriesOf, rowsOf, queryOf}
-use Rattle.record.specs.Rule.{every, inUse, between, isZero, blankCell, goodCell, goodRelations, goodRow, goodRows, headInUse, goodQuery}
+use Rattle.query.specs.declared.Cell.{Cell}
+use Rattle.query.specs.declared.Query.{Query}
+use Rattle.query.specs.View.{entriesOf, rowsOf, queryOf}
+use Rattle.lists.specs.Tests.{every, inUse, between, isZero}
+use Rattle.query.specs.Rule.{blankCell, goodCell, goodRelations, goodRow, goodRows, headInUse, goodQuery}
 use Rattle.theory.specs.Query as theory
 use Rattle.text.specs.Stored.{narrow}
 use Rattle.text.proofs.Good.{and-left, and-right, and-both, every-weaken, every-join}

@@ -8,9 +8,9 @@ use native.Mathlib.Numerals.{add-one}
 use native.Mathlib.Omega.{arith}
 use lib.ListN.{length, take, drop, getD, length-take, length-drop, length-map, drop-of-length-le}
 use lib.Seq.{drop-cons, getD-take, getD-drop, length-take-le, take-take, drop-drop}
-use Rattle.record.specs.declared.Cell.{Cell}
-use Rattle.record.specs.View.{entryOf, entriesOf, rowsOf}
-use Rattle.record.specs.Rule.{noCell}
+use Rattle.query.specs.declared.Cell.{Cell}
+use Rattle.query.specs.View.{entryOf, entriesOf, rowsOf}
+use Rattle.query.specs.Rule.{noCell}
 use Rattle.theory.specs.Query as theory
 use Rattle.text.specs.Text.{space, entryText, entriesText, rowLine, rowsText, imageText, imagesText, passing}
 use Rattle.text.specs.Stored.{rowOf}

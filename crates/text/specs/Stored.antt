@@ -5,10 +5,11 @@ use mathlib.Core.List.{List, [], _∷_}
 use Prim.Native.Nat.{ℕ, _+_, _≤_, _<_}
 use lib.Dec.{leb}
 use lib.ListN.{length, getD, set}
-use Rattle.record.specs.declared.Cell.{Cell}
-use Rattle.record.specs.declared.Query.{Query}
-use Rattle.record.specs.View.{entryOf, entriesOf}
-use Rattle.record.specs.Rule.{every, goodCell, goodQuery, noCell}
+use Rattle.query.specs.declared.Cell.{Cell}
+use Rattle.query.specs.declared.Query.{Query}
+use Rattle.query.specs.View.{entryOf, entriesOf}
+use Rattle.lists.specs.Tests.{every}
+use Rattle.query.specs.Rule.{goodCell, goodQuery, noCell}
 use Rattle.theory.specs.Query as theory
 use Rattle.text.specs.Text.{passing}
 

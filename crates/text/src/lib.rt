@@ -1,8 +1,8 @@
 // The text of the listing, written into a lent buffer. Each function that writes takes the position to write from and returns the one after.
 
-use record::Cell;
-use record::Entry;
-use record::Query;
+use query::Cell;
+use query::Entry;
+use query::Query;
 ghost use mathlib.Core.Path.{_≡_};
 ghost use Prim.Native.Nat.{_+_, _*_, _≤_, _<_};
 ghost use mathlib.Core.Bool.{true, false};
@@ -10,8 +10,9 @@ ghost use mathlib.Core.List.{[], _∷_, _++_};
 ghost use lib.ListN.{length, take, drop, replicate};
 ghost use Rattle.text.specs.Stored.{rowOf, imageOf, narrow, marks, marked, Listable};
 ghost use Rattle.text.specs.Writing.{Fits, Written};
-ghost use Rattle.record.specs.View.{entryOf, entriesOf, queryOf};
-ghost use Rattle.record.specs.Rule.{every, goodEntry, goodCell, goodQuery};
+ghost use Rattle.query.specs.View.{entryOf, entriesOf, queryOf};
+ghost use Rattle.lists.specs.Tests.{every};
+ghost use Rattle.query.specs.Rule.{goodEntry, goodCell, goodQuery};
 ghost use Rattle.theory.specs.Query.{variablesOf};
 ghost use Rattle.text.specs.Text.{decimal, field, entryText, entriesText, placeLine, neverLine, headLine, rowLine, rowsText, imageText, imagesText, mapLine, placeText, refusedText};
 

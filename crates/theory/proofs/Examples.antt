@@ -7,9 +7,8 @@ use Prim.Native.Nat.{ℕ}
 use lib.Dec.{eqb, ltb}
 use lib.ListN.{length, getD}
 use borrow.Author.Tests.{ltb-true, eqb-true}
-use Rattle.theory.specs.Query.{Entry, Row, Query, FitsSchema, _∈_}
+use Rattle.theory.specs.Query.{Entry, Row, Query, FitsSchema, _∈_, sameEntry, variablesOf, rowEntries, member, distinct}
 use Rattle.theory.specs.Database.{Dependency}
-use Rattle.theory.specs.Query.{sameEntry, variablesOf, rowEntries, member, distinct}
 use Rattle.theory.specs.Chase.{orElse, mapFound, firstPassing, firstPair, firstFound, agree, breaks, firstBroken, survives, resolve, substitute, step, Chases, chaseOn, chaseFor, chase}
 use Rattle.theory.specs.Determined.{FitsColumns, subset, adds, growOn, growFor, closure, columnsIn, determined}
 use Rattle.theory.specs.Search.{lookup, andThen, assignTo, matchEntry, matchEntries, matchRow, tryRows, placeRows, placeQuery, mappable, containedOn, contained, prune, reduce}

@@ -9,12 +9,12 @@ use crate::numbers::number;
 use comparison::Checked;
 use database::Answered;
 use record::Answer;
-use record::Cell;
+use query::Cell;
 use record::Columns;
-use record::Dependency;
-use record::Entry;
+use query::Dependency;
+use query::Entry;
 use record::calls::blank_record;
-use record::calls::no_query;
+use query::no_query;
 use writer::Written;
 
 // The number of an answer.

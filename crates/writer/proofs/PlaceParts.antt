@@ -8,10 +8,11 @@ use lib.Dec.{eqb}
 use lib.ListN.{length, take, drop, getD, length-append, length-drop, drop-of-length-le}
 use lib.Seq.{length-take-le, drop-cons, getD-take}
 use native.Mathlib.Numerals.{add-one}
-use Rattle.record.specs.declared.Cell.{Cell}
-use Rattle.record.specs.declared.Query.{Query}
+use Rattle.query.specs.declared.Cell.{Cell}
+use Rattle.query.specs.declared.Query.{Query}
 use Rattle.record.specs.declared.Place.{Place}
-use Rattle.record.specs.Rule.{goodQuery, goodPlace, headSafe}
+use Rattle.query.specs.Rule.{goodQuery, headSafe}
+use Rattle.record.specs.Rule.{goodPlace}
 use Rattle.format.specs.Format.{putAll}
 use Rattle.format.specs.Parts.{row, chunk, query}
 use Rattle.format.specs.File.{putPlace}

@@ -10,7 +10,9 @@ use lib.Seq.{length-take-le}
 use borrow.Author.Tests.{leb-true}
 use Rattle.record.specs.declared.Record.{Record}
 use Rattle.record.specs.View.{schemaOf}
-use Rattle.record.specs.Rule.{every, goodPlace, goodRelations, goodDependencies, goodDependency, blankDependency, goodRecord}
+use Rattle.lists.specs.Tests.{every}
+use Rattle.record.specs.Rule.{goodPlace, goodRecord}
+use Rattle.query.specs.Rule.{goodRelations, goodDependencies, goodDependency, blankDependency}
 use Rattle.format.specs.Bytes.{digits}
 use Rattle.format.specs.Format.{putAll, byte, sequence, padded}
 use Rattle.format.specs.Parts.{relations, dependency, dependencies}

@@ -2,7 +2,7 @@
 use mathlib.Core.List.{List, [], _∷_, _++_, map}
 use Prim.Native.Nat.{ℕ, _+_, _*_}
 use lib.ListN.{getD, take}
-use Rattle.record.specs.declared.Dependency.{Dependency}
+use Rattle.query.specs.declared.Dependency.{Dependency}
 use Rattle.record.specs.declared.Record.{Record}
 use Rattle.record.specs.View.{schemaOf}
 use Rattle.format.specs.Bytes.{digits}

@@ -1,17 +1,19 @@
 // The file of a record, written into a lent buffer. Each function writes one piece over the buffer at a position: what stands before and after it stays.
-use record::Cell;
-use record::Dependency;
-use record::Entry;
+use query::Cell;
+use query::Dependency;
+use query::Entry;
 use record::Place;
-use record::Query;
+use query::Query;
 use record::Record;
-use record::rule;
+use query::rule;
 ghost use mathlib.Core.Path.{_≡_};
 ghost use mathlib.Core.Bool.{true};
 ghost use mathlib.Core.List.{_∷_, map};
 ghost use Prim.Native.Nat.{_+_, _*_, _≤_, _<_};
 ghost use lib.ListN.{length, take, drop, getD};
-ghost use Rattle.record.specs.Rule.{every, goodRelations, goodPlace, goodRecord};
+ghost use Rattle.lists.specs.Tests.{every};
+ghost use Rattle.query.specs.Rule.{goodRelations};
+ghost use Rattle.record.specs.Rule.{goodPlace, goodRecord};
 ghost use Rattle.format.specs.Bytes.{digits, over};
 ghost use Rattle.format.specs.Format.{putAll};
 ghost use Rattle.format.specs.Parts.{relations, putEntry, entries, row, chunk, query};

@@ -6,10 +6,11 @@ use Prim.Native.Nat.{suc}
 use native.Mathlib.Omega.{arith}
 use borrow.Author.Needs.{needs}
 use lib.ListN.{length}
-use Rattle.chase.specs.Wide.{wideQuery, heldOf}
+use Rattle.chase.specs.Wide.{wideQuery}
+use Rattle.query.specs.View.{heldOf}
 use Rattle.chase.proofs.Lists.{length-of-map}
 use Rattle.chase.proofs.Rounds.{Under, under-start, under-replace, replaced-count, under-count, under-rest, under-clash}
-use Rattle.record.specs.declared.Query.{Query}
+use Rattle.query.specs.declared.Query.{Query}
 use Rattle.theory.specs.Database.{Dependency}
 use Rattle.theory.specs.Chase as chasing
 use Rattle.chase.proofs.chase.Statement.{statement}

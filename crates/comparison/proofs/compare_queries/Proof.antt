@@ -2,8 +2,8 @@
 use mathlib.Core.Path.{_≡_, sym, subst}
 use lib.ListN.{length}
 use borrow.Author.Needs.{needs}
-use Rattle.record.specs.declared.Query.{Query}
-use Rattle.record.proofs.Tail.{mapped-length}
+use Rattle.query.specs.declared.Query.{Query}
+use Rattle.lists.proofs.Loops.{mapped-length}
 use Rattle.comparison.specs.declared.Verdict.the-variants.{Contained}
 use Rattle.comparison.specs.Comparison.{Compared}
 use Rattle.comparison.proofs.Answers.{drawn-chasable, drawn-storable, answers-never, answers-contained, answers-apart}

@@ -2,8 +2,8 @@
 use mathlib.Core.Path.{_≡_, ap}
 use lib.ListN.{replicate}
 use borrow.Author.Needs.{needs}
-use Rattle.record.specs.declared.Query.{Query}
-use Rattle.record.specs.Rule.{noCell}
+use Rattle.query.specs.declared.Query.{Query}
+use Rattle.query.specs.Rule.{noCell}
 use Rattle.comparison.specs.declared.Comparison.{Comparison}
 use Rattle.comparison.proofs.only.Statement.{statement}
 use Rattle.comparison.proofs.only.Tie as tie

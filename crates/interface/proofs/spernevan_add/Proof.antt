@@ -1,7 +1,7 @@
 -- `spernevan_add` gives the file with the dependency, once the file is read. Assumes nothing.
 use mathlib.Core.Path.{sym, ap, _∙_}
 use lib.ListN.{length}
-use Rattle.record.specs.declared.Dependency.{Dependency}
+use Rattle.query.specs.declared.Dependency.{Dependency}
 use Rattle.record.specs.Calls.{addDependency}
 use Rattle.format.specs.File.{fileOf}
 use Rattle.interface.specs.Lent.{fitted}

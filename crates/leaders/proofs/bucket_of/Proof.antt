@@ -6,7 +6,7 @@ use Prim.Native.Nat.{ℕ, _≤_, _-_, _+_, _*_, _/_, _%_, _<_}
 use native.Mathlib.Nat.{mod-lt}
 use native.Mathlib.Omega.{arith}
 use lib.ListN.{getD}
-use Rattle.record.specs.View.{columnsOf}
+use Rattle.query.specs.View.{columnsOf}
 use Rattle.rows.specs.Words.{spanAt}
 use Rattle.leaders.specs.Hash.{hashFrom}
 use Rattle.leaders.proofs.Hashes.{hashAt, hash-start, hash-skip, hash-mix, hash-end}

@@ -7,7 +7,7 @@ use mathlib.Core.Logic.{⊎-elim}
 use Prim.Native.Nat.{ℕ, _≤_, _-_, _+_}
 use native.Mathlib.Omega.{arith}
 use lib.ListN.{length, drop, getD}
-use Rattle.record.specs.View.{dependencyOf}
+use Rattle.query.specs.View.{dependencyOf}
 use Rattle.rows.specs.Words.{whole, rowsOf}
 use Rattle.rows.specs.Testing.{firstPairFrom}
 use Rattle.rows.specs.Found.{pairOf, From}

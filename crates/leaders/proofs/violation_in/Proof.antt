@@ -6,10 +6,11 @@ use Prim.Native.Nat.{_≤_, _-_, _+_}
 use native.Mathlib.Omega.{arith}
 use lib.ListN.{length, take, drop, getD}
 use Rattle.theory.specs.Database as database
-use Rattle.record.specs.View.{dependencyOf}
+use Rattle.query.specs.View.{dependencyOf}
 use Rattle.rows.specs.Words.{rowsOf}
 use Rattle.rows.specs.Testing.{firstBrokenFrom}
-use Rattle.rows.specs.Found.{violationOf, noDependency}
+use Rattle.rows.specs.Found.{violationOf}
+use Rattle.query.specs.Rule.{noDependency}
 use Rattle.rows.proofs.Search.{violation-found, violation-later, violation-end, drop-take-cons, drop-take-end}
 use Rattle.leaders.specs.Walked.{Room}
 use borrow.Author.Needs.{needs}

@@ -6,7 +6,7 @@ use mathlib.Core.Path.{_≡_, sym, _∙_}
 use mathlib.Core.Bool.{false≢true}
 use Prim.Native.Nat.{_<_}
 use lib.ListN.{length}
-use Rattle.record.proofs.Tail.{mapped-length}
+use Rattle.lists.proofs.Loops.{mapped-length}
 use Rattle.mapping.proofs.Lines.{Sizes}
 use Rattle.mapping.proofs.Results.{storable-size, check-fails, check-arity, check-size, check-tells, good-head, good-rows, good-rest, parts-good}
 use Rattle.mapping.proofs.check.Statement.{statement}

@@ -7,7 +7,7 @@ use mathlib.Core.Bool.{true}
 use Prim.Native.Nat.{ℕ, _+_, _≤_, _<_}
 use lib.ListN.{getD, length}
 use Rattle.theory.specs.Containment.{freeze}
-use Rattle.record.proofs.Tail.{mapped-length}
+use Rattle.lists.proofs.Loops.{mapped-length}
 use native.Mathlib.Omega.{arith}
 use Rattle.mapping.specs.Tests.{choiceOf}
 use Rattle.mapping.specs.Agree.{Laid}

@@ -9,10 +9,11 @@ use native.Mathlib.Omega.{arith}
 use native.Mathlib.Numerals.{add-one}
 use lib.ListN.{length, drop, getD, drop-of-length-le, List·getD-eq-default}
 use lib.Seq.{drop-cons}
-use Rattle.record.specs.declared.Entry.{Entry}
-use Rattle.record.specs.declared.Entry.the-variants.{Constant, Variable}
-use Rattle.record.specs.declared.Cell.{Cell}
-use Rattle.record.specs.Rule.{every, noCell}
+use Rattle.query.specs.declared.Entry.{Entry}
+use Rattle.query.specs.declared.Entry.the-variants.{Constant, Variable}
+use Rattle.query.specs.declared.Cell.{Cell}
+use Rattle.lists.specs.Tests.{every}
+use Rattle.query.specs.Rule.{noCell}
 use Rattle.reader.specs.Safe.{unseen, mark, marked, seenEntry, allSeen}
 use Rattle.reader.proofs.head_seen.Statement.{statement}
 use Rattle.reader.proofs.head_seen.Tie as tie

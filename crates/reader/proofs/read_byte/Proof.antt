@@ -1,6 +1,6 @@
 use borrow.Author.Needs.{needs}
 use mathlib.Core.Path.{sym, ap}
-use Rattle.record.specs.Rule.{between}
+use Rattle.lists.specs.Tests.{between}
 use Rattle.reader.specs.Read.{byteRead}
 use Rattle.reader.proofs.Positions.{within, below, above, byte-past, byte-bad, byte-good}
 use Rattle.reader.proofs.read_byte.Statement.{statement}

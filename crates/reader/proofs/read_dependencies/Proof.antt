@@ -8,10 +8,11 @@ use lib.Dec.{leb}
 use lib.ListN.{length, take, drop, set, replicate, length-set}
 use lib.Seq.{drop-drop}
 use borrow.Author.Tests.{leb-true}
-use Rattle.record.specs.declared.Dependency.{Dependency}
-use Rattle.record.specs.Rule.{between, blankDependency}
+use Rattle.query.specs.declared.Dependency.{Dependency}
+use Rattle.lists.specs.Tests.{between}
+use Rattle.query.specs.Rule.{blankDependency}
 use Rattle.format.specs.Format.{Reading, none, got, mapReading, getByte, byte, padded}
-use Rattle.format.specs.Parts.{noDependency, dependency, dependencies}
+use Rattle.format.specs.Parts.{dependency, dependencies}
 use Rattle.format.specs.File.{whole}
 use Rattle.reader.specs.declared.ByteRead.{ByteRead}
 use Rattle.reader.specs.declared.ByteRead.the-variants.{Byte, NoByte}

@@ -6,9 +6,9 @@ use native.Mathlib.Nat.{add-zero}
 use native.Mathlib.Omega.{arith}
 use lib.ListN.{length, drop, set, replicate, length-set}
 use lib.Seq.{drop-drop}
-use Rattle.record.specs.declared.Entry.{Entry}
-use Rattle.record.specs.declared.Cell.{Cell}
-use Rattle.record.specs.Rule.{noCell}
+use Rattle.query.specs.declared.Entry.{Entry}
+use Rattle.query.specs.declared.Cell.{Cell}
+use Rattle.query.specs.Rule.{noCell}
 use Rattle.format.specs.Format.{none, got, padded}
 use Rattle.format.specs.Parts.{entry, entries}
 use Rattle.reader.specs.declared.EntryRead.{EntryRead}

@@ -9,9 +9,9 @@ use native.Mathlib.Omega.{arith}
 use lib.Dec.{ltb}
 use lib.ListN.{take, drop}
 use denote.Ref.{now}
-use Rattle.record.specs.declared.Dependency.{Dependency}
+use Rattle.query.specs.declared.Dependency.{Dependency}
 use Rattle.record.specs.declared.Place.{Place}
-use Rattle.record.specs.Rule.{goodRelations}
+use Rattle.query.specs.Rule.{goodRelations}
 use Rattle.format.specs.Bytes.{number, Bytes}
 use Rattle.format.specs.Format.{Reading, none, got}
 use Rattle.format.specs.Parts.{relations, dependencies}

@@ -7,9 +7,10 @@ use Prim.Native.Nat.{ℕ}
 use native.Mathlib.Omega.{arith}
 use lib.Dec.{eqb}
 use lib.ListN.{length, take}
-use Rattle.record.specs.declared.Query.{Query}
+use Rattle.query.specs.declared.Query.{Query}
 use Rattle.record.specs.declared.Answer.the-variants.{Done}
-use Rattle.record.specs.Rule.{headSafe, noPlace}
+use Rattle.query.specs.Rule.{headSafe}
+use Rattle.record.specs.Rule.{noPlace}
 use Rattle.format.specs.Bytes.{Bytes}
 use Rattle.format.specs.Format.{Reading, none, got}
 use Rattle.format.specs.Parts.{query}

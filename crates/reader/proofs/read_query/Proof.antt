@@ -8,7 +8,7 @@ use native.Mathlib.Omega.{arith}
 use lib.Dec.{eqb, leb}
 use lib.ListN.{length, take, drop, length-drop}
 use lib.Seq.{drop-drop}
-use Rattle.record.specs.Rule.{between}
+use Rattle.lists.specs.Tests.{between}
 use Rattle.format.specs.Format.{Reading, none, got, getByte}
 use Rattle.format.specs.Parts.{entries, rows, queryWith, query}
 use Rattle.format.specs.File.{ok, whole}

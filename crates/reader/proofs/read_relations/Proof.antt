@@ -7,7 +7,7 @@ use native.Mathlib.Omega.{arith}
 use lib.Dec.{leb}
 use lib.ListN.{length, drop, set, replicate, length-set}
 use borrow.Author.Tests.{leb-true}
-use Rattle.record.specs.Rule.{between, isZero}
+use Rattle.lists.specs.Tests.{between, isZero}
 use Rattle.format.specs.Format.{Reading, none, got, mapReading, getByte, byte, padded}
 use Rattle.format.specs.Parts.{relations}
 use Rattle.format.specs.File.{whole}

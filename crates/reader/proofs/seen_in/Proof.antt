@@ -9,10 +9,11 @@ use native.Mathlib.Omega.{arith}
 use native.Mathlib.Numerals.{add-one}
 use lib.ListN.{length, drop, set, getD, length-set, drop-of-length-le}
 use lib.Seq.{drop-cons, set-out}
-use Rattle.record.specs.declared.Entry.{Entry}
-use Rattle.record.specs.declared.Entry.the-variants.{Constant, Variable}
-use Rattle.record.specs.declared.Cell.{Cell}
-use Rattle.record.specs.Rule.{every, noCell}
+use Rattle.query.specs.declared.Entry.{Entry}
+use Rattle.query.specs.declared.Entry.the-variants.{Constant, Variable}
+use Rattle.query.specs.declared.Cell.{Cell}
+use Rattle.lists.specs.Tests.{every}
+use Rattle.query.specs.Rule.{noCell}
 use Rattle.reader.specs.Safe.{unseen, mark, marked, seenEntry, allSeen}
 use Rattle.reader.proofs.seen_in.Statement.{statement}
 use Rattle.reader.proofs.seen_in.Tie as tie

@@ -4,8 +4,8 @@ use Prim.Native.Nat.{_*_, _≤_}
 use native.Mathlib.Omega.{arith}
 use borrow.Author.Needs.{needs}
 use lib.ListN.{length}
-use Rattle.record.proofs.Tail.{mapped-length}
-use Rattle.record.proofs.Good.{good-query}
+use Rattle.lists.proofs.Loops.{mapped-length}
+use Rattle.query.proofs.Good.{good-query}
 use Rattle.mapping.specs.Mapped.{Storable}
 use Rattle.chase.proofs.Callers.{chasable, width-le}
 use Rattle.reduction.proofs.Results.{shortened}

@@ -5,7 +5,8 @@ use native.Mathlib.Omega.{arith}
 use lib.ListN.{length, getD}
 use Rattle.record.specs.declared.Place.{Place}
 use Rattle.record.specs.Rule.{noPlace}
-use Rattle.record.proofs.Tail.{mapped-length, getD-any, pastPlace}
+use Rattle.lists.proofs.Loops.{mapped-length, getD-any}
+use Rattle.record.proofs.Shape.{pastPlace}
 use Rattle.report.proofs.OnePlace.{alone-made}
 use borrow.Author.Needs.{needs}
 use Rattle.report.proofs.alone.Statement.{statement}

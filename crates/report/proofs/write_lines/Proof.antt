@@ -2,7 +2,7 @@
 use mathlib.Core.Path.{_≡_, sym, subst}
 use Prim.Native.Nat.{ℕ, _<_}
 use lib.ListN.{length}
-use Rattle.record.proofs.Tail.{mapped-length}
+use Rattle.lists.proofs.Loops.{mapped-length}
 use Rattle.report.proofs.OnePlace.{other-low}
 use Rattle.report.proofs.Listed.{listable, lines-written}
 use borrow.Author.Needs.{needs}

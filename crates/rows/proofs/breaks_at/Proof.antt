@@ -6,7 +6,7 @@ use Prim.Native.Nat.{_+_}
 use borrow.Author.Tests.{not-true, not-false}
 use lib.Dec.{eqb}
 use lib.ListN.{getD}
-use Rattle.record.specs.View.{dependencyOf}
+use Rattle.query.specs.View.{dependencyOf}
 use Rattle.rows.specs.Words.{spanAt}
 use Rattle.rows.specs.Testing.{agreeRows}
 use Rattle.rows.proofs.Columns.{breaks-spans}

@@ -9,7 +9,7 @@ use native.Mathlib.Omega.{arith}
 use lib.ListN.{length, drop, getD}
 use Rattle.theory.specs.Query.{Row}
 use Rattle.theory.specs.Chase.{firstPassing}
-use Rattle.record.specs.View.{dependencyOf}
+use Rattle.query.specs.View.{dependencyOf}
 use Rattle.rows.specs.Words.{rowAt, spanAt, Next}
 use Rattle.rows.specs.Testing.{breaksRows, breaksWith, rowsAt}
 use Rattle.rows.specs.Found.{partnerOf, From}

@@ -5,7 +5,7 @@ use mathlib.Core.Bool.{Bool}
 use mathlib.Core.List.{List}
 use Prim.Native.Nat.{_+_, _-_, _≤_}
 use lib.ListN.{length, drop}
-use Rattle.record.specs.Rule.{goodCell, noCell}
+use Rattle.query.specs.Rule.{goodCell, noCell}
 use Rattle.text.proofs.Good.{every-getD}
 use Rattle.text.proofs.Marks.{afterCells, after-one, after-none}
 use Rattle.text.proofs.mark_cells.Statement.{statement}

@@ -1,13 +1,14 @@
 -- `text::mark_query` meets its contract. Invariant: the marks after all cells are those after the rows from r on. Assumes nothing.
 use borrow.Author.Needs.{needs}
-use Rattle.record.specs.declared.Cell.{Cell}
+use Rattle.query.specs.declared.Cell.{Cell}
 use mathlib.Core.Path.{_≡_, refl, sym, ap, _∙_}
 use mathlib.Core.Bool.{Bool}
 use mathlib.Core.List.{List}
 use Prim.Native.Nat.{_+_, _*_, _-_, _≤_}
 use native.Mathlib.Omega.{arith}
 use lib.ListN.{length, drop}
-use Rattle.record.specs.Rule.{every, goodCell}
+use Rattle.lists.specs.Tests.{every}
+use Rattle.query.specs.Rule.{goodCell}
 use Rattle.text.proofs.Good.{every-take, every-drop}
 use Rattle.text.proofs.Stored.{mapped-length}
 use Rattle.text.proofs.Marks.{afterCells, after-eight, after-none}

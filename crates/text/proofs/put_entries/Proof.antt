@@ -4,7 +4,7 @@ use Rattle.text.proofs.Stored.{entries-turn, entries-end}
 use mathlib.Core.Path.{_≡_}
 use Prim.Native.Nat.{_-_, _≤_}
 use lib.ListN.{length, take, drop}
-use Rattle.record.specs.View.{entriesOf}
+use Rattle.query.specs.View.{entriesOf}
 use Rattle.text.specs.Text.{entriesText}
 use Rattle.text.proofs.Writing.{Progress, started, part-fits, wrote, finished, seen-as, same-size}
 use Rattle.text.proofs.put_entries.Statement.{statement}

@@ -3,9 +3,9 @@ use borrow.Author.Needs.{needs}
 use mathlib.Core.Path.{_≡_, ap}
 use mathlib.Core.List.{List}
 use Prim.Native.Nat.{ℕ}
-use Rattle.record.specs.declared.Entry.{Entry}
-use Rattle.record.specs.declared.Entry.the-variants.{Constant, Variable}
-use Rattle.record.specs.View.{entryOf}
+use Rattle.query.specs.declared.Entry.{Entry}
+use Rattle.query.specs.declared.Entry.the-variants.{Constant, Variable}
+use Rattle.query.specs.View.{entryOf}
 use Rattle.text.specs.Text.{decimal, field, vWord, entryText}
 use Rattle.text.specs.Writing.{Fits}
 use Rattle.text.proofs.Writing.{Progress, started, rest-fits, wrote-rest, seen-as}

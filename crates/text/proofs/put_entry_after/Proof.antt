@@ -2,7 +2,7 @@
 use borrow.Author.Needs.{needs}
 use mathlib.Core.Path.{refl}
 use mathlib.Core.List.{[], _∷_}
-use Rattle.record.specs.View.{entryOf}
+use Rattle.query.specs.View.{entryOf}
 use Rattle.text.specs.Text.{entryText}
 use Rattle.text.proofs.Writing.{started, part-fits, rest-fits, wrote, wrote-rest}
 use Rattle.text.proofs.put_entry_after.Statement.{statement}

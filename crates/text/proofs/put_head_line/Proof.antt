@@ -2,7 +2,7 @@
 use borrow.Author.Needs.{needs}
 use mathlib.Core.Path.{refl}
 use lib.ListN.{take}
-use Rattle.record.specs.View.{entriesOf}
+use Rattle.query.specs.View.{entriesOf}
 use Rattle.text.specs.Text.{entriesText, headWord, headLine}
 use Rattle.text.proofs.Writing.{started, part-fits, rest-fits, wrote, wrote-rest}
 use Rattle.text.proofs.put_head_line.Statement.{statement}

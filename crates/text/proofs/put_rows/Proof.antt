@@ -7,10 +7,10 @@ use native.Mathlib.Omega.{arith}
 use lib.ListN.{length, take, drop, getD}
 use lib.Seq.{getD-take, length-take-le}
 use mathlib.Core.Bool.{true}
-use Rattle.record.specs.declared.Cell.{Cell}
-use Rattle.record.specs.declared.Query.{Query}
-use Rattle.record.specs.View.{rowsOf}
-use Rattle.record.specs.Rule.{goodQuery}
+use Rattle.query.specs.declared.Cell.{Cell}
+use Rattle.query.specs.declared.Query.{Query}
+use Rattle.query.specs.View.{rowsOf}
+use Rattle.query.specs.Rule.{goodQuery}
 use Rattle.text.specs.Text.{rowLine, rowsText}
 use Rattle.text.specs.Stored.{rowOf, narrow}
 use Rattle.text.proofs.Good.{size-small, rows-known, relation-known, width-narrow}

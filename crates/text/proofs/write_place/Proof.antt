@@ -10,9 +10,9 @@ use lib.ListN.{length, take, getD, replicate, length-replicate, getD-replicate}
 use borrow.Author.Tests.{ne-eqb}
 use Rattle.theory.specs.Query as theory
 use Rattle.theory.specs.Query.{member, variablesOf}
-use Rattle.record.specs.declared.Query.{Query}
-use Rattle.record.specs.View.{entriesOf, queryOf}
-use Rattle.record.specs.Rule.{goodQuery}
+use Rattle.query.specs.declared.Query.{Query}
+use Rattle.query.specs.View.{entriesOf, queryOf}
+use Rattle.query.specs.Rule.{goodQuery}
 use Rattle.text.specs.Text.{neverLine, placeLine, headLine, rowsText, mapLine, occurring, placeText}
 use Rattle.text.specs.Writing.{Fits}
 use Rattle.text.specs.Stored.{imageOf, narrow, marks, marked}

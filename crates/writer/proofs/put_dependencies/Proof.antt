@@ -6,7 +6,7 @@ use native.Mathlib.Nat.{add-zero}
 use native.Mathlib.Omega.{arith}
 use lib.ListN.{length, take, getD, set, length-set}
 use lib.Seq.{length-take-le, getD-take}
-use Rattle.record.specs.declared.Dependency.{Dependency}
+use Rattle.query.specs.declared.Dependency.{Dependency}
 use Rattle.format.specs.Bytes.{over}
 use Rattle.format.specs.Format.{putAll}
 use Rattle.format.proofs.Lengths.{length-putAll}

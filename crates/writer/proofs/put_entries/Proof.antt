@@ -6,8 +6,8 @@ use native.Mathlib.Nat.{add-zero}
 use native.Mathlib.Omega.{arith}
 use lib.ListN.{length, take, getD}
 use lib.Seq.{length-take-le, getD-take}
-use Rattle.record.specs.declared.Cell.{Cell}
-use Rattle.record.specs.Rule.{noCell}
+use Rattle.query.specs.declared.Cell.{Cell}
+use Rattle.query.specs.Rule.{noCell}
 use Rattle.format.specs.Bytes.{over}
 use Rattle.format.specs.Format.{padded, putAll}
 use Rattle.format.specs.Parts.{putEntry, entry, entries}

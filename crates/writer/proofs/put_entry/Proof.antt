@@ -1,6 +1,6 @@
 use borrow.Author.Needs.{needs}
 use mathlib.Core.Path.{sym, ap, _∙_}
-use Rattle.record.specs.declared.Entry.{Entry}
+use Rattle.query.specs.declared.Entry.{Entry}
 use Rattle.format.specs.Bytes.{over}
 use Rattle.format.specs.Parts.{putEntry}
 use Rattle.writer.proofs.put_entry.Statement.{statement}

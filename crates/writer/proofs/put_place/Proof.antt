@@ -7,7 +7,8 @@ use native.Mathlib.Omega.{arith}
 use lib.ListN.{take, length-set}
 use lib.Seq.{sets-eq}
 use Rattle.record.specs.declared.Place.{Place}
-use Rattle.record.specs.Rule.{goodQuery, goodPlace, headSafe}
+use Rattle.query.specs.Rule.{goodQuery, headSafe}
+use Rattle.record.specs.Rule.{goodPlace}
 use Rattle.format.specs.Parts.{query}
 use Rattle.format.specs.File.{putPlace}
 use Rattle.writer.proofs.PlaceParts.{filled-part, vacant-part, filled-sizes}

@@ -7,7 +7,7 @@ use native.Mathlib.Omega.{arith}
 use lib.Dec.{eqb}
 use lib.ListN.{length, take, set, length-append, length-set}
 use lib.Seq.{length-take-le}
-use Rattle.record.specs.declared.Query.{Query}
+use Rattle.query.specs.declared.Query.{Query}
 use Rattle.format.specs.Bytes.{over}
 use Rattle.format.specs.Format.{byte, sequence, via, padded, putAll}
 use Rattle.format.specs.Parts.{entries, row, rows, chunk, query}

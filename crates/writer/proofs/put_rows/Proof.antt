@@ -6,7 +6,7 @@ use native.Mathlib.Nat.{le-of-suc-le-suc}
 use native.Mathlib.Omega.{arith}
 use lib.ListN.{length, take, drop, getD, length-drop}
 use lib.Seq.{drop-drop, getD-take, length-take-le}
-use Rattle.record.specs.declared.Cell.{Cell}
+use Rattle.query.specs.declared.Cell.{Cell}
 use Rattle.format.specs.Bytes.{over}
 use Rattle.format.specs.Format.{byte, sequence}
 use Rattle.format.specs.Parts.{entries, row, noRow, chunk}

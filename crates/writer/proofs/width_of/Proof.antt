@@ -4,7 +4,7 @@ use Prim.Native.Nat.{ℕ, _≤_}
 use lib.ListN.{getD, take}
 use mathlib.Core.Bool.{true}
 use mathlib.Core.List.{List}
-use Rattle.record.specs.Rule.{goodRelations}
+use Rattle.query.specs.Rule.{goodRelations}
 use Rattle.format.proofs.Parts.{narrow-at}
 use Rattle.format.proofs.Rules.{good-narrow}
 use Rattle.writer.proofs.width_of.Statement.{statement}

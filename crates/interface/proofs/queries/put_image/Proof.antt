@@ -2,7 +2,7 @@
 use mathlib.Core.Path.{sym, ap, _∙_}
 use native.Mathlib.Omega.{arith}
 use lib.ListN.{length-set}
-use Rattle.record.specs.declared.Entry.{Entry}
+use Rattle.query.specs.declared.Entry.{Entry}
 use Rattle.format.specs.Bytes.{over}
 use Rattle.writer.proofs.Stores.{two-stores}
 use Rattle.interface.specs.Queries.{entryWords}

@@ -5,8 +5,8 @@ use mathlib.Core.Path.{ap, sym, _∙_}
 use lib.ListN.{List·getD-eq-default}
 use Rattle.theory.specs.Query.{constant}
 use Rattle.theory.specs.Answer.{valueOf}
-use Rattle.record.specs.View.{entryOf}
-use Rattle.record.specs.Rule.{noCell}
+use Rattle.query.specs.View.{entryOf}
+use Rattle.query.specs.Rule.{noCell}
 use Rattle.mapping.specs.Mapped.{imagesOf}
 use Rattle.mapping.proofs.carry.image_of.Statement.{statement}
 use Rattle.mapping.proofs.carry.image_of.Tie as tie

@@ -3,7 +3,7 @@
 use borrow.Author.Needs.{needs}
 use mathlib.Core.Path.{ap₂, sym}
 use Rattle.theory.specs.Query.{sameEntry}
-use Rattle.record.specs.View.{entryOf}
+use Rattle.query.specs.View.{entryOf}
 use Rattle.mapping.proofs.carry.same.Statement.{statement}
 use Rattle.mapping.proofs.carry.same.Tie as tie
 

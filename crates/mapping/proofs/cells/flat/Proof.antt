@@ -9,9 +9,9 @@ use borrow.Author.Tests.{lt-ltb, le-ltb}
 use Prim.Native.Nat.{ℕ, _-_, _≤_, _<_}
 use lib.Dec.{ltb}
 use lib.ListN.{getD, length, length-set}
-use Rattle.record.specs.declared.Cell.{Cell}
-use Rattle.record.specs.declared.Query.{Query}
-use Rattle.record.specs.Rule.{noCell}
+use Rattle.query.specs.declared.Cell.{Cell}
+use Rattle.query.specs.declared.Query.{Query}
+use Rattle.query.specs.Rule.{noCell}
 use Rattle.mapping.specs.Mapped.{cellAt}
 use Rattle.mapping.proofs.Stores.{stored-into}
 use Rattle.mapping.proofs.cells.flat.Statement.{statement}

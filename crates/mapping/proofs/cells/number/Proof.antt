@@ -3,7 +3,7 @@
 use borrow.Author.Needs.{needs}
 use mathlib.Core.Path.{ap, sym}
 use Rattle.theory.specs.Containment.{freeze}
-use Rattle.record.specs.View.{entryOf}
+use Rattle.query.specs.View.{entryOf}
 use Rattle.mapping.proofs.cells.number.Statement.{statement}
 use Rattle.mapping.proofs.cells.number.Tie as tie
 

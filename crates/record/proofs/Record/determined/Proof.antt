@@ -10,7 +10,7 @@ use lib.ListN.{length}
 use borrow.Author.Tests.{not-true, not-false}
 use borrow.Author.Needs.{needs}
 use Rattle.record.specs.Rule.{goodRecord}
-use Rattle.record.proofs.Tail.{mapped-length}
+use Rattle.lists.proofs.Loops.{mapped-length}
 use Rattle.record.proofs.Good.{good-record}
 use Rattle.record.proofs.Outcomes.{rights-narrow, determined-broken, determined-unfit, determined-done}
 use Rattle.record.proofs.Record.determined.Statement.{statement}

@@ -9,9 +9,11 @@ use borrow.Author.Tests.{not-true, not-false}
 use borrow.Author.Needs.{needs}
 use Rattle.record.specs.declared.Lookup.the-variants as lookup
 use Rattle.record.specs.View.{schemaOf}
-use Rattle.record.specs.Rule.{goodRecord, goodQuery, headSafe}
+use Rattle.record.specs.Rule.{goodRecord}
+use Rattle.query.specs.Rule.{goodQuery, headSafe}
 use Rattle.record.specs.Calls.{concluded, numberOf, vacantPlace}
-use Rattle.record.proofs.Good.{good-record, good-query}
+use Rattle.record.proofs.Good.{good-record}
+use Rattle.query.proofs.Good.{good-query}
 use Rattle.record.proofs.Refusals.{place-at, vacant-at}
 use Rattle.record.proofs.Outcomes.{put-broken, put-high, put-unfit, put-unsafe, put-filled, put-done}
 use Rattle.record.proofs.Record.put.Statement.{statement}

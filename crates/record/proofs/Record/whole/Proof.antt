@@ -6,7 +6,9 @@ use borrow.Author.Tests.{not-true, not-false}
 use borrow.Author.Needs.{needs}
 use Rattle.record.specs.declared.Record.{Record}
 use Rattle.record.specs.View.{schemaOf}
-use Rattle.record.specs.Rule.{every, goodRelations, goodDependencies, goodPlace, goodRecord}
+use Rattle.lists.specs.Tests.{every}
+use Rattle.query.specs.Rule.{goodRelations, goodDependencies}
+use Rattle.record.specs.Rule.{goodPlace, goodRecord}
 use Rattle.record.proofs.Record.whole.Statement.{statement}
 use Rattle.record.proofs.Record.whole.Tie as tie
 

@@ -5,7 +5,7 @@ use lib.ListN.{replicate}
 use borrow.Author.Needs.{needs}
 use Rattle.record.specs.declared.Place.{Place}
 use Rattle.record.specs.declared.Record.{Record}
-use Rattle.record.specs.Rule.{noDependency}
+use Rattle.query.specs.Rule.{noDependency}
 use Rattle.record.proofs.calls.opened.Statement.{statement}
 use Rattle.record.proofs.calls.opened.Tie as tie
 

@@ -7,7 +7,7 @@ use native.Mathlib.Omega.{arith}
 use lib.Seq.{take-length}
 use lib.ListN.{length, getD, set, replicate}
 use borrow.Author.Needs.{needs}
-use Rattle.record.proofs.Tail.{filledTo, filled-next}
+use Rattle.lists.proofs.Loops.{filledTo, filled-next}
 use Rattle.record.proofs.calls.padded_widths.Statement.{statement}
 use Rattle.record.proofs.calls.padded_widths.Tie as tie
 

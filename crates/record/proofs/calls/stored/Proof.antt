@@ -6,7 +6,8 @@ use lib.ListN.{length}
 use borrow.Author.Needs.{needs}
 use Rattle.record.specs.declared.Place.{Place}
 use Rattle.record.specs.Rule.{noPlace}
-use Rattle.record.proofs.Tail.{mapped-length, getD-any, pastPlace}
+use Rattle.lists.proofs.Loops.{mapped-length, getD-any}
+use Rattle.record.proofs.Shape.{pastPlace}
 use Rattle.record.proofs.calls.stored.Statement.{statement}
 use Rattle.record.proofs.calls.stored.Tie as tie
 

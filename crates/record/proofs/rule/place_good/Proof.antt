@@ -8,8 +8,9 @@ use lib.ListN.{take}
 use borrow.Author.Tests.{not-true, not-false}
 use borrow.Author.Needs.{needs}
 use Rattle.record.specs.declared.Place.{Place}
-use Rattle.record.specs.Rule.{goodQuery, headSafe, blankQuery, goodPlace}
-use Rattle.record.proofs.Good.{good-query}
+use Rattle.query.specs.Rule.{goodQuery, headSafe, blankQuery}
+use Rattle.record.specs.Rule.{goodPlace}
+use Rattle.query.proofs.Good.{good-query}
 use Rattle.record.proofs.rule.place_good.Statement.{statement}
 use Rattle.record.proofs.rule.place_good.Tie as tie
 

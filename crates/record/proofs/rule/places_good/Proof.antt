@@ -4,8 +4,10 @@ use mathlib.Core.Path.{_≡_}
 use Prim.Native.Nat.{_-_, _≤_}
 use lib.ListN.{length, take}
 use borrow.Author.Needs.{needs}
-use Rattle.record.specs.Rule.{every, goodPlace}
-use Rattle.record.proofs.Tail.{Remains, turn-passes, turn-fails, turns-end, every-start, pastPlace}
+use Rattle.lists.specs.Tests.{every}
+use Rattle.record.specs.Rule.{goodPlace}
+use Rattle.lists.proofs.Loops.{Remains, turn-passes, turn-fails, turns-end, every-start}
+use Rattle.record.proofs.Shape.{pastPlace}
 use Rattle.record.proofs.rule.places_good.Statement.{statement}
 use Rattle.record.proofs.rule.places_good.Tie as tie
 

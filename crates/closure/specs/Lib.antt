@@ -1,0 +1,2 @@
+-- The closure of a set of columns, on masks.
+pub mod Closure

@@ -1,0 +1,3 @@
+-- What a test that holds tells (Tests), and how a loop makes it (Loops).
+pub mod Tests
+pub mod Loops

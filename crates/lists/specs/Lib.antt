@@ -1,0 +1,2 @@
+-- Tests on numbers and lists.
+pub mod Tests

@@ -1,0 +1,8 @@
+-- What a passed test tells (Relations, Good), what stored queries and dependencies are for the theory (Stored), by position and where they are blank (Shape).
+pub mod Relations
+pub mod Good
+pub mod Stored
+pub mod Shape
+-- Laws of the loops over rows (Rows) and head variables (Variables).
+pub mod Rows
+pub mod Variables

@@ -1,0 +1,3 @@
+-- What the fields of a stored query and of a stored dependency mean, and their rule.
+pub mod View
+pub mod Rule

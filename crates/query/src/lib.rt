@@ -1,0 +1,49 @@
+// A stored query and a stored functional dependency: their types, and the rule that each keeps.
+pub mod rule; // rule.rt: whether relations, a dependency and a query keep the limits
+
+ghost use mathlib.Core.Path.{_≡_};
+ghost use Rattle.query.specs.Rule.{noQuery};
+
+// An entry of a query: a constant or a variable, each by its number.
+pub enum Entry {
+    Constant(u32),
+    Variable(u8),
+}
+
+// One entry in an array.
+pub struct Cell {
+    pub entry: Entry,
+}
+
+// A query: a head of `arity` entries and `size` rows. Row r is of relation relations[r], and its entries are cells[8 * r ..], one a column.
+// A query without rows is the never query. What is not in use holds 0, an entry constant 0.
+pub struct Query {
+    pub arity: u8,
+    pub size: u8,
+    pub head: [Cell; 8],
+    pub relations: [u8; 12],
+    pub cells: [Cell; 96],
+}
+
+// A functional dependency: the columns of left (bit c for column c) determine column right of the relation.
+pub struct Dependency {
+    pub relation: u8,
+    pub left: u8,
+    pub right: u8,
+}
+
+// The query of a vacant place.
+pub fn no_query() -> Query
+    ensures { λ r. ⌜ r ≡ noQuery ⌝ }
+{
+    let blank = Cell {
+        entry: Entry::Constant(0),
+    };
+    Query {
+        arity: 0,
+        size: 0,
+        head: [blank; 8],
+        relations: [0; 12],
+        cells: [blank; 96],
+    }
+}
