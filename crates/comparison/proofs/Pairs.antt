@@ -13,8 +13,10 @@ use Rattle.query.specs.declared.Query.{Query}
 use Rattle.record.specs.declared.Record.{Record}
 use Rattle.record.specs.declared.Lookup.the-variants as lookup
 use Rattle.record.specs.Rule.{goodRecord}
-use Rattle.record.specs.Calls.{firstHolding, above, vacant, isFilled, placeAt, filledPlace, storedAt}
-use Rattle.record.proofs.Refusals.{first-goes, some-holds, none-holds, nothing-holds, found-refused, place-refused, filled-at}
+use Rattle.refusals.specs.Refusals.{firstHolding}
+use Rattle.record.specs.Calls.{above, vacant, isFilled, placeAt, filledPlace, storedAt}
+use Rattle.refusals.proofs.Refusals.{first-goes, some-holds, none-holds, nothing-holds}
+use Rattle.record.proofs.Refusals.{found-refused, place-refused, filled-at}
 use Rattle.comparison.specs.declared.Pair.{Pair}
 use Rattle.comparison.specs.declared.Pair.the-variants.{Places, Refused}
 use Rattle.comparison.specs.Comparison.{pairRefusal}

@@ -14,7 +14,8 @@ use Rattle.query.specs.View.{queryOf}
 use Rattle.record.specs.View.{schemaOf, dependenciesOf}
 use Rattle.query.specs.Rule.{goodQuery, noCell, noQuery}
 use Rattle.record.specs.Rule.{noPlace}
-use Rattle.record.specs.Calls.{firstHolding, broken, above, vacant, storedAt, queryAt}
+use Rattle.refusals.specs.Refusals.{firstHolding}
+use Rattle.record.specs.Calls.{broken, above, vacant, storedAt, queryAt}
 use Rattle.mapping.specs.Mapped.{imagesOf}
 use Rattle.comparison.specs.declared.Verdict.{Verdict}
 use Rattle.comparison.specs.declared.Verdict.the-variants.{Never, Contained, Apart, Refused}

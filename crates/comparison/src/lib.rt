@@ -3,10 +3,10 @@
 use query::Cell;
 use query::Dependency;
 use query::Entry;
-use record::Lookup;
 use query::Query;
-use record::Record;
 use query::no_query;
+use record::Lookup;
+use record::Record;
 use record::calls::number;
 use record::calls::place_at;
 use record::calls::stored;
@@ -47,7 +47,7 @@ pub enum Checked {
 fn filled_pair(given: Record, p: usize, q: usize) -> Pair
     ensures { λ r. ⌜ r ≡ paired (pairRefusal given p q) p q ⌝ }
 {
-    if !given.whole() {
+    if !given.is_good() {
         return Pair::Refused(14);
     }
     let found = place_at(p);

@@ -22,7 +22,8 @@ use Rattle.query.specs.View.{queryOf}
 use Rattle.lists.specs.Tests.{between, every}
 use Rattle.query.specs.Rule.{goodDependency, goodQuery, headSafe}
 use Rattle.record.specs.Rule.{goodPlace, goodRecord, noPlace, blankRecord}
-use Rattle.record.specs.Calls.{queryAt, firstHolding, concluded, broken, above, vacant, filled, withPlace, withDependency, emptyRecord, openRecord, addDependency, putQuery, dropQuery}
+use Rattle.refusals.specs.Refusals.{firstHolding}
+use Rattle.record.specs.Calls.{queryAt, concluded, broken, above, vacant, filled, withPlace, withDependency, emptyRecord, openRecord, addDependency, putQuery, dropQuery}
 use Rattle.lists.proofs.Tests.{and-left, and-right, and-both, every-set}
 use Rattle.record.proofs.Good.{good-record}
 use Rattle.record.proofs.Meaning.{open-keeps, add-keeps, put-keeps, drop-keeps}

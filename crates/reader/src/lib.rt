@@ -1,14 +1,14 @@
 // The record of a file. The directory names the parts; each part is read as the very stretch of the file that its pair names.
-use record::Answer;
 use query::Cell;
 use query::Dependency;
 use query::Entry;
+use query::Query;
+use query::rule;
+use record::Answer;
 use record::Outcome;
 use record::Place;
-use query::Query;
 use record::Record;
 use record::calls;
-use query::rule;
 ghost use mathlib.Core.Path.{_≡_};
 ghost use mathlib.Core.Bool.{true};
 ghost use Prim.Native.Nat.{_+_, _-_, _*_, _≤_, _<_};

@@ -25,7 +25,8 @@ use Rattle.record.specs.View.{schemaOf, dependenciesOf}
 use Rattle.lists.specs.Tests.{between, every}
 use Rattle.query.specs.Rule.{goodSet, goodRelations, goodDependency, goodQuery, headSafe}
 use Rattle.record.specs.Rule.{goodRecord, noPlace, blankRecord}
-use Rattle.record.specs.Calls.{firstHolding, concluded, broken, above, vacant, filled, withPlace, withDependency, emptyRecord, openRecord, addDependency, putQuery, dropQuery, columnsAnswer, determinedColumns}
+use Rattle.refusals.specs.Refusals.{firstHolding}
+use Rattle.record.specs.Calls.{concluded, broken, above, vacant, filled, withPlace, withDependency, emptyRecord, openRecord, addDependency, putQuery, dropQuery, columnsAnswer, determinedColumns}
 use Rattle.record.specs.Meaning.{OpenKeeps, AddKeeps, PutKeeps, DropKeeps, BlankBroken, DeterminedMeans}
 use Rattle.closure.specs.Closure.{growMask}
 use Rattle.record.proofs.Good.{good-record}
@@ -33,7 +34,7 @@ use Rattle.query.proofs.Good.{good-set}
 use Rattle.record.proofs.Stored.{narrow, dependencies-fit}
 use Rattle.closure.proofs.Masks.{same-columns, columns-member, columns-count}
 use Rattle.closure.proofs.Closure.{is-columns, determined-mask, grow-lt}
-use Rattle.record.proofs.Refusals.{none-holds}
+use Rattle.refusals.proofs.Refusals.{none-holds}
 use Rattle.record.proofs.Outcomes.{widths-judged}
 use Rattle.record.proofs.Kept.{filled-place, empty-place, place-kept, dependency-kept, opened-good}
 

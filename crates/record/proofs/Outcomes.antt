@@ -25,14 +25,16 @@ use Rattle.record.specs.View.{schemaOf, dependenciesOf}
 use Rattle.lists.specs.Tests.{between, every, isZero}
 use Rattle.query.specs.Rule.{goodSet, rightNarrow, blankDependency, goodRelations, goodDependency, goodQuery, headSafe}
 use Rattle.record.specs.Rule.{blankRecord, goodRecord, noPlace}
-use Rattle.record.specs.Calls.{firstHolding, concluded, broken, above, vacant, filled, placeAt, filledPlace, vacantPlace, withPlace, withDependency, emptyRecord, openRecord, addDependency, putQuery, dropQuery, determinedColumns}
+use Rattle.refusals.specs.Refusals.{firstHolding}
+use Rattle.record.specs.Calls.{concluded, broken, above, vacant, filled, placeAt, filledPlace, vacantPlace, withPlace, withDependency, emptyRecord, openRecord, addDependency, putQuery, dropQuery, determinedColumns}
 use Rattle.closure.specs.Closure.{growMask}
 use Rattle.lists.proofs.Tests.{every-replicate, every-weaken, used-good}
 use Rattle.record.proofs.Good.{good-record}
 use Rattle.query.proofs.Good.{good-dependency, good-set}
 use Rattle.record.proofs.Stored.{narrow, dependencies-fit}
 use Rattle.closure.proofs.Closure.{held-length, determined-mask, determined-count}
-use Rattle.record.proofs.Refusals.{first-goes, found-refused, filled-at, vacant-at, place-refused, vacant-refused}
+use Rattle.refusals.proofs.Refusals.{first-goes}
+use Rattle.record.proofs.Refusals.{found-refused, filled-at, vacant-at, place-refused, vacant-refused}
 
 and-true-right : (b : Bool) → b && true ≡ b
 and-true-right true = refl

@@ -10,41 +10,9 @@ use lib.Dec.{ltb}
 use borrow.Author.Tests.{ltb-true, ltb-false, lt-ltb, le-ltb, not-true, not-false}
 use Rattle.record.specs.declared.Lookup.the-variants as lookup
 use Rattle.record.specs.declared.Record.{Record}
-use Rattle.record.specs.Calls.{firstHolding, found, above, vacant, filled, isFilled, placeAt, filledPlace, vacantPlace}
-
-module _ (b : Bool) (n : ℕ) (rest : List (Bool × ℕ)) where
-  -- A condition that holds decides
-  pub first-stops : b ≡ true → firstHolding ((b, n) ∷ rest) ≡ some n
-  unfolding firstHolding
-  first-stops e = ap (λ (t : Bool). cond t (some n) (firstHolding rest)) e
-
-  -- One that does not is passed over
-  pub first-goes : b ≡ false → firstHolding ((b, n) ∷ rest) ≡ firstHolding rest
-  unfolding firstHolding
-  first-goes e = ap (λ (t : Bool). cond t (some n) (firstHolding rest)) e
-
-  -- Where none holds, this one does not, and none of the rest
-  pub none-holds : firstHolding ((b, n) ∷ rest) ≡ none → (b ≡ false) × (firstHolding rest ≡ none)
-  unfolding firstHolding
-  none-holds e = go b refl e
-    where
-      go : (t : Bool) → b ≡ t → cond t (some n) (firstHolding rest) ≡ none → (b ≡ false) × (firstHolding rest ≡ none)
-      go true p q = let z : _≡_ {A = ℕ} 0 1 = cc in absurd (omega arith)
-      go false p q = (p, q)
-
-  -- Where one holds, it is this one, or this one is passed over
-  pub some-holds : (m : ℕ) → firstHolding ((b, n) ∷ rest) ≡ some m → ((b ≡ true) × (n ≡ m)) ⊎ ((b ≡ false) × (firstHolding rest ≡ some m))
-  unfolding firstHolding
-  some-holds m e = go b refl e
-    where
-      go : (t : Bool) → b ≡ t → cond t (some n) (firstHolding rest) ≡ some m → ((b ≡ true) × (n ≡ m)) ⊎ ((b ≡ false) × (firstHolding rest ≡ some m))
-      go true p q = inl (p, cc)
-      go false p q = inr (p, q)
-
--- Of no conditions none holds
-pub nothing-holds : (m : ℕ) → firstHolding [] ≡ some m → ⊥
-unfolding firstHolding
-nothing-holds m e = let z : _≡_ {A = ℕ} 0 1 = cc in omega arith
+use Rattle.refusals.specs.Refusals.{firstHolding}
+use Rattle.record.specs.Calls.{found, above, vacant, filled, isFilled, placeAt, filledPlace, vacantPlace}
+use Rattle.refusals.proofs.Refusals.{first-goes, none-holds, some-holds, nothing-holds}
 
 -- A lookup that gives an index was not refused, and gives the place
 pub found-at : (o : Option ℕ) (place at : ℕ) → found o place ≡ lookup.At at → (o ≡ none) × (place ≡ at)

@@ -22,13 +22,9 @@ use Rattle.record.specs.View.{schemaOf, dependenciesOf}
 use Rattle.lists.specs.Tests.{between, every}
 use Rattle.query.specs.Rule.{goodSet, goodDependency, goodQuery, headSafe, noDependency}
 use Rattle.record.specs.Rule.{goodRecord, noPlace, blankRecord}
+use Rattle.refusals.specs.Refusals.{badDependency, badQuery, badRecord, badRelations, dependenciesFull, firstHolding, noSuchPlace, placeFilled, placeVacant, unsafeHead}
 
 -- ---- refusals
-
--- The number of the first condition that holds, if one does: a call refuses with this number
-unfoldable pub firstHolding : List (Bool × ℕ) → Option ℕ
-firstHolding [] = none
-firstHolding (c ∷ rest) = cond (c .0) (some (c .1)) (firstHolding rest)
 
 -- A call that is refused with number n, or none, after which an accepted call leaves the record `after`: a refusal hands back the record given
 abbrev pub concluded : Option ℕ → Record → Record → Outcome
@@ -49,11 +45,11 @@ numberOf (lookup.Refused n) = n
 
 -- Document 01's 14: the record breaks "The record"
 abbrev pub broken : Record → (Bool × ℕ)
-broken r = (not (goodRecord r), 14)
+broken r = (not (goodRecord r), badRecord)
 
 -- 7: the place is above 7
 abbrev pub above : ℕ → (Bool × ℕ)
-above place = (not (ltb place 8), 7)
+above place = (not (ltb place 8), noSuchPlace)
 
 -- Whether a place is filled
 abbrev pub isFilled : Record → ℕ → Bool
@@ -69,11 +65,11 @@ queryAt r place = queryOf (schemaOf r) (storedAt r place)
 
 -- 11: the place to be read or dropped is vacant
 abbrev pub vacant : Record → ℕ → (Bool × ℕ)
-vacant r place = (not (isFilled r place), 11)
+vacant r place = (not (isFilled r place), placeVacant)
 
 -- 12: the place to be filled is filled
 abbrev pub filled : Record → ℕ → (Bool × ℕ)
-filled r place = (isFilled r place, 12)
+filled r place = (isFilled r place, placeFilled)
 
 -- The index of a place
 abbrev pub placeAt : ℕ → Lookup
@@ -107,20 +103,20 @@ emptyRecord relations widths =
 -- Open a record from relation widths, no dependencies, all places vacant: 3 unless there are 1 to 8 widths, each 1 to 8
 unfoldable pub openRecord : List ℕ → Outcome
 openRecord widths =
-    concluded (firstHolding ((not (between 1 8 (length widths) && every (between 1 8) widths), 3) ∷ [])) blankRecord
+    concluded (firstHolding ((not (between 1 8 (length widths) && every (between 1 8) widths), badRelations) ∷ [])) blankRecord
     (emptyRecord (length widths) (widths ++ replicate (8 - length widths) 0))
 
 -- Add a dependency after those held: 14; 4 unless it is good; 13 where 32 are held
 unfoldable pub addDependency : Record → Dependency → Outcome
 addDependency r d =
-    concluded (firstHolding (broken r ∷ (not (goodDependency (schemaOf r) d), 4) ∷ (eqb (r .held) 32, 13) ∷ [])) r
+    concluded (firstHolding (broken r ∷ (not (goodDependency (schemaOf r) d), badDependency) ∷ (eqb (r .held) 32, dependenciesFull) ∷ [])) r
     (withDependency r d)
 
 -- Put a query into a vacant place: 14; 7; 5 unless it keeps the limits and holds nothing where it is not in use; 6 where a head variable is in no row; 12
 unfoldable pub putQuery : Record → ℕ → Query → Outcome
 putQuery r place q =
     concluded
-    (firstHolding (broken r ∷ above place ∷ (not (goodQuery (schemaOf r) q), 5) ∷ (not (headSafe (schemaOf r) q), 6) ∷ filled r place ∷ [])) r
+    (firstHolding (broken r ∷ above place ∷ (not (goodQuery (schemaOf r) q), badQuery) ∷ (not (headSafe (schemaOf r) q), unsafeHead) ∷ filled r place ∷ [])) r
     (withPlace r place (record { filled = true; query = q }))
 
 -- Drop a filled place: 14; 7; 11
@@ -135,5 +131,5 @@ columnsAnswer (some n) cs = columns.Refused n
 -- The columns of a relation that a left set determines: 14; 4 unless the relation is known and the set is a nonempty set of its columns
 unfoldable pub determinedColumns : Record → ℕ → ℕ → Columns
 determinedColumns r relation left =
-    columnsAnswer (firstHolding (broken r ∷ (not (goodSet (schemaOf r) relation left), 4) ∷ []))
+    columnsAnswer (firstHolding (broken r ∷ (not (goodSet (schemaOf r) relation left), badDependency) ∷ []))
     (determined (dependenciesOf r) relation (getD (schemaOf r) relation 0) (columnsOf left))

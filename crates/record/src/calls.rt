@@ -53,7 +53,7 @@ pub fn place_at(place: usize) -> Lookup
     if place < 8 {
         Lookup::At(place)
     } else {
-        Lookup::Refused(7)
+        Lookup::Refused(refusals::NO_SUCH_PLACE)
     }
 }
 
@@ -121,12 +121,12 @@ impl Record {
         ensures { λ r. ⌜ r ≡ openRecord (now (widths .entry)) ⌝ }
     {
         if 8 < widths.len() {
-            return refused(3, blank_record());
+            return refused(refusals::BAD_RELATIONS, blank_record());
         }
         let relations = widths.len() as u8;
         let padded = padded_widths(widths);
         if !query::rule::relations_good(relations, padded) {
-            return refused(3, blank_record());
+            return refused(refusals::BAD_RELATIONS, blank_record());
         }
         done(opened(relations, padded))
     }
@@ -137,13 +137,13 @@ impl Record {
     {
         let places = self.places;
         if 8 <= place {
-            return Lookup::Refused(7);
+            return Lookup::Refused(refusals::NO_SUCH_PLACE);
         }
         let p = places[place];
         if p.filled {
             Lookup::At(place)
         } else {
-            Lookup::Refused(11)
+            Lookup::Refused(refusals::PLACE_VACANT)
         }
     }
 
@@ -153,11 +153,11 @@ impl Record {
     {
         let places = self.places;
         if 8 <= place {
-            return Lookup::Refused(7);
+            return Lookup::Refused(refusals::NO_SUCH_PLACE);
         }
         let p = places[place];
         if p.filled {
-            Lookup::Refused(12)
+            Lookup::Refused(refusals::PLACE_FILLED)
         } else {
             Lookup::At(place)
         }
@@ -167,8 +167,8 @@ impl Record {
     pub fn drop_query(self, place: usize) -> Outcome
         ensures { λ r. ⌜ r ≡ dropQuery self place ⌝ }
     {
-        if !self.whole() {
-            return refused(14, self);
+        if !self.is_good() {
+            return refused(refusals::BAD_RECORD, self);
         }
         let found = self.filled_place(place);
         let Lookup::At(at) = found else {
@@ -185,18 +185,18 @@ impl Record {
     {
         let relations = self.relations;
         let widths = self.widths;
-        if !self.whole() {
-            return refused(14, self);
+        if !self.is_good() {
+            return refused(refusals::BAD_RECORD, self);
         }
         let found = place_at(place);
         let Lookup::At(_) = found else {
             return refused(number(found), self);
         };
         if !query::rule::query_good(relations, widths, q) {
-            return refused(5, self);
+            return refused(refusals::BAD_QUERY, self);
         }
         if !query::rule::head_safe(relations, widths, q) {
-            return refused(6, self);
+            return refused(refusals::UNSAFE_HEAD, self);
         }
         let found = self.vacant_place(place);
         let Lookup::At(at) = found else {
@@ -217,14 +217,14 @@ impl Record {
         let relations = self.relations;
         let widths = self.widths;
         let held = self.held;
-        if !self.whole() {
-            return refused(14, self);
+        if !self.is_good() {
+            return refused(refusals::BAD_RECORD, self);
         }
         if !query::rule::dependency_good(relations, widths, d) {
-            return refused(4, self);
+            return refused(refusals::BAD_DEPENDENCY, self);
         }
         if held == 32 {
-            return refused(13, self);
+            return refused(refusals::DEPENDENCIES_FULL, self);
         }
         let mut next = self;
         next.dependencies[held as usize] = d;
@@ -240,11 +240,11 @@ impl Record {
         let widths = self.widths;
         let held = self.held;
         let dependencies = self.dependencies;
-        if !self.whole() {
-            return Columns::Refused(14);
+        if !self.is_good() {
+            return Columns::Refused(refusals::BAD_RECORD);
         }
         if !query::rule::set_good(relations, widths, relation, left) {
-            return Columns::Refused(4);
+            return Columns::Refused(refusals::BAD_DEPENDENCY);
         }
         let mask = closure::closed_columns(held as usize, dependencies, relation, left);
         Columns::Determined(mask, u8::count_ones(mask) as u8)

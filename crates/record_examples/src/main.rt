@@ -1,13 +1,13 @@
 // Document 01's examples of the calls on the record alone: limits, refusals and their order, determined columns.
 // A line is what was asked, with the number of the case, and the answer: done, or the refusal's number, or a set of columns (bit c for
 // column c) and its size. Relation 0 is R with columns a, b, and relation 1 is S with columns a, b, c.
-use record::Answer;
 use query::Cell;
-use record::Columns;
 use query::Dependency;
 use query::Entry;
-use record::Outcome;
 use query::Query;
+use record::Answer;
+use record::Columns;
+use record::Outcome;
 use record::Record;
 use record::calls;
 

@@ -1,11 +1,11 @@
 // Document 01's examples of reducing one place into another, and the refusals with their order.
 // A line is the source, the target and the answer: the refusal's number; never, with the length of the head; or the number of rows, the first row, the head's
 // first two entries and the images of v0, v1, v2; then the number of replacements. Relation 0 is R with columns a, b.
-use record::Answer;
 use query::Cell;
 use query::Dependency;
 use query::Entry;
 use query::Query;
+use record::Answer;
 use record::Record;
 use record::calls;
 use reduction::Reduced;

@@ -21,7 +21,8 @@ use Rattle.record.specs.View.{schemaOf, dependenciesOf}
 use Rattle.lists.specs.Tests.{every, between}
 use Rattle.query.specs.Rule.{goodDependencies, goodQuery, headSafe, noCell}
 use Rattle.record.specs.Rule.{goodRecord, noPlace}
-use Rattle.record.specs.Calls.{firstHolding, above, vacant, filled, placeAt, isFilled, filledPlace, vacantPlace, withPlace, storedAt}
+use Rattle.refusals.specs.Refusals.{firstHolding}
+use Rattle.record.specs.Calls.{above, vacant, filled, placeAt, isFilled, filledPlace, vacantPlace, withPlace, storedAt}
 use Rattle.lists.proofs.Tests.{and-both}
 use Rattle.record.proofs.Good.{good-record}
 use Rattle.record.proofs.Stored.{place-good, filled-parts}

@@ -13,7 +13,8 @@ use Rattle.query.specs.View.{queryOf}
 use Rattle.record.specs.View.{schemaOf, dependenciesOf}
 use Rattle.record.specs.Rule.{goodRecord, noPlace}
 use Rattle.query.specs.Rule.{noCell}
-use Rattle.record.specs.Calls.{firstHolding, broken, above, vacant, filled, withPlace, storedAt, queryAt}
+use Rattle.refusals.specs.Refusals.{firstHolding}
+use Rattle.record.specs.Calls.{broken, above, vacant, filled, withPlace, storedAt, queryAt}
 use Rattle.mapping.specs.Mapped.{imagesOf}
 use Rattle.reduction.specs.declared.Reduced.{Reduced}
 use Rattle.theory.specs.Query as theory

@@ -2,13 +2,13 @@
 // query as it was stored.
 pub mod pruning; // pruning.rt: a query without one of its rows, and without all that it can do without
 
-use record::Answer;
 use query::Cell;
 use query::Dependency;
 use query::Entry;
+use query::Query;
+use record::Answer;
 use record::Lookup;
 use record::Place;
-use query::Query;
 use record::Record;
 ghost use mathlib.Core.Path.{_≡_};
 ghost use mathlib.Core.Bool.{true};
@@ -98,7 +98,7 @@ fn store_reduced(given: Record, source: usize, target: usize) -> Reduced
 pub fn reduce(given: Record, source: usize, target: usize) -> Reduced
     ensures { λ o. ⌜ IsReduced given source target o ⌝ }
 {
-    if !given.whole() {
+    if !given.is_good() {
         return refused(14, given);
     }
     let found = record::calls::place_at(target);

@@ -8,13 +8,13 @@ use crate::numbers::list;
 use crate::numbers::number;
 use comparison::Checked;
 use database::Answered;
-use record::Answer;
 use query::Cell;
-use record::Columns;
 use query::Dependency;
 use query::Entry;
-use record::calls::blank_record;
 use query::no_query;
+use record::Answer;
+use record::Columns;
+use record::calls::blank_record;
 use writer::Written;
 
 // The number of an answer.

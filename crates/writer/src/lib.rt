@@ -2,10 +2,10 @@
 use query::Cell;
 use query::Dependency;
 use query::Entry;
-use record::Place;
 use query::Query;
-use record::Record;
 use query::rule;
+use record::Place;
+use record::Record;
 ghost use mathlib.Core.Path.{_≡_};
 ghost use mathlib.Core.Bool.{true};
 ghost use mathlib.Core.List.{_∷_, map};
@@ -407,7 +407,7 @@ pub fn write_good(given: Record, buffer: &mut [u8]) -> Written
 pub fn write(given: Record, buffer: &mut [u8]) -> Written
     ensures { λ r. ⌜ (r ≡ written given (now (buffer .entry))) × (now (buffer .exit) ≡ bufferAfter given (now (buffer .entry))) ⌝ }
 {
-    if !given.whole() {
+    if !given.is_good() {
         return Written::Refused(14);
     }
     write_good(given, buffer)

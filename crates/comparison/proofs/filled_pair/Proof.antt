@@ -14,12 +14,12 @@ use Rattle.comparison.proofs.Pairs.{pair-broken, first-above, second-ab
 use Rattle.comparison.proofs.filled_pair.Statement.{statement}
 use Rattle.comparison.proofs.filled_pair.Tie as tie
 
-whole-requires : tie.Need-whole-requires
-whole-requires c κs = search needs
+is-good-requires : tie.Need-is-good-requires
+is-good-requires c κs = search needs
 
 returns : tie.Need-returns
 returns c =
-    pair-broken (c .before .before .args .given) (c .before .before .args .p) (c .before .before .args .q) (sym (c .before .whole .ensures) ∙ not-true _ (c .if1 .taken))
+    pair-broken (c .before .before .args .given) (c .before .before .args .p) (c .before .before .args .q) (sym (c .before .is-good .ensures) ∙ not-true _ (c .if1 .taken))
 
 place-at-requires : tie.Need-place-at-requires
 place-at-requires c κs = search needs
@@ -38,7 +38,7 @@ returns-2 c =
     let given = c .before .before .before .before .before .before .args .given in
     let p = c .before .before .before .before .before .before .args .p in
     let q = c .before .before .before .before .before .before .args .q in
-    let good : goodRecord given ≡ true = sym (c .before .before .before .before .before .whole .ensures) ∙ not-false _ (c .before .before .before .before .if1 .left) in
+    let good : goodRecord given ≡ true = sym (c .before .before .before .before .before .is-good .ensures) ∙ not-false _ (c .before .before .before .before .if1 .left) in
     let told = c .before .enum-told2 .given in
     let is : Refused (c .number .result) ≡ Refused (told .0 .0) = ap Refused (c .number .ensures ∙ ap numberOf (told .1)) in
     is ∙ first-above given p q good (told .0 .0) (sym (c .before .before .before .place-at .ensures) ∙ told .1)
@@ -60,7 +60,7 @@ returns-3 c =
     let given = c .before .before .before .before .before .before .before .before .before .args .given in
     let p = c .before .before .before .before .before .before .before .before .before .args .p in
     let q = c .before .before .before .before .before .before .before .before .before .args .q in
-    let good : goodRecord given ≡ true = sym (c .before .before .before .before .before .before .before .before .whole .ensures) ∙ not-false _ (c .before .before .before .before .before .before .before .if1 .left) in
+    let good : goodRecord given ≡ true = sym (c .before .before .before .before .before .before .before .before .is-good .ensures) ∙ not-false _ (c .before .before .before .before .before .before .before .if1 .left) in
     let low-p : p < 8 = place-at p _ (sym (c .before .before .before .before .before .before .place-at .ensures) ∙ c .before .before .before .before .enum-told .given .1) .1 in
     let told = c .before .enum-told4 .given in
     let is : Refused (c .number2 .result) ≡ Refused (told .0 .0) = ap Refused (c .number2 .ensures ∙ ap numberOf (told .1)) in
@@ -83,7 +83,7 @@ returns-4 c =
     let given = c .before .before .before .before .before .before .before .before .before .before .before .before .args .given in
     let p = c .before .before .before .before .before .before .before .before .before .before .before .before .args .p in
     let q = c .before .before .before .before .before .before .before .before .before .before .before .before .args .q in
-    let good : goodRecord given ≡ true = sym (c .before .before .before .before .before .before .before .before .before .before .before .whole .ensures) ∙ not-false _ (c .before .before .before .before .before .before .before .before .before .before .if1 .left) in
+    let good : goodRecord given ≡ true = sym (c .before .before .before .before .before .before .before .before .before .before .before .is-good .ensures) ∙ not-false _ (c .before .before .before .before .before .before .before .before .before .before .if1 .left) in
     let low-p : p < 8 = place-at p _ (sym (c .before .before .before .before .before .before .before .before .before .place-at .ensures) ∙ c .before .before .before .before .before .before .before .enum-told .given .1) .1 in
     let low-q : q < 8 = place-at q _ (sym (c .before .before .before .before .before .before .place-at2 .ensures) ∙ c .before .before .before .before .enum-told3 .given .1) .1 in
     let told = c .before .enum-told5 .given in
@@ -107,7 +107,7 @@ returns-5 c =
     let given = c .before .before .before .before .before .before .before .before .before .before .before .before .before .before .before .before .args .given in
     let p = c .before .before .before .before .before .before .before .before .before .before .before .before .before .before .before .before .args .p in
     let q = c .before .before .before .before .before .before .before .before .before .before .before .before .before .before .before .before .args .q in
-    let good : goodRecord given ≡ true = sym (c .before .before .before .before .before .before .before .before .before .before .before .before .before .before .before .whole .ensures) ∙ not-false _ (c .before .before .before .before .before .before .before .before .before .before .before .before .before .before .if1 .left) in
+    let good : goodRecord given ≡ true = sym (c .before .before .before .before .before .before .before .before .before .before .before .before .before .before .before .is-good .ensures) ∙ not-false _ (c .before .before .before .before .before .before .before .before .before .before .before .before .before .before .if1 .left) in
     let low-p : p < 8 = place-at p _ (sym (c .before .before .before .before .before .before .before .before .before .before .before .before .before .place-at .ensures) ∙ c .before .before .before .before .before .before .before .before .before .before .before .enum-told .given .1) .1 in
     let low-q : q < 8 = place-at q _ (sym (c .before .before .before .before .before .before .before .before .before .before .place-at2 .ensures) ∙ c .before .before .before .before .before .before .before .before .enum-told3 .given .1) .1 in
     let at = filled-at given p _ (sym (c .before .before .before .before .before .before .before .filled-place .ensures) ∙ c .before .before .before .before .before .found .given .1) in
@@ -136,7 +136,7 @@ returns-6 c =
     let given = c .before .before .before .before .before .before .before .before .before .before .before .before .before .before .before .before .before .before .before .before .before .args .given in
     let p = c .before .before .before .before .before .before .before .before .before .before .before .before .before .before .before .before .before .before .before .before .before .args .p in
     let q = c .before .before .before .before .before .before .before .before .before .before .before .before .before .before .before .before .before .before .before .before .before .args .q in
-    let good : goodRecord given ≡ true = sym (c .before .before .before .before .before .before .before .before .before .before .before .before .before .before .before .before .before .before .before .before .whole .ensures) ∙ not-false _ (c .before .before .before .before .before .before .before .before .before .before .before .before .before .before .before .before .before .before .before .if1 .left) in
+    let good : goodRecord given ≡ true = sym (c .before .before .before .before .before .before .before .before .before .before .before .before .before .before .before .before .before .before .before .before .is-good .ensures) ∙ not-false _ (c .before .before .before .before .before .before .before .before .before .before .before .before .before .before .before .before .before .before .before .if1 .left) in
     found-differ given p q good _ _ (sym (c .before .before .before .before .before .before .before .before .before .before .before .before .filled-place .ensures) ∙ c .before .before .before .before .before .before .before .before .before .before .found .given .1) (sym (c .before .before .before .before .before .before .before .before .filled-place2 .ensures) ∙ c .before .before .before .before .before .before .found2 .given .1)
     _ _ (c .before .before .before .before .stored .ensures) (c .before .before .before .stored2 .ensures) (c .if2 .taken)
 
@@ -145,7 +145,7 @@ returns-7 c =
     let given = c .before .before .before .before .before .before .before .before .before .before .before .before .before .before .before .before .before .before .before .before .before .args .given in
     let p = c .before .before .before .before .before .before .before .before .before .before .before .before .before .before .before .before .before .before .before .before .before .args .p in
     let q = c .before .before .before .before .before .before .before .before .before .before .before .before .before .before .before .before .before .before .before .before .before .args .q in
-    let good : goodRecord given ≡ true = sym (c .before .before .before .before .before .before .before .before .before .before .before .before .before .before .before .before .before .before .before .before .whole .ensures) ∙ not-false _ (c .before .before .before .before .before .before .before .before .before .before .before .before .before .before .before .before .before .before .before .if1 .left) in
+    let good : goodRecord given ≡ true = sym (c .before .before .before .before .before .before .before .before .before .before .before .before .before .before .before .before .before .before .before .before .is-good .ensures) ∙ not-false _ (c .before .before .before .before .before .before .before .before .before .before .before .before .before .before .before .before .before .before .before .if1 .left) in
     found-stand given p q good _ _ (sym (c .before .before .before .before .before .before .before .before .before .before .before .before .filled-place .ensures) ∙ c .before .before .before .before .before .before .before .before .before .before .found .given .1) (sym (c .before .before .before .before .before .before .before .before .filled-place2 .ensures) ∙ c .before .before .before .before .before .before .found2 .given .1)
     _ _ (c .before .before .before .before .stored .ensures) (c .before .before .before .stored2 .ensures) (c .if2 .left)
 
@@ -153,7 +153,7 @@ pub filled-pair-spec : {M : Type 1} → statement M
 filled-pair-spec =
     tie.close
     (tie.spec
-    whole-requires
+    is-good-requires
     returns
     place-at-requires
     enum-told

@@ -13,8 +13,8 @@ use Rattle.reduction.proofs.Results.{reduce-broken, reduce-high, reduce
 use Rattle.reduction.proofs.reduce.Statement.{statement}
 use Rattle.reduction.proofs.reduce.Tie as tie
 
-whole-requires : tie.Need-whole-requires
-whole-requires c κs = search needs
+is-good-requires : tie.Need-is-good-requires
+is-good-requires c κs = search needs
 
 refused-requires : tie.Need-refused-requires
 refused-requires c κs = search needs
@@ -22,11 +22,11 @@ refused-requires c κs = search needs
 returns : tie.Need-returns
 returns c =
     let a = c .before .before .before .args in
-    reduce-broken (a .given) (a .source) (a .target) (c .refused .result) (sym (c .before .before .whole .ensures) ∙ not-true _ (c .before .if1 .taken)) (c .refused .ensures)
+    reduce-broken (a .given) (a .source) (a .target) (c .refused .result) (sym (c .before .before .is-good .ensures) ∙ not-true _ (c .before .if1 .taken)) (c .refused .ensures)
 
 -- what the tests passed so far tell
 good : (c : tie.Else1) → goodRecord (c .before .before .args .given) ≡ true
-good c = sym (c .before .whole .ensures) ∙ not-false _ (c .if1 .left)
+good c = sym (c .before .is-good .ensures) ∙ not-false _ (c .if1 .left)
 
 low : (c : tie.After-enum-told) → c .before .before .before .before .before .args .target < 8
 low c =
@@ -137,7 +137,7 @@ pub reduce-spec : {M : Type 1} → statement M
 reduce-spec =
     tie.close
     (tie.spec
-    whole-requires
+    is-good-requires
     refused-requires
     returns
     place-at-requires

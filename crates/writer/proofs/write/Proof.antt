@@ -17,14 +17,14 @@ use Rattle.writer.proofs.write.Tie as tie
 broken : (r : Record) (buffer : List ℕ) → goodRecord r ≡ false → (Refused 14 ≡ written r buffer) × (buffer ≡ bufferAfter r buffer)
 broken r buffer e = (rw e refl, rw e refl)
 
-whole-requires : tie.Need-whole-requires
-whole-requires c κs = search needs
+is-good-requires : tie.Need-is-good-requires
+is-good-requires c κs = search needs
 
 returns : tie.Need-returns
-returns c = broken _ _ (sym (c .before .whole .ensures) ∙ not-true _ (c .if1 .taken))
+returns c = broken _ _ (sym (c .before .is-good .ensures) ∙ not-true _ (c .if1 .taken))
 
 write-good-requires : tie.Need-write-good-requires
-write-good-requires c κs = sym (c .before .before .whole .ensures) ∙ not-false _ (c .before .if1 .left)
+write-good-requires c κs = sym (c .before .before .is-good .ensures) ∙ not-false _ (c .before .if1 .left)
 
 same-length : tie.Need-same-length
 same-length c = search needs
@@ -33,4 +33,4 @@ returns-2 : tie.Need-returns-2
 returns-2 c = c .before .before .write-good .ensures
 
 pub write-spec : {M : Type 1} → statement M
-write-spec = tie.close (tie.spec whole-requires returns write-good-requires same-length returns-2)
+write-spec = tie.close (tie.spec is-good-requires returns write-good-requires same-length returns-2)

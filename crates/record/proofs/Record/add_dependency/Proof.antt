@@ -10,32 +10,32 @@ use Rattle.record.proofs.Outcomes.{add-broken, add-unfit, add-full, add
 use Rattle.record.proofs.Record.add_dependency.Statement.{statement}
 use Rattle.record.proofs.Record.add_dependency.Tie as tie
 
-whole-requires : tie.Need-whole-requires
-whole-requires c κs = search needs
+is-good-requires : tie.Need-is-good-requires
+is-good-requires c κs = search needs
 
 refused-requires : tie.Need-refused-requires
 refused-requires c κs = search needs
 
 returns : tie.Need-returns
 returns c =
-    c .refused .ensures ∙ add-broken (c .before .before .before .before .args .self) (c .before .before .before .before .args .d) (sym (c .before .before .whole .ensures) ∙ not-true _ (c .before .if1 .taken))
+    c .refused .ensures ∙ add-broken (c .before .before .before .before .args .self) (c .before .before .before .before .args .d) (sym (c .before .before .is-good .ensures) ∙ not-true _ (c .before .if1 .taken))
 
 dependency-good-requires : tie.Need-dependency-good-requires
-dependency-good-requires c κs = good-record (c .before .before .before .args .self) (sym (c .before .whole .ensures) ∙ not-false _ (c .if1 .left)) .relations
+dependency-good-requires c κs = good-record (c .before .before .before .args .self) (sym (c .before .is-good .ensures) ∙ not-false _ (c .if1 .left)) .relations
 
 refused-requires-2 : tie.Need-refused-requires-2
 refused-requires-2 c κs = search needs
 
 returns-2 : tie.Need-returns-2
 returns-2 c =
-    c .refused2 .ensures ∙ add-unfit (c .before .before .before .before .before .before .args .self) (c .before .before .before .before .before .before .args .d) (sym (c .before .before .before .before .whole .ensures) ∙ not-false _ (c .before .before .before .if1 .left)) (sym (c .before .before .dependency-good .ensures) ∙ not-true _ (c .before .if2 .taken))
+    c .refused2 .ensures ∙ add-unfit (c .before .before .before .before .before .before .args .self) (c .before .before .before .before .before .before .args .d) (sym (c .before .before .before .before .is-good .ensures) ∙ not-false _ (c .before .before .before .if1 .left)) (sym (c .before .before .dependency-good .ensures) ∙ not-true _ (c .before .if2 .taken))
 
 refused-requires-3 : tie.Need-refused-requires-3
 refused-requires-3 c κs = search needs
 
 returns-3 : tie.Need-returns-3
 returns-3 c =
-    c .refused3 .ensures ∙ add-full (c .before .before .before .before .before .before .before .args .self) (c .before .before .before .before .before .before .before .args .d) (sym (c .before .before .before .before .before .whole .ensures) ∙ not-false _ (c .before .before .before .before .if1 .left)) (sym (c .before .before .before .dependency-good .ensures) ∙ not-false _ (c .before .before .if2 .left)) (c .before .if3 .taken)
+    c .refused3 .ensures ∙ add-full (c .before .before .before .before .before .before .before .args .self) (c .before .before .before .before .before .before .before .args .d) (sym (c .before .before .before .before .before .is-good .ensures) ∙ not-false _ (c .before .before .before .before .if1 .left)) (sym (c .before .before .before .dependency-good .ensures) ∙ not-false _ (c .before .before .if2 .left)) (c .before .if3 .taken)
 
 cast-d : tie.Need-cast-d
 cast-d c = search needs
@@ -45,12 +45,12 @@ mul-d c = search needs
 
 element-set-from-d : tie.Need-element-set-from-d
 element-set-from-d c =
-    let few : c .before .before .before .before .before .before .args .self .held ≤ 32 = good-record (c .before .before .before .before .before .before .args .self) (sym (c .before .before .before .before .whole .ensures) ∙ not-false _ (c .before .before .before .if1 .left)) .held in
+    let few : c .before .before .before .before .before .before .args .self .held ≤ 32 = good-record (c .before .before .before .before .before .before .args .self) (sym (c .before .before .before .before .is-good .ensures) ∙ not-false _ (c .before .before .before .if1 .left)) .held in
     omega arith
 
 add-next : tie.Need-add-next
 add-next c =
-    let few : c .before .before .before .before .before .before .args .self .held ≤ 32 = good-record (c .before .before .before .before .before .before .args .self) (sym (c .before .before .before .before .whole .ensures) ∙ not-false _ (c .before .before .before .if1 .left)) .held in
+    let few : c .before .before .before .before .before .before .args .self .held ≤ 32 = good-record (c .before .before .before .before .before .before .args .self) (sym (c .before .before .before .before .is-good .ensures) ∙ not-false _ (c .before .before .before .if1 .left)) .held in
     record { fits = omega arith }
 
 done-requires : tie.Need-done-requires
@@ -58,13 +58,13 @@ done-requires c κs = search needs
 
 returns-4 : tie.Need-returns-4
 returns-4 c =
-    c .done .ensures ∙ add-done (c .before .before .before .before .before .before .before .args .self) (c .before .before .before .before .before .before .before .args .d) (sym (c .before .before .before .before .before .whole .ensures) ∙ not-false _ (c .before .before .before .before .if1 .left)) (sym (c .before .before .before .dependency-good .ensures) ∙ not-false _ (c .before .before .if2 .left)) (c .before .if3 .left)
+    c .done .ensures ∙ add-done (c .before .before .before .before .before .before .before .args .self) (c .before .before .before .before .before .before .before .args .d) (sym (c .before .before .before .before .before .is-good .ensures) ∙ not-false _ (c .before .before .before .before .if1 .left)) (sym (c .before .before .before .dependency-good .ensures) ∙ not-false _ (c .before .before .if2 .left)) (c .before .if3 .left)
 
 pub add-dependency-spec : {M : Type 1} → statement M
 add-dependency-spec =
     tie.close
     (tie.spec
-    whole-requires
+    is-good-requires
     refused-requires
     returns
     dependency-good-requires

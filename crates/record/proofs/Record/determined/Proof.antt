@@ -16,15 +16,15 @@ use Rattle.record.proofs.Outcomes.{rights-narrow, determined-broken, de
 use Rattle.record.proofs.Record.determined.Statement.{statement}
 use Rattle.record.proofs.Record.determined.Tie as tie
 
-whole-requires : tie.Need-whole-requires
-whole-requires c κs = search needs
+is-good-requires : tie.Need-is-good-requires
+is-good-requires c κs = search needs
 
 -- what the tests passed so far tell
 good : (c : tie.Else1) → goodRecord (c .before .before .before .before .args .self) ≡ true
-good c = sym (c .before .whole .ensures) ∙ not-false _ (c .if1 .left)
+good c = sym (c .before .is-good .ensures) ∙ not-false _ (c .if1 .left)
 
 returns : tie.Need-returns
-returns c = determined-broken (c .before .before .before .before .args .self) (c .before .before .before .before .args .relation) (c .before .before .before .before .args .left) (sym (c .before .whole .ensures) ∙ not-true _ (c .if1 .taken))
+returns c = determined-broken (c .before .before .before .before .args .self) (c .before .before .before .before .args .relation) (c .before .before .before .before .args .left) (sym (c .before .is-good .ensures) ∙ not-true _ (c .if1 .taken))
 
 set-good-requires : tie.Need-set-good-requires
 set-good-requires c κs = good-record (c .before .before .before .before .args .self) (good c) .relations
@@ -55,7 +55,7 @@ pub determined-spec : {M : Type 1} → statement M
 determined-spec =
     tie.close
     (tie.spec
-    whole-requires
+    is-good-requires
     returns
     set-good-requires
     returns-2

@@ -16,14 +16,14 @@ use Rattle.record.proofs.Outcomes.{drop-broken, drop-refused, drop-done
 use Rattle.record.proofs.Record.drop_query.Statement.{statement}
 use Rattle.record.proofs.Record.drop_query.Tie as tie
 
-whole-requires : tie.Need-whole-requires
-whole-requires c κs = search needs
+is-good-requires : tie.Need-is-good-requires
+is-good-requires c κs = search needs
 
 refused-requires : tie.Need-refused-requires
 refused-requires c κs = search needs
 
 returns : tie.Need-returns
-returns c = c .refused .ensures ∙ drop-broken (c .before .before .before .args .self) (c .before .before .before .args .place) (sym (c .before .before .whole .ensures) ∙ not-true _ (c .before .if1 .taken))
+returns c = c .refused .ensures ∙ drop-broken (c .before .before .before .args .self) (c .before .before .before .args .place) (sym (c .before .before .is-good .ensures) ∙ not-true _ (c .before .if1 .taken))
 
 filled-place-requires : tie.Need-filled-place-requires
 filled-place-requires c κs = search needs
@@ -44,7 +44,7 @@ returns-2 : tie.Need-returns-2
 returns-2 c =
     let self = c .before .before .before .before .before .before .before .args .self in
     let place = c .before .before .before .before .before .before .before .args .place in
-    let good : goodRecord self ≡ true = sym (c .before .before .before .before .before .before .whole .ensures) ∙ not-false _ (c .before .before .before .before .before .if1 .left) in
+    let good : goodRecord self ≡ true = sym (c .before .before .before .before .before .before .is-good .ensures) ∙ not-false _ (c .before .before .before .before .before .if1 .left) in
     let told = c .before .before .enum-told .given in
     let number : c .before .number .result ≡ told .0 .0 = c .before .number .ensures ∙ ap numberOf (told .1) in
     c .refused2 .ensures ∙ ap (λ (n : ℕ). concluded (some n) self self) number
@@ -81,7 +81,7 @@ returns-3 c =
     let at = c .before .before .before .found .given .0 .0 in
     let is : filledPlace self place ≡ lookup.At at = sym (c .before .before .before .before .before .filled-place .ensures) ∙ c .before .before .before .found .given .1 in
     let low : at < 8 = omega (arith, filled-at self place at is .0, filled-at self place at is .1) in
-    let good : goodRecord self ≡ true = sym (c .before .before .before .before .before .before .before .whole .ensures) ∙ not-false _ (c .before .before .before .before .before .before .if1 .left) in
+    let good : goodRecord self ≡ true = sym (c .before .before .before .before .before .before .before .is-good .ensures) ∙ not-false _ (c .before .before .before .before .before .before .if1 .left) in
     let stored : withPlace self at (c .before .no-place .result) ≡ withPlace self at noPlace = ap (withPlace self at) (c .before .no-place .ensures) in
     c .done .ensures ∙ ap (λ (after : Record). concluded none after after) stored ∙ drop-done self place good at is
 
@@ -89,7 +89,7 @@ pub drop-query-spec : {M : Type 1} → statement M
 drop-query-spec =
     tie.close
     (tie.spec
-    whole-requires
+    is-good-requires
     refused-requires
     returns
     filled-place-requires

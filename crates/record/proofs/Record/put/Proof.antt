@@ -19,19 +19,19 @@ use Rattle.record.proofs.Outcomes.{put-broken, put-high, put-unfit, put
 use Rattle.record.proofs.Record.put.Statement.{statement}
 use Rattle.record.proofs.Record.put.Tie as tie
 
-whole-requires : tie.Need-whole-requires
-whole-requires c κs = search needs
+is-good-requires : tie.Need-is-good-requires
+is-good-requires c κs = search needs
 
 refused-requires : tie.Need-refused-requires
 refused-requires c κs = search needs
 
 returns : tie.Need-returns
 returns c =
-    c .refused .ensures ∙ put-broken (c .before .before .before .before .args .self) (c .before .before .before .before .args .place) (c .before .before .before .before .args .q) (sym (c .before .before .whole .ensures) ∙ not-true _ (c .before .if1 .taken))
+    c .refused .ensures ∙ put-broken (c .before .before .before .before .args .self) (c .before .before .before .before .args .place) (c .before .before .before .before .args .q) (sym (c .before .before .is-good .ensures) ∙ not-true _ (c .before .if1 .taken))
 
 -- what the tests passed so far tell
 good : (c : tie.Else1) → goodRecord (c .before .before .before .args .self) ≡ true
-good c = sym (c .before .whole .ensures) ∙ not-false _ (c .if1 .left)
+good c = sym (c .before .is-good .ensures) ∙ not-false _ (c .if1 .left)
 
 low : (c : tie.After-enum-told) → c .before .before .before .before .before .before .args .place < 8
 low c = place-at (c .before .before .before .before .before .before .args .place) (c .enum-told .given .0 .0) (sym (c .before .before .place-at .ensures) ∙ c .enum-told .given .1) .1
@@ -148,7 +148,7 @@ pub put-spec : {M : Type 1} → statement M
 put-spec =
     tie.close
     (tie.spec
-    whole-requires
+    is-good-requires
     refused-requires
     returns
     place-at-requires

@@ -1,4 +1,4 @@
--- `record::Record::whole` meets its contract: the tests are those of `goodRecord` in its order, and the first that fails decides.
+-- `record::Record::is_good` meets its contract: the tests are those of `goodRecord` in its order, and the first that fails decides.
 -- Assumes nothing.
 use mathlib.Core.Path.{_≡_, sym, _∙_}
 use mathlib.Core.Bool.{true, false}
@@ -9,8 +9,8 @@ use Rattle.record.specs.View.{schemaOf}
 use Rattle.lists.specs.Tests.{every}
 use Rattle.query.specs.Rule.{goodRelations, goodDependencies}
 use Rattle.record.specs.Rule.{goodPlace, goodRecord}
-use Rattle.record.proofs.Record.whole.Statement.{statement}
-use Rattle.record.proofs.Record.whole.Tie as tie
+use Rattle.record.proofs.Record.is_good.Statement.{statement}
+use Rattle.record.proofs.Record.is_good.Tie as tie
 
 module _ (r : Record) where
   stops-1 : goodRelations (r .relations) (r .widths) ≡ false → false ≡ goodRecord r
@@ -44,8 +44,8 @@ places-good-requires c κs = (sym (c .before .before .before .relations-good .en
 returns-3 : tie.Need-returns-3
 returns-3 c = c .places-good .ensures ∙ goes (c .before .before .before .before .before .before .before .before .args .self) (sym (c .before .before .before .before .relations-good .ensures) ∙ not-false _ (c .before .before .before .if1 .left)) (sym (c .before .before .dependencies-good .ensures) ∙ not-false _ (c .before .if2 .left))
 
-pub whole-spec : {M : Type 1} → statement M
-whole-spec =
+pub is-good-spec : {M : Type 1} → statement M
+is-good-spec =
     tie.close
     (tie.spec
     relations-good-requires

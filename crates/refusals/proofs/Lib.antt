@@ -1,0 +1,2 @@
+-- What the first condition that holds tells.
+pub mod Refusals

@@ -1,0 +1,43 @@
+-- The first condition that holds: what a test that holds or fails makes of it. For any list of conditions.
+use mathlib.Core.Path.{_≡_, refl, ap}
+use mathlib.Core.Logic.{_⊎_, inl, inr}
+use mathlib.Core.Bool.{Bool, true, false, cond}
+use mathlib.Core.List.{List, [], _∷_}
+use mathlib.Core.Option.{none, some}
+use Prim.Native.Nat.{ℕ}
+use native.Mathlib.Omega.{arith}
+use Rattle.refusals.specs.Refusals.{firstHolding}
+
+module _ (b : Bool) (n : ℕ) (rest : List (Bool × ℕ)) where
+  -- A condition that holds decides
+  pub first-stops : b ≡ true → firstHolding ((b, n) ∷ rest) ≡ some n
+  unfolding firstHolding
+  first-stops e = ap (λ (t : Bool). cond t (some n) (firstHolding rest)) e
+
+  -- One that does not is passed over
+  pub first-goes : b ≡ false → firstHolding ((b, n) ∷ rest) ≡ firstHolding rest
+  unfolding firstHolding
+  first-goes e = ap (λ (t : Bool). cond t (some n) (firstHolding rest)) e
+
+  -- Where none holds, this one does not, and none of the rest
+  pub none-holds : firstHolding ((b, n) ∷ rest) ≡ none → (b ≡ false) × (firstHolding rest ≡ none)
+  unfolding firstHolding
+  none-holds e = go b refl e
+    where
+      go : (t : Bool) → b ≡ t → cond t (some n) (firstHolding rest) ≡ none → (b ≡ false) × (firstHolding rest ≡ none)
+      go true p q = let z : _≡_ {A = ℕ} 0 1 = cc in absurd (omega arith)
+      go false p q = (p, q)
+
+  -- Where one holds, it is this one, or this one is passed over
+  pub some-holds : (m : ℕ) → firstHolding ((b, n) ∷ rest) ≡ some m → ((b ≡ true) × (n ≡ m)) ⊎ ((b ≡ false) × (firstHolding rest ≡ some m))
+  unfolding firstHolding
+  some-holds m e = go b refl e
+    where
+      go : (t : Bool) → b ≡ t → cond t (some n) (firstHolding rest) ≡ some m → ((b ≡ true) × (n ≡ m)) ⊎ ((b ≡ false) × (firstHolding rest ≡ some m))
+      go true p q = inl (p, cc)
+      go false p q = inr (p, q)
+
+-- Of no conditions none holds
+pub nothing-holds : (m : ℕ) → firstHolding [] ≡ some m → ⊥
+unfolding firstHolding
+nothing-holds m e = let z : _≡_ {A = ℕ} 0 1 = cc in omega arith

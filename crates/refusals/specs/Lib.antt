@@ -1,0 +1,2 @@
+-- The refusals: their numbers, their order, and which one a call gives.
+pub mod Refusals

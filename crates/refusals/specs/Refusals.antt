@@ -1,0 +1,89 @@
+-- The refusals of SPECIFICATION: a name for each number, the order in which they are asked, and the first whose condition holds.
+use mathlib.Core.Bool.{Bool, true, false, cond}
+use mathlib.Core.List.{List, [], _∷_, map}
+use mathlib.Core.Option.{Option, none, some}
+use Prim.Native.Nat.{ℕ}
+use lib.Dec.{eqb}
+
+-- ---- because of the input
+
+-- A file under 2 bytes, a wrong number of parts, or pairs that do not fit
+abbrev pub badDirectory : ℕ
+badDirectory = 1
+
+-- A pair of the directory breaks the rule of offsets
+abbrev pub badOffsets : ℕ
+badOffsets = 2
+
+-- Relations break the record's rule
+abbrev pub badRelations : ℕ
+badRelations = 3
+
+-- A dependency, or a relation or set asked of, breaks the record's rule
+abbrev pub badDependency : ℕ
+badDependency = 4
+
+-- A query breaks the record's rule
+abbrev pub badQuery : ℕ
+badQuery = 5
+
+-- A head variable stands in no row
+abbrev pub unsafeHead : ℕ
+unsafeHead = 6
+
+-- A place above 7
+abbrev pub noSuchPlace : ℕ
+noSuchPlace = 7
+
+-- The lengths of two heads differ
+abbrev pub headsDiffer : ℕ
+headsDiffer = 8
+
+-- A database row of an unknown relation, or one that is cut short
+abbrev pub badDatabase : ℕ
+badDatabase = 9
+
+-- Answers or a file longer than the lent buffer
+abbrev pub bufferTooShort : ℕ
+bufferTooShort = 10
+
+-- ---- because of the state
+
+-- The place to be read or dropped is vacant
+abbrev pub placeVacant : ℕ
+placeVacant = 11
+
+-- The place to be filled is filled
+abbrev pub placeFilled : ℕ
+placeFilled = 12
+
+-- As many dependencies are held as there is room for
+abbrev pub dependenciesFull : ℕ
+dependenciesFull = 13
+
+-- The record breaks its rule
+abbrev pub badRecord : ℕ
+badRecord = 14
+
+-- ---- the order
+
+-- The order in which a call asks: the record, the places, then by number
+abbrev pub order : List ℕ
+order =
+    badRecord ∷ noSuchPlace ∷ placeVacant ∷ badDirectory ∷ badOffsets ∷ badRelations ∷ badDependency ∷ badQuery ∷ unsafeHead ∷ headsDiffer ∷ badDatabase
+    ∷ bufferTooShort ∷ placeFilled ∷ dependenciesFull ∷ []
+
+-- A condition under which a call is refused, with the number of the refusal
+abbrev pub Condition : Type 0
+Condition = Bool × ℕ
+
+-- The number of the first condition that holds, if one does: a call refuses with this number
+unfoldable pub firstHolding : List Condition → Option ℕ
+firstHolding [] = none
+firstHolding (c ∷ rest) = cond (c .0) (some (c .1)) (firstHolding rest)
+
+-- Whether numbers stand in the given order, each as often as it likes
+unfoldable pub follows : List ℕ → List ℕ → Bool
+follows [] order = true
+follows (n ∷ ns) [] = false
+follows (n ∷ ns) (m ∷ order) = cond (eqb n m) (follows ns (m ∷ order)) (follows (n ∷ ns) order)
