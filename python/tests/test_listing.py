@@ -179,7 +179,7 @@ class Refused(Program):
     def test_5(self):
         row = "0 v0 v1"
         limits = [
-            part(" ".join(["v0"] * 9), row), part("v0", *[row] * 13), WIDE, part("v0", "0 v0 2147483648"), part("v96", row), part("v0", row, "1 v0 v1"),
+            part(" ".join(["v0"] * 9), row), part("v0", *[row] * 13), WIDE, part("v96", row), part("v0", "0 v0 2147483648"), part("v0", row, "1 v0 v1"),
             bytes([0, 1, 0, 2, 0, 0, 0, 0, 0, 0, 0, 0, 0]), b"\x09\x00", b"\xfe\x00",
         ]
         lengths = [b"", b"\x01", ONE[:-1], ONE + b"\x00", ONE[:2], b"\x01\x00\x00", VACANT + VACANT, b"\x00\x00\x00"]
