@@ -3,6 +3,8 @@ pub mod Relations
 pub mod Good
 pub mod Stored
 pub mod Shape
+-- What the views and the rule come to (Meaning).
+pub mod Meaning
 -- Laws of the loops over rows (Rows) and head variables (Variables).
 pub mod Rows
 pub mod Variables
