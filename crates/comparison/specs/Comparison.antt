@@ -14,7 +14,7 @@ use Rattle.query.specs.View.{queryOf}
 use Rattle.record.specs.View.{schemaOf, dependenciesOf}
 use Rattle.query.specs.Rule.{goodQuery, noCell, noQuery}
 use Rattle.record.specs.Rule.{noPlace}
-use Rattle.refusals.specs.Refusals.{firstHolding}
+use Rattle.refusals.specs.Refusals.{Condition, firstHolding, headsDiffer}
 use Rattle.record.specs.Calls.{broken, above, vacant, storedAt, queryAt}
 use Rattle.mapping.specs.Mapped.{imagesOf}
 use Rattle.comparison.specs.declared.Verdict.{Verdict}
@@ -33,11 +33,14 @@ use Rattle.theory.specs.Search as search
 abbrev pub chasedAt : Record → ℕ → theory.Query
 chasedAt r place = chasing.chase (dependenciesOf r) (queryAt r place) .query
 
--- The refusals of a call on two places: 14; 7; 11; 8 where the head lengths differ
+-- What a call on two places asks: 14; 7; 11; 8 where the head lengths differ
+abbrev pub pairConditions : Record → ℕ → ℕ → List Condition
+pairConditions r p q =
+    broken r ∷ above p ∷ above q ∷ vacant r p ∷ vacant r q ∷ (not (eqb (storedAt r p .arity) (storedAt r q .arity)), headsDiffer) ∷ []
+
+-- The refusal of a call on two places
 unfoldable pub pairRefusal : Record → ℕ → ℕ → Option ℕ
-pairRefusal r p q =
-    firstHolding
-    (broken r ∷ above p ∷ above q ∷ vacant r p ∷ vacant r q ∷ (not (eqb (storedAt r p .arity) (storedAt r q .arity)), 8) ∷ [])
+pairRefusal r p q = firstHolding (pairConditions r p q)
 
 -- The verdict on a chased query: never is contained, without a mapping; otherwise it is contained exactly when the second query can be mapped to it
 abbrev pub verdictOn : List (theory.Row theory.Entry) → Bool → Verdict
@@ -53,7 +56,7 @@ judged (some n) verdict = Refused n
 abbrev pub verdictOf : Record → ℕ → ℕ → Verdict
 verdictOf r p q = judged (pairRefusal r p q) (verdictOn (chasedAt r p .rows) (search.mappable (queryAt r q) (chasedAt r p)))
 
--- Document 01's number of the variable 0 of a query read as a database
+-- The number of the variable 0 of a query read as a database
 abbrev pub base : ℕ
 base = 2147483648
 

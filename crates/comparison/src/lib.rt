@@ -15,13 +15,13 @@ ghost use Prim.Native.Nat.{_<_};
 ghost use Rattle.comparison.specs.Comparison.{pairRefusal, Compared, CheckedMapping};
 ghost use Rattle.comparison.specs.Parts.{paired, numberIn, bare, Comparable, Compares};
 
-// Two places to be read whose heads have one length, or document 01's number of the refusal.
+// Two places to be read whose heads have one length, or the number of the refusal.
 pub enum Pair {
     Places(usize, usize),
     Refused(u8),
 }
 
-// What a comparison says: contained because the first query chases to never, contained by a mapping, not contained, or refused with document 01's number.
+// What a comparison says: contained because the first query chases to never, contained by a mapping, not contained, or refused with a number.
 pub enum Verdict {
     Never,
     Contained,
@@ -43,12 +43,12 @@ pub enum Checked {
     Refused(u8),
 }
 
-// The refusals of a call on two places, in document 01's order.
+// The refusals of a call on two places, in the order of SPECIFICATION, Refusals.
 fn filled_pair(given: Record, p: usize, q: usize) -> Pair
     ensures { λ r. ⌜ r ≡ paired (pairRefusal given p q) p q ⌝ }
 {
     if !given.is_good() {
-        return Pair::Refused(14);
+        return Pair::Refused(refusals::BAD_RECORD);
     }
     let found = place_at(p);
     let Lookup::At(_) = found else {
@@ -69,7 +69,7 @@ fn filled_pair(given: Record, p: usize, q: usize) -> Pair
     let a = stored(given, first);
     let b = stored(given, second);
     if a.arity != b.arity {
-        return Pair::Refused(8);
+        return Pair::Refused(refusals::HEADS_DIFFER);
     }
     Pair::Places(first, second)
 }

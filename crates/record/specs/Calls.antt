@@ -1,4 +1,4 @@
--- What each call on the record alone answers: the refusals in document 01's order, and the record after the call.
+-- What each call on the record alone answers: what it asks, in the order of SPECIFICATION, Refusals, and the record after it.
 use mathlib.Core.Bool.{Bool, true, cond, not, _&&_}
 use mathlib.Core.List.{List, [], _∷_, _++_}
 use mathlib.Core.Option.{Option, none, some}
@@ -22,7 +22,7 @@ use Rattle.record.specs.View.{schemaOf, dependenciesOf}
 use Rattle.lists.specs.Tests.{between, every}
 use Rattle.query.specs.Rule.{goodSet, goodDependency, goodQuery, headSafe, noDependency}
 use Rattle.record.specs.Rule.{goodRecord, noPlace, blankRecord}
-use Rattle.refusals.specs.Refusals.{badDependency, badQuery, badRecord, badRelations, dependenciesFull, firstHolding, noSuchPlace, placeFilled, placeVacant, unsafeHead}
+use Rattle.refusals.specs.Refusals.{badDependency, badQuery, badRecord, badRelations, dependenciesFull, Condition, firstHolding, noSuchPlace, placeFilled, placeVacant, unsafeHead}
 
 -- ---- refusals
 
@@ -43,12 +43,12 @@ numberOf (lookup.Refused n) = n
 
 -- ---- places
 
--- Document 01's 14: the record breaks "The record"
-abbrev pub broken : Record → (Bool × ℕ)
+-- 14: the record breaks its rule
+abbrev pub broken : Record → Condition
 broken r = (not (goodRecord r), badRecord)
 
 -- 7: the place is above 7
-abbrev pub above : ℕ → (Bool × ℕ)
+abbrev pub above : ℕ → Condition
 above place = (not (ltb place 8), noSuchPlace)
 
 -- Whether a place is filled
@@ -64,11 +64,11 @@ abbrev pub queryAt : Record → ℕ → theory.Query
 queryAt r place = queryOf (schemaOf r) (storedAt r place)
 
 -- 11: the place to be read or dropped is vacant
-abbrev pub vacant : Record → ℕ → (Bool × ℕ)
+abbrev pub vacant : Record → ℕ → Condition
 vacant r place = (not (isFilled r place), placeVacant)
 
 -- 12: the place to be filled is filled
-abbrev pub filled : Record → ℕ → (Bool × ℕ)
+abbrev pub filled : Record → ℕ → Condition
 filled r place = (isFilled r place, placeFilled)
 
 -- The index of a place
@@ -100,36 +100,52 @@ abbrev pub emptyRecord : ℕ → List ℕ → Record
 emptyRecord relations widths =
     record { relations = relations; widths = widths; held = 0; dependencies = replicate 32 noDependency; places = replicate 8 noPlace }
 
--- Open a record from relation widths, no dependencies, all places vacant: 3 unless there are 1 to 8 widths, each 1 to 8
+-- What opening asks: 3 unless there are 1 to 8 widths, each 1 to 8
+abbrev pub openConditions : List ℕ → List Condition
+openConditions widths = (not (between 1 8 (length widths) && every (between 1 8) widths), badRelations) ∷ []
+
+-- Open a record from relation widths, no dependencies, all places vacant
 unfoldable pub openRecord : List ℕ → Outcome
 openRecord widths =
-    concluded (firstHolding ((not (between 1 8 (length widths) && every (between 1 8) widths), badRelations) ∷ [])) blankRecord
+    concluded (firstHolding (openConditions widths)) blankRecord
     (emptyRecord (length widths) (widths ++ replicate (8 - length widths) 0))
 
--- Add a dependency after those held: 14; 4 unless it is good; 13 where 32 are held
+-- What adding a dependency asks: 14; 4 unless it is good; 13 where 32 are held
+abbrev pub addConditions : Record → Dependency → List Condition
+addConditions r d = broken r ∷ (not (goodDependency (schemaOf r) d), badDependency) ∷ (eqb (r .held) 32, dependenciesFull) ∷ []
+
+-- Add a dependency after those held
 unfoldable pub addDependency : Record → Dependency → Outcome
-addDependency r d =
-    concluded (firstHolding (broken r ∷ (not (goodDependency (schemaOf r) d), badDependency) ∷ (eqb (r .held) 32, dependenciesFull) ∷ [])) r
-    (withDependency r d)
+addDependency r d = concluded (firstHolding (addConditions r d)) r (withDependency r d)
 
--- Put a query into a vacant place: 14; 7; 5 unless it keeps the limits and holds nothing where it is not in use; 6 where a head variable is in no row; 12
+-- What putting a query asks: 14; 7; 5 unless it keeps the limits and holds nothing where it is not in use; 6 where a head variable is in no row; 12
+abbrev pub putConditions : Record → ℕ → Query → List Condition
+putConditions r place q =
+    broken r ∷ above place ∷ (not (goodQuery (schemaOf r) q), badQuery) ∷ (not (headSafe (schemaOf r) q), unsafeHead) ∷ filled r place ∷ []
+
+-- Put a query into a vacant place
 unfoldable pub putQuery : Record → ℕ → Query → Outcome
-putQuery r place q =
-    concluded
-    (firstHolding (broken r ∷ above place ∷ (not (goodQuery (schemaOf r) q), badQuery) ∷ (not (headSafe (schemaOf r) q), unsafeHead) ∷ filled r place ∷ [])) r
-    (withPlace r place (record { filled = true; query = q }))
+putQuery r place q = concluded (firstHolding (putConditions r place q)) r (withPlace r place (record { filled = true; query = q }))
 
--- Drop a filled place: 14; 7; 11
+-- What dropping a place asks: 14; 7; 11
+abbrev pub dropConditions : Record → ℕ → List Condition
+dropConditions r place = broken r ∷ above place ∷ vacant r place ∷ []
+
+-- Drop a filled place
 unfoldable pub dropQuery : Record → ℕ → Outcome
-dropQuery r place = concluded (firstHolding (broken r ∷ above place ∷ vacant r place ∷ [])) r (withPlace r place noPlace)
+dropQuery r place = concluded (firstHolding (dropConditions r place)) r (withPlace r place noPlace)
 
 -- The answer about determined columns: refused with a number, or the set of columns and how many they are
 abbrev pub columnsAnswer : Option ℕ → List ℕ → Columns
 columnsAnswer none cs = columns.Determined (maskOf cs) (length cs)
 columnsAnswer (some n) cs = columns.Refused n
 
--- The columns of a relation that a left set determines: 14; 4 unless the relation is known and the set is a nonempty set of its columns
+-- What a question about determined columns asks: 14; 4 unless the relation is known and the set is a nonempty set of its columns
+abbrev pub determinedConditions : Record → ℕ → ℕ → List Condition
+determinedConditions r relation left = broken r ∷ (not (goodSet (schemaOf r) relation left), badDependency) ∷ []
+
+-- The columns of a relation that a left set determines
 unfoldable pub determinedColumns : Record → ℕ → ℕ → Columns
 determinedColumns r relation left =
-    columnsAnswer (firstHolding (broken r ∷ (not (goodSet (schemaOf r) relation left), badDependency) ∷ []))
+    columnsAnswer (firstHolding (determinedConditions r relation left))
     (determined (dependenciesOf r) relation (getD (schemaOf r) relation 0) (columnsOf left))

@@ -104,7 +104,7 @@ shortened schema dependencies held q result chased mapped widths long good safe 
         mapping = λ some-rows. found-mapping m (reduction-mapping ds S T reduced some-rows);
         answers = reduction-answers ds S T reduced;
         minimal = reduction-minimal schema ds S T (well .rows-fit) reduced;
-        counted = (chase ds S .query, subst (Chases ds S (chase ds S .query)) (sym (c .count-is)) (chase-chases ds S));
+        counted = c .count-is;
         count-le = chased-count c;
       };
       no-mapping = found-none m;

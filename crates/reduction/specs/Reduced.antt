@@ -13,7 +13,7 @@ use Rattle.query.specs.View.{queryOf}
 use Rattle.record.specs.View.{schemaOf, dependenciesOf}
 use Rattle.record.specs.Rule.{goodRecord, noPlace}
 use Rattle.query.specs.Rule.{noCell}
-use Rattle.refusals.specs.Refusals.{firstHolding}
+use Rattle.refusals.specs.Refusals.{Condition, firstHolding}
 use Rattle.record.specs.Calls.{broken, above, vacant, filled, withPlace, storedAt, queryAt}
 use Rattle.mapping.specs.Mapped.{imagesOf}
 use Rattle.reduction.specs.declared.Reduced.{Reduced}
@@ -23,9 +23,13 @@ use Rattle.theory.specs.Answer as answers
 use Rattle.theory.specs.Chase as chasing
 use Rattle.theory.specs.Reduction as reduction
 
--- The refusals of a reduction: 14; 7; 11 where the source is vacant; 12 where the target is filled
+-- What a reduction asks: 14; 7; 11 where the source is vacant; 12 where the target is filled
+abbrev pub reductionConditions : Record → ℕ → ℕ → List Condition
+reductionConditions r source target = broken r ∷ above source ∷ above target ∷ vacant r source ∷ filled r target ∷ []
+
+-- The refusal of a reduction
 unfoldable pub reductionRefusal : Record → ℕ → ℕ → Option ℕ
-reductionRefusal r source target = firstHolding (broken r ∷ above source ∷ above target ∷ vacant r source ∷ filled r target ∷ [])
+reductionRefusal r source target = firstHolding (reductionConditions r source target)
 
 -- What a refused reduction gives: the number, the record as it was, and 0 in every other field
 abbrev pub refusal : Record → ℕ → Reduced
@@ -42,7 +46,7 @@ pub record Reduces (schema : List ℕ) (ds : List database.Dependency) (S T : th
   -- every query with those answers on all those databases has at least as many rows
   pub minimal : reduction.Minimal schema ds S T
   -- the count is the number of replacements that the chase makes on S
-  pub counted : (chased : theory.Query) × chasing.Chases ds S chased count
+  pub counted : count ≡ chasing.chase ds S .count
   -- and at most the number of different variables of S
   pub count-le : count ≤ theory.variableCount S
 

@@ -99,7 +99,7 @@ pub fn reduce(given: Record, source: usize, target: usize) -> Reduced
     ensures { λ o. ⌜ IsReduced given source target o ⌝ }
 {
     if !given.is_good() {
-        return refused(14, given);
+        return refused(refusals::BAD_RECORD, given);
     }
     let found = record::calls::place_at(target);
     let Lookup::At(_) = found else {
