@@ -1,0 +1,99 @@
+-- The demands from the calls' own contracts. Assumes nothing.
+use mathlib.Core.Path.{_≡_, refl, sym, ap, _∙_}
+use mathlib.Core.Logic.{_↔_}
+use mathlib.Core.Bool.{Bool, true, false}
+use mathlib.Core.List.{List, [], _∷_}
+use mathlib.Core.Option.{Option, none, some}
+use Prim.Native.Nat.{ℕ}
+use native.Mathlib.Omega.{arith}
+use Rattle.refusals.specs.Refusals.{order, follows}
+use Rattle.record.specs.declared.Record.{Record}
+use Rattle.query.specs.View.{queryOf}
+use Rattle.record.specs.View.{schemaOf, dependenciesOf}
+use Rattle.record.specs.Calls.{queryAt}
+use Rattle.comparison.specs.declared.Comparison.{Comparison}
+use Rattle.comparison.specs.declared.Verdict.{Verdict}
+use Rattle.comparison.specs.declared.Verdict.the-variants.{Never, Contained, Apart, Refused}
+use Rattle.comparison.specs.Comparison.{pairRefusal, verdictOn, judged, verdictOf, chasedAt, SaysContained, base, Compared}
+use Rattle.reduction.specs.declared.Reduced.{Reduced}
+use Rattle.reduction.specs.Reduced.{reductionRefusal, IsReduced}
+use Rattle.theory.specs.Query as theory
+use Rattle.theory.specs.Search as search
+use Rattle.demands.specs.Demands.{AsksInOrder, Decides, Shortens}
+
+-- ---- demand 1
+
+pub asks-in-order : AsksInOrder
+unfolding follows
+asks-in-order =
+    record {
+      opens = λ widths. refl;
+      adds = λ r d. refl;
+      puts = λ r place q. refl;
+      drops = λ r place. refl;
+      determines = λ r relation left. refl;
+      compares = λ r p q. refl;
+      reduces = λ r source target. refl;
+    }
+
+-- ---- demand 2
+
+-- A verdict that is not a refusal and does not say contained is Apart
+apart-else : (v : Verdict) → ((n : ℕ) → v ≡ Refused n → ⊥) → (SaysContained v → ⊥) → v ≡ Apart
+apart-else Never clear not = absurd (not tt)
+apart-else Contained clear not = absurd (not tt)
+apart-else Apart clear not = refl
+apart-else (Refused n) clear not = absurd (clear n refl)
+
+-- Nor is it any other
+says-else : (v : Verdict) → ((n : ℕ) → v ≡ Refused n → ⊥) → (v ≡ Apart → ⊥) → SaysContained v
+says-else Never clear not = tt
+says-else Contained clear not = tt
+says-else Apart clear not = absurd (not refl)
+says-else (Refused n) clear not = absurd (clear n refl)
+
+-- A verdict on a chased query is no refusal
+verdict-clear : (rows : List (theory.Row theory.Entry)) (mapped : Bool) (n : ℕ) → verdictOn rows mapped ≡ Refused n → ⊥
+verdict-clear [] mapped n e = let z : _≡_ {A = ℕ} 0 1 = cc in omega arith
+verdict-clear (x ∷ xs) true n e = let z : _≡_ {A = ℕ} 0 1 = cc in omega arith
+verdict-clear (x ∷ xs) false n e = let z : _≡_ {A = ℕ} 0 1 = cc in omega arith
+
+module _ (r : Record) (p q : ℕ) (c : Comparison) (compared : Compared r p q c) where
+  -- A verdict on places that are not refused is no refusal
+  not-refused : pairRefusal r p q ≡ none → (n : ℕ) → c .verdict ≡ Refused n → ⊥
+  not-refused accepted n e =
+      verdict-clear (chasedAt r p .rows) (search.mappable (queryAt r q) (chasedAt r p)) n
+      (sym (ap (λ (o : Option ℕ). judged o (verdictOn (chasedAt r p .rows) (search.mappable (queryAt r q) (chasedAt r p)))) accepted)
+      ∙ sym (compared .verdict) ∙ e)
+
+  pub decides : Decides r p q c
+  decides =
+      record {
+        refused = λ n e. compared .verdict ∙ ap (λ (o : Option ℕ). judged o (verdictOn (chasedAt r p .rows) (search.mappable (queryAt r q) (chasedAt r p)))) e;
+        exactly = λ accepted. (
+          (λ says D sound obeys. compared .contained says D obeys),
+          λ contained. says-else (c .verdict) (not-refused accepted) (λ e. let x = compared .apart e in x .no-answer (contained _ (x .sound) (x .obeys) _ (x .answer))),
+        );
+        shown = λ accepted not. compared .apart (apart-else (c .verdict) (not-refused accepted) not);
+      }
+
+-- ---- demand 3
+
+pub shortens : (r : Record) (source target : ℕ) (o : Reduced) → IsReduced r source target o → Shortens r source target o
+shortens r source target o is =
+    record {
+      refused = is .refused;
+      done = is .accepted;
+      good = is .good;
+      shortest = λ accepted.
+          let x = is .reduces accepted in
+          record {
+            result = x .result;
+            mapping = x .mapping;
+            answers = x .answers;
+            rivals = λ R width same. x .minimal R (record { width = width; same = same });
+            count = x .counted;
+            few = x .count-le;
+          };
+      unchanged = is .unchanged;
+    }

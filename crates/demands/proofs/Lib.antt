@@ -1,0 +1,2 @@
+-- The demands follow from the calls' contracts.
+pub mod Demands

@@ -1,0 +1,84 @@
+-- The three demands (SPECIFICATION, The demands), on the public calls. The words used here are defined in `theory/specs` (`Answer`, `Obeys`, `Reduction`, `chase`),
+-- in `query/specs/View` and `record/specs/View` (what fields stand for) and at each call (what it asks).
+use mathlib.Core.Path.{_≡_}
+use mathlib.Core.Logic.{_≢_, _↔_}
+use mathlib.Core.Bool.{true}
+use mathlib.Core.List.{List, [], map}
+use mathlib.Core.Option.{none, some}
+use Prim.Native.Nat.{ℕ, _≤_}
+use lib.ListN.{length}
+use Rattle.refusals.specs.Refusals.{Condition, order, follows}
+use Rattle.query.specs.declared.Dependency.{Dependency}
+use Rattle.query.specs.declared.Query.{Query}
+use Rattle.record.specs.declared.Record.{Record}
+use Rattle.record.specs.declared.Answer.the-variants as answer
+use Rattle.query.specs.View.{queryOf}
+use Rattle.record.specs.View.{schemaOf, dependenciesOf}
+use Rattle.record.specs.Rule.{goodRecord}
+use Rattle.record.specs.Calls.{withPlace, storedAt, queryAt, openConditions, addConditions, putConditions, dropConditions, determinedConditions}
+use Rattle.mapping.specs.Mapped.{imagesOf}
+use Rattle.comparison.specs.declared.Comparison.{Comparison}
+use Rattle.comparison.specs.declared.Verdict.the-variants as verdict
+use Rattle.comparison.specs.Comparison.{pairConditions, pairRefusal, SaysContained, base}
+use Rattle.reduction.specs.declared.Reduced.{Reduced}
+use Rattle.reduction.specs.Reduced.{reductionConditions, reductionRefusal, refusal}
+use Rattle.theory.specs.Query as theory
+use Rattle.theory.specs.Database.{Database, Obeys, Sound}
+use Rattle.theory.specs.Answer.{Answer, IsMapping}
+use Rattle.theory.specs.Chase.{chase}
+use Rattle.theory.specs.Containment.{Contained, Counterexample, frozenRows, frozenHead}
+use Rattle.theory.specs.Reduction.{Reduction}
+
+-- ---- demand 1: every call
+
+-- The conditions of a call are asked in the order of the refusals
+abbrev pub InOrder : List Condition → Type 0
+InOrder conditions = follows (map (λ c. c .1) conditions) order ≡ true
+
+-- Each call's promise is an equation with the first of its conditions that holds, so a refusal comes exactly when a condition holds, and with the first number.
+-- These are the conditions of the calls, and each list is in order
+pub record AsksInOrder : Type 0 where
+  pub opens : (widths : List ℕ) → InOrder (openConditions widths)
+  pub adds : (r : Record) (d : Dependency) → InOrder (addConditions r d)
+  pub puts : (r : Record) (place : ℕ) (q : Query) → InOrder (putConditions r place q)
+  pub drops : (r : Record) (place : ℕ) → InOrder (dropConditions r place)
+  pub determines : (r : Record) (relation left : ℕ) → InOrder (determinedConditions r relation left)
+  pub compares : (r : Record) (p q : ℕ) → InOrder (pairConditions r p q)
+  pub reduces : (r : Record) (source target : ℕ) → InOrder (reductionConditions r source target)
+
+-- ---- demand 2: comparison
+
+-- Contained exactly when on every database that obeys the held dependencies each answer of p's query is an answer of q's; otherwise the query that is
+-- given, read as a database, shows one on which this fails
+pub record Decides (r : Record) (p q : ℕ) (c : Comparison) : Type 0 where
+  pub refused : (n : ℕ) → pairRefusal r p q ≡ some n → c .verdict ≡ verdict.Refused n
+  pub exactly : pairRefusal r p q ≡ none → SaysContained (c .verdict) ↔ Contained (schemaOf r) (dependenciesOf r) (queryAt r p) (queryAt r q)
+  pub shown : pairRefusal r p q ≡ none → (SaysContained (c .verdict) → ⊥)
+      → Counterexample (schemaOf r) (dependenciesOf r) (queryAt r p) (queryAt r q)
+      (frozenRows base (queryOf (schemaOf r) (c .query))) (frozenHead base (queryOf (schemaOf r) (c .query)))
+
+-- ---- demand 3: reduction
+
+-- S is the source query, T what the target place holds after the call
+pub record Shortest (schema : List ℕ) (r : Record) (S T : theory.Query) (o : Reduced) : Type 0 where
+  -- T is a result of reduction, and unless it is never a mapping from S to it is returned
+  pub result : Reduction (dependenciesOf r) S T
+  pub mapping : T .rows ≢ [] → IsMapping S T (imagesOf (o .images))
+  -- On every database that obeys the held dependencies T has exactly the answers of S
+  pub answers : (D : Database) → Obeys (dependenciesOf r) D → (t : List ℕ) → Answer D S t ↔ Answer D T t
+  -- Every query R of that head length with those answers on all those databases has at least as many rows, whichever variables and constants it uses
+  pub rivals : (R : theory.Query) → length (R .head) ≡ length (S .head)
+      → ((D : Database) → Sound schema D → Obeys (dependenciesOf r) D → (t : List ℕ) → ∥ Answer D S t ∥₁ ↔ ∥ Answer D R t ∥₁)
+      → length (T .rows) ≤ length (R .rows)
+  -- The count is that of the chase of S, and at most the number of different variables of S
+  pub count : o .count ≡ chase (dependenciesOf r) S .count
+  pub few : o .count ≤ theory.variableCount S
+
+-- Whatever a reduction accepts: all of that, a good record, and nothing else in it changed
+pub record Shortens (r : Record) (source target : ℕ) (o : Reduced) : Type 0 where
+  pub refused : (n : ℕ) → reductionRefusal r source target ≡ some n → o ≡ refusal r n
+  pub done : reductionRefusal r source target ≡ none → o .answer ≡ answer.Done
+  pub good : reductionRefusal r source target ≡ none → goodRecord (o .«record») ≡ true
+  pub shortest : reductionRefusal r source target ≡ none → Shortest (schemaOf r) r (queryAt r source) (queryAt (o .«record») target) o
+  pub unchanged : reductionRefusal r source target ≡ none
+      → o .«record» ≡ withPlace r target (record { filled = true; query = storedAt (o .«record») target })

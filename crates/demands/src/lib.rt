@@ -1,0 +1,21 @@
+// The three demands (SPECIFICATION, The demands) as contracts on the public calls. Each function makes one call and adds nothing; its contract is the demand.
+// Demand 1 for all calls is in specs/Demands, beside the calls' own contracts, which are equations.
+use comparison::Comparison;
+use record::Outcome;
+use record::Record;
+use reduction::Reduced;
+ghost use Rattle.demands.specs.Demands.{Decides, Shortens};
+
+// Demand 2: contained exactly when it is so on every database that obeys the dependencies; otherwise one is shown on which it is not.
+pub fn compare(given: Record, p: usize, q: usize) -> Comparison
+    ensures { λ c. ⌜ Decides given p q c ⌝ }
+{
+    comparison::compare(given, p, q)
+}
+
+// Demand 3: the shortest query with the answers of the source query.
+pub fn reduce(given: Record, source: usize, target: usize) -> Reduced
+    ensures { λ o. ⌜ Shortens given source target o ⌝ }
+{
+    reduction::reduce(given, source, target)
+}
