@@ -1,11 +1,11 @@
--- Laws of lists that any proof may cite: truth values and options; membership in a list, its map and its columns; lists without repeats and how long they are;
+-- Laws of lists that any proof may cite: truth values, options, and whether a list is empty; membership in a list, its map and its columns; lists without repeats and how long they are;
 -- `member` and `distinct` of numbers. A membership is a position.
 -- Laws of `length`, `take`, `drop` and `getD` alone are the library's (`lib.Seq`). Assumes nothing.
 use mathlib.Core.Path.{_≡_, refl, sym, _∙_, ap, ap₂}
-use mathlib.Core.Logic.{_⊎_, inl, inr, ⊎-elim}
+use mathlib.Core.Logic.{_≢_, _⊎_, inl, inr, ⊎-elim}
 use mathlib.Core.Bool.{Bool, true, false, _&&_, true≢false, false≢true}
 use mathlib.Core.Option.{Option, none, some}
-use mathlib.Core.List.{List, [], _∷_, _++_, map, cons≢nil, List·Memᴰ·head, List·Memᴰ·tail, List·Memᴰ·not-nil, List·Memᴰ·cases-cons, Memᴰ·cast}
+use mathlib.Core.List.{List, [], _∷_, _++_, map, cons≢nil, cons-ne-nil, List·Memᴰ·head, List·Memᴰ·tail, List·Memᴰ·not-nil, List·Memᴰ·cases-cons, Memᴰ·cast}
 use Prim.Native.Nat.{ℕ, zero, suc, _≤_, zero-le}
 use native.Mathlib.Omega.{arith}
 use borrow.Author.Tests.{eqb-true, eqb-false}
@@ -40,6 +40,11 @@ none-some x e = let z : _≡_ {A = ℕ} 0 1 = cc in omega arith
 
 pub some-same : {A : Type 0} {x y : A} → _≡_ {A = Option A} (some x) (some y) → x ≡ y
 some-same e = cc
+
+-- By whether a list is empty
+pub list-cases : {A C : Type 0} (xs : List A) → (xs ≡ [] → C) → (xs ≢ [] → C) → C
+list-cases [] empty nonempty = empty refl
+list-cases (x ∷ xs) empty nonempty = nonempty (cons-ne-nil x xs)
 
 -- ---- membership
 

@@ -307,7 +307,7 @@ below-more base higher q more below = record {
 }
 
 -- Some base is above 0 and above the constants of both queries
-both-below : (p q : Query) → (base : ℕ) × 0 < base × ConstantsBelow base p × ConstantsBelow base q
+pub both-below : (p q : Query) → (base : ℕ) × 0 < base × ConstantsBelow base p × ConstantsBelow base q
 both-below p q =
     let P = some-base p in
     let Q = some-base q in

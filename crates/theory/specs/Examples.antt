@@ -1,5 +1,5 @@
 -- The reference examples that document 01 marks P1 to P11, worked examples of the literature on tableaux and the chase, and some that single out a rule: one table.
--- First what an example says (`Meaning`), then how it is computed (`holds`), then the table. That each example holds, and so means what it says, is in `proofs/Examples`.
+-- First what an example says (`Meaning`), then how it is computed (`holds`), then the table, and last the one statement that covers it.
 use mathlib.Core.Path.{_≡_}
 use mathlib.Core.Logic.{_↔_}
 use mathlib.Core.Bool.{Bool, true, false, _&&_, Bool·beq}
@@ -234,3 +234,7 @@ searchOrder =
 -- The whole table
 abbrev pub examples : List Example
 examples = reference ++ worked ++ further ++ survivors ++ searchOrder
+
+-- Each example of the table means what it says
+abbrev pub ExamplesMean : Type 0
+ExamplesMean = (x : Example) → x ∈ examples → Meaning x
