@@ -15,15 +15,18 @@ use mathlib.Core.Option.{Option, none, some}
 use Prim.Native.Nat.{ℕ, zero, suc, _+_, _≤_, _<_}
 use native.Mathlib.Omega.{arith}
 use lib.ListN.{length, length-map, length-replicate, List·getD-map}
-use Rattle.theory.specs.Query.{Entry, constant, variable, Row, Query, never, column, mapRow, mapQuery, rowEntries, variables, variableCount, FitsSchema, WellFormed, _∈_}
+use Rattle.theory.specs.Query.{Entry, constant, variable, Row, Query, never, column, mapRow, mapQuery, rowEntries, variables, variableCount}
+use Rattle.theory.specs.Query.{FitsSchema, WellFormed, _∈_}
 use Rattle.theory.specs.Database.{Database, Dependency, Obeys}
 use Rattle.theory.specs.Answer.{Answer, Mapping}
-use Rattle.theory.specs.Chase.{Resolution, clash, replace, substitute, Chases, rests, clashes, replaces, Chased, oneMore, chaseOn, chaseFor, chase, step}
+use Rattle.theory.specs.Chase.{Resolution, clash, replace, substitute, Chases, rests, clashes, replaces, Chased, oneMore, chaseOn, chaseFor}
+use Rattle.theory.specs.Chase.{chase, step}
 use Rattle.theory.specs.Containment.{ConstantsBelow, freeze, frozenRows}
 use Rattle.theory.proofs.Lists.{replicate-mem, list-cases}
 use Rattle.theory.proofs.Entries.{constant-same, constant-variable, variablesOf-mem, mem-variablesOf, column-rowEntries}
 use Rattle.theory.proofs.Step.{step-never, step-clash, step-replace, step-nothing, firstBroken-nothing}
-use Rattle.theory.proofs.Replacement.{step-count, replace-carries, some-mapQuery, replace-answers, clash-answers, mapQuery-rows-fit, replace-head-safe, forced-constants, forced-variables, forced-entries}
+use Rattle.theory.proofs.Replacement.{step-count, replace-carries, some-mapQuery, replace-answers, clash-answers, mapQuery-rows-fit}
+use Rattle.theory.proofs.Replacement.{replace-head-safe, forced-constants, forced-variables, forced-entries}
 use Rattle.theory.proofs.Carry.{mapping-of, mapping-compose, mapping-self}
 
 -- ---- 1. the chase ends, and is one

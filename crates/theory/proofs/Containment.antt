@@ -20,7 +20,8 @@ use Rattle.theory.specs.Query.{Entry, constant, variable, Row, Query, ma
 use Rattle.theory.specs.Database.{Database, Dependency, Obeys, Sound}
 use Rattle.theory.specs.Answer.{valueOf, itself, Carries, Answer, Mapping}
 use Rattle.theory.specs.Chase.{chase}
-use Rattle.theory.specs.Containment.{Contained, freeze, frozenRows, frozenHead, ConstantsBelow, Counterexample, ContainedOver, CounterexampleOver, StandsFor}
+use Rattle.theory.specs.Containment.{Contained, freeze, frozenRows, frozenHead, ConstantsBelow, Counterexample, ContainedOver}
+use Rattle.theory.specs.Containment.{CounterexampleOver, StandsFor}
 use Rattle.theory.proofs.Lists.{map-agree, list-cases}
 use Rattle.theory.proofs.Entries.{row-rowEntries}
 use Rattle.theory.proofs.Carry.{carries-onto, carries-compose, mapping-of, mapRow-id, mapRow-compose}

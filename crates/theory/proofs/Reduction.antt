@@ -12,7 +12,8 @@
 -- Assumes nothing.
 use mathlib.Core.Path.{_≡_, refl, sym, _∙_, ap, subst, subst₂}
 use mathlib.Core.Logic.{_≢_, _↔_, Iff·symm, Iff·trans, Iff·trunc, ∥∥₁-elim, _⊎_, inl, inr, ⊎-elim}
-use mathlib.Core.List.{List, [], _∷_, _++_, map, append-nil, List·Memᴰ·head, List·Memᴰ·tail, List·Memᴰ·not-nil, List·Memᴰ·append-cases, Memᴰ·append-left, Memᴰ·append-right, Memᴰ·map, Memᴰ·of-map, Memᴰ·cast}
+use mathlib.Core.List.{List, [], _∷_, _++_, map, append-nil, List·Memᴰ·head, List·Memᴰ·tail, List·Memᴰ·not-nil, List·Memᴰ·append-cases}
+use mathlib.Core.List.{Memᴰ·append-left, Memᴰ·append-right, Memᴰ·map, Memᴰ·of-map, Memᴰ·cast}
 use Prim.Native.Nat.{ℕ, zero, suc, _+_, _≤_, _<_}
 use native.Mathlib.Omega.{arith}
 use native.Mathlib.Bridge.{le-prop}
@@ -25,12 +26,13 @@ use Rattle.theory.specs.Answer.{valueOf, itself, Carries, Answer, Mappin
 use Rattle.theory.specs.Chase.{chase}
 use Rattle.theory.specs.Containment.{Equivalent, freeze, frozenRows, frozenHead, ConstantsBelow}
 use Rattle.theory.specs.Reduction.{without, dropRow, Core, Reduction, Shrinks, stays, loses, Reordered, Minimal}
-use Rattle.theory.proofs.Lists.{Nodup, without-length, nodup-length-le, list-cases}
+use Rattle.theory.proofs.Lists.{Nodup, without-length, nodup-length-le, list-cases, map-fixes}
 use Rattle.theory.proofs.Entries.{constant-variable, variablesOf-mem, mem-variablesOf, row-rowEntries}
 use Rattle.theory.proofs.Members.{_⊆_, insert-part, append-part, map-part, some-of-member, member-of-some, row-of-entry, rowEntries-part}
 use Rattle.theory.proofs.Without.{without-part, without-cases, without-append, without-singleton, pigeonhole, nodup-of, nodup-fills}
 use Rattle.theory.proofs.Carry.{carries-fewer, mapping-of, mapping-compose, mapping-self, mapping-part, mapping-inclusion, mapping-target}
-use Rattle.theory.proofs.Chase.{chase-answers, chase-mapping, chase-obeys, chase-rows-fit, chase-wellformed, chase-head-length, chase-entries, chase-variables, chase-constants, chase-length-le}
+use Rattle.theory.proofs.Chase.{chase-answers, chase-mapping, chase-obeys, chase-rows-fit, chase-wellformed, chase-head-length, chase-entries}
+use Rattle.theory.proofs.Chase.{chase-variables, chase-constants, chase-length-le}
 use Rattle.theory.proofs.Containment.{answer-along, frozen-answer, frozen-sound, thaw, thaw-rows, thaw-head, thaw-carries}
 
 -- ---- 1. Cores
@@ -279,11 +281,6 @@ module _ (ds : List Dependency) (S T : Query) (result : Reduction ds S T) where
   pub reduction-constants : (base : ℕ) → 0 < base → ConstantsBelow base S → ConstantsBelow base T
   reduction-constants base positive below = below-part base (chase ds S .query) T (result .head) (result .rows) (chase-constants ds S base positive below)
 
--- A map that keeps a list keeps each of its elements
-map-fixes : {A : Type 0} (f : A → A) (xs : List A) → map f xs ≡ xs → (x : A) → x ∈ xs → f x ≡ x
-map-fixes f (y ∷ xs) same x (List·Memᴰ·head e) = let first : f y ≡ y = cc in cc
-map-fixes f (y ∷ xs) same x (List·Memᴰ·tail at) = let later : map f xs ≡ xs = cc in map-fixes f xs later x at
-
 -- A result of a well-formed query is well-formed
 pub reduction-wellformed : (widths : List ℕ) (ds : List Dependency) (S T : Query) → WellFormed widths S → Reduction ds S T → WellFormed widths T
 reduction-wellformed widths ds S T well result = record { rows-fit = λ r at. chased .rows-fit r (result .rows r at); head-safe = safe }
@@ -294,12 +291,14 @@ reduction-wellformed widths ds S T well result = record { rows-fit = λ r at. ch
     safe : (v : ℕ) → v ∈ variablesOf (T .head) → v ∈ variablesOf (rowEntries (T .rows))
     safe v at =
         let inHead : variable v ∈ chase ds S .query .head = subst (λ es. variable v ∈ es) (result .head) (variablesOf-mem v (T .head) at) in
-        let found = row-of-entry (chase ds S .query .rows) (variablesOf-mem v (rowEntries (chase ds S .query .rows)) (chased .head-safe v (mem-variablesOf v (chase ds S .query .head) inHead))) in
+        let inRow = chased .head-safe v (mem-variablesOf v (chase ds S .query .head) inHead) in
+        let found = row-of-entry (chase ds S .query .rows) (variablesOf-mem v (rowEntries (chase ds S .query .rows)) inRow) in
         let f = result .receives (some-of-member (chase ds S .query .rows) (found .1)) in
         let fixed : valueOf constant (f .0) (variable v) ≡ variable v =
         map-fixes (valueOf constant (f .0)) (chase ds S .query .head) (f .1 .carries .to-head ∙ result .head) (variable v) inHead in
         mem-variablesOf v (rowEntries (T .rows))
-        (row-rowEntries (T .rows) (mapRow (valueOf constant (f .0)) (found .0)) (variable v) (f .1 .carries .to-rows (found .0) (found .1)) (Memᴰ·cast (sym fixed) (Memᴰ·map (valueOf constant (f .0)) (found .2))))
+        (row-rowEntries (T .rows) (mapRow (valueOf constant (f .0)) (found .0)) (variable v) (f .1 .carries .to-rows (found .0) (found .1))
+        (Memᴰ·cast (sym fixed) (Memᴰ·map (valueOf constant (f .0)) (found .2))))
 
 -- ---- 5. One pass
 

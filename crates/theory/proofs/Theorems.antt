@@ -29,8 +29,10 @@ use Rattle.theory.proofs.Carry.{carries-more, mapping-target}
 use Rattle.theory.proofs.Chase.{chase-chases, chases-unique, chased-by, chases-count-le, chases-answers, chases-mapping, chases-rests}
 use Rattle.theory.proofs.Chase.{chases-wellformed, chases-head-length, chases-rows-fit, chases-constants, rests-obeys, freeze-injective}
 use Rattle.theory.proofs.Containment.{answer-along, frozen-sound, contained-iff, counterexample, contained-over, counterexample-over}
-use Rattle.theory.proofs.Reduction.{core-repeats, reduction-answers, reduction-equivalent, reduction-head-length, reduction-minimal, reduction-same-size}
-use Rattle.theory.proofs.Reduction.{reduction-mapping, reduction-never, reduction-wellformed, reduction-length, reduction-reordered, shrinks-reduction, reduction-shrinks}
+use Rattle.theory.proofs.Reduction.{core-repeats, reduction-answers, reduction-equivalent, reduction-head-length, reduction-minimal}
+use Rattle.theory.proofs.Reduction.{reduction-same-size}
+use Rattle.theory.proofs.Reduction.{reduction-mapping, reduction-never, reduction-wellformed, reduction-length, reduction-reordered}
+use Rattle.theory.proofs.Reduction.{shrinks-reduction, reduction-shrinks}
 use Rattle.theory.proofs.Determined.{determined-exact, determined-ascending, ascending-unique}
 use Rattle.theory.proofs.Search.{mappable-exact, contained-exact, contained-false, both-below}
 use Rattle.theory.proofs.Reduce.{reduce-reduction}

@@ -5,7 +5,8 @@ use mathlib.Core.List.{List, []}
 use mathlib.Core.Option.{none, some}
 use Prim.Native.Nat.{ℕ, zero, suc, _+_, _≤_, _<_}
 use lib.ListN.{length}
-use Rattle.theory.specs.Query.{Entry, constant, variable, Row, Query, never, column, mapQuery, variablesOf, variableCount, RowsFit, WellFormed, _∈_}
+use Rattle.theory.specs.Query.{Entry, constant, variable, Row, Query, never, column, mapQuery, variablesOf, variableCount, RowsFit, WellFormed}
+use Rattle.theory.specs.Query.{_∈_}
 use Rattle.theory.specs.Database.{Database, Dependency, Agree, Obeys, Sound}
 use Rattle.theory.specs.Answer.{Answer, Mapping}
 use Rattle.theory.specs.Chase.{clash, replace, resolve, inHead, substitute, step, Chases, chase}

@@ -9,7 +9,8 @@ use Rattle.theory.specs.Query.{Entry, constant, Query, RowsFit}
 use Rattle.theory.specs.Database.{Database, Dependency}
 use Rattle.theory.specs.Answer.{Mapping}
 use Rattle.theory.specs.Chase.{chase}
-use Rattle.theory.specs.Containment.{Contained, Counterexample, freeze, frozenRows, frozenHead, ConstantsBelow, ContainedOver, CounterexampleOver, StandsFor}
+use Rattle.theory.specs.Containment.{Contained, Counterexample, freeze, frozenRows, frozenHead, ConstantsBelow, ContainedOver}
+use Rattle.theory.specs.Containment.{CounterexampleOver, StandsFor}
 use Rattle.theory.specs.Search.{mappable, contained}
 
 -- p chases to never, or q can be mapped to the chased p
