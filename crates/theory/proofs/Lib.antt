@@ -5,6 +5,7 @@ pub mod Members
 pub mod Without
 pub mod Carry
 pub mod Step
+pub mod Order
 pub mod Survivor
 pub mod Replacement
 pub mod Chase

@@ -14,6 +14,7 @@ use Rattle.theory.specs.Query.{Entry, constant, variable, Row, Query, sa
 use Rattle.theory.specs.Database.{Dependency, Agree}
 use Rattle.theory.specs.Chase.{orElse, mapFound, firstPassing, firstPair, firstFound, agree, breaks, firstBroken, Resolution, clash, replace}
 use Rattle.theory.specs.Chase.{survives, resolve, inHead, resolvePair, step}
+use Rattle.theory.specs.OrderTheorems.{Broken}
 use Rattle.theory.proofs.Lists.{bool-cases, and-left, and-right, mem-cases, option-cases}
 use Rattle.theory.proofs.Entries.{sameEntry-eq, eq-sameEntry, sameEntry-ne, ne-sameEntry, entry-dec, constant-variable, column-rowEntries}
 
@@ -239,14 +240,7 @@ all-agree (k ∷ columns) r s same =
     (eq-sameEntry (column (constant 0) r k) (column (constant 0) s k) (same k (List·Memᴰ·head refl)))
     (all-agree columns r s (λ c at. same c (List·Memᴰ·tail at)))
 
--- Two rows of a query break a dependency
-pub record Broken (d : Dependency) (r s : Row Entry) : Type 0 where
-  pub first-relation : r .relation ≡ d .relation
-  pub second-relation : s .relation ≡ d .relation
-  pub agree-left : Agree (constant 0) (d .left) r s
-  pub differ-right : column (constant 0) r (d .right) ≢ column (constant 0) s (d .right)
-
--- `breaks` is that
+-- `breaks` tests for a broken dependency
 pub breaks-broken : (d : Dependency) (r s : Row Entry) → breaks d r s ≡ true → Broken d r s
 unfolding breaks
 breaks-broken d r s e =

@@ -1,28 +1,30 @@
--- A proof of each statement of specs/, file by file: `AnswerTheorems`, `ChaseTheorems`, `ContainmentTheorems`, `ReductionTheorems`,
+-- A proof of each statement of specs/, file by file: `AnswerTheorems`, `OrderTheorems`, `ChaseTheorems`, `ContainmentTheorems`, `ReductionTheorems`,
 -- `DeterminedTheorems` and the table of `Examples`. Most are proved in the files before; here they have the form in which they are stated.
 -- Assumes nothing.
 use mathlib.Core.Path.{_≡_, refl, sym, _∙_, ap, subst}
-use mathlib.Core.Logic.{_⊎_, inl, inr}
-use mathlib.Core.List.{List, map}
+use mathlib.Core.Logic.{_⊎_, inl, inr, ⊎-elim}
+use mathlib.Core.List.{List, [], map}
 use mathlib.Core.Option.{none, some}
 use Prim.Native.Nat.{ℕ, suc, _+_}
 use native.Mathlib.Omega.{arith}
 use lib.ListN.{length, length-map, getD}
-use Rattle.theory.specs.Query.{Query, never, mapQuery, variableCount}
+use Rattle.theory.specs.Query.{Query, never, mapRow, mapQuery, variableCount}
 use Rattle.theory.specs.Database.{Dependency}
 use Rattle.theory.specs.Answer.{valueOf, itself}
-use Rattle.theory.specs.Chase.{clash, substitute, step, Chases, rests, clashes, replaces, chase}
+use Rattle.theory.specs.Chase.{firstPair, breaks, firstBroken, clash, substitute, step, Chases, rests, clashes, replaces, chase}
 use Rattle.theory.specs.Determined.{determined}
 use Rattle.theory.specs.Search.{contained}
 use Rattle.theory.specs.Examples.{ExamplesMean}
 use Rattle.theory.specs.AnswerTheorems as answers
+use Rattle.theory.specs.OrderTheorems as order
 use Rattle.theory.specs.ChaseTheorems as chases
 use Rattle.theory.specs.ChaseTheorems.{Replacements, start, next, RestsAfter, ClashesAfter}
 use Rattle.theory.specs.ContainmentTheorems as containment
 use Rattle.theory.specs.ReductionTheorems as reduction
 use Rattle.theory.specs.DeterminedTheorems as columns
-use Rattle.theory.proofs.Lists.{bool-cases, option-cases}
-use Rattle.theory.proofs.Step.{firstBroken-found, firstBroken-nothing, step-nothing, step-rests, step-never}
+use Rattle.theory.proofs.Lists.{bool-cases, option-cases, map-empty}
+use Rattle.theory.proofs.Step.{breaks-broken, broken-breaks, firstBroken-found, firstBroken-nothing, step-found, step-nothing, step-rests, step-never}
+use Rattle.theory.proofs.Order.{firstPair-first, firstPair-no-pair, firstFound-first}
 use Rattle.theory.proofs.Survivor.{constant-survives, head-survives, lower-survives, constants-clash}
 use Rattle.theory.proofs.Replacement.{step-count}
 use Rattle.theory.proofs.Carry.{carries-more, mapping-target}
@@ -67,6 +69,35 @@ never-has-no-mapping S T f = (f .1 .carries .not-never, mapping-target S T f)
 
 pub mapping-gives-answers : answers.MappingGivesAnswers
 mapping-gives-answers S T f D t = answer-along D S T f t
+
+-- ---- the order of search
+
+pub first-pair-is-first : order.FirstPairIsFirst
+first-pair-is-first A = firstPair-first
+
+pub no-pair-found : order.NoPairFound
+no-pair-found A = firstPair-no-pair
+
+pub first-found-is-first : order.FirstFoundIsFirst
+first-found-is-first D A = firstFound-first
+
+pub breaks-exactly : order.BreaksExactly
+breaks-exactly d r s = (breaks-broken d r s, broken-breaks d r s)
+
+pub step-is-first : order.StepIsFirst
+unfolding firstBroken
+step-is-first ds q o is =
+    let what = step-found ds q o is in
+    let found = what .0 in
+    let first = firstFound-first (λ d. firstPair (breaks d) (q .rows)) ds (found .0) (found .1) (what .1) in
+    record {
+      dependency = found .0;
+      first = found .1 .0;
+      second = found .1 .1;
+      held = first;
+      pair = firstPair-first (breaks (found .0)) (q .rows) (found .1 .0) (found .1 .1) (first .found);
+      leads = sym (what .2);
+    }
 
 -- ---- the chase
 
@@ -134,6 +165,18 @@ count-at-most ds q result count c = chases-count-le c
 
 pub never-stays : chases.NeverStays
 never-stays ds q empty = rests (step-never ds q empty)
+
+-- Replacements leave no query without rows
+replacements-rows : {ds : List Dependency} {q last : Query} {n : ℕ} → Replacements ds q n last → last .rows ≡ [] → q .rows ≡ []
+replacements-rows start empty = empty
+replacements-rows {q} (next {v} {e} is later) empty = map-empty (mapRow (substitute v e)) (q .rows) (replacements-rows later empty)
+
+pub never-exactly : chases.NeverExactly
+never-exactly ds q result count c = (λ empty. ⊎-elim (λ r. inl (replacements-rows (r .0) empty)) (λ r. inr (r .0)) (cases-of c), back)
+  where
+    back : (q .rows ≡ []) ⊎ ClashesAfter ds q count → result .rows ≡ []
+    back (inl empty) = ap (λ T. T .rows) (chase-unique ds q result q count 0 c (never-stays ds q empty) .0) ∙ empty
+    back (inr r) = ap (λ T. T .rows) (chase-unique ds q result (never (length (q .head))) count count c (clash-chases (r .1) (r .2)) .0)
 
 pub chase-keeps-answers : chases.ChaseKeepsAnswers
 chase-keeps-answers ds q result count c = chases-answers c

@@ -57,7 +57,7 @@ CountCases =
     (ds : List Dependency) (q result : Query) (count : ℕ)
     → Chases ds q result count ↔ (RestsAfter ds q result count ⊎ (ClashesAfter ds q count × (result ≡ never (length (q .head)))))
 
--- Without a clash the count and the different variables after are the different variables before
+-- Without a clash the count is the number of different variables before less the number after
 abbrev pub CountWithoutClash : Type 0
 CountWithoutClash =
     (ds : List Dependency) (q result : Query) (count : ℕ) → RestsAfter ds q result count → count + variableCount result ≡ variableCount q
@@ -69,6 +69,12 @@ CountAtMost = (ds : List Dependency) (q result : Query) (count : ℕ) → Chases
 -- Never stays never, with count 0
 abbrev pub NeverStays : Type 0
 NeverStays = (ds : List Dependency) (q : Query) → q .rows ≡ [] → Chases ds q q 0
+
+-- The result is never exactly when the query is, or its chase comes to a clash
+abbrev pub NeverExactly : Type 0
+NeverExactly =
+    (ds : List Dependency) (q result : Query) (count : ℕ) → Chases ds q result count
+    → (result .rows ≡ []) ↔ ((q .rows ≡ []) ⊎ ClashesAfter ds q count)
 
 -- ---- answers
 

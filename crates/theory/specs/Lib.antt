@@ -10,6 +10,7 @@ pub mod Determined
 pub mod Search
 pub mod Examples
 pub mod AnswerTheorems
+pub mod OrderTheorems
 pub mod ChaseTheorems
 pub mod ContainmentTheorems
 pub mod ReductionTheorems
