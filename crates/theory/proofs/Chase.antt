@@ -10,20 +10,23 @@
 -- document 01's, and no law depends on which of the two it is. Assumes nothing.
 use mathlib.Core.Path.{_≡_, refl, sym, _∙_, ap}
 use mathlib.Core.Logic.{_≢_, _↔_, _⊎_, inl, inr, ⊎-elim, Iff·rfl, Iff·trans}
-use mathlib.Core.List.{List, [], _∷_, _++_, cons-ne-nil, List·Memᴰ·not-nil, List·Memᴰ·append-cases, Memᴰ·append-left, Memᴰ·append-right, Memᴰ·cast, Memᴰ·of-map}
+use mathlib.Core.List.{List, [], _++_, List·Memᴰ·not-nil, List·Memᴰ·append-cases, Memᴰ·append-left, Memᴰ·append-right, Memᴰ·cast, Memᴰ·of-map}
 use mathlib.Core.Option.{Option, none, some}
 use Prim.Native.Nat.{ℕ, zero, suc, _+_, _≤_, _<_}
 use native.Mathlib.Omega.{arith}
 use lib.ListN.{length, length-map, length-replicate, List·getD-map}
-use Rattle.theory.specs.Query.{Entry, constant, variable, Row, Query, never, column, mapRow, mapQuery, rowEntries, variables, variableCount, FitsSchema, WellFormed, _∈_}
+use Rattle.theory.specs.Query.{Entry, constant, variable, Row, Query, never, column, mapRow, mapQuery, rowEntries, variables, variableCount}
+use Rattle.theory.specs.Query.{FitsSchema, WellFormed, _∈_}
 use Rattle.theory.specs.Database.{Database, Dependency, Obeys}
 use Rattle.theory.specs.Answer.{Answer, Mapping}
-use Rattle.theory.specs.Chase.{Resolution, clash, replace, substitute, Chases, rests, clashes, replaces, Chased, oneMore, chaseOn, chaseFor, chase, step}
+use Rattle.theory.specs.Chase.{Resolution, clash, replace, substitute, Chases, rests, clashes, replaces, Chased, oneMore, chaseOn, chaseFor}
+use Rattle.theory.specs.Chase.{chase, step}
 use Rattle.theory.specs.Containment.{ConstantsBelow, freeze, frozenRows}
-use Rattle.theory.proofs.Lists.{replicate-mem}
+use Rattle.theory.proofs.Lists.{replicate-mem, list-cases}
 use Rattle.theory.proofs.Entries.{constant-same, constant-variable, variablesOf-mem, mem-variablesOf, column-rowEntries}
 use Rattle.theory.proofs.Step.{step-never, step-clash, step-replace, step-nothing, firstBroken-nothing}
-use Rattle.theory.proofs.Replacement.{step-count, replace-carries, some-mapQuery, replace-answers, clash-answers, mapQuery-rows-fit, replace-head-safe, forced-constants, forced-variables, forced-entries}
+use Rattle.theory.proofs.Replacement.{step-count, replace-carries, some-mapQuery, replace-answers, clash-answers, mapQuery-rows-fit}
+use Rattle.theory.proofs.Replacement.{replace-head-safe, forced-constants, forced-variables, forced-entries}
 use Rattle.theory.proofs.Carry.{mapping-of, mapping-compose, mapping-self}
 
 -- ---- 1. the chase ends, and is one
@@ -78,7 +81,8 @@ pub chases-unique : (ds : List Dependency) (q result : Query) (count : ℕ) → 
 unfolding chase
 chases-unique ds q result count c = chases-computed c (variableCount q) (chases-count-le c)
 
-chased-by : {ds : List Dependency} {q result : Query} {count : ℕ} → Chases ds q result count → chase ds q ≡ record { query = result; count = count }
+-- so `chase` gives the two
+pub chased-by : {ds : List Dependency} {q result : Query} {count : ℕ} → Chases ds q result count → chase ds q ≡ record { query = result; count = count }
 chased-by {ds} {q} {result} {count} c =
     let same = chases-unique ds q result count c in
     λ i. record { query = sym (same .0) i; count = sym (same .1) i }
@@ -316,8 +320,5 @@ chase-length ds q nonempty = chases-length (chase-chases ds q) nonempty
 
 -- and it never grows
 pub chase-length-le : (ds : List Dependency) (q : Query) → length (chase ds q .query .rows) ≤ length (q .rows)
-chase-length-le ds q = go (chase ds q .query .rows) refl
-  where
-    go : (rows : List (Row Entry)) → chase ds q .query .rows ≡ rows → length (chase ds q .query .rows) ≤ length (q .rows)
-    go [] empty = omega (arith, ap length empty)
-    go (r ∷ rows) same = let kept = chase-length ds q (λ empty. cons-ne-nil r rows (sym same ∙ empty)) in omega arith
+chase-length-le ds q =
+    list-cases (chase ds q .query .rows) (λ empty. omega (arith, ap length empty)) (λ some. let kept = chase-length ds q some in omega arith)

@@ -2,14 +2,15 @@
 -- Maier, Mendelzon and Sagiv, "Testing implications of data dependencies", 1979). p is contained in q exactly when p chases to never or q maps to the chased p.
 --   1. A query read as a database (frozen) has its own head as an answer.
 --   2. Reading back (thawing) undoes freezing where the constants are below the base, so it turns an answer on frozen rows into a mapping.
---   3. From a mapping to containment: an answer of p is one of the chased p, and the mapping before it gives an answer of q.
---   4. From containment to a mapping: the frozen chased p is sound, obeys, and has the frozen head as an answer of p, so of q; thaw that answer.
---   5. Without a mapping the same database is a counterexample.
+--   3. Over a class of databases on which some chased p has the answers of p, and of which it is one itself when frozen. From a mapping to containment: an answer of p is one
+--      of the chased p, and the mapping before it gives an answer of q. From containment to a mapping: the frozen chased p has the frozen head as an answer of p, so of q;
+--      thaw that answer. Without a mapping the same database is a counterexample.
+--   4. The chase with functional dependencies gives such a chased p for the sound databases that obey.
 -- Assumes nothing.
 use mathlib.Core.Path.{_≡_, refl, sym, _∙_, ap, subst, subst₂}
 use mathlib.Core.Bool.{cond}
 use mathlib.Core.Logic.{_≢_, _↔_, _⊎_, inl, inr}
-use mathlib.Core.List.{List, [], _∷_, _++_, map, map-map, map-id, cons-ne-nil, List·Memᴰ·append-cases, Memᴰ·map, Memᴰ·of-map, Memᴰ·cast}
+use mathlib.Core.List.{List, [], _++_, map, map-map, map-id, List·Memᴰ·append-cases, Memᴰ·map, Memᴰ·of-map, Memᴰ·cast}
 use Prim.Native.Nat.{ℕ, _+_, _-_, _<_}
 use native.Mathlib.Omega.{arith}
 use lib.Dec.{ltb}
@@ -19,8 +20,9 @@ use Rattle.theory.specs.Query.{Entry, constant, variable, Row, Query, ma
 use Rattle.theory.specs.Database.{Database, Dependency, Obeys, Sound}
 use Rattle.theory.specs.Answer.{valueOf, itself, Carries, Answer, Mapping}
 use Rattle.theory.specs.Chase.{chase}
-use Rattle.theory.specs.Containment.{Contained, freeze, frozenRows, frozenHead, ConstantsBelow, Counterexample}
-use Rattle.theory.proofs.Lists.{map-agree}
+use Rattle.theory.specs.Containment.{Contained, freeze, frozenRows, frozenHead, ConstantsBelow, Counterexample, ContainedOver}
+use Rattle.theory.specs.Containment.{CounterexampleOver, StandsFor}
+use Rattle.theory.proofs.Lists.{map-agree, list-cases}
 use Rattle.theory.proofs.Entries.{row-rowEntries}
 use Rattle.theory.proofs.Carry.{carries-onto, carries-compose, mapping-of, mapRow-id, mapRow-compose}
 use Rattle.theory.proofs.Chase.{chase-answers, chase-obeys, chase-rows-fit, chase-constants}
@@ -102,59 +104,71 @@ mapping-of-answer base q C belowQ belowC answer =
     (subst₂ (λ rows head. Carries constant (λ v. thaw base (answer .0 v)) q rows head) (thaw-rows base C belowC) (thaw-head base C belowC)
     (thaw-carries base q belowQ (answer .0) (frozenRows base C) (frozenHead base C) (answer .1)))
 
--- ---- 3. From a mapping to containment
+-- ---- 3. Over a class of databases
 
 -- Answers go back along a mapping
 pub answer-along : (D : Database) (S T : Query) → Mapping S T → (t : List ℕ) → Answer D T t → Answer D S t
 answer-along D S T f t answer = (λ v. valueOf itself (answer .0) (f .0 v), carries-compose itself (answer .0) (f .0) S T D t (f .1 .carries) (answer .1))
 
+-- An answer of p is one of the chased p, and the mapping before it gives an answer of q
+pub contained-over-of-mapping : (C : Database → Type 0) (p q chased : Query) → ((D : Database) → C D → (t : List ℕ) → Answer D p t ↔ Answer D chased t)
+    → (chased .rows ≡ []) ⊎ Mapping q chased → ContainedOver C p q
+contained-over-of-mapping C p q chased answers (inl none) D within t answer = absurd (answers D within t .0 answer .1 .not-never none)
+contained-over-of-mapping C p q chased answers (inr f) D within t answer = answer-along D q chased f t (answers D within t .0 answer)
+
+module _ (C : Database → Type 0) (base : ℕ) (p q chased : Query) (stands : StandsFor C base p chased) (below : ConstantsBelow base q) where
+  -- The frozen head is an answer of p on the frozen rows
+  stands-answer : chased .rows ≢ [] → Answer (frozenRows base chased) p (frozenHead base chased)
+  stands-answer some = stands .answers (frozenRows base chased) (stands .frozen some) (frozenHead base chased) .1 (frozen-answer base chased some)
+
+  -- p is contained in q over the class exactly when the chased p is never or q maps to it
+  pub contained-over : ((chased .rows ≡ []) ⊎ Mapping q chased) ↔ ContainedOver C p q
+  contained-over = (
+    contained-over-of-mapping C p q chased (stands .answers),
+    λ contained.
+        list-cases (chased .rows) inl (λ some. inr (mapping-of-answer base q chased below (stands .below)
+        (contained (frozenRows base chased) (stands .frozen some) (frozenHead base chased) (stands-answer some)))),
+  )
+
+  -- Otherwise the chased p, read as a database, shows that it is not
+  pub counterexample-over : chased .rows ≢ [] → (Mapping q chased → ⊥) → CounterexampleOver C p q (frozenRows base chased) (frozenHead base chased)
+  counterexample-over some none = record {
+    within = stands .frozen some;
+    answer = stands-answer some;
+    no-answer = λ answer. none (mapping-of-answer base q chased below (stands .below) answer);
+  }
+
+-- ---- 4. Under functional dependencies
+
 -- If p chases to never, or q maps to the chased p, then on every database that obeys, sound or not, each answer of p is one of q
 pub contained-of-mapping : (ds : List Dependency) (p q : Query) → (chase ds p .query .rows ≡ []) ⊎ Mapping q (chase ds p .query)
     → (D : Database) → Obeys ds D → (t : List ℕ) → Answer D p t → Answer D q t
-contained-of-mapping ds p q (inl none) D obeys t answer = absurd (chase-answers ds p D obeys t .0 answer .1 .not-never none)
-contained-of-mapping ds p q (inr f) D obeys t answer = answer-along D q (chase ds p .query) f t (chase-answers ds p D obeys t .0 answer)
+contained-of-mapping ds p q = contained-over-of-mapping (Obeys ds) p q (chase ds p .query) (chase-answers ds p)
 
--- ---- 4. and 5. From containment to a mapping, and the counterexample
+-- The sound databases that obey
+abbrev Obeying : List ℕ → List Dependency → Database → Type 0
+Obeying widths ds D = Sound widths D × Obeys ds D
 
 module _ (widths : List ℕ) (ds : List Dependency) (p q : Query) (base : ℕ) (fit : (r : Row Entry) → r ∈ p .rows → FitsSchema widths r)
     (belowP : ConstantsBelow base p) (belowQ : ConstantsBelow base q) (positive : 0 < base) where
-  below-chased : ConstantsBelow base (chase ds p .query)
-  below-chased = chase-constants ds p base positive belowP
-
-  -- The chased p read as a database is sound,
-  pub chased-sound : Sound widths (frozenRows base (chase ds p .query))
-  chased-sound = frozen-sound widths base (chase ds p .query) (chase-rows-fit widths ds p fit)
-
-  -- obeys,
-  pub chased-obeys : Obeys ds (frozenRows base (chase ds p .query))
-  chased-obeys = chase-obeys ds p base positive below-chased
-
-  -- and has its head as an answer of p
-  pub chased-answer : chase ds p .query .rows ≢ [] → Answer (frozenRows base (chase ds p .query)) p (frozenHead base (chase ds p .query))
-  chased-answer some =
-      chase-answers ds p (frozenRows base (chase ds p .query)) chased-obeys (frozenHead base (chase ds p .query)) .1 (frozen-answer base (chase ds p .query) some)
-
-  -- If p is contained in q, then p chases to never or q maps to the chased p
-  pub mapping-of-contained : Contained widths ds p q → (chase ds p .query .rows ≡ []) ⊎ Mapping q (chase ds p .query)
-  mapping-of-contained contained = go (chase ds p .query .rows) refl
-    where
-      go : (rows : List (Row Entry)) → chase ds p .query .rows ≡ rows → (chase ds p .query .rows ≡ []) ⊎ Mapping q (chase ds p .query)
-      go [] none = inl none
-      go (r ∷ rows) same =
-          inr (mapping-of-answer base q (chase ds p .query) belowQ below-chased
-          (contained (frozenRows base (chase ds p .query)) chased-sound chased-obeys (frozenHead base (chase ds p .query))
-          (chased-answer (λ none. cons-ne-nil r rows (sym same ∙ none)))))
+  chase-stands : StandsFor (Obeying widths ds) base p (chase ds p .query)
+  chase-stands =
+      let below = chase-constants ds p base positive belowP in
+      record {
+        answers = λ D within t. chase-answers ds p D (within .1) t;
+        frozen = λ some. (frozen-sound widths base (chase ds p .query) (chase-rows-fit widths ds p fit), chase-obeys ds p base positive below);
+        below = below;
+      }
 
   -- p is contained in q exactly when p chases to never or q maps to the chased p
   pub contained-iff : Contained widths ds p q ↔ ((chase ds p .query .rows ≡ []) ⊎ Mapping q (chase ds p .query))
-  contained-iff = (mapping-of-contained, λ found D sound obeys. contained-of-mapping ds p q found D obeys)
+  contained-iff =
+      let over = contained-over (Obeying widths ds) base p q (chase ds p .query) chase-stands belowQ in
+      (λ contained. over .1 (λ D within. contained D (within .0) (within .1)), λ found D sound obeys. over .0 found D (sound, obeys))
 
   -- Otherwise the chased p, read as a database, shows that it is not
   pub counterexample : chase ds p .query .rows ≢ [] → (Mapping q (chase ds p .query) → ⊥)
       → Counterexample widths ds p q (frozenRows base (chase ds p .query)) (frozenHead base (chase ds p .query))
-  counterexample some none = record {
-    sound = chased-sound;
-    obeys = chased-obeys;
-    answer = chased-answer some;
-    no-answer = λ answer. none (mapping-of-answer base q (chase ds p .query) belowQ below-chased answer);
-  }
+  counterexample some none =
+      let over = counterexample-over (Obeying widths ds) base p q (chase ds p .query) chase-stands belowQ some none in
+      record { sound = over .within .0; obeys = over .within .1; answer = over .answer; no-answer = over .no-answer }

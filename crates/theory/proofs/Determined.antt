@@ -18,14 +18,11 @@ use Rattle.theory.specs.Query.{Row, column, member, _∈_}
 use Rattle.theory.specs.Database.{Database, Dependency, Agree, Obeys, Sound}
 use Rattle.theory.specs.Chase.{firstPassing}
 use Rattle.theory.specs.Determined.{Determines, FitsColumns, Ascending, subset, adds, growOn, growFor, closure, columnsIn, determined}
-use Rattle.theory.proofs.Lists.{and-left, and-right, mem-cases, member-mem, mem-member, member-not-mem}
+use Rattle.theory.proofs.Lists.{and-left, and-right, and-both, mem-cases, member-mem, mem-member, member-not-mem}
 use Rattle.theory.proofs.Members.{_⊆_}
 use Rattle.theory.proofs.Step.{firstPassing-found, firstPassing-nothing}
 
 -- ---- 1. tests
-
-and-both : (a b : Bool) → a ≡ true → b ≡ true → (a && b) ≡ true
-and-both a b p q = rw (p, q) refl
 
 -- A list that passes `subset` is a part of the other, and a part of it passes
 pub subset-true : (ms ns : List ℕ) → subset ms ns ≡ true → (n : ℕ) → n ∈ ms → n ∈ ns

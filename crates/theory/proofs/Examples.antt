@@ -7,13 +7,17 @@ use Prim.Native.Nat.{ℕ}
 use lib.Dec.{eqb, ltb}
 use lib.ListN.{length, getD}
 use borrow.Author.Tests.{ltb-true, eqb-true}
-use Rattle.theory.specs.Query.{Entry, Row, Query, FitsSchema, _∈_, sameEntry, variablesOf, rowEntries, member, distinct}
+use Rattle.theory.specs.Query.{Entry, Row, Query, FitsSchema, _∈_}
 use Rattle.theory.specs.Database.{Dependency}
-use Rattle.theory.specs.Chase.{orElse, mapFound, firstPassing, firstPair, firstFound, agree, breaks, firstBroken, survives, resolve, substitute, step, Chases, chaseOn, chaseFor, chase}
+use Rattle.theory.specs.Query.{sameEntry, variablesOf, rowEntries, member, distinct}
+use Rattle.theory.specs.Chase.{orElse, mapFound, firstPassing, firstPair, firstFound, agree, breaks, firstBroken, survives, resolve, substitute}
+use Rattle.theory.specs.Chase.{step, Chases, chaseOn, chaseFor, chase}
 use Rattle.theory.specs.Determined.{FitsColumns, subset, adds, growOn, growFor, closure, columnsIn, determined}
-use Rattle.theory.specs.Search.{lookup, andThen, assignTo, matchEntry, matchEntries, matchRow, tryRows, placeRows, placeQuery, mappable, containedOn, contained, prune, reduce}
-use Rattle.theory.specs.Examples.{Example, reduces, chasesTo, compares, determines, schema, Meaning, sameLists, sameRow, sameQuery, allPass, fitsColumns, fitsSchema, overSchema, holds, examples}
-use Rattle.theory.proofs.Lists.{and-left, and-right}
+use Rattle.theory.specs.Search.{lookup, andThen, assignTo, matchEntry, matchEntries, matchRow, tryRows, placeRows, placeQuery, mappable}
+use Rattle.theory.specs.Search.{containedOn, contained, prune, reduce}
+use Rattle.theory.specs.Examples.{Example, reduces, chasesTo, compares, determines, schema, Meaning, sameLists, sameRow, sameQuery, allPass}
+use Rattle.theory.specs.Examples.{fitsColumns, fitsSchema, overSchema, holds, examples}
+use Rattle.theory.proofs.Lists.{and-left, and-right, and-three, beq-true}
 use Rattle.theory.proofs.Entries.{sameEntry-eq}
 use Rattle.theory.proofs.Chase.{chase-chases}
 use Rattle.theory.proofs.Reduction.{reduction-same-size, reduction-minimal}
@@ -23,15 +27,15 @@ use Rattle.theory.proofs.Reduce.{reduce-reduction}
 
 -- Every example of the table holds
 pub examples-hold : allPass holds examples ≡ true
-unfolding sameEntry variablesOf rowEntries member distinct orElse mapFound firstPassing firstPair firstFound agree breaks firstBroken survives resolve substitute step chaseOn chaseFor chase subset adds growOn growFor closure columnsIn determined lookup andThen assignTo matchEntry matchEntries matchRow tryRows placeRows placeQuery mappable containedOn contained prune reduce sameLists sameRow sameQuery allPass fitsColumns fitsSchema overSchema holds
+unfolding sameEntry variablesOf rowEntries member distinct orElse mapFound firstPassing firstPair firstFound agree breaks firstBroken
+    survives resolve substitute step chaseOn chaseFor chase subset adds growOn growFor closure columnsIn determined lookup andThen assignTo
+    matchEntry matchEntries matchRow tryRows placeRows placeQuery mappable containedOn contained prune reduce sameLists sameRow sameQuery
+    allPass fitsColumns fitsSchema overSchema holds
 examples-hold = refl
 
 -- ---- what they mean
 
 -- Each test of `holds` gives its fact
-and-three : (a b c : Bool) → (a && b && c) ≡ true → (a ≡ true) × (b ≡ true) × (c ≡ true)
-and-three a b c e = let both = and-left (a && b) c e in (and-left a b both, and-right a b both, and-right (a && b) c e)
-
 allPass-true : {A : Type 0} (test : A → Bool) (xs : List A) → allPass test xs ≡ true → (x : A) → x ∈ xs → test x ≡ true
 unfolding allPass
 allPass-true test (y ∷ xs) e x (List·Memᴰ·head same) = rw same (and-left (test y) (allPass test xs) e)
@@ -74,12 +78,6 @@ fitsColumns-true widths d e =
       left = λ c at. ltb-true c (getD widths (d .relation) 0) (allPass-true (λ b. ltb b (getD widths (d .relation) 0)) (d .left) (facts .1) c at);
       right = ltb-true (d .right) (getD widths (d .relation) 0) (facts .2);
     }
-
-beq-true : (a b : Bool) → Bool·beq a b ≡ true → a ≡ b
-beq-true true true e = refl
-beq-true true false e = absurd (true≢false (sym e))
-beq-true false true e = absurd (true≢false (sym e))
-beq-true false false e = refl
 
 fitsSchema-true : (widths : List ℕ) (r : Row Entry) → fitsSchema widths r ≡ true → FitsSchema widths r
 unfolding fitsSchema

@@ -1,10 +1,11 @@
--- The theorems about the definitions of specs/, and the laws on the way to them. Each file's header says what is in it.
+-- The proofs of the statements of specs/, and the laws on the way to them. `Theorems` has a proof of each; each file's header says what is in it.
 pub mod Lists
 pub mod Entries
 pub mod Members
 pub mod Without
 pub mod Carry
 pub mod Step
+pub mod Order
 pub mod Survivor
 pub mod Replacement
 pub mod Chase
@@ -14,3 +15,4 @@ pub mod Determined
 pub mod Search
 pub mod Reduce
 pub mod Examples
+pub mod Theorems

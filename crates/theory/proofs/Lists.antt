@@ -1,11 +1,12 @@
--- Laws of lists that any proof may cite: truth values and options; membership in a list, its map and its columns; lists without repeats and how long they are;
+-- Laws of lists that any proof may cite: truth values, options, and whether a list is empty; membership in a list, its map and its columns; lists without repeats and how long they are;
 -- `member` and `distinct` of numbers. A membership is a position.
 -- Laws of `length`, `take`, `drop` and `getD` alone are the library's (`lib.Seq`). Assumes nothing.
 use mathlib.Core.Path.{_≡_, refl, sym, _∙_, ap, ap₂}
-use mathlib.Core.Logic.{_⊎_, inl, inr, ⊎-elim}
-use mathlib.Core.Bool.{Bool, true, false, _&&_, true≢false, false≢true}
+use mathlib.Core.Logic.{_≢_, _⊎_, inl, inr, ⊎-elim}
+use mathlib.Core.Bool.{Bool, true, false, _&&_, Bool·beq, true≢false, false≢true}
 use mathlib.Core.Option.{Option, none, some}
-use mathlib.Core.List.{List, [], _∷_, _++_, map, cons≢nil, List·Memᴰ·head, List·Memᴰ·tail, List·Memᴰ·not-nil, List·Memᴰ·cases-cons, Memᴰ·cast}
+use mathlib.Core.List.{List, [], _∷_, _++_, map, cons≢nil, cons-ne-nil, List·Memᴰ·head, List·Memᴰ·tail, List·Memᴰ·not-nil, List·Memᴰ·cases-cons}
+use mathlib.Core.List.{Memᴰ·cast}
 use Prim.Native.Nat.{ℕ, zero, suc, _≤_, zero-le}
 use native.Mathlib.Omega.{arith}
 use borrow.Author.Tests.{eqb-true, eqb-false}
@@ -30,16 +31,30 @@ pub and-right : (a b : Bool) → (a && b) ≡ true → b ≡ true
 and-right true b e = e
 and-right false b e = absurd (false≢true e)
 
+-- and one of two truths is true
+pub and-both : (a b : Bool) → a ≡ true → b ≡ true → (a && b) ≡ true
+and-both a b p q = rw (p, q) refl
+
+-- Three at a time
+pub and-three : (a b c : Bool) → (a && b && c) ≡ true → (a ≡ true) × (b ≡ true) × (c ≡ true)
+and-three a b c e = let both = and-left (a && b) c e in (and-left a b both, and-right a b both, and-right (a && b) c e)
+
+-- The test of equality
+pub beq-true : (a b : Bool) → Bool·beq a b ≡ true → a ≡ b
+beq-true true true e = refl
+beq-true true false e = absurd (true≢false (sym e))
+beq-true false true e = absurd (true≢false (sym e))
+beq-true false false e = refl
+
 -- By whether something is found
 pub option-cases : {A C : Type 0} (o : Option A) → ((x : A) → o ≡ some x → C) → (o ≡ none → C) → C
 option-cases none there missing = missing refl
 option-cases (some x) there missing = there x refl
 
-pub none-some : {A : Type 0} (x : A) → _≡_ {A = Option A} none (some x) → ⊥
-none-some x e = let z : _≡_ {A = ℕ} 0 1 = cc in omega arith
-
-pub some-same : {A : Type 0} {x y : A} → _≡_ {A = Option A} (some x) (some y) → x ≡ y
-some-same e = cc
+-- By whether a list is empty
+pub list-cases : {A C : Type 0} (xs : List A) → (xs ≡ [] → C) → (xs ≢ [] → C) → C
+list-cases [] empty nonempty = empty refl
+list-cases (x ∷ xs) empty nonempty = nonempty (cons-ne-nil x xs)
 
 -- ---- membership
 
@@ -52,23 +67,20 @@ pub map-agree : {A B : Type 0} (f g : A → B) (xs : List A) → ((x : A) → x 
 map-agree f g [] same = refl
 map-agree f g (x ∷ xs) same = ap₂ _∷_ (same x (List·Memᴰ·head refl)) (map-agree f g xs (λ y at. same y (List·Memᴰ·tail at)))
 
--- The map of a map
-pub map-compose : {A B C : Type 0} (f : A → B) (g : B → C) (xs : List A) → map g (map f xs) ≡ map (λ x. g (f x)) xs
-map-compose f g [] = refl
-map-compose f g (x ∷ xs) = ap (λ l. g (f x) ∷ l) (map-compose f g xs)
-
 -- The map of two lists joined
 pub map-append : {A B : Type 0} (f : A → B) (xs ys : List A) → map f (xs ++ ys) ≡ map f xs ++ map f ys
 map-append f [] ys = refl
 map-append f (x ∷ xs) ys = ap (λ l. f x ∷ l) (map-append f xs ys)
 
--- A map is empty exactly when the list is
+-- A map that keeps a list keeps each of its elements
+pub map-fixes : {A : Type 0} (f : A → A) (xs : List A) → map f xs ≡ xs → (x : A) → x ∈ xs → f x ≡ x
+map-fixes f (y ∷ xs) same x (List·Memᴰ·head e) = let first : f y ≡ y = cc in cc
+map-fixes f (y ∷ xs) same x (List·Memᴰ·tail at) = let later : map f xs ≡ xs = cc in map-fixes f xs later x at
+
+-- A list whose map is empty is empty
 pub map-empty : {A B : Type 0} (f : A → B) (xs : List A) → map f xs ≡ [] → xs ≡ []
 map-empty f [] e = refl
 map-empty f (x ∷ xs) e = absurd (cons≢nil e)
-
-pub empty-map : {A B : Type 0} (f : A → B) (xs : List A) → xs ≡ [] → map f xs ≡ []
-empty-map f xs e = ap (map f) e
 
 -- What stands at a place of a list, or the default where it is too short
 pub getD-mem : {A : Type 0} (xs : List A) (n : ℕ) (z : A) → (getD xs n z ≡ z) ⊎ (getD xs n z ∈ xs)

@@ -12,7 +12,8 @@
 -- Assumes nothing.
 use mathlib.Core.Path.{_≡_, refl, sym, _∙_, ap, subst, subst₂}
 use mathlib.Core.Logic.{_≢_, _↔_, Iff·symm, Iff·trans, Iff·trunc, ∥∥₁-elim, _⊎_, inl, inr, ⊎-elim}
-use mathlib.Core.List.{List, [], _∷_, _++_, map, append-nil, cons-ne-nil, List·Memᴰ·head, List·Memᴰ·tail, List·Memᴰ·not-nil, List·Memᴰ·append-cases, Memᴰ·append-left, Memᴰ·append-right, Memᴰ·map, Memᴰ·of-map, Memᴰ·cast}
+use mathlib.Core.List.{List, [], _∷_, _++_, map, append-nil, List·Memᴰ·head, List·Memᴰ·tail, List·Memᴰ·not-nil, List·Memᴰ·append-cases}
+use mathlib.Core.List.{Memᴰ·append-left, Memᴰ·append-right, Memᴰ·map, Memᴰ·of-map, Memᴰ·cast}
 use Prim.Native.Nat.{ℕ, zero, suc, _+_, _≤_, _<_}
 use native.Mathlib.Omega.{arith}
 use native.Mathlib.Bridge.{le-prop}
@@ -24,28 +25,29 @@ use Rattle.theory.specs.Database.{Database, Dependency, Obeys, Sound}
 use Rattle.theory.specs.Answer.{valueOf, itself, Carries, Answer, Mapping}
 use Rattle.theory.specs.Chase.{chase}
 use Rattle.theory.specs.Containment.{Equivalent, freeze, frozenRows, frozenHead, ConstantsBelow}
-use Rattle.theory.specs.Reduction.{without, dropRow, Core, Reduction, Shrinks, stays, loses, Minimal}
-use Rattle.theory.proofs.Lists.{Nodup, without-length, nodup-length-le}
+use Rattle.theory.specs.Reduction.{without, dropRow, Core, Reduction, Shrinks, stays, loses, Reordered, Minimal}
+use Rattle.theory.proofs.Lists.{Nodup, without-length, nodup-length-le, list-cases, map-fixes}
 use Rattle.theory.proofs.Entries.{constant-variable, variablesOf-mem, mem-variablesOf, row-rowEntries}
 use Rattle.theory.proofs.Members.{_⊆_, insert-part, append-part, map-part, some-of-member, member-of-some, row-of-entry, rowEntries-part}
 use Rattle.theory.proofs.Without.{without-part, without-cases, without-append, without-singleton, pigeonhole, nodup-of, nodup-fills}
 use Rattle.theory.proofs.Carry.{carries-fewer, mapping-of, mapping-compose, mapping-self, mapping-part, mapping-inclusion, mapping-target}
-use Rattle.theory.proofs.Chase.{chase-answers, chase-mapping, chase-obeys, chase-rows-fit, chase-wellformed, chase-head-length, chase-entries, chase-variables, chase-constants, chase-length-le}
+use Rattle.theory.proofs.Chase.{chase-answers, chase-mapping, chase-obeys, chase-rows-fit, chase-wellformed, chase-head-length, chase-entries}
+use Rattle.theory.proofs.Chase.{chase-variables, chase-constants, chase-length-le}
 use Rattle.theory.proofs.Containment.{answer-along, frozen-answer, frozen-sound, thaw, thaw-rows, thaw-head, thaw-carries}
 
 -- ---- 1. Cores
 
 -- A core has no repeated row: the identity would map it into itself without one of the two
-pub core-nodup : (T : Query) → Core T → Nodup (T .rows)
-core-nodup T core = nodup-of (T .rows) once
+pub core-repeats : (T : Query) → Core T → (r : Row Entry) (at : r ∈ T .rows) → r ∈ without (T .rows) at → ⊥
+core-repeats T core r at again =
+    core r at (mapping-inclusion T (dropRow T at) (some-of-member (T .rows) at) refl (λ s there. left s (without-cases (T .rows) at there)))
   where
-    left : (r s : Row Entry) (at : r ∈ T .rows) → r ∈ without (T .rows) at → (s ≡ r) ⊎ (s ∈ without (T .rows) at) → s ∈ without (T .rows) at
-    left r s at again (inl same) = Memᴰ·cast same again
-    left r s at again (inr rest) = rest
+    left : (s : Row Entry) → (s ≡ r) ⊎ (s ∈ without (T .rows) at) → s ∈ without (T .rows) at
+    left s (inl same) = Memᴰ·cast same again
+    left s (inr rest) = rest
 
-    once : (r : Row Entry) (at : r ∈ T .rows) → r ∈ without (T .rows) at → ⊥
-    once r at again =
-        core r at (mapping-inclusion T (dropRow T at) (some-of-member (T .rows) at) refl (λ s there. left r s at again (without-cases (T .rows) at there)))
+pub core-nodup : (T : Query) → Core T → Nodup (T .rows)
+core-nodup T core = nodup-of (T .rows) (core-repeats T core)
 
 -- A core that maps to a query with its head and some of its rows has no more rows than that
 pub core-least : (T P : Query) → Core T → P .head ≡ T .head → P .rows ⊆ T .rows → Mapping T P → length (T .rows) ≤ length (P .rows)
@@ -68,13 +70,6 @@ core-both-ways T U core f g =
     let found = Memᴰ·of-map (mapRow (valueOf constant (g .0))) (U .rows) at in Memᴰ·cast (sym (found .2)) (g .1 .carries .to-rows (found .0) (found .1)) in
     let small : length (T .rows) ≤ length (P .rows) = core-least T P core refl part (mapping-compose T U P f onto) in
     omega (arith, small, length-map (U .rows) (mapRow (valueOf constant (g .0))))
-
--- U is T with its rows in another order
-pub record Reordered (T U : Query) : Type 0 where
-  pub head : U .head ≡ T .head
-  pub into : T .rows ⊆ U .rows
-  pub back : U .rows ⊆ T .rows
-  pub size : length (U .rows) ≡ length (T .rows)
 
 -- The order of rows does not matter to a core
 pub core-reordered : (T U : Query) → Reordered T U → Core T → Core U
@@ -123,15 +118,11 @@ module _ (ds : List Dependency) (S T : Query) (result : Reduction ds S T) where
   reduction-never =
       ((chased-none, result-none), λ none. λ i. record { head = result .head i; rows = (none ∙ sym (chased-none none)) i })
     where
-      empty : (xs : List (Row Entry)) → (xs ≢ [] → ⊥) → xs ≡ []
-      empty [] no-some = refl
-      empty (r ∷ rs) no-some = absurd (no-some (cons-ne-nil r rs))
-
       chased-none : T .rows ≡ [] → chase ds S .query .rows ≡ []
-      chased-none none = empty (chase ds S .query .rows) (λ some. reduction-some some none)
+      chased-none none = list-cases (chase ds S .query .rows) (λ empty. empty) (λ some. absurd (reduction-some some none))
 
       result-none : chase ds S .query .rows ≡ [] → T .rows ≡ []
-      result-none none = empty (T .rows) (λ some. reduction-some-chased some none)
+      result-none none = list-cases (T .rows) (λ empty. empty) (λ some. absurd (reduction-some-chased some none))
 
   -- A result has the head length of its source
   pub reduction-head-length : length (T .head) ≡ length (S .head)
@@ -146,14 +137,9 @@ reduction-same-size ds S T U t u = let a = small T U t u in let b = small U T u 
         mapping-part (chase ds S .query) T U U (t .head) some (t .rows) refl (λ r at. at) (u .receives (reduction-some-chased ds S T t some))
 
     small : (T U : Query) → Reduction ds S T → Reduction ds S U → length (T .rows) ≤ length (U .rows)
-    small T U t u = go (T .rows) refl
-      where
-        go : (rows : List (Row Entry)) → T .rows ≡ rows → length (T .rows) ≤ length (U .rows)
-        go [] none = omega (arith, ap length none)
-        go (r ∷ rows) same =
-            let some : T .rows ≢ [] = λ none. cons-ne-nil r rows (sym same ∙ none) in
-            core-both-ways T U (t .core) (across T U t u some)
-            (across U T u t (reduction-some ds S U u (reduction-some-chased ds S T t some)))
+    small T U t u =
+        list-cases (T .rows) (λ none. omega (arith, ap length none)) (λ some.
+        core-both-ways T U (t .core) (across T U t u some) (across U T u t (reduction-some ds S U u (reduction-some-chased ds S T t some))))
 
 -- ---- 3. Minimality
 
@@ -243,7 +229,12 @@ core-minimal widths ds T R base below core sound obeys same some =
 -- Every query with the source's answers on all sound databases that obey has at least as many rows as a result, whatever its variables and constants
 pub reduction-minimal : (widths : List ℕ) (ds : List Dependency) (S T : Query) → ((r : Row Entry) → r ∈ S .rows → FitsSchema widths r)
     → Reduction ds S T → Minimal widths ds S T
-reduction-minimal widths ds S T fit result R rival = go (T .rows) refl
+reduction-minimal widths ds S T fit result R rival =
+    list-cases (T .rows) (λ none. omega (arith, ap length none))
+    (core-minimal widths ds T R base (below-part base (chase ds S .query) T (result .head) (result .rows) below) (result .core)
+    (frozen-sound widths base T (λ s at. chase-rows-fit widths ds S fit s (result .rows s at)))
+    (obeys-part ds (frozenRows base (chase ds S .query)) (frozenRows base T) frozen-part (chase-obeys ds S base (some-base (chase ds S .query) .1) below))
+    same)
   where
     base : ℕ
     base = some-base (chase ds S .query) .0
@@ -257,14 +248,6 @@ reduction-minimal widths ds S T fit result R rival = go (T .rows) refl
     same : Equivalent widths ds T R
     same D sound obeys t =
         Iff·trans (Iff·symm (reduction-equivalent ds S T result widths D sound obeys t)) (rival .same D sound obeys t)
-
-    go : (rows : List (Row Entry)) → T .rows ≡ rows → length (T .rows) ≤ length (R .rows)
-    go [] none = omega (arith, ap length none)
-    go (r ∷ rows) rest =
-        core-minimal widths ds T R base (below-part base (chase ds S .query) T (result .head) (result .rows) below) (result .core)
-        (frozen-sound widths base T (λ s at. chase-rows-fit widths ds S fit s (result .rows s at)))
-        (obeys-part ds (frozenRows base (chase ds S .query)) (frozenRows base T) frozen-part (chase-obeys ds S base (some-base (chase ds S .query) .1) below))
-        same (λ none. cons-ne-nil r rows (sym rest ∙ none))
 
 -- ---- 4. What a result keeps
 
@@ -298,11 +281,6 @@ module _ (ds : List Dependency) (S T : Query) (result : Reduction ds S T) where
   pub reduction-constants : (base : ℕ) → 0 < base → ConstantsBelow base S → ConstantsBelow base T
   reduction-constants base positive below = below-part base (chase ds S .query) T (result .head) (result .rows) (chase-constants ds S base positive below)
 
--- A map that keeps a list keeps each of its elements
-map-fixes : {A : Type 0} (f : A → A) (xs : List A) → map f xs ≡ xs → (x : A) → x ∈ xs → f x ≡ x
-map-fixes f (y ∷ xs) same x (List·Memᴰ·head e) = let first : f y ≡ y = cc in cc
-map-fixes f (y ∷ xs) same x (List·Memᴰ·tail at) = let later : map f xs ≡ xs = cc in map-fixes f xs later x at
-
 -- A result of a well-formed query is well-formed
 pub reduction-wellformed : (widths : List ℕ) (ds : List Dependency) (S T : Query) → WellFormed widths S → Reduction ds S T → WellFormed widths T
 reduction-wellformed widths ds S T well result = record { rows-fit = λ r at. chased .rows-fit r (result .rows r at); head-safe = safe }
@@ -313,12 +291,14 @@ reduction-wellformed widths ds S T well result = record { rows-fit = λ r at. ch
     safe : (v : ℕ) → v ∈ variablesOf (T .head) → v ∈ variablesOf (rowEntries (T .rows))
     safe v at =
         let inHead : variable v ∈ chase ds S .query .head = subst (λ es. variable v ∈ es) (result .head) (variablesOf-mem v (T .head) at) in
-        let found = row-of-entry (chase ds S .query .rows) (variablesOf-mem v (rowEntries (chase ds S .query .rows)) (chased .head-safe v (mem-variablesOf v (chase ds S .query .head) inHead))) in
+        let inRow = chased .head-safe v (mem-variablesOf v (chase ds S .query .head) inHead) in
+        let found = row-of-entry (chase ds S .query .rows) (variablesOf-mem v (rowEntries (chase ds S .query .rows)) inRow) in
         let f = result .receives (some-of-member (chase ds S .query .rows) (found .1)) in
         let fixed : valueOf constant (f .0) (variable v) ≡ variable v =
         map-fixes (valueOf constant (f .0)) (chase ds S .query .head) (f .1 .carries .to-head ∙ result .head) (variable v) inHead in
         mem-variablesOf v (rowEntries (T .rows))
-        (row-rowEntries (T .rows) (mapRow (valueOf constant (f .0)) (found .0)) (variable v) (f .1 .carries .to-rows (found .0) (found .1)) (Memᴰ·cast (sym fixed) (Memᴰ·map (valueOf constant (f .0)) (found .2))))
+        (row-rowEntries (T .rows) (mapRow (valueOf constant (f .0)) (found .0)) (variable v) (f .1 .carries .to-rows (found .0) (found .1))
+        (Memᴰ·cast (sym fixed) (Memᴰ·map (valueOf constant (f .0)) (found .2))))
 
 -- ---- 5. One pass
 

@@ -4,17 +4,19 @@
 use mathlib.Core.Path.{_≡_, sym, _∙_, ap}
 use mathlib.Core.Logic.{_≢_, _↔_, _⊎_, inl, inr, ⊎-elim}
 use mathlib.Core.Option.{some}
-use mathlib.Core.List.{List, [], _++_, map, Memᴰ·cast, Memᴰ·map, Memᴰ·of-map, Memᴰ·append-right}
+use mathlib.Core.List.{List, [], _++_, map, map-map, Memᴰ·cast, Memᴰ·map, Memᴰ·of-map, Memᴰ·append-right}
 use Prim.Native.Nat.{ℕ, suc, _<_}
 use native.Mathlib.Omega.{arith}
 use lib.ListN.{List·getD-map, length-map}
-use Rattle.theory.specs.Query.{Entry, constant, variable, Row, Query, column, mapRow, mapQuery, rowEntries, variablesOf, variables, variableCount, FitsSchema, _∈_}
+use Rattle.theory.specs.Query.{Entry, constant, variable, Row, Query, column, mapRow, mapQuery, rowEntries, variablesOf, variables}
+use Rattle.theory.specs.Query.{variableCount, FitsSchema, _∈_}
 use Rattle.theory.specs.Database.{Database, Dependency, Obeys}
 use Rattle.theory.specs.Chase.{replace, substitute, step}
 use Rattle.theory.specs.Answer.{valueOf, itself, Carries, Answer}
 use Rattle.theory.specs.Containment.{ConstantsBelow}
-use Rattle.theory.proofs.Lists.{map-empty, map-agree, map-compose}
-use Rattle.theory.proofs.Entries.{constant-variable, substitute-valueOf, substitute-cases, substitute-mem, constant-same, mem-variablesOf, variablesOf-mem, entries-map, rowEntries-map, replace-count, substitute-constant}
+use Rattle.theory.proofs.Lists.{map-empty, map-agree}
+use Rattle.theory.proofs.Entries.{constant-variable, substitute-valueOf, substitute-cases, substitute-mem, constant-same, mem-variablesOf}
+use Rattle.theory.proofs.Entries.{variablesOf-mem, entries-map, rowEntries-map, replace-count, substitute-constant}
 use Rattle.theory.proofs.Carry.{carries-compose}
 use Rattle.theory.proofs.Step.{Forced, forced-swap, forced-entry, forced-variable, step-replace}
 
@@ -60,7 +62,7 @@ pub carries-changed : {A : Type 0} (fixed assign : ℕ → A) (f : Entry → Ent
     → ((x : Entry) → valueOf fixed assign (f x) ≡ valueOf fixed assign x) → Carries fixed assign q rows image → Carries fixed assign (mapQuery f q) rows image
 carries-changed fixed assign f q rows image same c =
     let value = valueOf fixed assign in
-    let through : (es : List Entry) → map value (map f es) ≡ map value es = λ es. map-compose f value es ∙ map-agree (λ x. value (f x)) value es (λ x at. same x) in
+    let through : (es : List Entry) → map value (map f es) ≡ map value es = λ es. map-map value f es ∙ map-agree (λ x. value (f x)) value es (λ x at. same x) in
     record {
       not-never = mapQuery-some f q (c .not-never);
       to-head = through (q .head) ∙ c .to-head;

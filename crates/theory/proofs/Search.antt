@@ -17,7 +17,8 @@ use Rattle.theory.specs.Answer.{valueOf, itself, Carries, Answer, Mappin
 use Rattle.theory.specs.Database.{Database, Dependency}
 use Rattle.theory.specs.Chase.{orElse, chase}
 use Rattle.theory.specs.Containment.{Contained, Counterexample, frozenRows, frozenHead, ConstantsBelow}
-use Rattle.theory.specs.Search.{Partial, lookup, andThen, assignTo, matchEntry, matchEntries, matchRow, tryRows, placeRows, placeQuery, assignment, found, mappable, containedOn, contained}
+use Rattle.theory.specs.Search.{Partial, lookup, andThen, assignTo, matchEntry, matchEntries, matchRow, tryRows, placeRows, placeQuery}
+use Rattle.theory.specs.Search.{assignment, found, mappable, containedOn, contained}
 use Rattle.theory.proofs.Lists.{map-agree}
 use Rattle.theory.proofs.Entries.{sameEntry-eq, sameEntry-ne}
 use Rattle.theory.proofs.Carry.{mapping-of, carries-map, mapRow-compose, mapRow-id}
@@ -307,7 +308,7 @@ below-more base higher q more below = record {
 }
 
 -- Some base is above 0 and above the constants of both queries
-both-below : (p q : Query) → (base : ℕ) × 0 < base × ConstantsBelow base p × ConstantsBelow base q
+pub both-below : (p q : Query) → (base : ℕ) × 0 < base × ConstantsBelow base p × ConstantsBelow base q
 both-below p q =
     let P = some-base p in
     let Q = some-base q in

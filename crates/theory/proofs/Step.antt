@@ -4,7 +4,7 @@
 use mathlib.Core.Path.{_≡_, refl, sym, _∙_, ap}
 use mathlib.Core.Logic.{_≢_, _⊎_, inl, inr, ⊎-elim}
 use mathlib.Core.Bool.{Bool, true, false, not, _&&_, true≢false}
-use mathlib.Core.Option.{Option, none, some}
+use mathlib.Core.Option.{Option, none, some, Option·none-ne-some, Option·some-injective}
 use mathlib.Core.List.{List, [], _∷_, List·Memᴰ·head, List·Memᴰ·tail, List·Memᴰ·not-nil, Memᴰ·cast}
 use Prim.Native.Nat.{ℕ}
 use native.Mathlib.Omega.{arith}
@@ -12,8 +12,10 @@ use borrow.Author.Tests.{eqb-true, eq-eqb, not-true}
 use lib.Dec.{eqb}
 use Rattle.theory.specs.Query.{Entry, constant, variable, Row, Query, sameEntry, column, rowEntries, _∈_}
 use Rattle.theory.specs.Database.{Dependency, Agree}
-use Rattle.theory.specs.Chase.{orElse, mapFound, firstPassing, firstPair, firstFound, agree, breaks, firstBroken, Resolution, clash, replace, survives, resolve, inHead, resolvePair, step}
-use Rattle.theory.proofs.Lists.{bool-cases, and-left, and-right, mem-cases, option-cases, none-some, some-same}
+use Rattle.theory.specs.Chase.{orElse, mapFound, firstPassing, firstPair, firstFound, agree, breaks, firstBroken, Resolution, clash, replace}
+use Rattle.theory.specs.Chase.{survives, resolve, inHead, resolvePair, step}
+use Rattle.theory.specs.OrderTheorems.{Broken}
+use Rattle.theory.proofs.Lists.{bool-cases, and-left, and-right, mem-cases, option-cases}
 use Rattle.theory.proofs.Entries.{sameEntry-eq, eq-sameEntry, sameEntry-ne, ne-sameEntry, entry-dec, constant-variable, column-rowEntries}
 
 -- ---- the search, at the head of a list
@@ -140,11 +142,11 @@ brokenWith-false d r s ss rs ds rows e = rw e
 
 pub firstPassing-found : {A : Type 0} (test : A → Bool) (x : A) (xs : List A) → firstPassing test xs ≡ some x → (x ∈ xs) × (test x ≡ true)
 unfolding firstPassing
-firstPassing-found test x [] e = absurd (none-some x e)
+firstPassing-found test x [] e = absurd (Option·none-ne-some x e)
 firstPassing-found test x (y ∷ ys) e =
     bool-cases
     (test y)
-    (λ p. let same : x ≡ y = sym (some-same (rw p at e)) in (List·Memᴰ·head same, rw same p))
+    (λ p. let same : x ≡ y = sym (Option·some-injective _ _ (rw p at e)) in (List·Memᴰ·head same, rw same p))
     (λ p. let later = firstPassing-found test x ys (rw p at e) in (List·Memᴰ·tail (later .0), later .1))
 
 pub firstPassing-nothing : {A : Type 0} (test : A → Bool) (xs : List A) → firstPassing test xs ≡ none → (x : A) → x ∈ xs → test x ≡ false
@@ -153,17 +155,17 @@ firstPassing-nothing test [] e x at = absurd (List·Memᴰ·not-nil at)
 firstPassing-nothing test (y ∷ ys) e x at =
     bool-cases
     (test y)
-    (λ p. absurd (none-some y (sym (rw p at e))))
+    (λ p. absurd (Option·none-ne-some y (sym (rw p at e))))
     (λ p. mem-cases at (λ same. rw same p) (λ at'. firstPassing-nothing test ys (rw p at e) x at'))
 
 pub firstPair-found : {A : Type 0} (test : A → A → Bool) (p : A × A) (xs : List A) → firstPair test xs ≡ some p
     → (p .0 ∈ xs) × (p .1 ∈ xs) × (test (p .0) (p .1) ≡ true)
-firstPair-found test p [] e = absurd (none-some p (sym (firstPair-nil test) ∙ e))
+firstPair-found test p [] e = absurd (Option·none-ne-some p (sym (firstPair-nil test) ∙ e))
 firstPair-found test p (x ∷ xs) e =
     option-cases
     (firstPassing (test x) xs)
     (λ y f. let at = firstPassing-found (test x) y xs f in
-    let same : p ≡ (x, y) = some-same (sym e ∙ firstPair-some test x y xs f) in
+    let same : p ≡ (x, y) = Option·some-injective _ _ (sym e ∙ firstPair-some test x y xs f) in
     (List·Memᴰ·head (ap (λ q. q .0) same), List·Memᴰ·tail (Memᴰ·cast (ap (λ q. q .1) same) (at .0)), ap (λ q. test (q .0) (q .1)) same ∙ at .1))
     (λ f. let later = firstPair-found test p xs (sym (firstPair-none test x xs f) ∙ e) in
     (List·Memᴰ·tail (later .0), List·Memᴰ·tail (later .1), later .2))
@@ -175,7 +177,7 @@ firstPair-nothing test [] e x y at at' = absurd (List·Memᴰ·not-nil at)
 firstPair-nothing test (z ∷ xs) e x y at at' =
     option-cases
     (firstPassing (test z) xs)
-    (λ w f. absurd (none-some (z, w) (sym e ∙ firstPair-some test z w xs f)))
+    (λ w f. absurd (Option·none-ne-some (z, w) (sym e ∙ firstPair-some test z w xs f)))
     (λ f. let passed = firstPassing-nothing (test z) xs f in
     mem-cases
     at
@@ -188,11 +190,11 @@ firstPair-nothing test (z ∷ xs) e x y at at' =
 
 pub firstFound-found : {D A : Type 0} (find : D → Option A) (found : D × A) (ds : List D) → firstFound find ds ≡ some found
     → (found .0 ∈ ds) × (find (found .0) ≡ some (found .1))
-firstFound-found find found [] e = absurd (none-some found (sym (firstFound-nil find) ∙ e))
+firstFound-found find found [] e = absurd (Option·none-ne-some found (sym (firstFound-nil find) ∙ e))
 firstFound-found {A} find found (d ∷ ds) e =
     option-cases
     (find d)
-    (λ x f. let same : found ≡ (d, x) = some-same (sym e ∙ firstFound-some find d x ds f) in
+    (λ x f. let same : found ≡ (d, x) = Option·some-injective _ _ (sym e ∙ firstFound-some find d x ds f) in
     (List·Memᴰ·head (ap (λ q. q .0) same), ap (λ q. find (q .0)) same ∙ f ∙ ap {B = Option A} (λ q. some (q .1)) (sym same)))
     (λ f. let later = firstFound-found find found ds (sym (firstFound-none find d ds f) ∙ e) in (List·Memᴰ·tail (later .0), later .1))
 
@@ -201,18 +203,18 @@ firstFound-nothing find [] e d at = absurd (List·Memᴰ·not-nil at)
 firstFound-nothing find (c ∷ ds) e d at =
     option-cases
     (find c)
-    (λ x f. absurd (none-some (c, x) (sym e ∙ firstFound-some find c x ds f)))
+    (λ x f. absurd (Option·none-ne-some (c, x) (sym e ∙ firstFound-some find c x ds f)))
     (λ f. mem-cases at (λ here. rw here f) (λ later. firstFound-nothing find ds (sym (firstFound-none find c ds f) ∙ e) d later))
 
 pub mapFound-found : {A B : Type 0} (f : A → B) (y : B) (o : Option A) → mapFound f o ≡ some y → (x : A) × (o ≡ some x) × (f x ≡ y)
 unfolding mapFound
-mapFound-found f y none e = absurd (none-some y e)
-mapFound-found f y (some x) e = (x, refl, some-same e)
+mapFound-found f y none e = absurd (Option·none-ne-some y e)
+mapFound-found f y (some x) e = (x, refl, Option·some-injective _ _ e)
 
 pub mapFound-nothing : {A B : Type 0} (f : A → B) (o : Option A) → mapFound f o ≡ none → o ≡ none
 unfolding mapFound
 mapFound-nothing f none e = refl
-mapFound-nothing f (some x) e = absurd (none-some (f x) (sym e))
+mapFound-nothing f (some x) e = absurd (Option·none-ne-some (f x) (sym e))
 
 -- ---- a broken dependency
 
@@ -238,14 +240,7 @@ all-agree (k ∷ columns) r s same =
     (eq-sameEntry (column (constant 0) r k) (column (constant 0) s k) (same k (List·Memᴰ·head refl)))
     (all-agree columns r s (λ c at. same c (List·Memᴰ·tail at)))
 
--- Two rows of a query break a dependency
-pub record Broken (d : Dependency) (r s : Row Entry) : Type 0 where
-  pub first-relation : r .relation ≡ d .relation
-  pub second-relation : s .relation ≡ d .relation
-  pub agree-left : Agree (constant 0) (d .left) r s
-  pub differ-right : column (constant 0) r (d .right) ≢ column (constant 0) s (d .right)
-
--- `breaks` is that
+-- `breaks` tests for a broken dependency
 pub breaks-broken : (d : Dependency) (r s : Row Entry) → breaks d r s ≡ true → Broken d r s
 unfolding breaks
 breaks-broken d r s e =

@@ -8,13 +8,10 @@ use Prim.Native.Nat.{ℕ, _<_}
 use native.Mathlib.Omega.{arith}
 use lib.Dec.{ltb}
 use borrow.Author.Tests.{lt-ltb, le-ltb}
-use Rattle.theory.specs.Query.{Entry, constant, variable, Query, variablesOf, _∈_}
-use Rattle.theory.specs.Chase.{clash, replace, survives, resolve, inHead}
+use Rattle.theory.specs.Query.{constant, variable, Query, variablesOf, _∈_}
+use Rattle.theory.specs.Chase.{clash, survives, resolve, inHead}
+use Rattle.theory.specs.ChaseTheorems.{Survives}
 use Rattle.theory.proofs.Lists.{bool-cases, member-mem, mem-member, member-not-mem, not-mem-member}
-
--- Where entry e and variable v of a query must be equal, e replaces v, whichever of the two is found first
-abbrev pub Survives : Query → Entry → ℕ → Type 0
-Survives q e v = (resolve (inHead q) e (variable v) ≡ replace v e) × (resolve (inHead q) (variable v) e ≡ replace v e)
 
 pub constant-survives : (q : Query) (n v : ℕ) → Survives q (constant n) v
 unfolding resolve

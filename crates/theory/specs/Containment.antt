@@ -1,6 +1,6 @@
--- Containment of queries over all databases that obey the dependencies (demand 2), and a query read as a database.
-use mathlib.Core.Logic.{_↔_}
-use mathlib.Core.List.{List, map}
+-- Containment of queries over all databases that obey the dependencies (demand 2), and a query read as a database; then the same over any class of databases.
+use mathlib.Core.Logic.{_≢_, _↔_}
+use mathlib.Core.List.{List, [], map}
 use Prim.Native.Nat.{ℕ, _+_, _<_}
 use Rattle.theory.specs.Query.{Entry, constant, Query, mapRow, rowEntries, _∈_}
 use Rattle.theory.specs.Database.{Database, Dependency, Obeys, Sound}
@@ -38,3 +38,21 @@ frozenHead base q = map (freeze base) (q .head)
 pub record ConstantsBelow (base : ℕ) (q : Query) : Type 0 where
   pub of-head : (n : ℕ) → constant n ∈ q .head → n < base
   pub of-rows : (n : ℕ) → constant n ∈ rowEntries (q .rows) → n < base
+
+-- ---- over a class of databases
+
+-- On each database of the class, each answer of p is an answer of q
+abbrev pub ContainedOver : (Database → Type 0) → Query → Query → Type 0
+ContainedOver C p q = (D : Database) → C D → (t : List ℕ) → Answer D p t → Answer D q t
+
+-- D is of the class, and t is an answer of p on it and not of q
+pub record CounterexampleOver (C : Database → Type 0) (p q : Query) (D : Database) (t : List ℕ) : Type 0 where
+  pub within : C D
+  pub answer : Answer D p t
+  pub no-answer : Answer D q t → ⊥
+
+-- What a chase is for: `chased` has the answers of p on each database of the class, and, unless it is never, is one of them, read as a database that keeps its entries apart
+pub record StandsFor (C : Database → Type 0) (base : ℕ) (p chased : Query) : Type 0 where
+  pub answers : (D : Database) → C D → (t : List ℕ) → Answer D p t ↔ Answer D chased t
+  pub frozen : chased .rows ≢ [] → C (frozenRows base chased)
+  pub below : ConstantsBelow base chased

@@ -1,5 +1,5 @@
 -- The reference examples that document 01 marks P1 to P11, worked examples of the literature on tableaux and the chase, and some that single out a rule: one table.
--- First what an example says (`Meaning`), then how it is computed (`holds`), then the table. That each example holds, and so means what it says, is in `proofs/Examples`.
+-- First what an example says (`Meaning`), then how it is computed (`holds`), then the table, and last the one statement that covers it.
 use mathlib.Core.Path.{_≡_}
 use mathlib.Core.Logic.{_↔_}
 use mathlib.Core.Bool.{Bool, true, false, _&&_, Bool·beq}
@@ -127,6 +127,10 @@ from relation left right = record { relation = relation; left = left ∷ []; rig
 abbrev R·a→b : List Dependency
 R·a→b = from 0 0 1 ∷ []
 
+-- A dependency whose right column is one of its left columns
+abbrev S·ab→b : Dependency
+S·ab→b = record { relation = 1; left = 0 ∷ 1 ∷ []; right = 1 }
+
 -- The triangle R(v0,v1), R(v1,v2), R(v2,v0)
 abbrev triangle : List (Row Entry)
 triangle = R (v 0) (v 1) ∷ R (v 1) (v 2) ∷ R (v 2) (v 0) ∷ []
@@ -231,6 +235,36 @@ searchOrder =
     ∷ reduces (from 1 1 2 ∷ from 1 0 1 ∷ []) (query [] (S (v 0) (v 1) (k 3) ∷ S (v 0) (v 2) (k 4) ∷ S (v 5) (v 6) (k 7) ∷ S (v 5) (v 8) (k 7) ∷ [])) [] 0 1
     ∷ []
 
+-- Cases that are easily passed over
+abbrev pub edgeCases : List Example
+edgeCases =
+    -- never stays never, with count 0, and is its own result; it is contained in every query, and in never
+    chasesTo R·a→b (query (k 0 ∷ k 0 ∷ []) []) (query (k 0 ∷ k 0 ∷ []) []) 0
+    ∷ reduces R·a→b (query (k 0 ∷ k 0 ∷ []) []) (k 0 ∷ k 0 ∷ []) 0 0
+    ∷ reduces [] (query [] []) [] 0 0
+    ∷ compares [] (query [] []) (query [] (R (v 0) (v 0) ∷ [])) true
+    ∷ compares [] (query [] []) (query [] []) true
+    -- constant 3 and variable 3 are two entries: the one replaces the other, and a mapping moves only the variable
+    ∷ chasesTo R·a→b (query (v 3 ∷ []) (R (v 0) (k 3) ∷ R (v 0) (v 3) ∷ [])) (query (k 3 ∷ []) (R (v 0) (k 3) ∷ R (v 0) (k 3) ∷ [])) 1
+    ∷ reduces [] (query [] (R (k 3) (v 3) ∷ R (v 3) (k 3) ∷ [])) [] 2 0
+    ∷ compares [] (query [] (R (k 3) (k 3) ∷ [])) (query [] (R (k 3) (v 3) ∷ [])) true
+    ∷ compares [] (query [] (R (k 3) (v 3) ∷ [])) (query [] (R (k 3) (k 3) ∷ [])) false
+    -- a variable twice in the head: it is replaced in both entries, and asks for equal values of an answer
+    ∷ reduces R·a→b (query (v 2 ∷ v 2 ∷ []) (R (v 0) (v 2) ∷ R (v 0) (k 7) ∷ [])) (k 7 ∷ k 7 ∷ []) 1 1
+    ∷ compares [] (query (v 0 ∷ v 0 ∷ []) (R (v 0) (v 0) ∷ [])) (query (v 0 ∷ v 1 ∷ []) (R (v 0) (v 1) ∷ [])) true
+    ∷ compares [] (query (v 0 ∷ v 1 ∷ []) (R (v 0) (v 1) ∷ R (v 0) (v 0) ∷ [])) (query (v 0 ∷ v 0 ∷ []) (R (v 0) (v 0) ∷ [])) false
+    -- a right column inside the left set says nothing: the left set is not smaller for it
+    ∷ reduces (S·ab→b ∷ []) (query (v 1 ∷ v 3 ∷ []) (S (v 0) (v 1) (v 2) ∷ S (v 0) (v 3) (v 4) ∷ [])) (v 1 ∷ v 3 ∷ []) 2 0
+    ∷ determines (S·ab→b ∷ []) 1 (0 ∷ []) 1
+    -- a dependency held twice says what it says once
+    ∷ reduces (R·a→b ++ R·a→b) (query (v 0 ∷ v 1 ∷ v 2 ∷ []) (R (v 0) (v 1) ∷ R (v 0) (v 2) ∷ [])) (v 0 ∷ v 1 ∷ v 1 ∷ []) 1 1
+    ∷ determines (from 1 0 1 ∷ from 1 0 1 ∷ from 1 1 2 ∷ []) 1 (0 ∷ []) 3
+    ∷ []
+
 -- The whole table
 abbrev pub examples : List Example
-examples = reference ++ worked ++ further ++ survivors ++ searchOrder
+examples = reference ++ worked ++ further ++ survivors ++ searchOrder ++ edgeCases
+
+-- Each example of the table means what it says
+abbrev pub ExamplesMean : Type 0
+ExamplesMean = (x : Example) → x ∈ examples → Meaning x

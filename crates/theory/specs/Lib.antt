@@ -1,4 +1,5 @@
--- The definitions that a reader must believe, in the order in which to read them. `Search` only computes, for the examples: theorems tie it to the definitions before it.
+-- The definitions that a reader must believe, in the order in which to read them; then what is proved of them, a file of statements to a topic.
+-- `Search` only computes: theorems tie it to the definitions before it.
 pub mod Query
 pub mod Database
 pub mod Answer
@@ -8,3 +9,9 @@ pub mod Reduction
 pub mod Determined
 pub mod Search
 pub mod Examples
+pub mod AnswerTheorems
+pub mod OrderTheorems
+pub mod ChaseTheorems
+pub mod ContainmentTheorems
+pub mod ReductionTheorems
+pub mod DeterminedTheorems

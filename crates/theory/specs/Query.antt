@@ -83,7 +83,11 @@ variableCount q = length (distinct (variables q))
 abbrev pub FitsSchema : {A : Type 0} → List ℕ → Row A → Type 0
 FitsSchema widths r = (r .relation < length widths) × (length (r .values) ≡ getD widths (r .relation) 0)
 
+-- The rows of a query fit a schema
+abbrev pub RowsFit : List ℕ → Query → Type 0
+RowsFit widths q = (r : Row Entry) → r ∈ q .rows → FitsSchema widths r
+
 -- A well-formed query: its rows fit the schema, and each variable of its head stands in a row
 pub record WellFormed (widths : List ℕ) (q : Query) : Type 0 where
-  pub rows-fit : (r : Row Entry) → r ∈ q .rows → FitsSchema widths r
+  pub rows-fit : RowsFit widths q
   pub head-safe : (v : ℕ) → v ∈ variablesOf (q .head) → v ∈ variablesOf (rowEntries (q .rows))

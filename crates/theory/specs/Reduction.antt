@@ -32,10 +32,17 @@ pub record Reduction (ds : List Dependency) (S T : Query) : Type 0 where
   pub core : Core T
 
 -- `Shrinks q T`: T is what q comes to by losing rows, one at a time, while it can be mapped into itself without one of them.
--- `proofs/Reduction` shows that the results of reduction are these, up to the order of rows
+-- The results of reduction are these, up to the order of rows (`ReductionTheorems`)
 pub data Shrinks : Query → Query → Type 0 where
   stays : {q : Query} → Core q → Shrinks q q
   loses : {q T : Query} {r : Row Entry} (at : r ∈ q .rows) → Mapping q (dropRow q at) → Shrinks (dropRow q at) T → Shrinks q T
+
+-- U is T with its rows in another order
+pub record Reordered (T U : Query) : Type 0 where
+  pub head : U .head ≡ T .head
+  pub into : (r : Row Entry) → r ∈ T .rows → r ∈ U .rows
+  pub back : (r : Row Entry) → r ∈ U .rows → r ∈ T .rows
+  pub size : length (U .rows) ≡ length (T .rows)
 
 -- R is a rival of S: a query of the same head length with the same answers on every sound database that obeys the dependencies, whatever its rows, variables and constants.
 -- `width` is document 01's word on rivals; no proof needs it

@@ -1,5 +1,5 @@
 -- A search for a mapping that computes: depth first over the rows of the one query and, for each, over the rows of the other.
--- `proofs/Search` shows that it finds a mapping exactly where there is one. The engine's own search is another, with the same meaning.
+-- It finds a mapping exactly where there is one (`ContainmentTheorems`). The engine's own search is another, with the same meaning.
 use mathlib.Core.Bool.{Bool, true, false, cond}
 use mathlib.Core.List.{List, [], _∷_, _++_}
 use mathlib.Core.Option.{Option, none, some, Option·getD}

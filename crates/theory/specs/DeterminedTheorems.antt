@@ -1,0 +1,32 @@
+-- What is proved of determined columns. Each statement is proved in `proofs/Theorems`.
+use mathlib.Core.Path.{_≡_}
+use mathlib.Core.Logic.{_↔_}
+use mathlib.Core.List.{List}
+use Prim.Native.Nat.{ℕ, _<_}
+use lib.ListN.{length, getD}
+use Rattle.theory.specs.Query.{_∈_}
+use Rattle.theory.specs.Database.{Dependency}
+use Rattle.theory.specs.Determined.{Determines, FitsColumns, Ascending, determined}
+
+-- The columns of a relation that a left set determines: those on which two rows that agree on the set agree in every sound database that obeys the dependencies
+abbrev pub Determined : List ℕ → List Dependency → ℕ → List ℕ → ℕ → Type 0
+Determined widths ds relation left c = (c < getD widths relation 0) × Determines widths ds relation left c
+
+-- `determined` lists just these columns
+abbrev pub DeterminedExactly : Type 0
+DeterminedExactly =
+    (widths : List ℕ) (ds : List Dependency) (relation : ℕ) (left : List ℕ)
+    → ((d : Dependency) → d ∈ ds → FitsColumns widths d) → relation < length widths
+    → (c : ℕ) → (c ∈ determined ds relation (getD widths relation 0) left) ↔ Determined widths ds relation left c
+
+-- in ascending order, so each once
+abbrev pub DeterminedAscending : Type 0
+DeterminedAscending = (ds : List Dependency) (relation width : ℕ) (left : List ℕ) → Ascending (determined ds relation width left)
+
+-- and every ascending list of them is the same list, so that their number is its length
+abbrev pub DeterminedUnique : Type 0
+DeterminedUnique =
+    (widths : List ℕ) (ds : List Dependency) (relation : ℕ) (left : List ℕ)
+    → ((d : Dependency) → d ∈ ds → FitsColumns widths d) → relation < length widths
+    → (cs : List ℕ) → Ascending cs → ((c : ℕ) → (c ∈ cs) ↔ Determined widths ds relation left c)
+    → cs ≡ determined ds relation (getD widths relation 0) left
