@@ -8,6 +8,7 @@ pub mod Containment
 pub mod Reduction
 pub mod Determined
 pub mod Search
+pub mod Checking
 pub mod Examples
 pub mod AnswerTheorems
 pub mod OrderTheorems
