@@ -1,6 +1,6 @@
 -- What the code has shown when it answers, and the promise that follows: first for a comparison of two stored queries, then for the places that they come from,
 -- then for the checking of a mapping. The cases themselves are in `Verdicts`. Assumes nothing.
-use mathlib.Core.Path.{_≡_, refl, sym, ap, subst, subst₂, _∙_}
+use mathlib.Core.Path.{_≡_, refl, sym, ap, ap₂, subst, subst₂, _∙_}
 use mathlib.Core.Logic.{_≢_, inl, inr}
 use mathlib.Core.Bool.{Bool, true, false, _&&_}
 use mathlib.Core.List.{List, [], _∷_, List·Memᴰ·head, List·Memᴰ·not-nil}
@@ -14,7 +14,7 @@ use Rattle.query.specs.declared.Query.{Query}
 use Rattle.query.specs.declared.Dependency.{Dependency}
 use Rattle.record.specs.declared.Place.{Place}
 use Rattle.record.specs.declared.Record.{Record}
-use Rattle.query.specs.View.{rowsOf, queryOf}
+use Rattle.query.specs.View.{entriesOf, rowsOf, queryOf}
 use Rattle.record.specs.View.{schemaOf, dependenciesOf}
 use Rattle.lists.specs.Tests.{every, between}
 use Rattle.record.specs.Rule.{goodPlace, goodRecord}
@@ -30,13 +30,15 @@ use Rattle.mapping.specs.Mapped.{imagesOf, Storable, IsMapped, Finds, Checks}
 use Rattle.theory.specs.Query as theory
 use Rattle.theory.specs.Query.{_∈_}
 use Rattle.theory.specs.Answer as answer
+use Rattle.theory.specs.Checking.{mapsTo}
+use Rattle.refusals.specs.Refusals.{gives, reply}
 use Rattle.comparison.specs.declared.Pair.the-variants.{Places, Refused}
 use Rattle.comparison.specs.declared.Verdict.the-variants as verdict
 use Rattle.comparison.specs.declared.Comparison.{Comparison}
 use Rattle.comparison.specs.declared.Checked.{Checked}
 use Rattle.comparison.specs.declared.Checked.the-variants as checked
 use Rattle.comparison.specs.Comparison.{chasedAt, pairRefusal, Compared, CheckedMapping}
-use Rattle.comparison.specs.Parts.{paired, bare, Drawn}
+use Rattle.comparison.specs.internal.Pairs.{paired, bare, Drawn}
 use Rattle.comparison.proofs.Pairs.{standing, paired-places}
 use Rattle.comparison.proofs.Verdicts.{queries, compared-never, compared-contained, compared-apart}
 
@@ -155,18 +157,8 @@ module _ (r : Record) (p q a b : ℕ) (is : paired (pairRefusal r p q) p q ≡ P
 
 -- ---- the checking of a mapping
 
-true-false : true ≡ false → ⊥
-true-false e = let z : _≡_ {A = ℕ} 0 1 = cc in omega arith
-
-none-some : (n : ℕ) → none ≡ some n → ⊥
-none-some n e = let z : _≡_ {A = ℕ} 0 1 = cc in omega arith
-
 pub checks-refused : (r : Record) (p q : ℕ) (images : List Cell) (n : ℕ) → pairRefusal r p q ≡ some n → CheckedMapping r p q images (checked.Refused n)
-checks-refused r p q images n refused =
-    record {
-      refused = λ m e. cc;
-      decided = λ e. absurd (none-some n (sym e ∙ refused));
-    }
+checks-refused r p q images n e = ap (λ (o : Option ℕ). reply o (mapsTo (queryAt r q) (queryAt r p) (entriesOf images))) (sym e)
 
 module _ (r : Record) (p q : ℕ) (images : List Cell) (x y : Query) (accepted : pairRefusal r p q ≡ none) (is-x : x ≡ storedAt r p) (is-y : y ≡ storedAt r q) where
   pub check-storable : Storable y × Storable x
@@ -175,22 +167,18 @@ module _ (r : Record) (p q : ℕ) (images : List Cell) (x y : Query) (accepted :
       ((schemaOf r, rw is-y (k .good-q)), (schemaOf r, rw is-x (k .good-p)))
 
   module _ (b : Bool) (checks : Checks y x images b) where
-    tells : (b ≡ true → answer.IsMapping (queryAt r q) (queryAt r p) (imagesOf images)) × (answer.IsMapping (queryAt r q) (queryAt r p) (imagesOf images) → b ≡ true)
+    tells : b ≡ mapsTo (queryAt r q) (queryAt r p) (entriesOf images)
     tells =
         let k = queries r p q accepted in
-        subst₂ (λ (S T : theory.Query). (b ≡ true → answer.IsMapping S T (imagesOf images)) × (answer.IsMapping S T (imagesOf images) → b ≡ true)) (ap (queryOf (schemaOf r)) is-y) (ap (queryOf (schemaOf r)) is-x)
-        (checks (schemaOf r) (k .narrow) (rw is-y (k .good-q)) (rw is-x (k .good-p)))
+        checks (schemaOf r) (k .narrow) (rw is-y (k .good-q)) (rw is-x (k .good-p))
+        ∙ ap₂ (λ (S T : Query). mapsTo (queryOf (schemaOf r) S) (queryOf (schemaOf r) T) (entriesOf images)) is-y is-x
+
+    -- The answer is what the test tells
+    says : (t : Bool) → b ≡ t → gives t ≡ reply (pairRefusal r p q) (mapsTo (queryAt r q) (queryAt r p) (entriesOf images))
+    says t e = ap₂ (λ (o : Option ℕ) (m : Bool). reply o m) (sym accepted) (sym e ∙ tells)
 
     pub checks-yes : b ≡ true → CheckedMapping r p q images checked.Yes
-    checks-yes e =
-        record {
-          refused = λ n refused. absurd (none-some n (sym accepted ∙ refused));
-          decided = λ stands. inl (refl, tells .0 e);
-        }
+    checks-yes e = says true e
 
     pub checks-no : b ≡ false → CheckedMapping r p q images checked.No
-    checks-no e =
-        record {
-          refused = λ n refused. absurd (none-some n (sym accepted ∙ refused));
-          decided = λ stands. inr (refl, λ is. absurd (true-false (sym (tells .1 is) ∙ e)));
-        }
+    checks-no e = says false e

@@ -20,7 +20,7 @@ use Rattle.record.proofs.Refusals.{found-refused, place-refused, filled-at}
 use Rattle.comparison.specs.declared.Pair.{Pair}
 use Rattle.comparison.specs.declared.Pair.the-variants.{Places, Refused}
 use Rattle.comparison.specs.Comparison.{pairRefusal}
-use Rattle.comparison.specs.Parts.{paired}
+use Rattle.comparison.specs.internal.Pairs.{paired}
 
 -- A place below 8 that is refused is vacant
 pub filled-refused : (r : Record) (place n : ℕ) → place < 8 → filledPlace r place ≡ lookup.Refused n → (isFilled r place ≡ false) × (n ≡ 11)

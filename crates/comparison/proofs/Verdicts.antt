@@ -37,7 +37,7 @@ use Rattle.comparison.specs.declared.Verdict.{Verdict}
 use Rattle.comparison.specs.declared.Verdict.the-variants.{Never, Contained, Apart, Refused}
 use Rattle.comparison.specs.declared.Comparison.{Comparison}
 use Rattle.comparison.specs.Comparison.{chasedAt, pairRefusal, verdictOn, judged, verdictOf, base, Compared}
-use Rattle.comparison.specs.Parts.{bare}
+use Rattle.comparison.specs.internal.Pairs.{bare}
 use Rattle.comparison.proofs.Pairs.{Standing, standing}
 
 -- ---- the queries of two places

@@ -1,6 +1,5 @@
 -- What comparing two places and checking a mapping promise (demand 2). Which mapping a comparison returns is free; everything else is determined.
 use mathlib.Core.Path.{_≡_}
-use mathlib.Core.Logic.{_⊎_}
 use mathlib.Core.Bool.{Bool, true, false, not, cond}
 use mathlib.Core.List.{List, [], _∷_}
 use mathlib.Core.Option.{Option, none, some}
@@ -10,11 +9,11 @@ use lib.ListN.{getD, replicate}
 use Rattle.query.specs.declared.Cell.{Cell}
 use Rattle.query.specs.declared.Query.{Query}
 use Rattle.record.specs.declared.Record.{Record}
-use Rattle.query.specs.View.{queryOf}
+use Rattle.query.specs.View.{entriesOf, queryOf}
 use Rattle.record.specs.View.{schemaOf, dependenciesOf}
 use Rattle.query.specs.Rule.{goodQuery, noCell, noQuery}
 use Rattle.record.specs.Rule.{noPlace}
-use Rattle.refusals.specs.Refusals.{Condition, firstHolding, headsDiffer}
+use Rattle.refusals.specs.Refusals.{Condition, firstHolding, headsDiffer, Reply, refused, gives, reply}
 use Rattle.record.specs.Calls.{broken, above, vacant, storedAt, queryAt}
 use Rattle.mapping.specs.Mapped.{imagesOf}
 use Rattle.comparison.specs.declared.Verdict.{Verdict}
@@ -28,6 +27,7 @@ use Rattle.theory.specs.Answer as answer
 use Rattle.theory.specs.Chase as chasing
 use Rattle.theory.specs.Containment as containment
 use Rattle.theory.specs.Search as search
+use Rattle.theory.specs.Checking.{mapsTo}
 
 -- The query of a place, chased with the held dependencies
 abbrev pub chasedAt : Record → ℕ → theory.Query
@@ -83,9 +83,13 @@ pub record Compared (r : Record) (p q : ℕ) (c : Comparison) : Type 0 where
       → containment.Counterexample (schemaOf r) (dependenciesOf r) (queryAt r p) (queryAt r q)
       (containment.frozenRows base (queryOf (schemaOf r) (c .query))) (containment.frozenHead base (queryOf (schemaOf r) (c .query)))
 
--- What checking a mapping for places p and q promises: a refusal, or yes exactly when the images are a mapping from q's query to p's query as it is stored
-pub record CheckedMapping (r : Record) (p q : ℕ) (images : List Cell) (c : Checked) : Type 0 where
-  pub refused : (n : ℕ) → pairRefusal r p q ≡ some n → c ≡ checked.Refused n
-  pub decided : pairRefusal r p q ≡ none
-      → ((c ≡ checked.Yes) × answer.IsMapping (queryAt r q) (queryAt r p) (imagesOf images))
-      ⊎ ((c ≡ checked.No) × (answer.IsMapping (queryAt r q) (queryAt r p) (imagesOf images) → ⊥))
+-- What each case of a check says: refused with a number, or yes or no
+abbrev pub checkOf : Checked → Reply Bool
+checkOf checked.Yes = gives true
+checkOf checked.No = gives false
+checkOf (checked.Refused n) = refused n
+
+-- What checking a mapping for places p and q promises: the refusal, or yes exactly when the images are a mapping from q's query to p's query as it is stored.
+-- `mapsTo` is a test that says yes exactly to the mappings (`theory/specs/Checking`)
+abbrev pub CheckedMapping : Record → ℕ → ℕ → List Cell → Checked → Type 0
+CheckedMapping r p q images c = checkOf c ≡ reply (pairRefusal r p q) (mapsTo (queryAt r q) (queryAt r p) (entriesOf images))

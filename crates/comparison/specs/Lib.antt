@@ -1,3 +1,3 @@
--- What comparing two places and checking a mapping promise, and what the functions behind them do.
+-- What comparing two places and checking a mapping promise. Below `internal`: what the functions behind them do.
 pub mod Comparison
-pub mod Parts
+pub mod internal

@@ -13,7 +13,7 @@ use record::calls::stored;
 ghost use mathlib.Core.Path.{_≡_};
 ghost use Prim.Native.Nat.{_<_};
 ghost use Rattle.comparison.specs.Comparison.{pairRefusal, Compared, CheckedMapping};
-ghost use Rattle.comparison.specs.Parts.{paired, numberIn, bare, Comparable, Compares};
+ghost use Rattle.comparison.specs.internal.Pairs.{paired, numberIn, bare, Comparable, Compares};
 
 // Two places to be read whose heads have one length, or the number of the refusal.
 pub enum Pair {

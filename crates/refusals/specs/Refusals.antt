@@ -87,3 +87,15 @@ unfoldable pub follows : List ℕ → List ℕ → Bool
 follows [] order = true
 follows (n ∷ ns) [] = false
 follows (n ∷ ns) (m ∷ order) = cond (eqb n m) (follows ns (m ∷ order)) (follows (n ∷ ns) order)
+
+-- ---- replies
+
+-- What a call says: it is refused with a number, or it gives a value
+pub data Reply (A : Type 0) : Type 0 where
+  refused : ℕ → Reply A
+  gives : A → Reply A
+
+-- The reply of a call that is refused with a number, or not
+abbrev pub reply : {A : Type 0} → Option ℕ → A → Reply A
+reply (some n) value = refused n
+reply none value = gives value

@@ -5,7 +5,7 @@ use Prim.Native.Nat.{ℕ}
 use borrow.Author.Needs.{needs}
 use Rattle.comparison.specs.declared.Checked.the-variants.{Refused}
 use Rattle.comparison.specs.Comparison.{pairRefusal, CheckedMapping}
-use Rattle.comparison.specs.Parts.{numberIn}
+use Rattle.comparison.specs.internal.Pairs.{numberIn}
 use Rattle.comparison.proofs.Pairs.{paired-refused}
 use Rattle.comparison.proofs.Answers.{places-low, draws, checks-refused, check-storable, checks-yes, checks-no}
 use Rattle.comparison.proofs.check_mapping.Statement.{statement}

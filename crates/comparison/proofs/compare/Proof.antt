@@ -4,7 +4,7 @@ use Prim.Native.Nat.{ℕ}
 use borrow.Author.Needs.{needs}
 use Rattle.comparison.specs.declared.Verdict.the-variants.{Refused}
 use Rattle.comparison.specs.Comparison.{pairRefusal, Compared}
-use Rattle.comparison.specs.Parts.{numberIn, bare}
+use Rattle.comparison.specs.internal.Pairs.{numberIn, bare}
 use Rattle.comparison.proofs.Pairs.{paired-refused}
 use Rattle.comparison.proofs.Verdicts.{compared-refused}
 use Rattle.comparison.proofs.Answers.{places-low, draws}
