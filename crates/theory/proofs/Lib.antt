@@ -12,5 +12,6 @@ pub mod Containment
 pub mod Reduction
 pub mod Determined
 pub mod Search
+pub mod Checking
 pub mod Reduce
 pub mod Examples

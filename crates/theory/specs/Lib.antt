@@ -7,4 +7,5 @@ pub mod Containment
 pub mod Reduction
 pub mod Determined
 pub mod Search
+pub mod Checking
 pub mod Examples
