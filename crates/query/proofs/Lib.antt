@@ -3,6 +3,8 @@ pub mod Relations
 pub mod Good
 pub mod Stored
 pub mod Shape
+-- The code of an entry.
+pub mod Codes
 -- Laws of the loops over rows (Rows) and head variables (Variables).
 pub mod Rows
 pub mod Variables
