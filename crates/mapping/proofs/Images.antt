@@ -12,8 +12,8 @@ use lib.ListN.{getD, length, set, replicate, getD-replicate}
 use lib.Seq.{getD-set-same, getD-set-other}
 use Rattle.query.specs.declared.Cell.{Cell}
 use Rattle.query.specs.Rule.{noCell}
-use Rattle.mapping.specs.Agree.{rowStart, imageStart}
-use Rattle.mapping.specs.Mapped.{RowAssigned, Assigned}
+use Rattle.candidates.specs.Candidates.{rowStart, imageStart}
+use Rattle.mapping.specs.internal.Lines.{RowAssigned, Assigned}
 
 -- ---- one row
 

@@ -6,7 +6,7 @@ use mathlib.Core.Logic.{⊎-elim}
 use native.Mathlib.Omega.{arith}
 use Prim.Native.Nat.{ℕ, _+_, _-_, _≤_, _<_}
 use lib.ListN.{getD, length, length-set}
-use Rattle.mapping.specs.Mapped.{RowAssigned}
+use Rattle.mapping.specs.internal.Lines.{RowAssigned}
 use Rattle.mapping.proofs.Images.{row-start, row-skip, row-store}
 use Rattle.mapping.proofs.assign.assign_row.Statement.{statement}
 use Rattle.mapping.proofs.assign.assign_row.Tie as tie
