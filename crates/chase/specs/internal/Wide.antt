@@ -57,7 +57,7 @@ abbrev pub foundOf : Found → Option (theory.Entry × theory.Entry)
 foundOf Rest = none
 foundOf (Step a b) = some (entryOf a, entryOf b)
 
--- Whether the entries found are within document 01's limits
+-- Whether the entries found are within the limits (SPECIFICATION, Limits)
 abbrev pub goodFound : Found → Bool
 goodFound Rest = true
 goodFound (Step a b) = goodEntry a && goodEntry b
