@@ -1,4 +1,4 @@
--- What a caller of the chase has to show, from document 01's rule for the record: good relations, dependencies and query; and what it can conclude
+-- What a caller of the chase has to show, from the rule for the record: good relations, dependencies and query; and what it can conclude
 -- besides: the count is at most the number of different variables, and a safe head stays safe. Assumes nothing.
 use mathlib.Core.Path.{_≡_, refl, sym, subst}
 use mathlib.Core.Bool.{true, not, _&&_}
@@ -16,13 +16,16 @@ use Rattle.lists.specs.Tests.{every, between, isZero, inUse}
 use Rattle.query.specs.Rule.{blankDependency, goodRelations, goodDependency, goodDependencies, goodQuery, headSafe, noDependency}
 use Rattle.chase.specs.declared.Chased.{Chased}
 use Rattle.chase.specs.Outcome.{Chasable, IsChased}
-use Rattle.chase.proofs.Good.{every-getD, every-weaken, good-parts}
+use Rattle.lists.proofs.Tests.{every-weaken}
+use Rattle.lists.proofs.Positions.{every-getD-else}
+use Rattle.query.proofs.Good.{good-query}
 use Rattle.theory.specs.Query as theory
 use Rattle.theory.specs.Query.{constant, variable, rowEntries, variablesOf, variableCount, _∈_}
 use Rattle.theory.specs.Database as database
 use Rattle.theory.specs.Determined.{subset}
 use Rattle.theory.specs.Chase.{Chases, rests, clashes, replaces}
-use Rattle.theory.proofs.Lists.{and-left, and-right, replicate-mem}
+use Rattle.lists.proofs.Tests.{and-left, and-right}
+use Rattle.theory.proofs.Lists.{replicate-mem}
 use Rattle.theory.proofs.Entries.{constant-variable, variablesOf-mem}
 use Rattle.theory.proofs.Replacement.{replace-head-safe}
 use Rattle.theory.proofs.Chase.{chase-chases, chase-count-le}
@@ -43,7 +46,7 @@ width-le schema widths r =
     leb-true
     (getD schema r 0)
     8
-    (every-getD (λ n. leb n 8) schema r 0 (every-weaken (between 1 8) (λ n. leb n 8) (λ n p. and-right (leb 1 n) (leb n 8) p) schema widths) refl)
+    (every-getD-else (λ n. leb n 8) schema r 0 (every-weaken (between 1 8) (λ n. leb n 8) (λ n p. and-right (leb 1 n) (leb n 8) p) schema widths) refl)
 
 -- The right column of a good dependency is below 8
 good-right : (schema : List ℕ) → every (between 1 8) schema ≡ true → (d : Dependency) → goodDependency schema d ≡ true → ltb (d .right) 8 ≡ true
@@ -64,7 +67,7 @@ pub chasable : (schema : List ℕ) (held : ℕ) (dependencies : List Dependency)
     → goodDependencies schema held dependencies ≡ true → goodQuery schema q ≡ true → Chasable q dependencies held
 unfolding goodDependencies
 chasable schema held dependencies q widths good good-q =
-    let p = good-parts schema q good-q in
+    let p = good-query schema q good-q in
     let used = inUse held (goodDependency schema) blankDependency dependencies in
     let each : every (goodDependency schema) (take held dependencies) ≡ true
     = and-left
@@ -73,13 +76,13 @@ chasable schema held dependencies q widths good good-q =
     (and-right (leb held 32) used good) in
     let rights = every-weaken (goodDependency schema) (λ d. ltb (d .right) 8) (good-right schema widths) (take held dependencies) each in
     record {
-      arity-fits = leb-true (q .arity) 8 (p .arity-fits);
-      size-fits = leb-true (q .size) 12 (p .size-fits);
+      arity-fits = p .arity;
+      size-fits = p .size;
       held-fits = leb-true held 32 (and-left (leb held 32) used good);
       right-fits =
           λ d h.
           let at : getD (take held dependencies) d noDependency ≡ getD dependencies d noDependency = getD-take held dependencies d noDependency h in
-          rw at at (ltb-true (getD (take held dependencies) d noDependency .right) 8 (every-getD (λ x. ltb (x .right) 8) (take held dependencies) d noDependency rights refl));
+          rw at at (ltb-true (getD (take held dependencies) d noDependency .right) 8 (every-getD-else (λ x. ltb (x .right) 8) (take held dependencies) d noDependency rights refl));
     }
 
 -- ---- what follows of the result

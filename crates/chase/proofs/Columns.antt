@@ -15,7 +15,7 @@ use Rattle.query.specs.declared.Query.{Query}
 use Rattle.query.specs.declared.Dependency.{Dependency}
 use Rattle.query.specs.View.{entryOf, columnsFrom, columnsOf, dependencyOf}
 use Rattle.query.specs.Rule.{noCell}
-use Rattle.chase.specs.Wide.{rowAt, wideRow}
+use Rattle.chase.specs.internal.Wide.{rowAt, wideRow}
 use Rattle.theory.specs.Query.{Entry, constant, Row, column, sameEntry}
 use Rattle.theory.specs.Chase.{agree, breaks}
 

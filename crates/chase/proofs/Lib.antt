@@ -1,6 +1,4 @@
--- The laws on which the proofs of the chase's functions stand. `View` and `Good` are of use to any code over stored queries,
--- `Callers` to whoever calls the chase.
-pub mod Lists
+-- The laws on which the proofs of the chase's functions stand. `Callers` is of use to whoever calls the chase.
 pub mod View
 pub mod Columns
 pub mod Steps

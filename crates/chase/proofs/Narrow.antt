@@ -13,14 +13,18 @@ use Rattle.query.specs.declared.Cell.{Cell}
 use Rattle.query.specs.declared.Query as stored
 use Rattle.query.specs.View.{entryOf, entriesOf, rowsOf, queryOf}
 use Rattle.lists.specs.Tests.{every}
-use Rattle.query.specs.Rule.{blankCell, goodRows, goodQuery}
-use Rattle.chase.specs.Wide.{wideRows, wideQuery, differing, firstDiffering}
-use Rattle.chase.proofs.Lists.{take-map, map-square}
-use Rattle.chase.proofs.Good.{blank-entry, good-row, good-parts}
+use Rattle.query.specs.Rule.{goodCell, blankCell, goodRows, goodQuery}
+use Rattle.chase.specs.internal.Wide.{wideRows, wideQuery, differing, firstDiffering}
+use Rattle.lists.proofs.Maps.{take-map, map-square}
+use Rattle.lists.proofs.Tests.{used-blank}
+use Rattle.query.proofs.Good.{good-query}
+use Rattle.query.proofs.Shape.{blank-entry}
+use Rattle.chase.proofs.Good.{good-row}
 use Rattle.theory.specs.Query.{Entry, constant, Row, Query, column, mapRow, mapQuery}
 use Rattle.theory.specs.Database.{Dependency}
 use Rattle.theory.specs.Chase.{orElse, mapFound, firstPassing, firstPair, firstFound, firstBroken, agree, breaks, resolve, inHead, step, substitute, Chases, rests, clashes, replaces}
-use Rattle.theory.proofs.Lists.{bool-cases, and-left, and-right}
+use Rattle.lists.proofs.Tests.{and-left, and-right}
+use Rattle.theory.proofs.Lists.{bool-cases}
 
 -- ---- narrowing
 
@@ -168,7 +172,7 @@ module _ (schema : List ℕ) where
 blank-column : (xs : List Cell) (c : ℕ) → every blankCell xs ≡ true → constant 0 ≡ getD (entriesOf xs) c (constant 0)
 unfolding every
 blank-column [] c blank = refl
-blank-column (x ∷ xs) zero blank = sym (blank-entry (x .entry) (and-left (blankCell x) (every blankCell xs) blank))
+blank-column (x ∷ xs) zero blank = sym (ap entryOf (blank-entry (x .entry) (and-left (blankCell x) (every blankCell xs) blank)))
 blank-column (x ∷ xs) (suc c) blank = blank-column xs c (and-right (blankCell x) (every blankCell xs) blank)
 
 cut-column : (w : ℕ) (xs : List Cell) (c : ℕ) → every blankCell (drop w xs) ≡ true → getD (take w (entriesOf xs)) c (constant 0) ≡ getD (entriesOf xs) c (constant 0)
@@ -189,12 +193,13 @@ module _ (schema : List ℕ) (q : stored.Query) where
       let here = drop-cons (q .relations) i 0 inside in
       let relation = getD (q .relations) i 0 in
       let parts = good-row schema relation (take n (drop (suc i) (q .relations))) (drop (8 * i) (q .cells)) (rw here at good) in (
-        λ c. cut-column (getD schema relation 0) (take 8 (drop (8 * i) (q .cells))) c (parts .2),
-        rows-split (suc i) n (omega arith) (rw (drop-drop, on) at (parts .3)),
+        λ c. cut-column (getD schema relation 0) (take 8 (drop (8 * i) (q .cells))) c
+            (used-blank (getD schema relation 0) goodCell blankCell (take 8 (drop (8 * i) (q .cells))) (parts .1)),
+        rows-split (suc i) n (omega arith) (rw (drop-drop, on) at (parts .2)),
       )
 
   pub wide-padded : goodQuery schema q ≡ true → q .size ≤ length (q .relations) → AllPadded schema (wideQuery q .rows)
-  wide-padded good fits = rows-split 0 (q .size) (omega arith) (good-parts schema q good .rows-good)
+  wide-padded good fits = rows-split 0 (q .size) (omega arith) (good-query schema q good .rows)
 
   -- Narrowed, the wide rows are those of the view
   rows-narrow : ((r : ℕ) → getD schema r 0 ≤ 8) → (i n : ℕ) → n + i ≤ length (q .relations)

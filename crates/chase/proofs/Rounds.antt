@@ -23,17 +23,19 @@ use Rattle.chase.specs.declared.Found.the-variants.{Rest, Step}
 use Rattle.chase.specs.declared.Resolution.{Resolution}
 use Rattle.chase.specs.declared.Resolution.the-variants.{Clash, Replace}
 use Rattle.chase.specs.declared.Chased as stored-chased
-use Rattle.chase.specs.Wide.{wideRow, wideRows, wideQuery, firstDiffering, foundOf, goodFound, resolutionOf, substituteEntry, substituteCell, mapCells}
+use Rattle.chase.specs.internal.Wide.{wideRow, wideRows, wideQuery, firstDiffering, foundOf, goodFound, resolutionOf, substituteEntry, substituteCell, mapCells}
 use Rattle.chase.specs.Outcome.{IsChased}
-use Rattle.chase.proofs.Lists.{drop-map, take-replicate, map-replicate}
+use Rattle.lists.proofs.Maps.{drop-map, take-replicate, map-replicate}
+use Rattle.query.proofs.Stored.{all-cells}
 use Rattle.chase.proofs.View.{StandsFor, entriesOf-take}
-use Rattle.chase.proofs.Good.{good-kept, good-cells, never-good}
+use Rattle.chase.proofs.Good.{good-kept, never-good}
 use Rattle.chase.proofs.Callers.{width-le}
 use Rattle.chase.proofs.Narrow.{step-differing, chases-narrow, wide-padded, narrow-wide}
 use Rattle.theory.specs.Query.{Entry, constant, variable, Query, never, mapRow, mapQuery, rowEntries, variablesOf, member, distinct, variableCount}
 use Rattle.theory.specs.Database.{Dependency}
 use Rattle.theory.specs.Chase.{mapFound, resolve, inHead, substitute, step, Chased, oneMore, Chases, chase}
-use Rattle.theory.proofs.Lists.{bool-cases, and-left, and-right}
+use Rattle.lists.proofs.Tests.{and-left, and-right}
+use Rattle.theory.proofs.Lists.{bool-cases}
 use Rattle.theory.proofs.Entries.{constant-same, variable-same, constant-variable}
 use Rattle.theory.proofs.Step.{resolve-replace}
 use Rattle.theory.proofs.Chase.{chase-chases, chases-unique, chase-at-rest, chase-at-clash, chase-at-replace, chase-count-le}
@@ -189,7 +191,7 @@ module _
               λ schema good-q.
               let good-query = under .keeps-good schema good-q in
               let inside : query .size ≤ length (query .relations) = rw (under .same-size, under .same-relations) fits in
-              let both = good (good-cells schema query good-query inside) in
+              let both = good (all-cells schema query good-query inside) in
               good-kept
               v
               e

@@ -14,8 +14,8 @@ use Rattle.query.specs.declared.Dependency as stored-dependency
 use Rattle.query.specs.declared.Query.{Query}
 use Rattle.query.specs.View.{entryOf, dependencyOf}
 use Rattle.query.specs.Rule.{noCell, noDependency}
-use Rattle.chase.specs.Wide.{wideRow, wideRows, firstDiffering}
-use Rattle.chase.proofs.Lists.{left-cons, left-none}
+use Rattle.chase.specs.internal.Wide.{wideRow, wideRows, firstDiffering}
+use Rattle.lists.proofs.Positions.{left-cons, left-none}
 use Rattle.chase.proofs.Columns.{wide-column}
 use Rattle.theory.specs.Query.{Entry, Row}
 use Rattle.theory.specs.Database.{Dependency}

@@ -11,8 +11,8 @@ use Rattle.query.specs.declared.Entry.the-variants.{Constant, Variable}
 use Rattle.query.specs.declared.Cell.{Cell}
 use Rattle.query.specs.View.{entryOf, entriesOf}
 use Rattle.query.specs.Rule.{noCell}
-use Rattle.chase.proofs.Lists.{left-cons, left-none}
-use Rattle.chase.specs.Wide.{substituteEntry, substituteCell, entryInHead}
+use Rattle.lists.proofs.Positions.{left-cons, left-none}
+use Rattle.chase.specs.internal.Wide.{substituteEntry, substituteCell, entryInHead}
 use Rattle.theory.specs.Query.{variable, variablesOf, member}
 use Rattle.theory.specs.Chase.{survives, resolve, clash, replace}
 

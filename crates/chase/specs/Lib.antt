@@ -1,3 +1,3 @@
--- What the chase of a stored query promises.
-pub mod Wide
+-- What the chase of a stored query asks and promises (Outcome). `internal` is this crate's own.
 pub mod Outcome
+pub mod internal

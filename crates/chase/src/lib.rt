@@ -1,4 +1,4 @@
-// The chase of a stored query with functional dependencies, as document 01's "The chase" gives it: the search for the first broken pair of rows,
+// The chase of a stored query with functional dependencies (SPECIFICATION, The chase): the search for the first broken pair of rows,
 // the survivor of its two entries, the replacement, and the whole. The widths of the relations play no part: where a row has no column its cell holds
 // constant 0, as in every row of its relation.
 
@@ -6,15 +6,17 @@ use query::Cell;
 use query::Dependency;
 use query::Entry;
 use query::Query;
+use query::never;
+use query::same_entry;
 ghost use mathlib.Core.Path.{_≡_};
 ghost use mathlib.Core.Bool.{Bool, true};
 ghost use mathlib.Core.List.{List, map};
 ghost use Prim.Native.Nat.{ℕ, _≤_, _<_};
 ghost use lib.ListN.{take, getD};
 ghost use Rattle.query.specs.View.{entryOf, entriesOf, columnsOf, dependencyOf, heldOf};
-ghost use Rattle.query.specs.Rule.{noCell, goodCell, goodQuery, neverQuery};
+ghost use Rattle.query.specs.Rule.{noCell, goodCell, goodQuery};
 ghost use Rattle.lists.specs.Tests.{every, between};
-ghost use Rattle.chase.specs.Wide.{rowAt, wideRow, wideQuery, firstDiffering, foundOf, goodFound, entryInHead, resolutionOf, Survivor, substituteCell, mapCells};
+ghost use Rattle.chase.specs.internal.Wide.{rowAt, wideRow, wideQuery, firstDiffering, foundOf, goodFound, entryInHead, resolutionOf, Survivor, substituteCell, mapCells};
 ghost use Rattle.chase.specs.Outcome.{Chasable, IsChased};
 ghost use Rattle.theory.specs.Query as theory;
 ghost use Rattle.theory.specs.Chase as chasing;
@@ -37,24 +39,8 @@ pub struct Chased {
     pub count: u8,
 }
 
-// Whether two entries are the same constant or the same variable.
-pub fn same_entry(a: Entry, b: Entry) -> bool
-    ensures { λ r. ⌜ r ≡ theory.sameEntry (entryOf a) (entryOf b) ⌝ }
-{
-    match a {
-        Entry::Constant(m) => match b {
-            Entry::Constant(n) => m == n,
-            Entry::Variable(_) => false,
-        },
-        Entry::Variable(v) => match b {
-            Entry::Constant(_) => false,
-            Entry::Variable(w) => v == w,
-        },
-    }
-}
-
 // The entry of a cell.
-pub fn entry_at(cells: [Cell; 96], at: usize) -> Entry
+fn entry_at(cells: [Cell; 96], at: usize) -> Entry
     requires { ⌜ at < 96 ⌝ }
     ensures { λ r. ⌜ r ≡ getD cells at noCell .entry ⌝ }
 {
@@ -257,25 +243,6 @@ fn replace(q: Query, v: u8, e: Entry) -> Query
         head: new_head,
         relations: relations,
         cells: new_cells,
-    }
-}
-
-// The never query with a head of `arity` entries.
-pub fn never(arity: u8) -> Query
-    ensures { λ r. ⌜ r ≡ neverQuery arity ⌝ }
-{
-    let blank = Cell {
-        entry: Entry::Constant(0),
-    };
-    let head = [blank; 8];
-    let relations = [0u8; 12];
-    let cells = [blank; 96];
-    Query {
-        arity: arity,
-        size: 0,
-        head: head,
-        relations: relations,
-        cells: cells,
     }
 }
 

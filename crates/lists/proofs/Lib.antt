@@ -1,3 +1,5 @@
--- What a test that holds tells (Tests), and how a loop makes it (Loops).
+-- What a test that holds tells (Tests), and how a loop makes it (Loops); maps (Maps); elements by position (Positions).
 pub mod Tests
 pub mod Loops
+pub mod Maps
+pub mod Positions

@@ -1,4 +1,5 @@
 -- Tests on numbers and lists that the rules of a record and of a file are made of.
+use mathlib.Core.Path.{_≡_}
 use mathlib.Core.Bool.{Bool, true, _&&_}
 use mathlib.Core.List.{List, [], _∷_}
 use Prim.Native.Nat.{ℕ}
@@ -21,3 +22,7 @@ inUse n good blank xs = every good (take n xs) && every blank (drop n xs)
 -- A number that is not in use is 0
 abbrev pub isZero : ℕ → Bool
 isZero n = eqb n 0
+
+-- A test's result tells whether P holds
+abbrev pub Tells : Bool → Type 0 → Type 0
+Tells b P = (b ≡ true → P) × (P → b ≡ true)

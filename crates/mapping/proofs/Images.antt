@@ -3,17 +3,28 @@
 use mathlib.Core.Path.{_≡_, refl, sym, _∙_, ap, subst}
 use mathlib.Core.Logic.{_⊎_, inl, inr, ⊎-elim}
 use mathlib.Core.List.{List}
-use Prim.Native.Nat.{ℕ, _+_, _<_}
+use Prim.Native.Nat.{ℕ, _+_, _-_, _%_, _≤_, _<_}
 use native.Mathlib.Nat.{not-suc-le-zero}
 use native.Mathlib.Decide.{ℕ-discrete}
 use native.Mathlib.Omega.{arith}
 use borrow.Author.Count.{below-more}
 use lib.ListN.{getD, length, set, replicate, getD-replicate}
 use lib.Seq.{getD-set-same, getD-set-other}
+use Rattle.query.specs.declared.Entry.the-variants.{Variable}
 use Rattle.query.specs.declared.Cell.{Cell}
+use Rattle.query.specs.Code.{decoded}
+use Rattle.query.proofs.Codes.{code-variable}
 use Rattle.query.specs.Rule.{noCell}
-use Rattle.mapping.specs.Agree.{rowStart, imageStart}
-use Rattle.mapping.specs.Mapped.{RowAssigned, Assigned}
+use Rattle.candidates.specs.Candidates.{rowStart, imageStart}
+use Rattle.mapping.specs.internal.Lines.{RowAssigned, Assigned}
+
+-- The variable of a code that a good query has
+pub variable-small : (code v : ℕ) → code < 2147483744 → decoded code ≡ Variable v → (v < 96) × (code ≡ 2147483648 + v)
+variable-small code v small is =
+    let parts = code-variable code v is in
+    let large : 2147483648 ≤ code = parts .0 in
+    let number : (code - 2147483648) % 256 ≡ v = parts .1 in
+    (omega arith, omega arith)
 
 -- ---- one row
 

@@ -1,12 +1,8 @@
--- What other crates cite: a query without rows has no mapping (Never).
+-- What other crates cite: a query without rows has no mapping (Never), and the images of an array as a list of the theory (Checked).
 pub mod Never
--- Laws of this crate's own proofs: tests (Tells), masks of bits (Masks), arrays filled in a loop (Stores), candidates of rows (Candidates), rows
--- that are the same as earlier ones (Repeats), images of variables (Images), mappings by positions (Wide), stored queries by positions (Lines), what find and check promise (Results).
-pub mod Tells
-pub mod Masks
-pub mod Stores
-pub mod Candidates
-pub mod Repeats
+pub mod Checked
+-- Laws of this crate's own proofs: images of variables (Images), mappings by positions (Wide), stored queries by positions (Lines), what find and check promise
+-- (Results).
 pub mod Images
 pub mod Wide
 pub mod Lines

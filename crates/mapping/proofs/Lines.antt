@@ -1,12 +1,11 @@
 -- The entries of a stored query in one line are those of the theory's query, with constant 0 in the columns that are not in use:
---   1. members by position, 2. one query, 3. rows of two queries, 4. a mapping of the theory is one by positions.
+--   1. blank elements, 2. one query, 3. rows of two queries, 4. a mapping of the theory is one by positions.
 -- The lengths of arrays are the types', so the laws ask them.
 use mathlib.Core.Path.{_≡_, refl, sym, _∙_, ap, subst}
 use mathlib.Core.Bool.{Bool, true, false, cond}
 use mathlib.Core.Logic.{_⊎_, ⊎-elim}
-use mathlib.Core.List.{List, [], _∷_, _++_, map, List·Memᴰ·head, List·Memᴰ·tail, List·Memᴰ·append-cases, Memᴰ·cast, Memᴰ·append-left, Memᴰ·append-right}
-use Prim.Native.Nat.{ℕ, zero, suc, _+_, _*_, _-_, _/_, _%_, _≤_, _<_}
-use native.Mathlib.Nat.{not-suc-le-zero, le-of-suc-le-suc}
+use mathlib.Core.List.{List, [], _++_, map, List·Memᴰ·append-cases, Memᴰ·cast, Memᴰ·append-left, Memᴰ·append-right}
+use Prim.Native.Nat.{ℕ, _+_, _*_, _-_, _/_, _%_, _≤_, _<_}
 use native.Mathlib.Decide.{decLt}
 use native.Mathlib.Omega.{arith}
 use borrow.Author.Tests.{lt-ltb, le-ltb}
@@ -25,26 +24,15 @@ use Rattle.query.specs.View.{entryOf, queryOf}
 use Rattle.lists.specs.Tests.{every, inUse}
 use Rattle.query.specs.Rule.{goodCell, blankCell, headInUse, goodQuery, noCell}
 use Rattle.lists.proofs.Tests.{below-or-past, every-getD, used-blank, used-all}
+use Rattle.lists.proofs.Positions.{getD-in, in-getD, length-none}
 use Rattle.query.proofs.Good.{GoodQuery, good-query}
-use Rattle.query.proofs.Stored.{Within, entry-within, row-at, row-parts}
+use Rattle.query.proofs.Stored.{Within, entry-within, blank-good, row-at, row-parts}
 use Rattle.query.proofs.Shape.{head-length, row-count, rowFrom, row-is, column-is, head-is, blank-cell}
-use Rattle.mapping.specs.Mapped.{cellAt, entryAt, Narrow}
+use Rattle.mapping.specs.Mapped.{Narrow}
+use Rattle.mapping.specs.internal.Lines.{cellAt, entryAt}
 use Rattle.mapping.proofs.Wide.{Wide}
 
--- ---- 1. members by position
-
-pub getD-in : {A : Type 0} (xs : List A) (i : ℕ) (z : A) → i < length xs → getD xs i z ∈ xs
-getD-in [] i z h = absurd (not-suc-le-zero h)
-getD-in (x ∷ xs) zero z h = List·Memᴰ·head refl
-getD-in (x ∷ xs) (suc i) z h = List·Memᴰ·tail (getD-in xs i z (le-of-suc-le-suc h))
-
-pub in-getD : {A : Type 0} {x : A} (xs : List A) (z : A) → x ∈ xs → (i : ℕ) × (i < length xs) × (getD xs i z ≡ x)
-in-getD (y ∷ xs) z (List·Memᴰ·head e) = (0, omega arith, sym e)
-in-getD (y ∷ xs) z (List·Memᴰ·tail at) = let w = in-getD xs z at in let h : w .0 < length xs = w .1 in (suc (w .0), omega arith, w .2)
-
-none-length : {A : Type 0} (xs : List A) → length xs ≡ 0 → xs ≡ []
-none-length [] e = refl
-none-length (x ∷ xs) e = let z : suc (length xs) ≡ 0 = e in absurd (omega arith)
+-- ---- 1. blank elements
 
 -- An element that a test of the part after n finds blank
 blank-at : (cells : List Cell) (n i : ℕ) → every blankCell (drop n cells) ≡ true → n ≤ i → i < length cells → getD cells i noCell ≡ noCell
@@ -52,9 +40,6 @@ blank-at cells n i e h k =
     let back : n + (i - n) ≡ i = omega arith in
     ap (λ (j : ℕ). getD cells j noCell) (sym back) ∙ sym (getD-drop n cells (i - n) noCell)
     ∙ blank-cell (getD (drop n cells) (i - n) noCell) (every-getD blankCell (drop n cells) (i - n) noCell e (rw length-drop (omega arith)))
-
-blank-good : (c : Cell) → blankCell c ≡ true → goodCell c ≡ true
-blank-good c e = subst (λ (x : Cell). goodCell x ≡ true) (sym (blank-cell c e)) refl
 
 -- ---- 2. one query
 
@@ -131,14 +116,14 @@ module _ (schema : List ℕ) (q : Query) (good : goodQuery schema q ≡ true) (s
       subst (λ (c : Cell). Within (entryOf (c .entry))) (stretch-at r i k ∙ sym (cell-row q (8 * r + i) (omega (arith, parts .size))))
       (entry-within (getD (take 8 (drop (8 * r) (q .cells))) i noCell .entry)
       (every-getD goodCell (take 8 (drop (8 * r) (q .cells))) i noCell
-      (used-all (getD schema (getD (q .relations) r 0) 0) goodCell blankCell (take 8 (drop (8 * r) (q .cells))) blank-good (row-used r h))
+      (used-all (getD schema (getD (q .relations) r 0) 0) goodCell blankCell (take 8 (drop (8 * r) (q .cells))) (λ c. blank-good (c .entry)) (row-used r h))
       (rw (stretch r h) k)))
 
   head-within : (i : ℕ) → i < 8 → Within (entryAt q (96 + i))
   head-within i h =
       subst (λ (c : Cell). Within (entryOf (c .entry))) (sym (cell-head q i))
       (entry-within (getD (q .head) i noCell .entry)
-      (every-getD goodCell (q .head) i noCell (used-all (headInUse q) goodCell blankCell (q .head) blank-good (parts .head)) (omega (arith, sizes .head))))
+      (every-getD goodCell (q .head) i noCell (used-all (headInUse q) goodCell blankCell (q .head) (λ c. blank-good (c .entry)) (parts .head)) (omega (arith, sizes .head))))
 
   pub all-within : (k : ℕ) → k < 104 → Within (entryAt q k)
   all-within k h = go (decLt k (8 * q .size)) (decLt k 96)
@@ -306,7 +291,7 @@ module _ (schema : List ℕ) (narrow : Narrow schema) (source target : Query) (g
       some : Dec (0 < source .size) → 0 < source .size
       some (yes h) = h
       some (no h) =
-          absurd (m .carries .not-never (none-length (queryOf schema source .rows) (count-rows schema source good sizes narrow ∙ omega arith)))
+          absurd (m .carries .not-never (length-none (queryOf schema source .rows) (count-rows schema source good sizes narrow ∙ omega arith)))
 
   pub wide-mapping : (f : ℕ → theory.Entry) → source .arity ≡ target .arity → WideOf f → IsMapping (queryOf schema source) (queryOf schema target) f
   wide-mapping f arity w =

@@ -1,5 +1,5 @@
 -- What finding and checking promise, from what their parts promise: 1. the lines of two good queries, 2. checking, 3. finding.
--- Assumes noMapping.
+-- Assumes nothing.
 use mathlib.Core.Path.{_≡_, refl, sym, _∙_, ap, subst}
 use mathlib.Core.Bool.{Bool, true, false, true≢false, false≢true}
 use mathlib.Core.List.{List}
@@ -12,15 +12,17 @@ use Rattle.theory.specs.Answer.{valueOf}
 use Rattle.theory.specs.Containment.{freeze}
 use Rattle.query.specs.declared.Cell.{Cell}
 use Rattle.query.specs.declared.Query.{Query}
-use Rattle.query.specs.View.{entryOf}
+use Rattle.query.specs.View.{entryOf, queryOf}
 use Rattle.query.specs.Rule.{noCell}
 use Rattle.query.proofs.Good.{good-query}
-use Rattle.query.proofs.Stored.{Within}
-use Rattle.search.specs.Solution.{Solution}
-use Rattle.mapping.specs.Tests.{Tells}
-use Rattle.mapping.specs.Agree.{IsDomain, IsTable}
-use Rattle.mapping.specs.Mapped.{cellAt, entryAt, entryIn, imagesOf, Storable, Carried, Lands, RestBlank, Assigned, noMapping, Finds, Checks}
-use Rattle.mapping.proofs.Tells.{tells-false}
+use Rattle.query.proofs.Codes.{code-below}
+use Rattle.consistency.specs.Solution.{Solution}
+use Rattle.lists.specs.Tests.{Tells}
+use Rattle.candidates.specs.Candidates.{IsDomain, IsTable}
+use Rattle.mapping.specs.Mapped.{imagesOf, Storable, noMapping, Finds, Checks}
+use Rattle.mapping.specs.internal.Lines.{cellAt, entryAt, entryIn, Carried, Lands, RestBlank, Assigned}
+use Rattle.lists.proofs.Positions.{tells-false}
+use Rattle.mapping.proofs.Checked.{tells-test}
 use Rattle.mapping.proofs.Wide.{Wide, wide-solution, solution-wide}
 use Rattle.mapping.proofs.Lines.{Sizes, all-within, mapping-wide, wide-mapping, mapping-arity}
 
@@ -37,19 +39,15 @@ InLine q cells = (k : ℕ) → k < 104 → getD cells k noCell ≡ cellAt q k
 line-entry : (q : Query) (cells : List Cell) → InLine q cells → (k : ℕ) → k < 104 → entryIn cells k ≡ entryAt q k
 line-entry q cells line k h = ap (λ (c : Cell). entryOf (c .entry)) (line k h)
 
--- Its numbers
-pub line-number : (q : Query) (cells : List Cell) (numbers : List ℕ) → InLine q cells
-    → ((k : ℕ) → k < 104 → getD numbers k 0 ≡ freeze 2147483648 (entryIn cells k)) → (k : ℕ) → k < 104 → getD numbers k 0 ≡ freeze 2147483648 (entryAt q k)
-line-number q cells numbers line is k h = is k h ∙ ap (freeze 2147483648) (line-entry q cells line k h)
+-- Its codes
+pub line-code : (q : Query) (cells : List Cell) (codes : List ℕ) → InLine q cells
+    → ((k : ℕ) → k < 104 → getD codes k 0 ≡ freeze 2147483648 (entryIn cells k)) → (k : ℕ) → k < 104 → getD codes k 0 ≡ freeze 2147483648 (entryAt q k)
+line-code q cells codes line is k h = is k h ∙ ap (freeze 2147483648) (line-entry q cells line k h)
 
-freeze-small : (x : Entry) → Within x → freeze 2147483648 x < 2147483744
-freeze-small (constant n) h = omega arith
-freeze-small (variable v) h = omega arith
-
-pub number-small : (q : Query) → Storable q → Sizes q → (numbers : List ℕ)
-    → ((k : ℕ) → k < 104 → getD numbers k 0 ≡ freeze 2147483648 (entryAt q k)) → (k : ℕ) → k < 104 → getD numbers k 0 < 2147483744
-number-small q s sizes numbers is k h =
-    subst (λ (n : ℕ). n < 2147483744) (sym (is k h)) (freeze-small (entryAt q k) (all-within (s .0) q (s .1) sizes k h))
+pub code-small : (q : Query) → Storable q → Sizes q → (codes : List ℕ)
+    → ((k : ℕ) → k < 104 → getD codes k 0 ≡ freeze 2147483648 (entryAt q k)) → (k : ℕ) → k < 104 → getD codes k 0 < 2147483744
+code-small q s sizes codes is k h =
+    subst (λ (n : ℕ). n < 2147483744) (sym (is k h)) (code-below (entryAt q k) (all-within (s .0) q (s .1) sizes k h))
 
 -- ---- 2. checking
 
@@ -59,12 +57,15 @@ module _ (source target : Query) (images : List Cell) (sizes : Sizes source) (si
 
   -- No where the images are no mapping by positions
   pub check-fails : (Good → ⊥) → Checks source target images false
-  check-fails out schema narrow good good' = tells-false (λ m. out (mapping-wide schema narrow source target good good' sizes sizes' (imagesOf images) m))
+  check-fails out schema narrow good good' =
+      tells-test (queryOf schema source) (queryOf schema target) images false
+      (tells-false (λ m. out (mapping-wide schema narrow source target good good' sizes sizes' (imagesOf images) m)))
 
   -- No where the arities differ
   pub check-arity : (source .arity ≡ target .arity → ⊥) → Checks source target images false
   check-arity other schema narrow good good' =
-      tells-false (λ m. other (mapping-arity schema narrow source target good good' sizes sizes' (imagesOf images) m))
+      tells-test (queryOf schema source) (queryOf schema target) images false
+      (tells-false (λ m. other (mapping-arity schema narrow source target good good' sizes sizes' (imagesOf images) m)))
 
   -- No where the source has no rows
   pub check-size : source .size ≡ 0 → Checks source target images false
@@ -72,10 +73,11 @@ module _ (source target : Query) (images : List Cell) (sizes : Sizes source) (si
 
   -- And else what a test of a mapping by positions says
   pub check-tells : (b : Bool) → source .arity ≡ target .arity → Tells b Good → Checks source target images b
-  check-tells b same tells schema narrow good good' = (
-    (λ e. wide-mapping schema narrow source target good good' sizes sizes' (imagesOf images) same (tells .0 e)),
-    (λ m. tells .1 (mapping-wide schema narrow source target good good' sizes sizes' (imagesOf images) m)),
-  )
+  check-tells b same tells schema narrow good good' =
+      tells-test (queryOf schema source) (queryOf schema target) images b (
+        (λ e. wide-mapping schema narrow source target good good' sizes sizes' (imagesOf images) same (tells .0 e)),
+        (λ m. tells .1 (mapping-wide schema narrow source target good good' sizes sizes' (imagesOf images) m)),
+      )
 
   module _ (few : source .size ≤ 12) (few' : target .size ≤ 12) (from to : List Cell) (line : InLine source from) (line' : InLine target to) where
     same-places : (row image : ℕ) → row + 8 ≤ 104 → image + 8 ≤ 104

@@ -1,5 +1,5 @@
 -- A mapping by positions. Two queries are given by their entries in one line: row r has those from 8 * r on, the head those from 96 on, blanks included.
--- Here: 1. what a mapping is by positions, 2. numbers that stand for entries, 3. a solution of the search is a mapping, 4. a mapping is a solution.
+-- Here: 1. what a mapping is by positions, 2. where rows and candidates are, 3. a solution of the search is a mapping, 4. a mapping is a solution.
 -- Assumes nothing.
 use mathlib.Core.Path.{_≡_, refl, sym, _∙_, ap, subst}
 use mathlib.Core.Bool.{Bool, cond}
@@ -18,12 +18,14 @@ use Rattle.query.specs.declared.Cell.{Cell}
 use Rattle.query.specs.View.{entryOf}
 use Rattle.query.specs.Rule.{noCell}
 use Rattle.query.proofs.Stored.{Within}
-use Rattle.search.specs.Solution.{Solution}
-use Rattle.mapping.specs.Agree.{rowStart, imageStart, candidatesOf, Repeats, Together, Possible, IsDomain, IsTable}
-use Rattle.mapping.specs.Mapped.{entryIn, imagesOf, Assigned}
-use Rattle.mapping.proofs.Masks.{has-below}
-use Rattle.mapping.proofs.Candidates.{few-candidates}
-use Rattle.mapping.proofs.Repeats.{first-like}
+use Rattle.query.proofs.Codes.{code-same, code-fixed}
+use Rattle.consistency.specs.Solution.{Solution}
+use Rattle.candidates.specs.Candidates.{rowStart, imageStart, candidatesOf, Repeats, Together, Possible, IsDomain, IsTable}
+use Rattle.mapping.specs.Mapped.{imagesOf}
+use Rattle.mapping.specs.internal.Lines.{entryIn, Assigned}
+use Rattle.candidates.proofs.Masks.{has-below}
+use Rattle.candidates.proofs.Candidates.{few-candidates}
+use Rattle.candidates.proofs.Repeats.{first-like}
 
 -- ---- 1. a mapping by positions
 
@@ -35,19 +37,9 @@ pub record Wide (source target : ℕ → Entry) (named offered : List ℕ) (size
   pub head : (i : ℕ) → i < 8 → valueOf constant f (source (96 + i)) ≡ target (96 + i)
   pub elsewhere : (v : ℕ) → ((k : ℕ) → k < 104 → source k ≡ variable v → ⊥) → f v ≡ constant 0
 
--- ---- 2. numbers that stand for entries
+-- ---- 2. where rows and candidates are
 
-freeze-same : (x y : Entry) → Within x → Within y → freeze 2147483648 x ≡ freeze 2147483648 y → x ≡ y
-freeze-same (constant m) (constant n) h k e = ap constant e
-freeze-same (constant m) (variable w) h k e = let z : m ≡ 2147483648 + w = e in absurd (omega arith)
-freeze-same (variable v) (constant n) h k e = let z : 2147483648 + v ≡ n = e in absurd (omega arith)
-freeze-same (variable v) (variable w) h k e = let z : 2147483648 + v ≡ 2147483648 + w = e in ap variable (omega arith)
-
-small-constant : (f : ℕ → Entry) (x : Entry) → freeze 2147483648 x < 2147483648 → valueOf constant f x ≡ x
-small-constant f (constant n) h = refl
-small-constant f (variable v) h = let z : 2147483648 + v < 2147483648 = h in absurd (omega arith)
-
--- Where a row's numbers and a candidate's numbers are
+-- Where the codes of a row and of a candidate start
 head-start : (size : ℕ) → rowStart size size ≡ 96
 head-start size = ap (λ (t : Bool). cond t 96 (8 * size)) (eq-eqb size size refl)
 
@@ -82,12 +74,12 @@ module _ (source target : ℕ → Entry) (from to named offered : List ℕ) (siz
     (from-is : (k : ℕ) → k < 104 → getD from k 0 ≡ freeze 2147483648 (source k)) (to-is : (k : ℕ) → k < 104 → getD to k 0 ≡ freeze 2147483648 (target k))
     (from-within : (k : ℕ) → k < 104 → Within (source k)) (to-within : (k : ℕ) → k < 104 → Within (target k))
     (domain table : List ℕ) (is-domain : IsDomain from to named offered size count domain) (is-table : IsTable from to size count table) where
-  -- Equal numbers of the source, or of the target, are equal entries
+  -- Equal codes of the source, or of the target, are equal entries
   from-same : (j k : ℕ) → j < 104 → k < 104 → getD from j 0 ≡ getD from k 0 → source j ≡ source k
-  from-same j k hj hk e = freeze-same (source j) (source k) (from-within j hj) (from-within k hk) (sym (from-is j hj) ∙ e ∙ from-is k hk)
+  from-same j k hj hk e = code-same (source j) (source k) (from-within j hj) (from-within k hk) (sym (from-is j hj) ∙ e ∙ from-is k hk)
 
   to-same : (j k : ℕ) → j < 104 → k < 104 → getD to j 0 ≡ getD to k 0 → target j ≡ target k
-  to-same j k hj hk e = freeze-same (target j) (target k) (to-within j hj) (to-within k hk) (sym (to-is j hj) ∙ e ∙ to-is k hk)
+  to-same j k hj hk e = code-same (target j) (target k) (to-within j hj) (to-within k hk) (sym (to-is j hj) ∙ e ∙ to-is k hk)
 
   -- A choice of candidates that f lands on
   pub record LandsOn (f : ℕ → Entry) (choice : ℕ → ℕ) : Type 0 where
@@ -127,7 +119,7 @@ module _ (source target : ℕ → Entry) (from to named offered : List ℕ) (siz
               to-is (imageStart size r (choice r) + i) (at-image r i h k)
               ∙ ap (freeze 2147483648)
               (sym (lands .carried r i h k)
-              ∙ small-constant f (source (rowStart size r + i)) (subst (λ (n : ℕ). n < 2147483648) here small))
+              ∙ code-fixed f (source (rowStart size r + i)) (subst (λ (n : ℕ). n < 2147483648) here small))
               ∙ sym here;
           agrees = lands-together r r h h;
         }
@@ -270,7 +262,7 @@ module _ (source target : ℕ → Entry) (from to named offered : List ℕ) (siz
           let kept : getD to (imageStart size r (choice r) + i) 0 ≡ n =
           chosen-possible r h .keeps i k (omega arith) ∙ number
           in
-          freeze-same (constant n) (target (imageStart size r (choice r) + i)) below (to-within (imageStart size r (choice r) + i) (image-place r i h k))
+          code-same (constant n) (target (imageStart size r (choice r) + i)) below (to-within (imageStart size r (choice r) + i) (image-place r i h k))
           (sym kept ∙ to-is (imageStart size r (choice r) + i) (image-place r i h k))
 
       carried : (r i : ℕ) → r ≤ size → i < 8 → valueOf constant (imagesOf images) (source (rowStart size r + i)) ≡ target (imageStart size r (choice r) + i)
@@ -288,7 +280,7 @@ module _ (source target : ℕ → Entry) (from to named offered : List ℕ) (siz
               let l : w .0 ≤ size = let z : w .0 < size + 1 = w .2 in omega arith in
               absurd
               (none (rowStart size (w .0) + w .1) (place (w .0) (w .1) l (w .3))
-              (freeze-same (source (rowStart size (w .0) + w .1)) (variable v) (from-within (rowStart size (w .0) + w .1) (place (w .0) (w .1) l (w .3))) below
+              (code-same (source (rowStart size (w .0) + w .1)) (variable v) (from-within (rowStart size (w .0) + w .1) (place (w .0) (w .1) l (w .3))) below
               (sym (from-is (rowStart size (w .0) + w .1) (place (w .0) (w .1) l (w .3))) ∙ w .4))))
               (assigned v below)
 

@@ -1,4 +1,3 @@
--- When images of rows are consistent, and what finding and checking a mapping promise.
-pub mod Tests
-pub mod Agree
+-- What finding and checking a mapping promise (Mapped). `internal` is this crate's own.
 pub mod Mapped
+pub mod internal

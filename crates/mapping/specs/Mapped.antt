@@ -1,37 +1,21 @@
--- Mappings between stored queries (document 01's "Answers and mappings"): what finding and checking one promise.
--- First queries laid out in one line of 104 cells, then what images carry and how they are collected, last the promises `Finds` and `Checks`.
+-- Mappings between stored queries (SPECIFICATION, Answers and mappings): what finding one and checking one promise.
 use mathlib.Core.Path.{_≡_}
-use mathlib.Core.Bool.{Bool, true, false, cond}
+use mathlib.Core.Bool.{Bool, true, false}
 use mathlib.Core.List.{List}
-use mathlib.Core.Logic.{_⊎_}
-use Prim.Native.Nat.{ℕ, _+_, _*_, _-_, _≤_, _<_}
-use lib.Dec.{ltb}
+use Prim.Native.Nat.{ℕ, _≤_}
 use lib.ListN.{getD, replicate}
 use Rattle.theory.specs.Query as theory
-use Rattle.theory.specs.Answer.{valueOf, IsMapping, Mapping}
+use Rattle.theory.specs.Answer.{IsMapping, Mapping}
+use Rattle.theory.specs.Checking.{mapsTo}
 use Rattle.query.specs.declared.Cell.{Cell}
 use Rattle.query.specs.declared.Query.{Query}
-use Rattle.query.specs.View.{entryOf, queryOf}
+use Rattle.query.specs.View.{entryOf, entriesOf, queryOf}
 use Rattle.query.specs.Rule.{goodQuery, noCell}
-use Rattle.mapping.specs.Tests.{Tells}
 use Rattle.mapping.specs.declared.Mapped.{Mapped}
-use Rattle.mapping.specs.Agree.{rowStart, imageStart}
-
--- The cells of a query in one line: 96 of the rows, then 8 of the head
-abbrev pub cellAt : Query → ℕ → Cell
-cellAt q k = cond (ltb k 96) (getD (q .cells) k noCell) (getD (q .head) (k - 96) noCell)
-
--- The entries of a query in one line
-abbrev pub entryAt : Query → ℕ → theory.Entry
-entryAt q k = entryOf (cellAt q k .entry)
-
--- The entry that a cell of an array stands for
-abbrev pub entryIn : List Cell → ℕ → theory.Entry
-entryIn cells k = entryOf (getD cells k noCell .entry)
 
 -- The assignment that an array of images gives: variable v goes to the entry at v
 abbrev pub imagesOf : List Cell → ℕ → theory.Entry
-imagesOf images v = entryIn images v
+imagesOf images v = entryOf (getD images v noCell .entry)
 
 -- A query that some schema makes good
 abbrev pub Storable : Query → Type 0
@@ -40,43 +24,6 @@ Storable q = (schema : List ℕ) × (goodQuery schema q ≡ true)
 -- A schema in which no relation has more than 8 columns, as a record's
 abbrev pub Narrow : List ℕ → Type 0
 Narrow schema = (i : ℕ) → getD schema i 0 ≤ 8
-
--- ---- what images carry, by positions: row r has the entries from 8 * r on, the head those from 96 on
-
--- The images carry the 8 entries from `row` on to those from `image` on
-abbrev pub Carried : List Cell → List Cell → List Cell → ℕ → ℕ → Type 0
-Carried source target images row image =
-    (i : ℕ) → i < 8 → valueOf theory.constant (imagesOf images) (entryIn source (row + i)) ≡ entryIn target (image + i)
-
--- The images carry row r to a row of the target in the same relation
-abbrev pub Lands : List Cell → List Cell → List Cell → List ℕ → List ℕ → ℕ → ℕ → Type 0
-Lands source target images named offered count r =
-    (d : ℕ) × (d < count) × (getD named r 0 ≡ getD offered d 0) × Carried source target images (8 * r) (8 * d)
-
--- Variable v stands among the cells
-abbrev pub Stands : List Cell → ℕ → Type 0
-Stands cells v = (k : ℕ) × (k < 104) × (entryIn cells k ≡ theory.variable v)
-
--- A variable that does not stand among the cells has constant 0 for its image
-abbrev pub RestBlank : List Cell → List Cell → Type 0
-RestBlank cells images = (v : ℕ) → v < 96 → (Stands cells v → ⊥) → imagesOf images v ≡ theory.constant 0
-
--- ---- how images are collected
-
--- The images so far, from the first n columns of one row: a variable that stands there has the cell of an image of it, any other keeps its image
-abbrev pub RowAssigned : List Cell → List ℕ → List Cell → ℕ → ℕ → ℕ → List Cell → Type 0
-RowAssigned before source target row image n images =
-    (v : ℕ) → v < 96
-    → (((i : ℕ) → i < n → getD source (row + i) 0 ≡ 2147483648 + v → ⊥) × (getD images v noCell ≡ getD before v noCell))
-    ⊎ ((i : ℕ) × (i < n) × (getD source (row + i) 0 ≡ 2147483648 + v) × (getD images v noCell ≡ getD target (image + i) noCell))
-
--- The images that the first n rows give: a variable that stands there has the cell of an image of it, any other constant 0
-abbrev pub Assigned : List ℕ → List Cell → ℕ → (ℕ → ℕ) → ℕ → List Cell → Type 0
-Assigned source target size choice n images =
-    (v : ℕ) → v < 96
-    → (((r i : ℕ) → r < n → i < 8 → getD source (rowStart size r + i) 0 ≡ 2147483648 + v → ⊥) × (getD images v noCell ≡ noCell))
-    ⊎ ((r : ℕ) × (i : ℕ) × (r < n) × (i < 8) × (getD source (rowStart size r + i) 0 ≡ 2147483648 + v)
-    × (getD images v noCell ≡ getD target (imageStart size r (choice r) + i) noCell))
 
 -- No mapping was found
 abbrev pub noMapping : Mapped
@@ -94,8 +41,8 @@ Finds source target r =
     (schema : List ℕ) → Narrow schema → goodQuery schema source ≡ true → goodQuery schema target ≡ true → source .arity ≡ target .arity
     → IsMapped schema source target r
 
--- What checking promises: yes exactly when the images are a mapping between the queries as stored, for every schema that makes both good
+-- What checking promises: the theory's test of the images, on the queries that the stored ones are under every schema that makes both good
 abbrev pub Checks : Query → Query → List Cell → Bool → Type 0
 Checks source target images r =
     (schema : List ℕ) → Narrow schema → goodQuery schema source ≡ true → goodQuery schema target ≡ true
-    → Tells r (IsMapping (queryOf schema source) (queryOf schema target) (imagesOf images))
+    → r ≡ mapsTo (queryOf schema source) (queryOf schema target) (entriesOf images)

@@ -1,14 +1,14 @@
 // The images of a source's variables, from the images of its rows.
-use crate::table::image_at;
-use crate::table::row_at;
+use candidates::table::image_at;
+use candidates::table::row_at;
 use query::Cell;
 use query::Entry;
+use query::code::decode;
 ghost use Prim.Native.Nat.{ℕ, _+_, _≤_, _<_};
 ghost use lib.ListN.{getD};
-ghost use Rattle.mapping.specs.Tests.{choiceOf};
-ghost use Rattle.mapping.specs.Mapped.{RowAssigned, Assigned};
+ghost use Rattle.mapping.specs.internal.Lines.{choiceOf, RowAssigned, Assigned};
 
-// The images with those of the variables of one row, whose numbers start at `row`, from the cells that start at `image`.
+// The images with those of the variables of one row, whose codes start at `row`, from the cells that start at `image`.
 pub fn assign_row(
     images: [Cell; 96],
     source: [u32; 104],
@@ -21,10 +21,12 @@ pub fn assign_row(
 {
     let mut out = images;
     for i in 0..8 {
-        let value = source[row + i];
-        if 2147483648 <= value {
-            let v = (value - 2147483648) as usize;
-            out[v] = target[image + i];
+        let own = decode(source[row + i]);
+        match own {
+            Entry::Constant(_) => {}
+            Entry::Variable(v) => {
+                out[v as usize] = target[image + i];
+            }
         }
     }
     out

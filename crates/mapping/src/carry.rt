@@ -1,29 +1,15 @@
 // Whether given images carry entries, rows and a head of a source to those of a target.
 use query::Cell;
 use query::Entry;
+use query::same_entry;
 ghost use mathlib.Core.Path.{_≡_};
 ghost use Prim.Native.Nat.{ℕ, _+_, _≤_, _<_};
-ghost use Rattle.theory.specs.Query.{constant, sameEntry};
+ghost use Rattle.theory.specs.Query.{constant};
 ghost use Rattle.theory.specs.Answer.{valueOf};
-ghost use Rattle.mapping.specs.Tests.{Tells};
+ghost use Rattle.lists.specs.Tests.{Tells};
 ghost use Rattle.query.specs.View.{entryOf};
-ghost use Rattle.mapping.specs.Mapped.{imagesOf, Carried, Lands, Stands, RestBlank};
-
-// Whether two entries are the same constant or the same variable.
-pub fn same(a: Entry, b: Entry) -> bool
-    ensures { λ r. ⌜ r ≡ sameEntry (entryOf a) (entryOf b) ⌝ }
-{
-    match a {
-        Entry::Constant(m) => match b {
-            Entry::Constant(n) => m == n,
-            Entry::Variable(_) => false,
-        },
-        Entry::Variable(v) => match b {
-            Entry::Constant(_) => false,
-            Entry::Variable(w) => v == w,
-        },
-    }
-}
+ghost use Rattle.mapping.specs.Mapped.{imagesOf};
+ghost use Rattle.mapping.specs.internal.Lines.{Carried, Lands, Stands, RestBlank};
 
 // An entry with each variable replaced by its image: a variable above 95 has constant 0.
 pub fn image_of(images: [Cell; 96], e: Entry) -> Entry
@@ -58,7 +44,7 @@ pub fn carries(
         let d = target[image + i];
         let e = c.entry;
         let f = d.entry;
-        if !same(image_of(images, e), f) {
+        if !same_entry(image_of(images, e), f) {
             return false;
         }
     }
@@ -116,7 +102,7 @@ pub fn stands(cells: [Cell; 104], v: u8) -> bool
     for k in 0..104 {
         let c = cells[k];
         let e = c.entry;
-        if same(e, Entry::Variable(v)) {
+        if same_entry(e, Entry::Variable(v)) {
             return true;
         }
     }
@@ -130,7 +116,7 @@ pub fn rest_blank(cells: [Cell; 104], images: [Cell; 96]) -> bool
     for v in 0..96u8 {
         let c = images[v as usize];
         let e = c.entry;
-        if !same(e, Entry::Constant(0)) {
+        if !same_entry(e, Entry::Constant(0)) {
             if !stands(cells, v) {
                 return false;
             }

@@ -1,18 +1,16 @@
 // Mappings between stored queries: found by search, and checked. A query without rows has none.
-mod agree; // agree.rt: whether images of two rows are consistent
 mod assign; // assign.rt: the images of the variables, from the images of the rows
 mod carry; // carry.rt: whether given images carry entries, rows and a head
-mod cells; // cells.rt: a query in one line of cells, and as numbers
-mod table; // table.rt: what the search is given
+mod cells; // cells.rt: a query in one line of cells, and their codes
 
 use crate::assign::assign;
 use crate::carry::all_land;
 use crate::carry::carries;
 use crate::carry::rest_blank;
+use crate::cells::codes;
 use crate::cells::flat;
-use crate::cells::numbers;
-use crate::table::domains;
-use crate::table::table;
+use candidates::table::domains;
+use candidates::table::table;
 use query::Cell;
 use query::Entry;
 use query::Query;
@@ -49,8 +47,8 @@ pub fn find(source: Query, target: Query) -> Mapped
         return no_mapping();
     }
     let cells = flat(target);
-    let from = numbers(flat(source));
-    let to = numbers(cells);
+    let from = codes(flat(source));
+    let to = codes(cells);
     let named = source.relations;
     let offered = target.relations;
     let domain = domains(&from, &to, named, offered, size, count);

@@ -5,6 +5,8 @@ pub mod Stored
 pub mod Shape
 -- What the views and the rule come to (Meaning).
 pub mod Meaning
+-- The code of an entry.
+pub mod Codes
 -- Laws of the loops over rows (Rows) and head variables (Variables).
 pub mod Rows
 pub mod Variables

@@ -64,7 +64,7 @@ head-is schema q i h = column-is (q .arity) 0 (q .head) i h ∙ ap (λ (k : ℕ)
 
 -- ---- 2. values that are not in use
 
-blank-entry : (e : Entry) → blankEntry e ≡ true → e ≡ Constant 0
+pub blank-entry : (e : Entry) → blankEntry e ≡ true → e ≡ Constant 0
 blank-entry (Constant n) e = ap Constant (eqb-true n 0 e)
 blank-entry (Variable v) e = let z : _≡_ {A = ℕ} 0 1 = ap (λ (t : Bool). cond {A = ℕ} t 1 0) e in absurd (omega arith)
 

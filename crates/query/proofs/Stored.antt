@@ -68,7 +68,7 @@ unfolding every
 cells-within (c ∷ cs) g (List·Memᴰ·head p) = subst Within (sym p) (entry-within (c .entry) (and-left (goodCell c) (every goodCell cs) g))
 cells-within (c ∷ cs) g (List·Memᴰ·tail at) = cells-within cs (and-right (goodCell c) (every goodCell cs) g) at
 
-blank-good : (e : Entry) → blankEntry e ≡ true → goodEntry e ≡ true
+pub blank-good : (e : Entry) → blankEntry e ≡ true → goodEntry e ≡ true
 blank-good (Constant n) e = rw (eqb-true n 0 e)
 blank-good (Variable v) e = let z : _≡_ {A = ℕ} 0 1 = ap (λ (t : Bool). cond {A = ℕ} t 1 0) e in absurd (omega arith)
 

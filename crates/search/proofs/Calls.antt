@@ -8,12 +8,15 @@ use Prim.Native.Nat.{ℕ, _+_, _-_, _*_, _^_, _<_, _≤_}
 use native.Mathlib.Omega.{arith}
 use lib.ListN.{getD, length}
 use lib.Bits.{bitOr}
-use Rattle.search.specs.Solution.{Bit, Solution}
-use Rattle.search.specs.Invariant.{NoBit, Below, missing, Refuted, IsNext, IsCandidate, Settles, Follows, Excluded, Attempted, Placeable, Tryable}
-use Rattle.search.specs.declared.State.{State}
+use Rattle.consistency.specs.Solution.{Bit, Solution}
+use Rattle.consistency.specs.Consistent.{NoBit, Below, Refuted, Settles, Follows}
+use Rattle.search.specs.internal.Invariant.{missing, IsNext, IsCandidate, Excluded, Attempted, Placeable, Tryable}
+use Rattle.consistency.specs.declared.State.{State}
 use Rattle.search.specs.declared.Attempt.{Attempt}
-use Rattle.search.proofs.Masks.{bit-zero, missing-less, missing-none}
-use Rattle.search.proofs.Steps.{below-set, jump, excludes, exhausted, left-next, from-next, excluded-refuted}
+use Rattle.consistency.proofs.Masks.{bit-zero}
+use Rattle.search.proofs.Missing.{missing-less, missing-none}
+use Rattle.consistency.proofs.Steps.{below-set, jump, excludes}
+use Rattle.search.proofs.Steps.{exhausted, left-next, from-next, excluded-refuted}
 
 not-both : (b : Bool) → b ≡ true → b ≡ false → ⊥
 not-both b p q = let z : _≡_ {A = ℕ} 0 1 = cc in omega arith

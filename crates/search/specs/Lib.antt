@@ -1,3 +1,2 @@
--- What the search promises (Solution), and what it keeps on the way (Invariant), which only its own functions cite.
-pub mod Solution
-pub mod Invariant
+-- What the search promises is in `consistency` (Solution). What it keeps on the way (Invariant) only its own functions cite.
+pub mod internal

@@ -5,7 +5,7 @@ use mathlib.Core.Logic.{⊎-elim}
 use Prim.Native.Nat.{_≤_, _-_}
 use borrow.Author.Needs.{needs}
 use borrow.Author.Tests.{not-true, not-false}
-use Rattle.chase.specs.Wide.{rowAt}
+use Rattle.chase.specs.internal.Wide.{rowAt}
 use Rattle.chase.proofs.Columns.{agreeLeft, wide-same, agree-skip, agree-same, agree-differ, agree-end}
 use Rattle.chase.proofs.agree.Statement.{statement}
 use Rattle.chase.proofs.agree.Tie as tie

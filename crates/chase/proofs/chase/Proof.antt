@@ -6,9 +6,9 @@ use Prim.Native.Nat.{suc}
 use native.Mathlib.Omega.{arith}
 use borrow.Author.Needs.{needs}
 use lib.ListN.{length}
-use Rattle.chase.specs.Wide.{wideQuery}
+use Rattle.chase.specs.internal.Wide.{wideQuery}
 use Rattle.query.specs.View.{heldOf}
-use Rattle.chase.proofs.Lists.{length-of-map}
+use Rattle.lists.proofs.Loops.{mapped-length}
 use Rattle.chase.proofs.Rounds.{Under, under-start, under-replace, replaced-count, under-count, under-rest, under-clash}
 use Rattle.query.specs.declared.Query.{Query}
 use Rattle.theory.specs.Database.{Dependency}
@@ -25,8 +25,8 @@ abbrev μ-loop : tie.MeasureT-loop
 
 loop-holds : tie.Need-loop-holds Inv-loop μ-loop
 loop-holds c =
-    let twelve : length (c .args .q .relations) ≡ 12 = search (length-of-map, needs) in
-    let eight : length (c .args .q .head) ≡ 8 = search (length-of-map, needs) in
+    let twelve : length (c .args .q .relations) ≡ 12 = search (mapped-length, needs) in
+    let eight : length (c .args .q .head) ≡ 8 = search (mapped-length, needs) in
     (twelve, eight, under-start _ _)
 
 find-step-requires : tie.Need-find-step-requires Inv-loop μ-loop

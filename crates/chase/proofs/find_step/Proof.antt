@@ -6,7 +6,8 @@ use native.Mathlib.Omega.{arith}
 use lib.ListN.{getD}
 use borrow.Author.Needs.{needs}
 use Rattle.chase.proofs.Search.{brokenFrom, brokenFromRow, brokenFromPair, dependency-next, dependency-last, row-next, row-last, pair-next, pair-last, nothing-found, pair-found}
-use Rattle.chase.proofs.Good.{and-both, good-read}
+use Rattle.lists.proofs.Tests.{and-both}
+use Rattle.chase.proofs.Good.{good-read}
 use Rattle.query.specs.Rule.{noDependency}
 use Rattle.chase.proofs.find_step.Statement.{statement}
 use Rattle.chase.proofs.find_step.Tie as tie

@@ -1,7 +1,7 @@
 -- `chase::resolve` meets its contract: the survivor rule at the head of the query. Assumes nothing.
 use mathlib.Core.Path.{sym}
 use borrow.Author.Needs.{needs}
-use Rattle.chase.specs.Wide.{wideQuery}
+use Rattle.chase.specs.internal.Wide.{wideQuery}
 use Rattle.theory.specs.Chase.{inHead}
 use Rattle.chase.proofs.resolve.Statement.{statement}
 use Rattle.chase.proofs.resolve.Tie as tie

@@ -2,8 +2,8 @@
 use mathlib.Core.Path.{_≡_}
 use Prim.Native.Nat.{_≤_, _-_}
 use borrow.Author.Needs.{needs}
-use Rattle.chase.specs.Wide.{substituteCell}
-use Rattle.chase.proofs.Lists.{mapFirst, mapFirst-none, mapFirst-more, mapFirst-done}
+use Rattle.chase.specs.internal.Wide.{substituteCell}
+use Rattle.lists.proofs.Maps.{mapFirst, mapFirst-none, mapFirst-more, mapFirst-done}
 use Rattle.chase.proofs.substitute_cells.Statement.{statement}
 use Rattle.chase.proofs.substitute_cells.Tie as tie
 

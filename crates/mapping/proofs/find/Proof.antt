@@ -9,12 +9,13 @@ use lib.ListN.{getD, length}
 use Rattle.theory.specs.Containment.{freeze}
 use Rattle.lists.proofs.Loops.{mapped-length}
 use native.Mathlib.Omega.{arith}
-use Rattle.mapping.specs.Tests.{choiceOf}
-use Rattle.mapping.specs.Agree.{Laid}
-use Rattle.mapping.specs.Mapped.{entryAt, Finds}
+use Rattle.mapping.specs.internal.Lines.{choiceOf}
+use Rattle.candidates.specs.Candidates.{Laid}
+use Rattle.mapping.specs.Mapped.{Finds}
+use Rattle.mapping.specs.internal.Lines.{entryAt}
 use Rattle.mapping.proofs.Wide.{chosen-small}
 use Rattle.mapping.proofs.Lines.{Sizes, all-within}
-use Rattle.mapping.proofs.Results.{storable-size, line-number, number-small, none-size, none-solution, found-solution}
+use Rattle.mapping.proofs.Results.{storable-size, line-code, code-small, none-size, none-solution, found-solution}
 use Rattle.mapping.proofs.find.Statement.{statement}
 use Rattle.mapping.proofs.find.Tie as tie
 use Rattle.mapping.proofs.find.Reads as reads
@@ -22,40 +23,40 @@ use Rattle.mapping.proofs.find.Lts as lts
 use Rattle.mapping.proofs.no_mapping.Reads as no-mapping-reads
 use Rattle.mapping.proofs.assign.assign.Reads as assign-reads
 use Rattle.mapping.proofs.cells.flat.Reads as flat-reads
-use Rattle.mapping.proofs.cells.numbers.Reads as numbers-reads
-use Rattle.mapping.proofs.table.domains.Reads as domains-reads
-use Rattle.mapping.proofs.table.table.Reads as table-reads
+use Rattle.mapping.proofs.cells.codes.Reads as codes-reads
+use Rattle.candidates.proofs.table.domains.Reads as domains-reads
+use Rattle.candidates.proofs.table.table.Reads as table-reads
 use Rattle.search.proofs.solve.Reads as solve-reads
 
 -- ---- what is known at the places of the code. The lengths of arrays are the types'
 
 abbrev Start : Type 0
 Start = lts.Start
-    (no-mapping-reads.Asked, no-mapping-reads.Learnt, flat-reads.Asked, flat-reads.Learnt, numbers-reads.Asked, numbers-reads.Learnt, domains-reads.Asked, domains-reads.Learnt, table-reads.Asked, table-reads.Learnt, solve-reads.Asked, solve-reads.Learnt, assign-reads.Asked, assign-reads.Learnt) reads.Pre reads.Post
+    (no-mapping-reads.Asked, no-mapping-reads.Learnt, flat-reads.Asked, flat-reads.Learnt, codes-reads.Asked, codes-reads.Learnt, domains-reads.Asked, domains-reads.Learnt, table-reads.Asked, table-reads.Learnt, solve-reads.Asked, solve-reads.Learnt, assign-reads.Asked, assign-reads.Learnt) reads.Pre reads.Post
 
-abbrev After-numbers : Type 0
-After-numbers = lts.After-numbers
-    (no-mapping-reads.Asked, no-mapping-reads.Learnt, flat-reads.Asked, flat-reads.Learnt, numbers-reads.Asked, numbers-reads.Learnt, domains-reads.Asked, domains-reads.Learnt, table-reads.Asked, table-reads.Learnt, solve-reads.Asked, solve-reads.Learnt, assign-reads.Asked, assign-reads.Learnt) reads.Pre reads.Post
+abbrev After-codes : Type 0
+After-codes = lts.After-codes
+    (no-mapping-reads.Asked, no-mapping-reads.Learnt, flat-reads.Asked, flat-reads.Learnt, codes-reads.Asked, codes-reads.Learnt, domains-reads.Asked, domains-reads.Learnt, table-reads.Asked, table-reads.Learnt, solve-reads.Asked, solve-reads.Learnt, assign-reads.Asked, assign-reads.Learnt) reads.Pre reads.Post
 
-abbrev After-numbers2 : Type 0
-After-numbers2 = lts.After-numbers2
-    (no-mapping-reads.Asked, no-mapping-reads.Learnt, flat-reads.Asked, flat-reads.Learnt, numbers-reads.Asked, numbers-reads.Learnt, domains-reads.Asked, domains-reads.Learnt, table-reads.Asked, table-reads.Learnt, solve-reads.Asked, solve-reads.Learnt, assign-reads.Asked, assign-reads.Learnt) reads.Pre reads.Post
+abbrev After-codes2 : Type 0
+After-codes2 = lts.After-codes2
+    (no-mapping-reads.Asked, no-mapping-reads.Learnt, flat-reads.Asked, flat-reads.Learnt, codes-reads.Asked, codes-reads.Learnt, domains-reads.Asked, domains-reads.Learnt, table-reads.Asked, table-reads.Learnt, solve-reads.Asked, solve-reads.Learnt, assign-reads.Asked, assign-reads.Learnt) reads.Pre reads.Post
 
 abbrev After-domains : Type 0
 After-domains = lts.After-domains
-    (no-mapping-reads.Asked, no-mapping-reads.Learnt, flat-reads.Asked, flat-reads.Learnt, numbers-reads.Asked, numbers-reads.Learnt, domains-reads.Asked, domains-reads.Learnt, table-reads.Asked, table-reads.Learnt, solve-reads.Asked, solve-reads.Learnt, assign-reads.Asked, assign-reads.Learnt) reads.Pre reads.Post
+    (no-mapping-reads.Asked, no-mapping-reads.Learnt, flat-reads.Asked, flat-reads.Learnt, codes-reads.Asked, codes-reads.Learnt, domains-reads.Asked, domains-reads.Learnt, table-reads.Asked, table-reads.Learnt, solve-reads.Asked, solve-reads.Learnt, assign-reads.Asked, assign-reads.Learnt) reads.Pre reads.Post
 
 abbrev After-table : Type 0
 After-table = lts.After-table
-    (no-mapping-reads.Asked, no-mapping-reads.Learnt, flat-reads.Asked, flat-reads.Learnt, numbers-reads.Asked, numbers-reads.Learnt, domains-reads.Asked, domains-reads.Learnt, table-reads.Asked, table-reads.Learnt, solve-reads.Asked, solve-reads.Learnt, assign-reads.Asked, assign-reads.Learnt) reads.Pre reads.Post
+    (no-mapping-reads.Asked, no-mapping-reads.Learnt, flat-reads.Asked, flat-reads.Learnt, codes-reads.Asked, codes-reads.Learnt, domains-reads.Asked, domains-reads.Learnt, table-reads.Asked, table-reads.Learnt, solve-reads.Asked, solve-reads.Learnt, assign-reads.Asked, assign-reads.Learnt) reads.Pre reads.Post
 
 abbrev After-solve : Type 0
 After-solve = lts.After-solve
-    (no-mapping-reads.Asked, no-mapping-reads.Learnt, flat-reads.Asked, flat-reads.Learnt, numbers-reads.Asked, numbers-reads.Learnt, domains-reads.Asked, domains-reads.Learnt, table-reads.Asked, table-reads.Learnt, solve-reads.Asked, solve-reads.Learnt, assign-reads.Asked, assign-reads.Learnt) reads.Pre reads.Post
+    (no-mapping-reads.Asked, no-mapping-reads.Learnt, flat-reads.Asked, flat-reads.Learnt, codes-reads.Asked, codes-reads.Learnt, domains-reads.Asked, domains-reads.Learnt, table-reads.Asked, table-reads.Learnt, solve-reads.Asked, solve-reads.Learnt, assign-reads.Asked, assign-reads.Learnt) reads.Pre reads.Post
 
 abbrev After-assign : Type 0
 After-assign = lts.After-assign
-    (no-mapping-reads.Asked, no-mapping-reads.Learnt, flat-reads.Asked, flat-reads.Learnt, numbers-reads.Asked, numbers-reads.Learnt, domains-reads.Asked, domains-reads.Learnt, table-reads.Asked, table-reads.Learnt, solve-reads.Asked, solve-reads.Learnt, assign-reads.Asked, assign-reads.Learnt) reads.Pre reads.Post
+    (no-mapping-reads.Asked, no-mapping-reads.Learnt, flat-reads.Asked, flat-reads.Learnt, codes-reads.Asked, codes-reads.Learnt, domains-reads.Asked, domains-reads.Learnt, table-reads.Asked, table-reads.Learnt, solve-reads.Asked, solve-reads.Learnt, assign-reads.Asked, assign-reads.Learnt) reads.Pre reads.Post
 
 source-sizes : (c : Start) → Sizes (c .args .source)
 source-sizes c = record { head = search (mapped-length, needs); relations = search (mapped-length, needs); cells = search (mapped-length, needs) }
@@ -63,10 +64,10 @@ source-sizes c = record { head = search (mapped-length, needs); relations = sear
 target-sizes : (c : Start) → Sizes (c .args .target)
 target-sizes c = record { head = search (mapped-length, needs); relations = search (mapped-length, needs); cells = search (mapped-length, needs) }
 
-from-long : (c : After-numbers) → length (c .numbers .result) ≡ 104
+from-long : (c : After-codes) → length (c .codes .result) ≡ 104
 from-long c = search needs
 
-to-long : (c : After-numbers2) → length (c .numbers2 .result) ≡ 104
+to-long : (c : After-codes2) → length (c .codes2 .result) ≡ 104
 to-long c = search needs
 
 domain-long : (c : After-domains) → length (c .domains .result) ≡ 13
@@ -78,7 +79,7 @@ table-long c = search needs
 images-long : (c : After-assign) → length (c .assign .result) ≡ 96
 images-long c = search needs
 
-laid : (c : After-numbers2) → Laid (c .before .numbers .result) (c .numbers2 .result) (c .before .before .before .before .before .before .before .args .source .size) (c .before .before .before .before .before .before .before .args .target .size)
+laid : (c : After-codes2) → Laid (c .before .codes .result) (c .codes2 .result) (c .before .before .before .before .before .before .before .args .source .size) (c .before .before .before .before .before .before .before .args .target .size)
 laid c =
     record {
       source-length = from-long (c .before);
@@ -88,12 +89,12 @@ laid c =
     }
 
 -- The numbers are those of the two queries
-from-is : (c : After-numbers2) (k : ℕ) → k < 104 → getD (c .before .numbers .result) k 0 ≡ freeze 2147483648 (entryAt (c .before .before .before .before .before .before .before .args .source) k)
+from-is : (c : After-codes2) (k : ℕ) → k < 104 → getD (c .before .codes .result) k 0 ≡ freeze 2147483648 (entryAt (c .before .before .before .before .before .before .before .args .source) k)
 from-is c =
-    line-number (c .before .before .before .before .before .before .before .args .source) (c .before .before .flat2 .result) (c .before .numbers .result) (c .before .before .flat2 .ensures) (c .before .numbers .ensures)
+    line-code (c .before .before .before .before .before .before .before .args .source) (c .before .before .flat2 .result) (c .before .codes .result) (c .before .before .flat2 .ensures) (c .before .codes .ensures)
 
-to-is : (c : After-numbers2) (k : ℕ) → k < 104 → getD (c .numbers2 .result) k 0 ≡ freeze 2147483648 (entryAt (c .before .before .before .before .before .before .before .args .target) k)
-to-is c = line-number (c .before .before .before .before .before .before .before .args .target) (c .before .before .before .flat .result) (c .numbers2 .result) (c .before .before .before .flat .ensures) (c .numbers2 .ensures)
+to-is : (c : After-codes2) (k : ℕ) → k < 104 → getD (c .codes2 .result) k 0 ≡ freeze 2147483648 (entryAt (c .before .before .before .before .before .before .before .args .target) k)
+to-is c = line-code (c .before .before .before .before .before .before .before .args .target) (c .before .before .before .flat .result) (c .codes2 .result) (c .before .before .before .flat .ensures) (c .codes2 .ensures)
 
 -- The search is given few enough rows
 few-rows : (c : After-table) → c .before .before .before .before .before .before .before .before .before .before .before .before .before .before .before .args .source .size + 1 ≤ 13
@@ -106,7 +107,7 @@ chosen-below : (c : After-solve) → c .solve .result .found ≡ true → (r : �
 chosen-below c found =
     let source = c .before .before .before .before .before .before .before .before .before .before .before .before .before .before .before .before .before .before .args .source in
     let target = c .before .before .before .before .before .before .before .before .before .before .before .before .before .before .before .before .before .before .args .target in
-    chosen-small (entryAt source) (entryAt target) (c .before .before .before .before .before .before .before .before .before .before .before .before .numbers .result) (c .before .before .before .before .before .before .before .before .before .before .before .numbers2 .result) (source .relations) (target .relations)
+    chosen-small (entryAt source) (entryAt target) (c .before .before .before .before .before .before .before .before .before .before .before .before .codes .result) (c .before .before .before .before .before .before .before .before .before .before .before .codes2 .result) (source .relations) (target .relations)
     (source .size) (target .size) (storable-size source (c .before .before .before .before .before .before .before .before .before .before .before .before .before .before .before .before .before .before .pre .0)) (storable-size target (c .before .before .before .before .before .before .before .before .before .before .before .before .before .before .before .before .before .before .pre .1)) (from-is (c .before .before .before .before .before .before .before .before .before .before .before))
     (to-is (c .before .before .before .before .before .before .before .before .before .before .before)) (all-within (c .before .before .before .before .before .before .before .before .before .before .before .before .before .before .before .before .before .before .pre .0 .0) source (c .before .before .before .before .before .before .before .before .before .before .before .before .before .before .before .before .before .before .pre .0 .1) (source-sizes (c .before .before .before .before .before .before .before .before .before .before .before .before .before .before .before .before .before .before)))
     (all-within (c .before .before .before .before .before .before .before .before .before .before .before .before .before .before .before .before .before .before .pre .1 .0) target (c .before .before .before .before .before .before .before .before .before .before .before .before .before .before .before .before .before .before .pre .1 .1) (target-sizes (c .before .before .before .before .before .before .before .before .before .before .before .before .before .before .before .before .before .before))) (c .before .before .before .before .before .before .domains .result) (c .before .before .before .table .result)
@@ -134,11 +135,11 @@ flat-requires c κs = search needs
 flat-requires-2 : tie.Need-flat-requires-2
 flat-requires-2 c κs = search needs
 
-numbers-requires : tie.Need-numbers-requires
-numbers-requires c κs = search needs
+codes-requires : tie.Need-codes-requires
+codes-requires c κs = search needs
 
-numbers-requires-2 : tie.Need-numbers-requires-2
-numbers-requires-2 c κs = search needs
+codes-requires-2 : tie.Need-codes-requires-2
+codes-requires-2 c κs = search needs
 
 slice-aggregate-domains : tie.Need-slice-aggregate-domains
 slice-aggregate-domains c = search needs
@@ -171,7 +172,7 @@ returns-2 : tie.Need-returns-2
 returns-2 c =
     subst (Finds (c .before .before .before .before .before .before .before .before .before .before .before .before .before .before .before .before .before .before .before .before .before .args .source) (c .before .before .before .before .before .before .before .before .before .before .before .before .before .before .before .before .before .before .before .before .before .args .target)) (sym (c .no-mapping2 .ensures))
     (none-solution (c .before .before .before .before .before .before .before .before .before .before .before .before .before .before .before .before .before .before .before .before .before .args .source) (c .before .before .before .before .before .before .before .before .before .before .before .before .before .before .before .before .before .before .before .before .before .args .target) (source-sizes (c .before .before .before .before .before .before .before .before .before .before .before .before .before .before .before .before .before .before .before .before .before)) (target-sizes (c .before .before .before .before .before .before .before .before .before .before .before .before .before .before .before .before .before .before .before .before .before)) (c .before .before .before .before .before .before .before .before .before .before .before .before .before .before .before .before .before .before .before .before .before .pre .0) (c .before .before .before .before .before .before .before .before .before .before .before .before .before .before .before .before .before .before .before .before .before .pre .1)
-    (c .before .before .before .before .before .before .before .before .before .before .before .before .before .before .before .before .before .flat .result) (c .before .before .before .before .before .before .before .before .before .before .before .before .before .before .before .numbers .result) (c .before .before .before .before .before .before .before .before .before .before .before .before .before .before .numbers2 .result) (c .before .before .before .before .before .before .before .before .before .domains .result) (c .before .before .before .before .before .before .table .result)
+    (c .before .before .before .before .before .before .before .before .before .before .before .before .before .before .before .before .before .flat .result) (c .before .before .before .before .before .before .before .before .before .before .before .before .before .before .before .codes .result) (c .before .before .before .before .before .before .before .before .before .before .before .before .before .before .codes2 .result) (c .before .before .before .before .before .before .before .before .before .domains .result) (c .before .before .before .before .before .before .table .result)
     (from-is (c .before .before .before .before .before .before .before .before .before .before .before .before .before .before)) (c .before .before .before .before .before .before .before .before .before .before .before .before .before .before .before .before .before .flat .ensures) (to-is (c .before .before .before .before .before .before .before .before .before .before .before .before .before .before)) (c .before .before .before .before .before .before .before .before .before .domains .ensures) (c .before .before .before .before .before .before .table .ensures)
     (c .before .before .before .solve .ensures .1 (not-true _ (c .before .if2 .taken))))
 
@@ -179,14 +180,14 @@ assign-requires : tie.Need-assign-requires
 assign-requires c κs = (
   storable-size _ (c .before .before .before .before .before .before .before .before .before .before .before .before .before .before .before .before .before .before .before .before .before .pre .0),
   chosen-below (c .before .before .before) (not-false _ (c .before .if2 .left)),
-  number-small (c .before .before .before .before .before .before .before .before .before .before .before .before .before .before .before .before .before .before .before .before .before .args .source) (c .before .before .before .before .before .before .before .before .before .before .before .before .before .before .before .before .before .before .before .before .before .pre .0) (source-sizes (c .before .before .before .before .before .before .before .before .before .before .before .before .before .before .before .before .before .before .before .before .before)) (c .before .before .before .before .before .before .before .before .before .before .before .before .before .before .before .numbers .result) (from-is (c .before .before .before .before .before .before .before .before .before .before .before .before .before .before)),
+  code-small (c .before .before .before .before .before .before .before .before .before .before .before .before .before .before .before .before .before .before .before .before .before .args .source) (c .before .before .before .before .before .before .before .before .before .before .before .before .before .before .before .before .before .before .before .before .before .pre .0) (source-sizes (c .before .before .before .before .before .before .before .before .before .before .before .before .before .before .before .before .before .before .before .before .before)) (c .before .before .before .before .before .before .before .before .before .before .before .before .before .before .before .codes .result) (from-is (c .before .before .before .before .before .before .before .before .before .before .before .before .before .before)),
 )
 
 returns-3 : tie.Need-returns-3
 returns-3 c =
     let some : 0 < c .before .before .before .before .before .before .before .before .before .before .before .before .before .before .before .before .before .before .before .before .before .before .args .source .size = search needs in
     found-solution (c .before .before .before .before .before .before .before .before .before .before .before .before .before .before .before .before .before .before .before .before .before .before .args .source) (c .before .before .before .before .before .before .before .before .before .before .before .before .before .before .before .before .before .before .before .before .before .before .args .target) (source-sizes (c .before .before .before .before .before .before .before .before .before .before .before .before .before .before .before .before .before .before .before .before .before .before)) (target-sizes (c .before .before .before .before .before .before .before .before .before .before .before .before .before .before .before .before .before .before .before .before .before .before)) (c .before .before .before .before .before .before .before .before .before .before .before .before .before .before .before .before .before .before .before .before .before .before .pre .0) (c .before .before .before .before .before .before .before .before .before .before .before .before .before .before .before .before .before .before .before .before .before .before .pre .1)
-    (c .before .before .before .before .before .before .before .before .before .before .before .before .before .before .before .before .before .before .flat .result) (c .before .before .before .before .before .before .before .before .before .before .before .before .before .before .before .before .numbers .result) (c .before .before .before .before .before .before .before .before .before .before .before .before .before .before .before .numbers2 .result) (c .before .before .before .before .before .before .before .before .before .before .domains .result) (c .before .before .before .before .before .before .before .table .result)
+    (c .before .before .before .before .before .before .before .before .before .before .before .before .before .before .before .before .before .before .flat .result) (c .before .before .before .before .before .before .before .before .before .before .before .before .before .before .before .before .codes .result) (c .before .before .before .before .before .before .before .before .before .before .before .before .before .before .before .codes2 .result) (c .before .before .before .before .before .before .before .before .before .before .domains .result) (c .before .before .before .before .before .before .before .table .result)
     (from-is (c .before .before .before .before .before .before .before .before .before .before .before .before .before .before .before)) (c .before .before .before .before .before .before .before .before .before .before .before .before .before .before .before .before .before .before .flat .ensures) (to-is (c .before .before .before .before .before .before .before .before .before .before .before .before .before .before .before)) (c .before .before .before .before .before .before .before .before .before .before .domains .ensures) (c .before .before .before .before .before .before .before .table .ensures)
     (choiceOf (c .before .before .before .before .solve .result .chosen)) (c .assign .result) some (c .before .before .before .before .solve .ensures .0 (not-false _ (c .before .before .if2 .left))) (images-long c)
     (c .assign .ensures)
@@ -201,8 +202,8 @@ find-spec =
     returns
     flat-requires
     flat-requires-2
-    numbers-requires
-    numbers-requires-2
+    codes-requires
+    codes-requires-2
     slice-aggregate-domains
     slice-aggregate-domains-2
     domains-requires

@@ -5,8 +5,8 @@ use mathlib.Core.Path.{_≡_, refl, subst}
 use Prim.Native.Nat.{ℕ, _*_, _<_}
 use native.Mathlib.Omega.{arith}
 use lib.ListN.{getD, length}
-use Rattle.search.specs.Solution.{Solution}
-use Rattle.search.specs.Invariant.{missing, Tested}
+use Rattle.consistency.specs.Solution.{Solution}
+use Rattle.search.specs.internal.Invariant.{missing, Tested}
 use Rattle.search.proofs.Calls.{tryable-first, failed-full, solved-already, failed-exhausted, some-work, placeable-next, failed-jump, tryable-next}
 use borrow.Fn.Kinds.{In}
 use borrow.Fn.PlainCycle.{Measures, is, falls, and}
@@ -16,7 +16,7 @@ use Rattle.search.proofs.+place_row+try_candidate.Lts-place_row as plac
 use Rattle.search.proofs.try_candidate.Reads as try-candidate
 use Rattle.search.proofs.try_candidate.Kinds as try-candidate-kinds
 use Rattle.search.proofs.+place_row+try_candidate.Lts-try_candidate as try-candidate-lts
-use Rattle.search.proofs.choose.Reads as choose-reads
+use Rattle.consistency.proofs.choose.Reads as choose-reads
 use Rattle.search.proofs.next_candidate.Reads as next-candidate-reads
 use Rattle.search.proofs.next_row.Reads as next-row-reads
 use Rattle.search.proofs.test_choices.Reads as test-choices-reads

@@ -4,7 +4,7 @@ use mathlib.Core.Path.{subst}
 use Prim.Native.Nat.{ℕ, _-_, _<_, _≤_}
 use native.Mathlib.Omega.{arith}
 use borrow.Author.Count.{below-more}
-use Rattle.search.specs.Invariant.{RowFits, Tested}
+use Rattle.search.specs.internal.Invariant.{RowFits, Tested}
 use Rattle.search.specs.declared.Clash.{Clash}
 use Rattle.search.proofs.test_choices.Statement.{statement}
 use Rattle.search.proofs.test_choices.Tie as tie

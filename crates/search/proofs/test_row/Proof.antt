@@ -2,11 +2,11 @@
 use borrow.Author.Needs.{needs}
 use borrow.Author.Count.{below-more}
 use Rattle.search.proofs.Steps.{excluded-one, excluded-two}
-use Rattle.search.proofs.Masks.{digit-one, bit-shifted, bit-or-left, bit-or-right}
+use Rattle.consistency.proofs.Masks.{digit-one, bit-shifted, bit-or-left, bit-or-right}
 use Prim.Native.Nat.{ℕ, _-_, _*_, _^_, _%_, _<_, _≤_}
 use native.Mathlib.Omega.{arith}
 use lib.ListN.{getD}
-use Rattle.search.specs.Solution.{Bit, together}
+use Rattle.consistency.specs.Solution.{Bit, together}
 use Rattle.search.proofs.test_row.Statement.{statement}
 use Rattle.search.proofs.test_row.Tie as tie
 

@@ -3,8 +3,8 @@
 use borrow.Author.Needs.{needs}
 use mathlib.Core.Path.{_≡_, subst}
 use Prim.Native.Nat.{ℕ, _+_, _-_, _≤_}
-use Rattle.mapping.specs.Tests.{choiceOf}
-use Rattle.mapping.specs.Mapped.{Assigned}
+use Rattle.mapping.specs.internal.Lines.{choiceOf}
+use Rattle.mapping.specs.internal.Lines.{Assigned}
 use Rattle.mapping.proofs.Images.{rows-start, rows-more}
 use Rattle.mapping.proofs.assign.assign.Statement.{statement}
 use Rattle.mapping.proofs.assign.assign.Tie as tie

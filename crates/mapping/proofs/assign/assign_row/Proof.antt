@@ -3,11 +3,11 @@
 use borrow.Author.Needs.{needs}
 use mathlib.Core.Path.{_≡_, sym, ap, _∙_, subst}
 use mathlib.Core.Logic.{⊎-elim}
-use native.Mathlib.Omega.{arith}
 use Prim.Native.Nat.{ℕ, _+_, _-_, _≤_, _<_}
 use lib.ListN.{getD, length, length-set}
-use Rattle.mapping.specs.Mapped.{RowAssigned}
-use Rattle.mapping.proofs.Images.{row-start, row-skip, row-store}
+use Rattle.mapping.specs.internal.Lines.{RowAssigned}
+use Rattle.query.proofs.Codes.{code-constant}
+use Rattle.mapping.proofs.Images.{row-start, row-skip, row-store, variable-small}
 use Rattle.mapping.proofs.assign.assign_row.Statement.{statement}
 use Rattle.mapping.proofs.assign.assign_row.Tie as tie
 
@@ -20,19 +20,23 @@ abbrev μ-loop : tie.MeasureT-loop
 loop-holds : tie.Need-loop-holds Inv-loop μ-loop
 loop-holds c = (search needs, search needs, row-start (c .args .images) (c .args .t2) (c .args .t3) (c .args .row) (c .args .image))
 
-add-value : tie.Need-add-value Inv-loop μ-loop
-add-value c = search needs
+add-decode : tie.Need-add-decode Inv-loop μ-loop
+add-decode c = search needs
 
-mul-value : tie.Need-mul-value Inv-loop μ-loop
-mul-value c = search needs
+mul-decode : tie.Need-mul-decode Inv-loop μ-loop
+mul-decode c = search needs
 
-array-read-value : tie.Need-array-read-value Inv-loop μ-loop
-array-read-value c = search needs
+array-read-decode : tie.Need-array-read-decode Inv-loop μ-loop
+array-read-decode c = search needs
 
-cast-v : tie.Need-cast-v Inv-loop μ-loop
-cast-v c =
-    let small : getD (c .before .before .before .args .t2) (c .before .before .before .args .row + c .before .before .loop .i) 0 < 2147483744 = c .before .before .before .pre .2 (c .before .before .before .args .row + c .before .before .loop .i) (search needs) in
-    search needs
+decode-requires : tie.Need-decode-requires Inv-loop μ-loop
+decode-requires c κs = search needs
+
+enum-told : tie.Need-enum-told Inv-loop μ-loop
+enum-told c = search needs
+
+enum-known-own : tie.Need-enum-known-own Inv-loop μ-loop
+enum-known-own c = search needs
 
 add-out : tie.Need-add-out Inv-loop μ-loop
 add-out c = search needs
@@ -43,15 +47,23 @@ mul-out c = search needs
 array-copy-out-out : tie.Need-array-copy-out-out Inv-loop μ-loop
 array-copy-out-out c = search needs
 
+cast-out : tie.Need-cast-out Inv-loop μ-loop
+cast-out c = search needs
+
 mul-out-2 : tie.Need-mul-out-2 Inv-loop μ-loop
 mul-out-2 c =
-    let small : getD (c .before .before .before .before .args .t2) (c .before .before .before .before .args .row + c .before .before .before .loop .i) 0 < 2147483744 = c .before .before .before .before .pre .2 (c .before .before .before .before .args .row + c .before .before .before .loop .i) (search needs) in
+    let s = c .before .before .before .before .before .before .before in
+    let place : s .args .row + c .before .before .before .before .before .before .loop .i < 104 = search needs in
+    let small = variable-small _ _ (s .pre .2 (s .args .row + c .before .before .before .before .before .before .loop .i) place) (sym (c .before .before .before .before .decode .ensures) ∙ c .before .before .own .given .1) in
+    let low = small .0 in
     search needs
 
 array-set-from-out : tie.Need-array-set-from-out Inv-loop μ-loop
 array-set-from-out c =
-    let small : getD (c .before .before .before .before .args .t2) (c .before .before .before .before .args .row + c .before .before .before .loop .i) 0 < 2147483744 = c .before .before .before .before .pre .2 (c .before .before .before .before .args .row + c .before .before .before .loop .i) (search needs) in
-    search needs
+    let s = c .before .before .before .before .before .before .before in
+    let place : s .args .row + c .before .before .before .before .before .before .loop .i < 104 = search needs in
+    let small = variable-small _ _ (s .pre .2 (s .args .row + c .before .before .before .before .before .before .loop .i) place) (sym (c .before .before .before .before .decode .ensures) ∙ c .before .before .own .given .1) in
+    small .0
 
 add-i : tie.Need-add-i Inv-loop μ-loop
 add-i c = search needs
@@ -61,23 +73,25 @@ loop-less c = search needs
 
 loop-again : tie.Need-loop-again Inv-loop μ-loop
 loop-again c =
-    let args = c .before .before .before .args in
-    let out = c .before .before .loop .out in
-    let i = c .before .before .loop .i in
-    let value : ℕ = getD (args .t2) (args .row + i) 0 in
-    let small : getD (c .before .before .before .args .t2) (c .before .before .before .args .row + c .before .before .loop .i) 0 < 2147483744 = c .before .before .before .pre .2 (c .before .before .before .args .row + c .before .before .loop .i) (search needs) in (
+    let s = c .before .before .before .before in
+    let args = s .args in
+    let l = c .before .before .before .loop in
+    let i = l .i in
+    let place : args .row + i < 104 = search needs in
+    let Next = RowAssigned (args .images) (args .t2) (args .t3) (args .row) (args .image) (i + 1) in (
       search needs,
-      ⊎-elim (λ w. ap length (w .2) ∙ simp length-set (c .before .before .loop .inv .1)) (λ w. ap length (w .1) ∙ c .before .before .loop .inv .1) (c .if1 .came),
+      ⊎-elim (λ w. ap length (w .2) ∙ l .inv .1) (λ w. ap length (w .4) ∙ simp length-set (l .inv .1)) (c .match .came),
       ⊎-elim
           (λ w.
-          let large : 2147483648 ≤ value = w .0 .taken in
-          subst (RowAssigned (args .images) (args .t2) (args .t3) (args .row) (args .image) (i + 1)) (sym (w .2))
-          (row-store (args .images) (args .t2) (args .t3) (args .row) (args .image) i out (c .before .before .loop .inv .2) (value - 2147483648) (omega arith)
-          (c .before .before .loop .inv .1) (omega arith)))
+          subst Next (sym (w .2))
+          (row-skip (args .images) (args .t2) (args .t3) (args .row) (args .image) i (l .out) (l .inv .2)
+          (code-constant _ _ (sym (c .before .decode .ensures) ∙ w .1 .given .1))))
           (λ w.
-          subst (RowAssigned (args .images) (args .t2) (args .t3) (args .row) (args .image) (i + 1)) (sym (w .1))
-          (row-skip (args .images) (args .t2) (args .t3) (args .row) (args .image) i out (c .before .before .loop .inv .2) (w .0 .left)))
-          (c .if1 .came),
+          let small = variable-small _ _ (s .pre .2 (args .row + i) place) (sym (c .before .decode .ensures) ∙ w .1 .given .1) in
+          subst Next (sym (w .4))
+          (row-store (args .images) (args .t2) (args .t3) (args .row) (args .image) i (l .out) (l .inv .2) (w .1 .given .0 .0) (small .0) (l .inv .1)
+          (small .1)))
+          (c .match .came),
     )
 
 returns : tie.Need-returns Inv-loop μ-loop
@@ -93,13 +107,16 @@ assign-row-spec =
     Inv-loop
     μ-loop
     loop-holds
-    add-value
-    mul-value
-    array-read-value
-    cast-v
+    add-decode
+    mul-decode
+    array-read-decode
+    decode-requires
+    enum-told
+    enum-known-own
     add-out
     mul-out
     array-copy-out-out
+    cast-out
     mul-out-2
     array-set-from-out
     add-i

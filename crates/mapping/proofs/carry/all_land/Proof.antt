@@ -6,8 +6,8 @@ use borrow.Author.Tests.{not-true, not-false}
 use mathlib.Core.Path.{sym, _∙_}
 use mathlib.Core.Bool.{false≢true}
 use Prim.Native.Nat.{ℕ, _-_, _≤_, _<_}
-use Rattle.mapping.specs.Mapped.{Lands}
-use Rattle.mapping.proofs.Tells.{tells-true, tells-false}
+use Rattle.mapping.specs.internal.Lines.{Lands}
+use Rattle.lists.proofs.Positions.{tells-true, tells-false}
 use Rattle.mapping.proofs.carry.all_land.Statement.{statement}
 use Rattle.mapping.proofs.carry.all_land.Tie as tie
 

@@ -8,8 +8,9 @@ use Prim.Native.Nat.{ℕ, _+_, _-_, _≤_, _<_}
 use Rattle.theory.specs.Query.{constant}
 use Rattle.theory.specs.Answer.{valueOf}
 use Rattle.theory.proofs.Entries.{sameEntry-eq, sameEntry-ne}
-use Rattle.mapping.specs.Mapped.{entryIn, imagesOf}
-use Rattle.mapping.proofs.Tells.{tells-true, tells-false}
+use Rattle.mapping.specs.Mapped.{imagesOf}
+use Rattle.mapping.specs.internal.Lines.{entryIn}
+use Rattle.lists.proofs.Positions.{tells-true, tells-false}
 use Rattle.mapping.proofs.carry.carries.Statement.{statement}
 use Rattle.mapping.proofs.carry.carries.Tie as tie
 
@@ -44,13 +45,13 @@ array-copy-out-d c = search needs
 image-of-requires : tie.Need-image-of-requires Inv-loop μ-loop
 image-of-requires c κs = search needs
 
-same-requires : tie.Need-same-requires Inv-loop μ-loop
-same-requires c κs = search needs
+same-entry-requires : tie.Need-same-entry-requires Inv-loop μ-loop
+same-entry-requires c κs = search needs
 
 returns : tie.Need-returns Inv-loop μ-loop
 returns c =
     tells-false
-    (λ p. sameEntry-ne _ _ (sym (c .before .same .ensures) ∙ not-true _ (c .if1 .taken)) (c .before .before .image-of .ensures ∙ p (c .before .before .before .before .before .before .loop .i) (search needs)))
+    (λ p. sameEntry-ne _ _ (sym (c .before .same-entry .ensures) ∙ not-true _ (c .if1 .taken)) (c .before .before .image-of .ensures ∙ p (c .before .before .before .before .before .before .loop .i) (search needs)))
 
 add-i : tie.Need-add-i Inv-loop μ-loop
 add-i c = search needs
@@ -62,7 +63,7 @@ loop-again : tie.Need-loop-again Inv-loop μ-loop
 loop-again c = (
   search needs,
   below-more _ _ (c .before .before .before .before .before .before .loop .inv .1)
-      (sym (c .before .before .image-of .ensures) ∙ sameEntry-eq _ _ (sym (c .before .same .ensures) ∙ not-false _ (c .if1 .left))),
+      (sym (c .before .before .image-of .ensures) ∙ sameEntry-eq _ _ (sym (c .before .same-entry .ensures) ∙ not-false _ (c .if1 .left))),
 )
 
 returns-2 : tie.Need-returns-2 Inv-loop μ-loop
@@ -82,7 +83,7 @@ carries-spec =
     mul-d
     array-copy-out-d
     image-of-requires
-    same-requires
+    same-entry-requires
     returns
     add-i
     loop-less

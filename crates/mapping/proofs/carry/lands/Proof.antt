@@ -7,8 +7,8 @@ use mathlib.Core.Bool.{false≢true}
 use mathlib.Core.Logic.{⊎-elim}
 use Prim.Native.Nat.{ℕ, _*_, _-_, _≤_, _<_}
 use lib.ListN.{getD}
-use Rattle.mapping.specs.Mapped.{Carried}
-use Rattle.mapping.proofs.Tells.{tells-true, tells-false}
+use Rattle.mapping.specs.internal.Lines.{Carried}
+use Rattle.lists.proofs.Positions.{tells-true, tells-false}
 use Rattle.mapping.proofs.carry.lands.Statement.{statement}
 use Rattle.mapping.proofs.carry.lands.Tie as tie
 

@@ -9,8 +9,9 @@ use mathlib.Core.Logic.{⊎-elim}
 use Prim.Native.Nat.{ℕ, _-_, _≤_, _<_}
 use Rattle.theory.specs.Query.{constant}
 use Rattle.theory.proofs.Entries.{sameEntry-eq, sameEntry-ne}
-use Rattle.mapping.specs.Mapped.{imagesOf, Stands}
-use Rattle.mapping.proofs.Tells.{tells-true, tells-false}
+use Rattle.mapping.specs.Mapped.{imagesOf}
+use Rattle.mapping.specs.internal.Lines.{Stands}
+use Rattle.lists.proofs.Positions.{tells-true, tells-false}
 use Rattle.mapping.proofs.carry.rest_blank.Statement.{statement}
 use Rattle.mapping.proofs.carry.rest_blank.Tie as tie
 
@@ -32,8 +33,8 @@ mul-c c = search needs
 array-copy-out-c : tie.Need-array-copy-out-c Inv-loop μ-loop
 array-copy-out-c c = search needs
 
-same-requires : tie.Need-same-requires Inv-loop μ-loop
-same-requires c κs = search needs
+same-entry-requires : tie.Need-same-entry-requires Inv-loop μ-loop
+same-entry-requires c κs = search needs
 
 stands-requires : tie.Need-stands-requires Inv-loop μ-loop
 stands-requires c κs = search needs
@@ -42,7 +43,7 @@ returns : tie.Need-returns Inv-loop μ-loop
 returns c =
     tells-false
     (λ p.
-    sameEntry-ne _ _ (sym (c .before .before .before .same .ensures) ∙ not-true _ (c .before .before .if1 .taken))
+    sameEntry-ne _ _ (sym (c .before .before .before .same-entry .ensures) ∙ not-true _ (c .before .before .if1 .taken))
     (p (c .before .before .before .before .before .before .loop .v) (search needs) (λ s. false≢true (sym (not-true _ (c .if2 .taken)) ∙ c .before .stands .ensures .1 s))))
 
 add-v : tie.Need-add-v Inv-loop μ-loop
@@ -55,7 +56,7 @@ loop-again : tie.Need-loop-again Inv-loop μ-loop
 loop-again c = (
   search needs,
   below-more _ _ (c .before .before .before .before .loop .inv .1)
-      (⊎-elim (λ w out. absurd (out (w .1 .ensures .0 (not-false _ (w .2 .left))))) (λ w out. sameEntry-eq _ _ (sym (c .before .same .ensures) ∙ not-false _ (w .left)))
+      (⊎-elim (λ w out. absurd (out (w .1 .ensures .0 (not-false _ (w .2 .left))))) (λ w out. sameEntry-eq _ _ (sym (c .before .same-entry .ensures) ∙ not-false _ (w .left)))
       (c .if1 .came)),
 )
 
@@ -72,7 +73,7 @@ rest-blank-spec =
     cast-c
     mul-c
     array-copy-out-c
-    same-requires
+    same-entry-requires
     stands-requires
     returns
     add-v

@@ -12,8 +12,8 @@ use lib.ListN.{getD, length, length-set}
 use Rattle.query.specs.declared.Cell.{Cell}
 use Rattle.query.specs.declared.Query.{Query}
 use Rattle.query.specs.Rule.{noCell}
-use Rattle.mapping.specs.Mapped.{cellAt}
-use Rattle.mapping.proofs.Stores.{stored-into}
+use Rattle.mapping.specs.internal.Lines.{cellAt}
+use Rattle.lists.proofs.Positions.{stored-into}
 use Rattle.mapping.proofs.cells.flat.Statement.{statement}
 use Rattle.mapping.proofs.cells.flat.Tie as tie
 

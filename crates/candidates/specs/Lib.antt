@@ -1,0 +1,3 @@
+-- What the search is given (Candidates). `internal` is this crate's own.
+pub mod Candidates
+pub mod internal

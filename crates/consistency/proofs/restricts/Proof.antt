@@ -1,0 +1,90 @@
+-- `search::restricts` is safe and ends; it promises nothing. Assumes nothing.
+use borrow.Author.Needs.{needs}
+use Prim.Native.Nat.{_-_, _≤_}
+use Rattle.consistency.proofs.restricts.Statement.{statement}
+use Rattle.consistency.proofs.restricts.Tie as tie
+
+abbrev Inv-loop : tie.InvT-loop
+Inv-loop domain table r q own other d₀ d = d ≤ 12
+
+abbrev μ-loop : tie.MeasureT-loop
+μ-loop domain table r q own other d₀ d = 12 - d
+
+mul-own : tie.Need-mul-own Inv-loop μ-loop
+mul-own c = search needs
+
+element-copy-out-own : tie.Need-element-copy-out-own Inv-loop μ-loop
+element-copy-out-own c = search needs
+
+mul-other : tie.Need-mul-other Inv-loop μ-loop
+mul-other c = search needs
+
+element-copy-out-other : tie.Need-element-copy-out-other Inv-loop μ-loop
+element-copy-out-other c = search needs
+
+loop-holds : tie.Need-loop-holds Inv-loop μ-loop
+loop-holds c = search needs
+
+cast-if1 : tie.Need-cast-if1 Inv-loop μ-loop
+cast-if1 c = search needs
+
+shr-if1 : tie.Need-shr-if1 Inv-loop μ-loop
+shr-if1 c = search needs
+
+mul-if2 : tie.Need-mul-if2 Inv-loop μ-loop
+mul-if2 c = search needs
+
+add-if2 : tie.Need-add-if2 Inv-loop μ-loop
+add-if2 c = search needs
+
+mul-if2-2 : tie.Need-mul-if2-2 Inv-loop μ-loop
+mul-if2-2 c = search needs
+
+add-if2-2 : tie.Need-add-if2-2 Inv-loop μ-loop
+add-if2-2 c = search needs
+
+mul-if2-3 : tie.Need-mul-if2-3 Inv-loop μ-loop
+mul-if2-3 c = search needs
+
+element-copy-out-if2 : tie.Need-element-copy-out-if2 Inv-loop μ-loop
+element-copy-out-if2 c = search needs
+
+returns : tie.Need-returns Inv-loop μ-loop
+returns c = search needs
+
+add-d : tie.Need-add-d Inv-loop μ-loop
+add-d c = search needs
+
+loop-less : tie.Need-loop-less Inv-loop μ-loop
+loop-less c = search needs
+
+loop-again : tie.Need-loop-again Inv-loop μ-loop
+loop-again c = search needs
+
+returns-2 : tie.Need-returns-2 Inv-loop μ-loop
+returns-2 c = search needs
+
+pub restricts-spec : {M : Type 1} → statement M
+restricts-spec =
+    tie.close
+    (tie.spec
+    Inv-loop
+    μ-loop
+    mul-own
+    element-copy-out-own
+    mul-other
+    element-copy-out-other
+    loop-holds
+    cast-if1
+    shr-if1
+    mul-if2
+    add-if2
+    mul-if2-2
+    add-if2-2
+    mul-if2-3
+    element-copy-out-if2
+    returns
+    add-d
+    loop-less
+    loop-again
+    returns-2)
