@@ -115,12 +115,11 @@ chase-computes ds q result count = (chased-by, λ same. subst (λ c. Chases ds q
 
 pub rests-exactly : chases.RestsExactly
 rests-exactly ds q = (
-  λ resting. firstBroken-nothing ds (q .rows) (step-nothing ds q resting),
-  λ holds. step-rests ds q (option-cases _ (λ found is.
+  λ resting d held r s at at' broken. broken .differ-right
+      (firstBroken-nothing ds (q .rows) (step-nothing ds q resting) d held r s at at' (broken .first-relation) (broken .second-relation) (broken .agree-left)),
+  λ unbroken. step-rests ds q (option-cases _ (λ found is.
       let what = firstBroken-found ds (q .rows) found is in
-      let broken = what .3 in
-      absurd (broken .differ-right (holds (found .0) (what .0) (found .1 .0) (found .1 .1) (what .1) (what .2)
-      (broken .first-relation) (broken .second-relation) (broken .agree-left)))) (λ nothing. nothing)),
+      absurd (unbroken (found .0) (what .0) (found .1 .0) (found .1 .1) (what .1) (what .2) (what .3))) (λ nothing. nothing)),
 )
 
 -- A chase by its replacements

@@ -5,12 +5,12 @@ use mathlib.Core.List.{List, []}
 use mathlib.Core.Option.{none, some}
 use Prim.Native.Nat.{ℕ, zero, suc, _+_, _≤_, _<_}
 use lib.ListN.{length}
-use Rattle.theory.specs.Query.{Entry, constant, variable, Row, Query, never, column, mapQuery, variablesOf, variableCount, RowsFit, WellFormed}
-use Rattle.theory.specs.Query.{_∈_}
-use Rattle.theory.specs.Database.{Database, Dependency, Agree, Obeys, Sound}
+use Rattle.theory.specs.Query.{Entry, constant, variable, Row, Query, never, mapQuery, variablesOf, variableCount, RowsFit, WellFormed, _∈_}
+use Rattle.theory.specs.Database.{Database, Dependency, Obeys, Sound}
 use Rattle.theory.specs.Answer.{Answer, Mapping}
 use Rattle.theory.specs.Chase.{clash, replace, resolve, inHead, substitute, step, Chases, chase}
 use Rattle.theory.specs.Containment.{frozenRows, ConstantsBelow}
+use Rattle.theory.specs.OrderTheorems.{Broken}
 
 -- ---- the chase ends, in one way
 
@@ -27,13 +27,11 @@ abbrev pub ChaseComputes : Type 0
 ChaseComputes =
     (ds : List Dependency) (q result : Query) (count : ℕ) → Chases ds q result count ↔ (chase ds q ≡ record { query = result; count = count })
 
--- It rests exactly where any two rows of a dependency's relation that agree on its left columns agree on the right one
+-- It rests exactly where no two rows break a dependency
 abbrev pub RestsExactly : Type 0
 RestsExactly =
     (ds : List Dependency) (q : Query)
-    → (step ds q ≡ none)
-    ↔ ((d : Dependency) → d ∈ ds → (r s : Row Entry) → r ∈ q .rows → s ∈ q .rows → r .relation ≡ d .relation → s .relation ≡ d .relation
-    → Agree (constant 0) (d .left) r s → column (constant 0) r (d .right) ≡ column (constant 0) s (d .right))
+    → (step ds q ≡ none) ↔ ((d : Dependency) → d ∈ ds → (r s : Row Entry) → r ∈ q .rows → s ∈ q .rows → Broken d r s → ⊥)
 
 -- ---- the count
 
