@@ -1,4 +1,4 @@
-//! The chase, in document 01's order.
+//! The chase, in the order of SPECIFICATION, The chase.
 
 use crate::mapping::{identity, Mapping};
 use crate::record::*;

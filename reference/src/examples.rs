@@ -1,4 +1,4 @@
-//! Document 01's reference examples.
+//! The examples of SPECIFICATION, Examples.
 
 use crate::closure::determined;
 use crate::comparison::{check, compare, Verdict};

@@ -173,7 +173,7 @@ pub fn judge(input: &[u8], listing: &[u8]) -> Result<(), String> {
         return Err(format!("a line too many: {line:?}"));
     }
     // What was understood, printed again, must be the very text.
-    if again == text { Ok(()) } else { Err("its text isn't written as document 01 prints it".into()) }
+    if again == text { Ok(()) } else { Err("its text isn't written as SPECIFICATION, The listing program, has it".into()) }
 }
 
 #[cfg(test)]

@@ -1,4 +1,4 @@
-//! A second implementation of document 01, to run the engine against.
+//! A second implementation of docs/SPECIFICATION.md, to run the engine against.
 //! Layers, each using only those above it:
 //! record, file, chase, mapping, reduction, comparison, closure, database, listing.
 //! Then what tests another engine: judge, random, generate, vectors.

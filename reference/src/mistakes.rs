@@ -1,4 +1,4 @@
-//! Wrong engines, each with one of the mistakes that document 01 warns of or a near one. The
+//! Wrong engines, each with one mistake that is easily made. The
 //! generated files must show every one of them up.
 
 use crate::file::read;

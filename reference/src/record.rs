@@ -9,7 +9,7 @@ pub const MAX_ROWS: usize = 12;
 pub const VARIABLES: usize = 96;
 pub const MAX_CONSTANT: u32 = 2_147_483_647;
 
-/// The refusals, by document 01's numbers.
+/// The refusals, by the numbers of SPECIFICATION, Refusals.
 pub type Refusal = u8;
 pub const DIRECTORY: Refusal = 1;
 pub const OFFSETS: Refusal = 2;

@@ -1,4 +1,4 @@
--- The refusals of a call on two places: `pairRefusal` by the test that decides it, in document 01's order, and what it tells where none holds.
+-- The refusals of a call on two places: `pairRefusal` by the test that decides it, in the order of SPECIFICATION, Refusals, and what it tells where none holds.
 -- Assumes nothing.
 use mathlib.Core.Path.{_≡_, refl, sym, ap, ap₂, _∙_}
 use mathlib.Core.Logic.{⊎-elim}

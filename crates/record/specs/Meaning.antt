@@ -1,4 +1,4 @@
--- What the calls' equations come to, in the words of document 01. Each statement is proved in `proofs/Meaning`.
+-- What the calls' equations come to, in the words of SPECIFICATION, Calls on the record. Each statement is proved in `proofs/Meaning`.
 use mathlib.Core.Path.{_≡_}
 use mathlib.Core.Logic.{_↔_}
 use mathlib.Core.Bool.{true, false}

@@ -13,7 +13,7 @@ use Rattle.query.specs.Rule.{blankQuery, goodRelations, goodDependencies, goodQ
 abbrev pub goodPlace : List ℕ → Place → Bool
 goodPlace schema p = cond (p .filled) (goodQuery schema (p .query) && headSafe schema (p .query)) (blankQuery (p .query))
 
--- Document 01's "The record": what refusal 14 asks of a record
+-- SPECIFICATION, The record: what refusal 14 asks of a record
 unfoldable pub goodRecord : Record → Bool
 goodRecord r =
     goodRelations (r .relations) (r .widths) && goodDependencies (schemaOf r) (r .held) (r .dependencies)

@@ -20,7 +20,7 @@ pub struct Record {
     pub places: [Place; 8],
 }
 
-// What a call answers: done, or refused with document 01's number.
+// What a call answers: done, or refused with a number of SPECIFICATION, Refusals.
 pub enum Answer {
     Done,
     Refused(u8),
@@ -32,13 +32,13 @@ pub struct Outcome {
     pub record: Record,
 }
 
-// Where a place is looked up: its index, or document 01's number of the refusal.
+// Where a place is looked up: its index, or the number of the refusal.
 pub enum Lookup {
     At(usize),
     Refused(u8),
 }
 
-// What a question about determined columns answers: their set, bit c for column c, with their number; or document 01's number of the refusal.
+// What a question about determined columns answers: their set, bit c for column c, with their number; or the number of the refusal.
 pub enum Columns {
     Determined(u8, u8),
     Refused(u8),

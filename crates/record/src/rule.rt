@@ -38,7 +38,7 @@ pub fn places_good(relations: u8, widths: [u8; 8], places: [Place; 8]) -> bool
 }
 
 impl Record {
-    // Whether the record is as document 01's "The record" describes it: what refusal 14 asks.
+    // Whether the record is as SPECIFICATION, The record, has it: what refusal 14 asks.
     pub fn is_good(self) -> bool
         ensures { λ r. ⌜ r ≡ goodRecord self ⌝ }
     {

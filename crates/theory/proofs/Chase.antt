@@ -7,7 +7,7 @@
 --   4. Where the chase rests no dependency is broken, so its result, read as a database, obeys them.
 --   5. What the chase keeps: well-formed queries, the head's length, the number of rows, constants below a base; it makes no variable and no entry.
 -- Sections 2 to 5 are inductions on `Chases`; each law is stated of any chase first and then of `chase`. The survivor of a replacement is
--- document 01's, and no law depends on which of the two it is. Assumes nothing.
+-- that of SPECIFICATION, The chase, and no law depends on which of the two it is. Assumes nothing.
 use mathlib.Core.Path.{_≡_, refl, sym, _∙_, ap}
 use mathlib.Core.Logic.{_≢_, _↔_, _⊎_, inl, inr, ⊎-elim, Iff·rfl, Iff·trans}
 use mathlib.Core.List.{List, [], _++_, List·Memᴰ·not-nil, List·Memᴰ·append-cases, Memᴰ·append-left, Memᴰ·append-right, Memᴰ·cast, Memᴰ·of-map}

@@ -1,4 +1,4 @@
--- The chase with functional dependencies, as document 01's "The chase" gives it: order of search, survivor rule, restart, clash and count.
+-- The chase with functional dependencies, as SPECIFICATION, The chase, gives it: order of search, survivor rule, restart, clash and count.
 -- `Chases` is the definition; `chase` computes it: that the two are one, and what else is proved of them, is in `ChaseTheorems`.
 use mathlib.Core.Path.{_≡_}
 use mathlib.Core.Bool.{Bool, true, false, cond, not, _&&_}

@@ -1,4 +1,4 @@
--- The reference examples that document 01 marks P1 to P11, worked examples of the literature on tableaux and the chase, and some that single out a rule: one table.
+-- The reference examples P1 to P11 of SPECIFICATION, Examples, worked examples of the literature on tableaux and the chase, and some that single out a rule: one table.
 -- First what an example says (`Meaning`), then how it is computed (`holds`), then the table, and last the one statement that covers it.
 use mathlib.Core.Path.{_≡_}
 use mathlib.Core.Logic.{_↔_}
@@ -137,7 +137,7 @@ triangle = R (v 0) (v 1) ∷ R (v 1) (v 2) ∷ R (v 2) (v 0) ∷ []
 
 -- ---- the table
 
--- P1 to P11 of document 01, in order. P11 has two parts
+-- P1 to P11 of SPECIFICATION, Examples, in order. P11 has two parts
 abbrev pub reference : List Example
 reference =
     -- P1
@@ -189,7 +189,7 @@ worked =
     (query (v 7 ∷ v 8 ∷ []) (S (v 7) (v 8) (v 1) ∷ S (v 7) (v 2) (v 3) ∷ S (v 4) (v 8) (v 3) ∷ S (v 7) (k 4) (v 5) ∷ [])) (v 7 ∷ k 4 ∷ []) 1 2
     ∷ []
 
--- Further: the query of document 01's listing; a dependency of R says nothing of B; a clash that comes after a replacement;
+-- Further: the query of SPECIFICATION, The listing program; a dependency of R says nothing of B; a clash that comes after a replacement;
 -- the first is chased, not the second in its place; never is contained in all and contains no other;
 -- both left columns must agree; a row that stands there twice, with a constant that is no clash; a row of B is none of R; the closure in the other held order
 abbrev pub further : List Example

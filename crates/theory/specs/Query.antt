@@ -1,4 +1,4 @@
--- Entries, rows and queries, for any number of columns, rows, variables and constants. Document 01's limits are the record's, not the theory's.
+-- Entries, rows and queries, for any number of columns, rows, variables and constants. The limits of SPECIFICATION, Limits, are the record's, not the theory's.
 -- What a query means is in `Answer`.
 use mathlib.Core.Path.{_≡_}
 use mathlib.Core.Bool.{Bool, true, false, cond}

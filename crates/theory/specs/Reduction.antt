@@ -45,7 +45,7 @@ pub record Reordered (T U : Query) : Type 0 where
   pub size : length (U .rows) ≡ length (T .rows)
 
 -- R is a rival of S: a query of the same head length with the same answers on every sound database that obeys the dependencies, whatever its rows, variables and constants.
--- `width` is document 01's word on rivals; no proof needs it
+-- `width` is what SPECIFICATION, The demands, asks of rivals; no proof needs it
 pub record Rival (widths : List ℕ) (ds : List Dependency) (S R : Query) : Type 0 where
   pub width : length (R .head) ≡ length (S .head)
   pub same : Equivalent widths ds S R
