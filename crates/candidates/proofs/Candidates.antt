@@ -7,12 +7,11 @@ use Prim.Native.Nat.{ℕ, _+_, _*_, _/_, _%_, _≤_, _<_}
 use native.Mathlib.Nat.{le-trans}
 use native.Mathlib.Omega.{arith}
 use lib.Dec.{eqb}
-use lib.ListN.{getD, length}
+use lib.ListN.{getD}
 use Rattle.consistency.specs.Solution.{together as goes}
 use Rattle.lists.specs.Tests.{Tells}
-use Rattle.candidates.specs.Candidates.{Agrees, Keeps, Repeats, Marks, rowStart, imageStart, candidatesOf, Together, Possible, IsDomain, IsTable}
+use Rattle.candidates.specs.Candidates.{Agrees, Keeps, Repeats, Marks, rowStart, imageStart, candidatesOf, Together, Possible, IsTable}
 use Rattle.candidates.specs.internal.Sharing.{Shares, IsMask}
-use Rattle.candidates.proofs.Masks.{marks-small}
 
 module _ (source target named offered : List ℕ) (size r d row image : ℕ) (at-row : row ≡ rowStart size r) (at-image : image ≡ imageStart size r d) where
   -- A possible candidate has the row's constants

@@ -2,7 +2,6 @@
 -- Assumes nothing.
 use mathlib.Core.Path.{_≡_, refl, sym, ap, subst, _∙_}
 use mathlib.Core.Logic.{_↔_}
-use mathlib.Core.Bool.{true}
 use mathlib.Core.List.{List, [], List·Memᴰ·not-nil}
 use Prim.Native.Nat.{ℕ}
 use Rattle.query.specs.declared.Query.{Query}

@@ -4,7 +4,7 @@ use borrow.Author.Needs.{needs}
 use mathlib.Core.Path.{_≡_, sym, ap, _∙_, subst}
 use mathlib.Core.Logic.{⊎-elim}
 use Prim.Native.Nat.{ℕ, _+_, _-_, _≤_, _<_}
-use lib.ListN.{getD, length, length-set}
+use lib.ListN.{length, length-set}
 use Rattle.mapping.specs.internal.Lines.{RowAssigned}
 use Rattle.query.proofs.Codes.{code-constant}
 use Rattle.mapping.proofs.Images.{row-start, row-skip, row-store, variable-small}
