@@ -7,27 +7,26 @@ use Prim.Native.Nat.{ℕ, _+_, _*_, _/_, _%_, _≤_, _<_}
 use native.Mathlib.Nat.{le-trans}
 use native.Mathlib.Omega.{arith}
 use lib.Dec.{eqb}
-use lib.ListN.{getD, length}
+use lib.ListN.{getD}
 use Rattle.consistency.specs.Solution.{together as goes}
 use Rattle.lists.specs.Tests.{Tells}
-use Rattle.candidates.specs.Candidates.{Agrees, Keeps, Repeats, Marks, rowStart, imageStart, candidatesOf, Together, Possible, IsDomain, IsTable}
+use Rattle.candidates.specs.Candidates.{Agrees, Fixes, Repeats, Marks, rowStart, imageStart, candidatesOf, Together, Possible, IsTable}
 use Rattle.candidates.specs.internal.Sharing.{Shares, IsMask}
-use Rattle.candidates.proofs.Masks.{marks-small}
 
 module _ (source target named offered : List ℕ) (size r d row image : ℕ) (at-row : row ≡ rowStart size r) (at-image : image ≡ imageStart size r d) where
   -- A possible candidate has the row's constants
-  pub possible-keeps : Possible source target named offered size r d → Keeps source target row image
-  possible-keeps p = subst₂ (λ (x y : ℕ). Keeps source target x y) (sym at-row) (sym at-image) (p .keeps)
+  pub possible-fixes : Possible source target named offered size r d → Fixes source target row image
+  possible-fixes p = subst₂ (λ (x y : ℕ). Fixes source target x y) (sym at-row) (sym at-image) (p .fixes)
 
   -- A candidate of the same relation, the first of its like, with the row's constants is possible exactly when it has one number for each variable
-  pub possible-when : (b : Bool) → (r < size → getD named r 0 ≡ getD offered d 0) → (r < size → Repeats target offered d → ⊥) → Keeps source target row image
+  pub possible-when : (b : Bool) → (r < size → getD named r 0 ≡ getD offered d 0) → (r < size → Repeats target offered d → ⊥) → Fixes source target row image
       → Tells b (Agrees source target row image row image) → Tells b (Possible source target named offered size r d)
-  possible-when b same first keeps tells = (
+  possible-when b same first fixes tells = (
     (λ e.
         record {
           relation = same;
           first = first;
-          keeps = subst₂ (λ (x y : ℕ). Keeps source target x y) at-row at-image keeps;
+          fixes = subst₂ (λ (x y : ℕ). Fixes source target x y) at-row at-image fixes;
           agrees = subst₂ (λ (x y : ℕ). Agrees source target x y x y) at-row at-image (tells .0 e);
         }),
     (λ p. tells .1 (subst₂ (λ (x y : ℕ). Agrees source target x y x y) (sym at-row) (sym at-image) (p .agrees))),

@@ -19,8 +19,8 @@ Agrees source target r d q e =
     (i : ℕ) → i < 8 → 2147483648 ≤ getD source (r + i) 0 → Takes source target (getD source (r + i) 0) (getD target (d + i) 0) q e
 
 -- The image at d has each constant of the row at r in its place
-abbrev pub Keeps : List ℕ → List ℕ → ℕ → ℕ → Type 0
-Keeps source target r d = (i : ℕ) → i < 8 → getD source (r + i) 0 < 2147483648 → getD target (d + i) 0 ≡ getD source (r + i) 0
+abbrev pub Fixes : List ℕ → List ℕ → ℕ → ℕ → Type 0
+Fixes source target r d = (i : ℕ) → i < 8 → getD source (r + i) 0 < 2147483648 → getD target (d + i) 0 ≡ getD source (r + i) 0
 
 -- The rows at a and b have the same codes
 abbrev pub SameRow : List ℕ → ℕ → ℕ → Type 0
@@ -63,7 +63,7 @@ Together source target size r d q e = Agrees source target (rowStart size r) (im
 pub record Possible (source target named offered : List ℕ) (size r d : ℕ) : Type 0 where
   pub relation : r < size → getD named r 0 ≡ getD offered d 0
   pub first : r < size → Repeats target offered d → ⊥
-  pub keeps : Keeps source target (rowStart size r) (imageStart size r d)
+  pub fixes : Fixes source target (rowStart size r) (imageStart size r d)
   pub agrees : Together source target size r d r d
 
 -- Masks of the possible candidates of each row

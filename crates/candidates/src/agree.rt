@@ -4,7 +4,7 @@ use query::code::decode;
 ghost use Prim.Native.Nat.{_+_, _≤_};
 ghost use lib.ListN.{length};
 ghost use Rattle.lists.specs.Tests.{Tells};
-ghost use Rattle.candidates.specs.Candidates.{Takes, Agrees, Keeps, SameRow};
+ghost use Rattle.candidates.specs.Candidates.{Takes, Agrees, Fixes, SameRow};
 ghost use Rattle.candidates.specs.internal.Sharing.{Holds, Shares};
 
 // Whether the row at q, with its image at e, takes the code `value` to `image` wherever it has it.
@@ -76,9 +76,9 @@ pub fn shares(source: &[u32], r: usize, q: usize) -> bool
 }
 
 // Whether the image at d has each constant of the row at r in its place.
-pub fn keeps(source: &[u32], target: &[u32], r: usize, d: usize) -> bool
+pub fn fixes(source: &[u32], target: &[u32], r: usize, d: usize) -> bool
     requires { ⌜ (r + 8 ≤ length (now source)) × (d + 8 ≤ length (now target)) ⌝ }
-    ensures { λ b. ⌜ Tells b (Keeps (now (source .entry)) (now (target .entry)) r d) ⌝ }
+    ensures { λ b. ⌜ Tells b (Fixes (now (source .entry)) (now (target .entry)) r d) ⌝ }
 {
     for i in 0..8 {
         let value = source[r + i];

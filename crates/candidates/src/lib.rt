@@ -1,3 +1,3 @@
 // What the search for a mapping is given: the candidates of each row of a source, and which candidates of two rows go together.
-pub mod agree; // agree.rt: whether images of two rows are consistent
+mod agree; // agree.rt: whether images of two rows are consistent
 pub mod table; // table.rt: the candidates, and the table of those that go together

@@ -1,7 +1,7 @@
 // What the search is given: the candidates of each row, and which candidates of one row go together with a candidate of another. Rows 0 to size - 1
 // are the source's rows, whose candidates are the target's rows; row `size` is its head, whose one candidate is the target's head.
 use crate::agree::agrees;
-use crate::agree::keeps;
+use crate::agree::fixes;
 use crate::agree::same_row;
 use crate::agree::shares;
 ghost use mathlib.Core.Path.{_≡_};
@@ -102,7 +102,7 @@ fn possible(
     }
     let row = row_at(size, r);
     let image = image_at(size, r, d);
-    if !keeps(source, target, row, image) {
+    if !fixes(source, target, row, image) {
         return false;
     }
     agrees(source, target, row, image, row, image)

@@ -1,10 +1,10 @@
 -- Images in an array and in a list of the theory are the same assignment, so what tells the mappings is the theory's test.
 -- Assumes nothing.
-use mathlib.Core.Path.{_≡_, sym, _∙_, subst, fun-ext}
-use mathlib.Core.Bool.{Bool, true}
+use mathlib.Core.Path.{_≡_, subst, fun-ext}
+use mathlib.Core.Bool.{Bool}
 use mathlib.Core.List.{List}
 use Prim.Native.Nat.{ℕ}
-use lib.ListN.{getD, List·getD-map}
+use lib.ListN.{List·getD-map}
 use Rattle.theory.specs.Query as theory
 use Rattle.theory.specs.Answer.{IsMapping}
 use Rattle.theory.specs.Checking.{imageAt, mapsTo}

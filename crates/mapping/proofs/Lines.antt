@@ -1,7 +1,7 @@
 -- The entries of a stored query in one line are those of the theory's query, with constant 0 in the columns that are not in use:
 --   1. blank elements, 2. one query, 3. rows of two queries, 4. a mapping of the theory is one by positions.
 -- The lengths of arrays are the types', so the laws ask them.
-use mathlib.Core.Path.{_≡_, refl, sym, _∙_, ap, subst}
+use mathlib.Core.Path.{_≡_, sym, _∙_, ap, subst}
 use mathlib.Core.Bool.{Bool, true, false, cond}
 use mathlib.Core.Logic.{_⊎_, ⊎-elim}
 use mathlib.Core.List.{List, [], _++_, map, List·Memᴰ·append-cases, Memᴰ·cast, Memᴰ·append-left, Memᴰ·append-right}

@@ -6,7 +6,7 @@ use mathlib.Core.List.{List}
 use Prim.Native.Nat.{ℕ, _+_, _*_, _≤_, _<_}
 use native.Mathlib.Decide.{decLt}
 use native.Mathlib.Omega.{arith}
-use lib.ListN.{getD, length, replicate, List·getD-eq-default}
+use lib.ListN.{getD, length, List·getD-eq-default}
 use Rattle.theory.specs.Query.{Entry, constant, variable}
 use Rattle.theory.specs.Answer.{valueOf}
 use Rattle.theory.specs.Containment.{freeze}

@@ -114,7 +114,7 @@ module _ (source target : ℕ → Entry) (from to named offered : List ℕ) (siz
         record {
           relation = λ l. lands .same-relation r l;
           first = λ l. lands .first r l;
-          keeps = λ i k small.
+          fixes = λ i k small.
               let here : getD from (rowStart size r + i) 0 ≡ freeze 2147483648 (source (rowStart size r + i)) = from-is (rowStart size r + i) (at-row r i h k) in
               to-is (imageStart size r (choice r) + i) (at-image r i h k)
               ∙ ap (freeze 2147483648)
@@ -260,7 +260,7 @@ module _ (source target : ℕ → Entry) (from to named offered : List ℕ) (siz
           let number : getD from (rowStart size r + i) 0 ≡ n = from-is (rowStart size r + i) (place r i h k) ∙ ap (freeze 2147483648) is in
           let below : n < 2147483648 = subst Within is (from-within (rowStart size r + i) (place r i h k)) in
           let kept : getD to (imageStart size r (choice r) + i) 0 ≡ n =
-          chosen-possible r h .keeps i k (omega arith) ∙ number
+          chosen-possible r h .fixes i k (omega arith) ∙ number
           in
           code-same (constant n) (target (imageStart size r (choice r) + i)) below (to-within (imageStart size r (choice r) + i) (image-place r i h k))
           (sym kept ∙ to-is (imageStart size r (choice r) + i) (image-place r i h k))

@@ -11,7 +11,6 @@ use Rattle.theory.specs.Answer.{valueOf}
 use Rattle.theory.specs.Containment.{freeze}
 use Rattle.query.specs.declared.Entry.{Entry}
 use Rattle.query.specs.declared.Entry.the-variants.{Constant, Variable}
-use Rattle.query.specs.View.{entryOf}
 use Rattle.query.specs.Rule.{goodEntry}
 use Rattle.query.specs.Code.{codeOf, decoded}
 use Rattle.query.proofs.Stored.{Within, entry-within}

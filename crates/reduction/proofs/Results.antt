@@ -46,7 +46,7 @@ use Rattle.mapping.specs.declared.Mapped.{Mapped}
 use Rattle.reduction.specs.declared.Shortened.{Shortened}
 use Rattle.reduction.specs.declared.Reduced.{Reduced}
 use Rattle.mapping.specs.Mapped.{imagesOf, IsMapped}
-use Rattle.reduction.specs.Rows.{IsPruned}
+use Rattle.core.specs.CoreOf.{IsCoreOf}
 use Rattle.reduction.specs.Reduced.{refusal, reductionRefusal, Reduces, IsReduced}
 use Rattle.reduction.specs.Steps.{Shortenable, IsShortened, Reducible, IsStored}
 
@@ -54,7 +54,7 @@ use Rattle.reduction.specs.Steps.{Shortenable, IsShortened, Reducible, I
 
 -- Losing rows of the chased query gives a result of reduction
 result-of : {schema : List ℕ} {dependencies : List Dependency} {held : ℕ} {q result : Query} {chased : Chased} → IsChased schema dependencies held q chased
-    → IsPruned schema (chased .query) result → Reduction (heldOf dependencies held) (queryOf schema q) (queryOf schema result)
+    → IsCoreOf schema (chased .query) result → Reduction (heldOf dependencies held) (queryOf schema q) (queryOf schema result)
 result-of {schema} {dependencies} {held} {q} {result} {chased} c p =
     let ds = heldOf dependencies held in
     let is : queryOf schema (chased .query) ≡ chase ds (queryOf schema q) .query = c .query-is in
@@ -87,7 +87,7 @@ found-none {schema} {source} {target} {r} is empty = go (r .found) refl
 
 pub shortened : (schema : List ℕ) (dependencies : List Dependency) (held : ℕ) (q result : Query) (chased : Chased) (mapped : Mapped)
     → every (between 1 8) schema ≡ true → 8 * q .size ≤ length (q .cells) → goodQuery schema q ≡ true → headSafe schema q ≡ true
-    → IsChased schema dependencies held q chased → IsPruned schema (chased .query) result → IsMapped schema q result mapped
+    → IsChased schema dependencies held q chased → IsCoreOf schema (chased .query) result → IsMapped schema q result mapped
     → IsShortened schema (heldOf dependencies held) q (record { query = result; count = chased .count; images = mapped .images })
 unfolding headSafe
 shortened schema dependencies held q result chased mapped widths long good safe c p m =

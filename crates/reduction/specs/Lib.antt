@@ -1,4 +1,3 @@
--- What losing rows, shortening a query and reducing a place promise.
-pub mod Rows
+-- What shortening a query and reducing a place promise.
 pub mod Reduced
 pub mod Steps

@@ -1,7 +1,5 @@
 // Reducing the query of one place into a vacant one: chase it, lose rows while it can be mapped into itself without one of them, and find a mapping from the
 // query as it was stored.
-pub mod pruning; // pruning.rt: a query without one of its rows, and without all that it can do without
-
 use query::Cell;
 use query::Dependency;
 use query::Entry;
@@ -58,7 +56,7 @@ fn shorten(q: Query, dependencies: [Dependency; 32], held: usize) -> Shortened
 {
     let chased = chase::chase(q, dependencies, held);
     let query = chased.query;
-    let result = pruning::prune(query);
+    let result = core::core_of(query);
     let mapped = mapping::find(q, result);
     let images = mapped.images;
     Shortened {

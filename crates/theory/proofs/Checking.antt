@@ -1,7 +1,7 @@
 -- The test of given images says yes exactly to the mappings: each of its four parts is one of a mapping's.
 -- Assumes nothing.
 use mathlib.Core.Path.{_≡_, refl, sym, _∙_, ap, ap₂}
-use mathlib.Core.Logic.{_≢_, _⊎_, inl, inr, ⊎-elim, _↔_}
+use mathlib.Core.Logic.{_≢_}
 use mathlib.Core.Bool.{Bool, true, false, cond, _&&_, false≢true}
 use mathlib.Core.List.{List, [], _∷_, map, cons≢nil, List·Memᴰ·head, List·Memᴰ·tail, List·Memᴰ·not-nil, Memᴰ·cast}
 use Prim.Native.Nat.{ℕ, zero, suc, _+_}
@@ -9,10 +9,10 @@ use native.Mathlib.Omega.{arith}
 use borrow.Author.Tests.{eqb-true, eq-eqb}
 use lib.Dec.{eqb}
 use lib.ListN.{getD}
-use Rattle.theory.specs.Query.{Entry, constant, Row, Query, sameEntry, mapRow, variables, member, _∈_}
-use Rattle.theory.specs.Answer.{valueOf, IsMapping}
+use Rattle.theory.specs.Query.{Entry, constant, Row, sameEntry, mapRow, variables, member, _∈_}
+use Rattle.theory.specs.Answer.{valueOf}
 use Rattle.theory.specs.Checking.{imageAt, sameEntries, standsIn, rowsCarried, restZero, nonempty, mapsTo, MapsToExact}
-use Rattle.theory.proofs.Lists.{bool-cases, and-left, and-right, mem-cases, member-mem, member-not-mem, not-mem-member}
+use Rattle.theory.proofs.Lists.{bool-cases, and-left, and-right, mem-cases, member-not-mem, not-mem-member}
 use Rattle.theory.proofs.Entries.{sameEntry-eq, sameEntry-refl, eq-sameEntry}
 
 and-both : (a b : Bool) → a ≡ true → b ≡ true → (a && b) ≡ true

@@ -1,7 +1,7 @@
 // What is free in a reduction: which rows of the chased query stay, and in which order.
-use chase::same_entry;
 use query::Cell;
 use query::Query;
+use query::same_entry;
 use record::Record;
 ghost use Prim.Native.Nat.{_<_, _≤_};
 

@@ -59,11 +59,13 @@ same-entry-requires c κs = search needs
 
 returns-4 : tie.Need-returns-4
 returns-4 c =
-    let at = c .before .before .before .before in
+    let at4 = c .before .before .before .before in
+    let at = at4 in
     let a = at .before .before .before .before .before .before .before .before .args in
     breaks-by (a .q) (a .d) (a .i) (a .j) true (c .same-entry .result) (at .before .before .before .if1 .left) (at .before .if2 .left)
     (sym (not-false _ (c .before .before .before .if3 .left)) ∙ at .agree .ensures)
-    (wide-same (getD (a .q .relations) (a .i) 0) (getD (a .q .relations) (a .j) 0) (a .q .cells) (a .i) (a .j) (a .d .right) _ _ _ (search needs) (c .before .before .entry-at .ensures) (c .before .entry-at2 .ensures)
+    (wide-same (getD (a .q .relations) (a .i) 0) (getD (a .q .relations) (a .j) 0) (a .q .cells) (a .i) (a .j) (a .d .right) _ _ _ (search needs) (c .before .before .entry-at .ensures)
+    (c .before .entry-at2 .ensures)
     (c .same-entry .ensures))
 
 pub breaks-spec : {M : Type 1} → statement M

@@ -97,7 +97,9 @@ breaks-requires :
     Inv-search
     μ-search
 breaks-requires c κs =
-    (search needs, search needs, c .before .before .before .before .before .before .before .before .before .before .before .pre .right-fits (c .before .before .before .before .before .before .before .loop .d) (search needs))
+    let at7 = c .before .before .before .before .before .before .before in
+    let at11 = at7 .before .before .before .before in
+    (search needs, search needs, at11 .pre .right-fits (at7 .loop .d) (search needs))
 
 mul-entry-at :
     tie.Need-mul-entry-at Inv-loop3 μ-loop3 Inv-loop2 μ-loop2 Inv-loop μ-loop Inv-search μ-search
@@ -145,11 +147,15 @@ entry-at-requires-2 :
     Inv-search
     μ-search
 entry-at-requires-2 c κs =
-    let a = c .before .before .before .before .before .before .before .before .before .before .before .before .before .before .args in
-    let d = c .before .before .before .before .before .before .before .before .before .before .loop .d in
-    let i = c .before .before .before .before .before .before .loop2 .i in
-    let j = c .before .before .before .before .loop3 .j in
-    let fits : getD (a .t2) d noDependency .right < 8 = c .before .before .before .before .before .before .before .before .before .before .before .before .before .before .pre .right-fits d (search needs) in
+    let at4 = c .before .before .before .before in
+    let at6 = at4 .before .before in
+    let at10 = at6 .before .before .before .before in
+    let at14 = at10 .before .before .before .before in
+    let a = at14 .args in
+    let d = at10 .loop .d in
+    let i = at6 .loop2 .i in
+    let j = at4 .loop3 .j in
+    let fits : getD (a .t2) d noDependency .right < 8 = at14 .pre .right-fits d (search needs) in
     let inside : 8 * j + getD (a .t2) d noDependency .right < 96 = omega arith in
     inside
 
@@ -202,13 +208,17 @@ loop-again c =
 
 returns : tie.Need-returns Inv-loop3 μ-loop3 Inv-loop2 μ-loop2 Inv-loop μ-loop Inv-search μ-search
 returns c =
-    let a = c .before .before .before .before .before .before .before .before .before .before .before .before .before .before .before .args in
-    let d = c .before .before .before .before .before .before .before .before .before .before .before .loop .d in
-    let i = c .before .before .before .before .before .before .before .loop2 .i in
-    let j = c .before .before .before .before .before .loop3 .j in
-    let fits : getD (a .t2) d noDependency .right < 8 = c .before .before .before .before .before .before .before .before .before .before .before .before .before .before .before .pre .right-fits d (search needs) in (
+    let at5 = c .before .before .before .before .before in
+    let at7 = at5 .before .before in
+    let at11 = at7 .before .before .before .before in
+    let at15 = at11 .before .before .before .before in
+    let a = at15 .args in
+    let d = at11 .loop .d in
+    let i = at7 .loop2 .i in
+    let j = at5 .loop3 .j in
+    let fits : getD (a .t2) d noDependency .right < 8 = at15 .pre .right-fits d (search needs) in (
       pair-found (a .q) (a .t2) (a .held) d i j _ _ (search needs) fits (sym (c .before .before .if1 .taken) ∙ c .before .before .before .breaks .ensures)
-          (c .before .entry-at .ensures) (c .entry-at2 .ensures) (c .before .before .before .before .before .loop3 .inv .2),
+          (c .before .entry-at .ensures) (c .entry-at2 .ensures) (at5 .loop3 .inv .2),
       λ good. and-both _ _ (good-read _ _ _ (c .before .entry-at .ensures) good) (good-read _ _ _ (c .entry-at2 .ensures) good),
     )
 

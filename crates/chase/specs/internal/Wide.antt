@@ -12,7 +12,7 @@ use Rattle.query.specs.declared.Entry.the-variants.{Constant, Variable}
 use Rattle.query.specs.declared.Cell.{Cell}
 use Rattle.query.specs.declared.Query.{Query}
 use Rattle.query.specs.declared.Dependency.{Dependency}
-use Rattle.query.specs.View.{entryOf, entriesOf, dependencyOf}
+use Rattle.query.specs.View.{entryOf, entriesOf}
 use Rattle.query.specs.Rule.{goodEntry}
 use Rattle.chase.specs.declared.Found.{Found}
 use Rattle.chase.specs.declared.Found.the-variants.{Rest, Step}

@@ -74,56 +74,69 @@ carries-requires c κs = search needs
 
 returns-3 : tie.Need-returns-3
 returns-3 c =
-    let source = c .before .before .before .before .before .before .before .before .before .before .before .before .args .source in
-    let target = c .before .before .before .before .before .before .before .before .before .before .before .before .args .target in
-    let sizes = source-sizes (c .before .before .before .before .before .before .before .before .before .before .before .before) in
-    let sizes' = target-sizes (c .before .before .before .before .before .before .before .before .before .before .before .before) in
-    check-fails source target (c .before .before .before .before .before .before .before .before .before .before .before .before .args .images) sizes sizes'
+    let at4 = c .before .before .before .before in
+    let at5 = at4 .before in
+    let at12 = at5 .before .before .before .before .before .before .before in
+    let source = at12 .args .source in
+    let target = at12 .args .target in
+    let sizes = source-sizes (at12) in
+    let sizes' = target-sizes (at12) in
+    check-fails source target (at12 .args .images) sizes sizes'
     (λ w.
     false≢true
     (sym (not-true _ (c .if3 .taken))
     ∙ c .before .carries .ensures .1
-    (good-head source target (c .before .before .before .before .before .before .before .before .before .before .before .before .args .images) sizes sizes' (storable-size source (c .before .before .before .before .before .before .before .before .before .before .before .before .pre .0)) (storable-size target (c .before .before .before .before .before .before .before .before .before .before .before .before .pre .1))
-    (c .before .before .before .before .before .flat .result) (c .before .before .before .before .flat2 .result) (c .before .before .before .before .before .flat .ensures) (c .before .before .before .before .flat2 .ensures) w)))
+    (good-head source target (at12 .args .images) sizes sizes' (storable-size source (at12 .pre .0)) (storable-size target (at12 .pre .1))
+    (at5 .flat .result) (at4 .flat2 .result) (at5 .flat .ensures) (at4 .flat2 .ensures) w)))
 
 all-land-requires : tie.Need-all-land-requires
-all-land-requires c κs = (storable-size _ (c .before .before .before .before .before .before .before .before .before .before .before .before .pre .0), storable-size _ (c .before .before .before .before .before .before .before .before .before .before .before .before .pre .1))
+all-land-requires c κs =
+    let at12 = c .before .before .before .before .before .before .before .before .before .before .before .before in
+    (storable-size _ (at12 .pre .0), storable-size _ (at12 .pre .1))
 
 returns-4 : tie.Need-returns-4
 returns-4 c =
-    let source = c .before .before .before .before .before .before .before .before .before .before .before .before .before .before .args .source in
-    let target = c .before .before .before .before .before .before .before .before .before .before .before .before .before .before .args .target in
-    let sizes = source-sizes (c .before .before .before .before .before .before .before .before .before .before .before .before .before .before) in
-    let sizes' = target-sizes (c .before .before .before .before .before .before .before .before .before .before .before .before .before .before) in
-    check-fails source target (c .before .before .before .before .before .before .before .before .before .before .before .before .before .before .args .images) sizes sizes'
+    let at6 = c .before .before .before .before .before .before in
+    let at7 = at6 .before in
+    let at14 = at7 .before .before .before .before .before .before .before in
+    let source = at14 .args .source in
+    let target = at14 .args .target in
+    let sizes = source-sizes (at14) in
+    let sizes' = target-sizes (at14) in
+    check-fails source target (at14 .args .images) sizes sizes'
     (λ w.
     false≢true
     (sym (not-true _ (c .if4 .taken))
     ∙ c .before .all-land .ensures .1
-    (good-rows source target (c .before .before .before .before .before .before .before .before .before .before .before .before .before .before .args .images) sizes sizes' (storable-size source (c .before .before .before .before .before .before .before .before .before .before .before .before .before .before .pre .0)) (storable-size target (c .before .before .before .before .before .before .before .before .before .before .before .before .before .before .pre .1))
-    (c .before .before .before .before .before .before .before .flat .result) (c .before .before .before .before .before .before .flat2 .result) (c .before .before .before .before .before .before .before .flat .ensures) (c .before .before .before .before .before .before .flat2 .ensures) w)))
+    (good-rows source target (at14 .args .images) sizes sizes' (storable-size source (at14 .pre .0)) (storable-size target (at14 .pre .1))
+    (at7 .flat .result) (at6 .flat2 .result) (at7 .flat .ensures) (at6 .flat2 .ensures) w)))
 
 rest-blank-requires : tie.Need-rest-blank-requires
 rest-blank-requires c κs = search needs
 
 returns-5 : tie.Need-returns-5
 returns-5 c =
-    let source = c .before .before .before .before .before .before .before .before .before .before .before .before .before .before .before .args .source in
-    let target = c .before .before .before .before .before .before .before .before .before .before .before .before .before .before .before .args .target in
-    let sizes = source-sizes (c .before .before .before .before .before .before .before .before .before .before .before .before .before .before .before) in
-    let sizes' = target-sizes (c .before .before .before .before .before .before .before .before .before .before .before .before .before .before .before) in
-    let images = c .before .before .before .before .before .before .before .before .before .before .before .before .before .before .before .args .images in
-    let long = images-long (c .before .before .before .before .before .before .before .before .before .before .before .before .before .before .before) in
+    let at4 = c .before .before .before .before in
+    let at7 = at4 .before .before .before in
+    let at8 = at7 .before in
+    let at10 = at8 .before .before in
+    let at15 = at10 .before .before .before .before .before in
+    let source = at15 .args .source in
+    let target = at15 .args .target in
+    let sizes = source-sizes (at15) in
+    let sizes' = target-sizes (at15) in
+    let images = at15 .args .images in
+    let long = images-long (at15) in
     let some : 0 < source .size = search needs in
-    check-tells source target images sizes sizes' (c .rest-blank .result) (c .before .before .before .before .before .before .before .before .before .before .if1 .left) (
+    check-tells source target images sizes sizes' (c .rest-blank .result) (at10 .if1 .left) (
       (λ e.
-          parts-good source target images sizes sizes' (storable-size source (c .before .before .before .before .before .before .before .before .before .before .before .before .before .before .before .pre .0)) (storable-size target (c .before .before .before .before .before .before .before .before .before .before .before .before .before .before .before .pre .1))
-          (c .before .before .before .before .before .before .before .before .flat .result) (c .before .before .before .before .before .before .before .flat2 .result) (c .before .before .before .before .before .before .before .before .flat .ensures) (c .before .before .before .before .before .before .before .flat2 .ensures) long some (c .before .before .before .before .carries .ensures .0 (not-false _ (c .before .before .before .if3 .left)))
+          parts-good source target images sizes sizes' (storable-size source (at15 .pre .0)) (storable-size target (at15 .pre .1))
+          (at8 .flat .result) (at7 .flat2 .result) (at8 .flat .ensures) (at7 .flat2 .ensures) long some (at4 .carries .ensures .0 (not-false _ (c .before .before .before .if3 .left)))
           (c .before .before .all-land .ensures .0 (not-false _ (c .before .if4 .left))) (c .rest-blank .ensures .0 e)),
       (λ w.
           c .rest-blank .ensures .1
-          (good-rest source target images sizes sizes' (storable-size source (c .before .before .before .before .before .before .before .before .before .before .before .before .before .before .before .pre .0)) (storable-size target (c .before .before .before .before .before .before .before .before .before .before .before .before .before .before .before .pre .1))
-          (c .before .before .before .before .before .before .before .before .flat .result) (c .before .before .before .before .before .before .before .flat2 .result) (c .before .before .before .before .before .before .before .before .flat .ensures) (c .before .before .before .before .before .before .before .flat2 .ensures) w)),
+          (good-rest source target images sizes sizes' (storable-size source (at15 .pre .0)) (storable-size target (at15 .pre .1))
+          (at8 .flat .result) (at7 .flat2 .result) (at8 .flat .ensures) (at7 .flat2 .ensures) w)),
     )
 
 pub check-spec : {M : Type 1} → statement M

@@ -7,6 +7,7 @@ use mathlib.Core.Bool.{true}
 use Prim.Native.Nat.{ℕ, _+_, _≤_, _<_}
 use lib.ListN.{getD, length}
 use Rattle.theory.specs.Containment.{freeze}
+use Rattle.query.specs.declared.Query.{Query}
 use Rattle.lists.proofs.Loops.{mapped-length}
 use native.Mathlib.Omega.{arith}
 use Rattle.mapping.specs.internal.Lines.{choiceOf}
@@ -30,33 +31,45 @@ use Rattle.search.proofs.solve.Reads as solve-reads
 
 -- ---- what is known at the places of the code. The lengths of arrays are the types'
 
+-- What the functions that are called ask and tell
+abbrev claims : lts.Claims
+claims = (
+  no-mapping-reads.Asked,
+  no-mapping-reads.Learnt,
+  flat-reads.Asked,
+  flat-reads.Learnt,
+  codes-reads.Asked,
+  codes-reads.Learnt,
+  domains-reads.Asked,
+  domains-reads.Learnt,
+  table-reads.Asked,
+  table-reads.Learnt,
+  solve-reads.Asked,
+  solve-reads.Learnt,
+  assign-reads.Asked,
+  assign-reads.Learnt,
+)
+
 abbrev Start : Type 0
-Start = lts.Start
-    (no-mapping-reads.Asked, no-mapping-reads.Learnt, flat-reads.Asked, flat-reads.Learnt, codes-reads.Asked, codes-reads.Learnt, domains-reads.Asked, domains-reads.Learnt, table-reads.Asked, table-reads.Learnt, solve-reads.Asked, solve-reads.Learnt, assign-reads.Asked, assign-reads.Learnt) reads.Pre reads.Post
+Start = lts.Start claims reads.Pre reads.Post
 
 abbrev After-codes : Type 0
-After-codes = lts.After-codes
-    (no-mapping-reads.Asked, no-mapping-reads.Learnt, flat-reads.Asked, flat-reads.Learnt, codes-reads.Asked, codes-reads.Learnt, domains-reads.Asked, domains-reads.Learnt, table-reads.Asked, table-reads.Learnt, solve-reads.Asked, solve-reads.Learnt, assign-reads.Asked, assign-reads.Learnt) reads.Pre reads.Post
+After-codes = lts.After-codes claims reads.Pre reads.Post
 
 abbrev After-codes2 : Type 0
-After-codes2 = lts.After-codes2
-    (no-mapping-reads.Asked, no-mapping-reads.Learnt, flat-reads.Asked, flat-reads.Learnt, codes-reads.Asked, codes-reads.Learnt, domains-reads.Asked, domains-reads.Learnt, table-reads.Asked, table-reads.Learnt, solve-reads.Asked, solve-reads.Learnt, assign-reads.Asked, assign-reads.Learnt) reads.Pre reads.Post
+After-codes2 = lts.After-codes2 claims reads.Pre reads.Post
 
 abbrev After-domains : Type 0
-After-domains = lts.After-domains
-    (no-mapping-reads.Asked, no-mapping-reads.Learnt, flat-reads.Asked, flat-reads.Learnt, codes-reads.Asked, codes-reads.Learnt, domains-reads.Asked, domains-reads.Learnt, table-reads.Asked, table-reads.Learnt, solve-reads.Asked, solve-reads.Learnt, assign-reads.Asked, assign-reads.Learnt) reads.Pre reads.Post
+After-domains = lts.After-domains claims reads.Pre reads.Post
 
 abbrev After-table : Type 0
-After-table = lts.After-table
-    (no-mapping-reads.Asked, no-mapping-reads.Learnt, flat-reads.Asked, flat-reads.Learnt, codes-reads.Asked, codes-reads.Learnt, domains-reads.Asked, domains-reads.Learnt, table-reads.Asked, table-reads.Learnt, solve-reads.Asked, solve-reads.Learnt, assign-reads.Asked, assign-reads.Learnt) reads.Pre reads.Post
+After-table = lts.After-table claims reads.Pre reads.Post
 
 abbrev After-solve : Type 0
-After-solve = lts.After-solve
-    (no-mapping-reads.Asked, no-mapping-reads.Learnt, flat-reads.Asked, flat-reads.Learnt, codes-reads.Asked, codes-reads.Learnt, domains-reads.Asked, domains-reads.Learnt, table-reads.Asked, table-reads.Learnt, solve-reads.Asked, solve-reads.Learnt, assign-reads.Asked, assign-reads.Learnt) reads.Pre reads.Post
+After-solve = lts.After-solve claims reads.Pre reads.Post
 
 abbrev After-assign : Type 0
-After-assign = lts.After-assign
-    (no-mapping-reads.Asked, no-mapping-reads.Learnt, flat-reads.Asked, flat-reads.Learnt, codes-reads.Asked, codes-reads.Learnt, domains-reads.Asked, domains-reads.Learnt, table-reads.Asked, table-reads.Learnt, solve-reads.Asked, solve-reads.Learnt, assign-reads.Asked, assign-reads.Learnt) reads.Pre reads.Post
+After-assign = lts.After-assign claims reads.Pre reads.Post
 
 source-sizes : (c : Start) → Sizes (c .args .source)
 source-sizes c = record { head = search (mapped-length, needs); relations = search (mapped-length, needs); cells = search (mapped-length, needs) }
@@ -79,39 +92,56 @@ table-long c = search needs
 images-long : (c : After-assign) → length (c .assign .result) ≡ 96
 images-long c = search needs
 
-laid : (c : After-codes2) → Laid (c .before .codes .result) (c .codes2 .result) (c .before .before .before .before .before .before .before .args .source .size) (c .before .before .before .before .before .before .before .args .target .size)
+-- The two queries, where the codes of both are made
+abbrev sourceAt : After-codes2 → Query
+sourceAt c = c .before .before .before .before .before .before .before .args .source
+
+abbrev targetAt : After-codes2 → Query
+targetAt c = c .before .before .before .before .before .before .before .args .target
+
+laid : (c : After-codes2) → Laid (c .before .codes .result) (c .codes2 .result) (sourceAt c .size) (targetAt c .size)
 laid c =
+    let at7 = c .before .before .before .before .before .before .before in
     record {
       source-length = from-long (c .before);
       target-length = to-long c;
-      few-rows = storable-size (c .before .before .before .before .before .before .before .args .source) (c .before .before .before .before .before .before .before .pre .0);
-      few-images = storable-size (c .before .before .before .before .before .before .before .args .target) (c .before .before .before .before .before .before .before .pre .1);
+      few-rows = storable-size (at7 .args .source) (at7 .pre .0);
+      few-images = storable-size (at7 .args .target) (at7 .pre .1);
     }
 
--- The numbers are those of the two queries
-from-is : (c : After-codes2) (k : ℕ) → k < 104 → getD (c .before .codes .result) k 0 ≡ freeze 2147483648 (entryAt (c .before .before .before .before .before .before .before .args .source) k)
+-- The codes are those of the two queries
+from-is : (c : After-codes2) (k : ℕ) → k < 104 → getD (c .before .codes .result) k 0 ≡ freeze 2147483648 (entryAt (sourceAt c) k)
 from-is c =
-    line-code (c .before .before .before .before .before .before .before .args .source) (c .before .before .flat2 .result) (c .before .codes .result) (c .before .before .flat2 .ensures) (c .before .codes .ensures)
+    let at7 = c .before .before .before .before .before .before .before in
+    line-code (at7 .args .source) (c .before .before .flat2 .result) (c .before .codes .result) (c .before .before .flat2 .ensures) (c .before .codes .ensures)
 
-to-is : (c : After-codes2) (k : ℕ) → k < 104 → getD (c .codes2 .result) k 0 ≡ freeze 2147483648 (entryAt (c .before .before .before .before .before .before .before .args .target) k)
-to-is c = line-code (c .before .before .before .before .before .before .before .args .target) (c .before .before .before .flat .result) (c .codes2 .result) (c .before .before .before .flat .ensures) (c .codes2 .ensures)
+to-is : (c : After-codes2) (k : ℕ) → k < 104 → getD (c .codes2 .result) k 0 ≡ freeze 2147483648 (entryAt (targetAt c) k)
+to-is c =
+    let at7 = c .before .before .before .before .before .before .before in
+    line-code (at7 .args .target) (c .before .before .before .flat .result) (c .codes2 .result) (c .before .before .before .flat .ensures) (c .codes2 .ensures)
 
 -- The search is given few enough rows
 few-rows : (c : After-table) → c .before .before .before .before .before .before .before .before .before .before .before .before .before .before .before .args .source .size + 1 ≤ 13
 few-rows c =
-    let few : c .before .before .before .before .before .before .before .before .before .before .before .before .before .before .before .args .source .size ≤ 12 = storable-size (c .before .before .before .before .before .before .before .before .before .before .before .before .before .before .before .args .source) (c .before .before .before .before .before .before .before .before .before .before .before .before .before .before .before .pre .0) in
+    let at15 = c .before .before .before .before .before .before .before .before .before .before .before .before .before .before .before in
+    let few : at15 .args .source .size ≤ 12 = storable-size (at15 .args .source) (at15 .pre .0) in
     omega arith
 
 -- A choice that solves it has candidates below 12
-chosen-below : (c : After-solve) → c .solve .result .found ≡ true → (r : ℕ) → r ≤ c .before .before .before .before .before .before .before .before .before .before .before .before .before .before .before .before .before .before .args .source .size → getD (c .solve .result .chosen) r 0 < 12
+chosen-below : (c : After-solve) → c .solve .result .found ≡ true → (r : ℕ)
+    → r ≤ sourceAt (c .before .before .before .before .before .before .before .before .before .before .before) .size → getD (c .solve .result .chosen) r 0 < 12
 chosen-below c found =
-    let source = c .before .before .before .before .before .before .before .before .before .before .before .before .before .before .before .before .before .before .args .source in
-    let target = c .before .before .before .before .before .before .before .before .before .before .before .before .before .before .before .before .before .before .args .target in
-    chosen-small (entryAt source) (entryAt target) (c .before .before .before .before .before .before .before .before .before .before .before .before .codes .result) (c .before .before .before .before .before .before .before .before .before .before .before .codes2 .result) (source .relations) (target .relations)
-    (source .size) (target .size) (storable-size source (c .before .before .before .before .before .before .before .before .before .before .before .before .before .before .before .before .before .before .pre .0)) (storable-size target (c .before .before .before .before .before .before .before .before .before .before .before .before .before .before .before .before .before .before .pre .1)) (from-is (c .before .before .before .before .before .before .before .before .before .before .before))
-    (to-is (c .before .before .before .before .before .before .before .before .before .before .before)) (all-within (c .before .before .before .before .before .before .before .before .before .before .before .before .before .before .before .before .before .before .pre .0 .0) source (c .before .before .before .before .before .before .before .before .before .before .before .before .before .before .before .before .before .before .pre .0 .1) (source-sizes (c .before .before .before .before .before .before .before .before .before .before .before .before .before .before .before .before .before .before)))
-    (all-within (c .before .before .before .before .before .before .before .before .before .before .before .before .before .before .before .before .before .before .pre .1 .0) target (c .before .before .before .before .before .before .before .before .before .before .before .before .before .before .before .before .before .before .pre .1 .1) (target-sizes (c .before .before .before .before .before .before .before .before .before .before .before .before .before .before .before .before .before .before))) (c .before .before .before .before .before .before .domains .result) (c .before .before .before .table .result)
-    (c .before .before .before .before .before .before .domains .ensures) (c .before .before .before .table .ensures) (choiceOf (c .solve .result .chosen)) (c .solve .ensures .0 found)
+    let at6 = c .before .before .before .before .before .before in
+    let at11 = at6 .before .before .before .before .before in
+    let at12 = at11 .before in
+    let at18 = at12 .before .before .before .before .before .before in
+    let source = at18 .args .source in
+    let target = at18 .args .target in
+    chosen-small (entryAt source) (entryAt target) (at12 .codes .result) (at11 .codes2 .result) (source .relations) (target .relations)
+    (source .size) (target .size) (storable-size source (at18 .pre .0)) (storable-size target (at18 .pre .1)) (from-is (at11))
+    (to-is (at11)) (all-within (at18 .pre .0 .0) source (at18 .pre .0 .1) (source-sizes (at18)))
+    (all-within (at18 .pre .1 .0) target (at18 .pre .1 .1) (target-sizes (at18))) (at6 .domains .result) (c .before .before .before .table .result)
+    (at6 .domains .ensures) (c .before .before .before .table .ensures) (choiceOf (c .solve .result .chosen)) (c .solve .ensures .0 found)
 
 -- ---- the needs
 
@@ -126,8 +156,9 @@ no-mapping-requires c κs = search needs
 
 returns : tie.Need-returns
 returns c =
-    subst (Finds (c .before .before .before .before .args .source) (c .before .before .before .before .args .target)) (sym (c .no-mapping .ensures))
-    (none-size (c .before .before .before .before .args .source) (c .before .before .before .before .args .target) (source-sizes (c .before .before .before .before)) (target-sizes (c .before .before .before .before)) (c .before .if1 .taken))
+    let at4 = c .before .before .before .before in
+    subst (Finds (at4 .args .source) (at4 .args .target)) (sym (c .no-mapping .ensures))
+    (none-size (at4 .args .source) (at4 .args .target) (source-sizes (at4)) (target-sizes (at4)) (c .before .if1 .taken))
 
 flat-requires : tie.Need-flat-requires
 flat-requires c κs = search needs
@@ -170,26 +201,42 @@ no-mapping-requires-2 c κs = search needs
 
 returns-2 : tie.Need-returns-2
 returns-2 c =
-    subst (Finds (c .before .before .before .before .before .before .before .before .before .before .before .before .before .before .before .before .before .before .before .before .before .args .source) (c .before .before .before .before .before .before .before .before .before .before .before .before .before .before .before .before .before .before .before .before .before .args .target)) (sym (c .no-mapping2 .ensures))
-    (none-solution (c .before .before .before .before .before .before .before .before .before .before .before .before .before .before .before .before .before .before .before .before .before .args .source) (c .before .before .before .before .before .before .before .before .before .before .before .before .before .before .before .before .before .before .before .before .before .args .target) (source-sizes (c .before .before .before .before .before .before .before .before .before .before .before .before .before .before .before .before .before .before .before .before .before)) (target-sizes (c .before .before .before .before .before .before .before .before .before .before .before .before .before .before .before .before .before .before .before .before .before)) (c .before .before .before .before .before .before .before .before .before .before .before .before .before .before .before .before .before .before .before .before .before .pre .0) (c .before .before .before .before .before .before .before .before .before .before .before .before .before .before .before .before .before .before .before .before .before .pre .1)
-    (c .before .before .before .before .before .before .before .before .before .before .before .before .before .before .before .before .before .flat .result) (c .before .before .before .before .before .before .before .before .before .before .before .before .before .before .before .codes .result) (c .before .before .before .before .before .before .before .before .before .before .before .before .before .before .codes2 .result) (c .before .before .before .before .before .before .before .before .before .domains .result) (c .before .before .before .before .before .before .table .result)
-    (from-is (c .before .before .before .before .before .before .before .before .before .before .before .before .before .before)) (c .before .before .before .before .before .before .before .before .before .before .before .before .before .before .before .before .before .flat .ensures) (to-is (c .before .before .before .before .before .before .before .before .before .before .before .before .before .before)) (c .before .before .before .before .before .before .before .before .before .domains .ensures) (c .before .before .before .before .before .before .table .ensures)
+    let at6 = c .before .before .before .before .before .before in
+    let at9 = at6 .before .before .before in
+    let at14 = at9 .before .before .before .before .before in
+    let at15 = at14 .before in
+    let at17 = at15 .before .before in
+    let at21 = at17 .before .before .before .before in
+    subst (Finds (at21 .args .source) (at21 .args .target)) (sym (c .no-mapping2 .ensures))
+    (none-solution (at21 .args .source) (at21 .args .target) (source-sizes (at21)) (target-sizes (at21)) (at21 .pre .0) (at21 .pre .1)
+    (at17 .flat .result) (at15 .codes .result) (at14 .codes2 .result) (at9 .domains .result) (at6 .table .result)
+    (from-is (at14)) (at17 .flat .ensures) (to-is (at14)) (at9 .domains .ensures) (at6 .table .ensures)
     (c .before .before .before .solve .ensures .1 (not-true _ (c .before .if2 .taken))))
 
 assign-requires : tie.Need-assign-requires
-assign-requires c κs = (
-  storable-size _ (c .before .before .before .before .before .before .before .before .before .before .before .before .before .before .before .before .before .before .before .before .before .pre .0),
-  chosen-below (c .before .before .before) (not-false _ (c .before .if2 .left)),
-  code-small (c .before .before .before .before .before .before .before .before .before .before .before .before .before .before .before .before .before .before .before .before .before .args .source) (c .before .before .before .before .before .before .before .before .before .before .before .before .before .before .before .before .before .before .before .before .before .pre .0) (source-sizes (c .before .before .before .before .before .before .before .before .before .before .before .before .before .before .before .before .before .before .before .before .before)) (c .before .before .before .before .before .before .before .before .before .before .before .before .before .before .before .codes .result) (from-is (c .before .before .before .before .before .before .before .before .before .before .before .before .before .before)),
-)
+assign-requires c κs =
+    let at14 = c .before .before .before .before .before .before .before .before .before .before .before .before .before .before in
+    let at15 = at14 .before in
+    let at21 = at15 .before .before .before .before .before .before in (
+      storable-size _ (at21 .pre .0),
+      chosen-below (c .before .before .before) (not-false _ (c .before .if2 .left)),
+      code-small (at21 .args .source) (at21 .pre .0) (source-sizes (at21)) (at15 .codes .result) (from-is (at14)),
+    )
 
 returns-3 : tie.Need-returns-3
 returns-3 c =
-    let some : 0 < c .before .before .before .before .before .before .before .before .before .before .before .before .before .before .before .before .before .before .before .before .before .before .args .source .size = search needs in
-    found-solution (c .before .before .before .before .before .before .before .before .before .before .before .before .before .before .before .before .before .before .before .before .before .before .args .source) (c .before .before .before .before .before .before .before .before .before .before .before .before .before .before .before .before .before .before .before .before .before .before .args .target) (source-sizes (c .before .before .before .before .before .before .before .before .before .before .before .before .before .before .before .before .before .before .before .before .before .before)) (target-sizes (c .before .before .before .before .before .before .before .before .before .before .before .before .before .before .before .before .before .before .before .before .before .before)) (c .before .before .before .before .before .before .before .before .before .before .before .before .before .before .before .before .before .before .before .before .before .before .pre .0) (c .before .before .before .before .before .before .before .before .before .before .before .before .before .before .before .before .before .before .before .before .before .before .pre .1)
-    (c .before .before .before .before .before .before .before .before .before .before .before .before .before .before .before .before .before .before .flat .result) (c .before .before .before .before .before .before .before .before .before .before .before .before .before .before .before .before .codes .result) (c .before .before .before .before .before .before .before .before .before .before .before .before .before .before .before .codes2 .result) (c .before .before .before .before .before .before .before .before .before .before .domains .result) (c .before .before .before .before .before .before .before .table .result)
-    (from-is (c .before .before .before .before .before .before .before .before .before .before .before .before .before .before .before)) (c .before .before .before .before .before .before .before .before .before .before .before .before .before .before .before .before .before .before .flat .ensures) (to-is (c .before .before .before .before .before .before .before .before .before .before .before .before .before .before .before)) (c .before .before .before .before .before .before .before .before .before .before .domains .ensures) (c .before .before .before .before .before .before .before .table .ensures)
-    (choiceOf (c .before .before .before .before .solve .result .chosen)) (c .assign .result) some (c .before .before .before .before .solve .ensures .0 (not-false _ (c .before .before .if2 .left))) (images-long c)
+    let at4 = c .before .before .before .before in
+    let at7 = at4 .before .before .before in
+    let at10 = at7 .before .before .before in
+    let at15 = at10 .before .before .before .before .before in
+    let at16 = at15 .before in
+    let at18 = at16 .before .before in
+    let at22 = at18 .before .before .before .before in
+    let some : 0 < at22 .args .source .size = search needs in
+    found-solution (at22 .args .source) (at22 .args .target) (source-sizes (at22)) (target-sizes (at22)) (at22 .pre .0) (at22 .pre .1)
+    (at18 .flat .result) (at16 .codes .result) (at15 .codes2 .result) (at10 .domains .result) (at7 .table .result)
+    (from-is (at15)) (at18 .flat .ensures) (to-is (at15)) (at10 .domains .ensures) (at7 .table .ensures)
+    (choiceOf (at4 .solve .result .chosen)) (c .assign .result) some (at4 .solve .ensures .0 (not-false _ (c .before .before .if2 .left))) (images-long c)
     (c .assign .ensures)
 
 pub find-spec : {M : Type 1} → statement M

@@ -17,8 +17,8 @@ chase-requires c κs =
     let p = c .pre in
     chasable (p .schema) (c .args .held) (c .args .dependencies) (c .args .q) (p .widths) (p .dependencies-good) (p .query-good)
 
-prune-requires : tie.Need-prune-requires
-prune-requires c κs =
+core-of-requires : tie.Need-core-of-requires
+core-of-requires c κs =
     let p = c .before .before .pre in
     (p .schema, width-le (p .schema) (p .widths), c .before .chase .ensures (p .schema) (p .query-good) (p .widths) .good)
 
@@ -28,7 +28,7 @@ find-requires c κs =
     let chased = c .before .before .chase .ensures (p .schema) (p .query-good) (p .widths) in
     let first : Storable (c .before .before .before .args .q) = (p .schema, p .query-good) in
     let second : Storable (c .before .before .chase .result .query) = (p .schema, chased .good) in
-    let third : Storable (c .prune .result) = (p .schema, c .prune .ensures (p .schema) (width-le (p .schema) (p .widths)) (chased .good) .good) in
+    let third : Storable (c .core-of .result) = (p .schema, c .core-of .ensures (p .schema) (width-le (p .schema) (p .widths)) (chased .good) .good) in
     search needs
 
 returns : tie.Need-returns
@@ -39,10 +39,10 @@ returns c =
     λ schema widths good safe.
     let narrow = width-le schema widths in
     let chased = c .before .before .before .before .chase .ensures schema good widths in
-    let pruned = c .before .before .prune .ensures schema narrow (chased .good) in
+    let pruned = c .before .before .core-of .ensures schema narrow (chased .good) in
     let long : 8 * q .size ≤ length (q .cells) = omega (arith, good-query schema q good .size) in
-    shortened schema (first .args .dependencies) (first .args .held) q (c .before .before .prune .result) (c .before .before .before .before .chase .result) (c .before .find .result)
+    shortened schema (first .args .dependencies) (first .args .held) q (c .before .before .core-of .result) (c .before .before .before .before .chase .result) (c .before .find .result)
     widths long good safe chased pruned (c .before .find .ensures schema narrow good (pruned .good) (sym (pruned .same-arity ∙ chased .same-arity)))
 
 pub shorten-spec : {M : Type 1} → statement M
-shorten-spec = tie.close (tie.spec chase-requires prune-requires find-requires returns)
+shorten-spec = tie.close (tie.spec chase-requires core-of-requires find-requires returns)

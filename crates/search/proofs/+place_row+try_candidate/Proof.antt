@@ -72,9 +72,11 @@ place-row-enum-told t c = search needs
 
 place-row-returns : (t : ℕ) → place-row-lts.Need-returns (place-row-claims t) (place-row-at t) place-row.Post
 place-row-returns t c =
-    let s = c .before .before .before .before .before .before in
+    let at6 = c .before .before .before .before .before .before in
+    let s = at6 in
     solved-already (s .args .rows) (s .args .domain .now) (s .args .table .now) (s .args .t5) _ refl
-    (subst (Tested (s .args .rows) (s .args .domain .now) (s .args .table .now) (s .args .t5 .chosen) (Solution (s .args .rows) (s .args .domain .now) (s .args .table .now) (λ q. getD (s .args .t5 .chosen) q 0)))
+    (subst (Tested (s .args .rows) (s .args .domain .now) (s .args .table .now) (s .args .t5 .chosen) (Solution (s .args .rows) (s .args .domain .now) (s .args .table .now) (λ q. getD
+    (s .args .t5 .chosen) q 0)))
     (c .enum-told .given .1) (c .before .before .test-choices .ensures))
 
 place-row-enum-known-tested : (t : ℕ) → place-row-lts.Need-enum-known-tested (place-row-claims t) (place-row-at t) place-row.Post
@@ -82,9 +84,13 @@ place-row-enum-known-tested t c = search needs
 
 place-row-returns-2 : (t : ℕ) → place-row-lts.Need-returns-2 (place-row-claims t) (place-row-at t) place-row.Post
 place-row-returns-2 t c =
-    let s = c .before .before .before .before .before .before .before in
-    failed-full (s .args .rows) (s .args .domain .now) (s .args .table .now) (s .args .t5) (s .args .work) _ (s .pre .1) (c .before .before .before .before .before .before .next-row .ensures) (c .before .before .before .before .if1 .taken) _ refl
-    (subst (Tested (s .args .rows) (s .args .domain .now) (s .args .table .now) (s .args .t5 .chosen) (Solution (s .args .rows) (s .args .domain .now) (s .args .table .now) (λ q. getD (s .args .t5 .chosen) q 0)))
+    let at4 = c .before .before .before .before in
+    let at6 = at4 .before .before in
+    let at7 = at6 .before in
+    let s = at7 in
+    failed-full (s .args .rows) (s .args .domain .now) (s .args .table .now) (s .args .t5) (s .args .work) _ (s .pre .1) (at6 .next-row .ensures) (at4 .if1 .taken) _ refl
+    (subst (Tested (s .args .rows) (s .args .domain .now) (s .args .table .now) (s .args .t5 .chosen) (Solution (s .args .rows) (s .args .domain .now) (s .args .table .now) (λ q. getD
+    (s .args .t5 .chosen) q 0)))
     (c .before .tested .given .1) (c .before .before .before .test-choices .ensures))
 
 place-row-mul-blame : (t : ℕ) → place-row-lts.Need-mul-blame (place-row-claims t) (place-row-at t) place-row.Post
@@ -98,9 +104,13 @@ place-row-sub-try-candidate t c = search needs
 
 place-row-try-candidate-requires : (t : ℕ) → place-row-lts.Need-try-candidate-requires (place-row-claims t) (place-row-at t) place-row.Post
 place-row-try-candidate-requires t c κs =
-    let s = c .before .before .before .before in
-    let e : 14 * missing (s .args .t5 .placed) (s .args .rows) < s .args .work = s .pre .1 .enough in
-    (omega (arith, s .pre .0), tryable-first (s .args .rows) (s .args .domain .now) (s .args .table .now) (s .args .t5) (s .args .work) _ (s .pre .1) (c .before .before .before .next-row .ensures) (omega arith) (c .before .if1 .left))
+    let at4 = c .before .before .before .before in
+    let s = at4 in
+    let e : 14 * missing (s .args .t5 .placed) (s .args .rows) < s .args .work = s .pre .1 .enough in (
+      omega (arith, s .pre .0),
+      tryable-first (s .args .rows) (s .args .domain .now) (s .args .table .now) (s .args .t5) (s .args .work) _ (s .pre .1)
+          (c .before .before .before .next-row .ensures) (omega arith) (c .before .if1 .left),
+    )
 
 place-row-returns-3 : (t : ℕ) → place-row-lts.Need-returns-3 (place-row-claims t) (place-row-at t) place-row.Post
 place-row-returns-3 t c = search needs
@@ -126,22 +136,36 @@ try-candidate-next-candidate-requires t c κs = search needs
 
 try-candidate-returns : (t : ℕ) → try-candidate-lts.Need-returns (try-candidate-claims t) (try-candidate-at t) try-candidate.Post
 try-candidate-returns t c =
-    let s = c .before .before .before .before in
-    failed-exhausted (s .args .rows) (s .args .domain .now) (s .args .table .now) (s .args .t5) (s .args .work) (s .args .row) (s .args .c) (s .args .blame) _ (s .pre .1) (c .before .before .next-candidate .ensures) (c .if1 .taken) _ refl refl
+    let at4 = c .before .before .before .before in
+    let s = at4 in
+    failed-exhausted (s .args .rows) (s .args .domain .now) (s .args .table .now) (s .args .t5) (s .args .work) (s .args .row) (s .args .c) (s .args .blame) _ (s .pre .1)
+    (c .before .before .next-candidate .ensures) (c .if1 .taken) _ refl refl
 
 try-candidate-choose-requires : (t : ℕ) → try-candidate-lts.Need-choose-requires (try-candidate-claims t) (try-candidate-at t) try-candidate.Post
 try-candidate-choose-requires t c κs = search needs
 
 try-candidate-sub-place-row : (t : ℕ) → try-candidate-lts.Need-sub-place-row (try-candidate-claims t) (try-candidate-at t) try-candidate.Post
 try-candidate-sub-place-row t c =
-    let s = c .before .before .before .before .before in
-    omega (arith, some-work (s .args .rows) (s .args .domain .now) (s .args .table .now) (s .args .t5) (s .args .work) (s .args .row) (s .args .c) (s .args .blame) _ (s .pre .1) (c .before .before .before .next-candidate .ensures) (c .before .if1 .left))
+    let at5 = c .before .before .before .before .before in
+    let s = at5 in
+    omega (
+      arith,
+      some-work (s .args .rows) (s .args .domain .now) (s .args .table .now) (s .args .t5) (s .args .work) (s .args .row) (s .args .c) (s .args .blame) _ (s .pre .1)
+          (c .before .before .before .next-candidate .ensures) (c .before .if1 .left),
+    )
 
 try-candidate-place-row-requires : (t : ℕ) → try-candidate-lts.Need-place-row-requires (try-candidate-claims t) (try-candidate-at t) try-candidate.Post
 try-candidate-place-row-requires t c κs =
-    let s = c .before .before .before .before .before in (
-      omega (arith, s .pre .0, some-work (s .args .rows) (s .args .domain .now) (s .args .table .now) (s .args .t5) (s .args .work) (s .args .row) (s .args .c) (s .args .blame) _ (s .pre .1) (c .before .before .before .next-candidate .ensures) (c .before .if1 .left)),
-      placeable-next (s .args .rows) (s .args .domain .now) (s .args .table .now) (s .args .t5) (s .args .work) (s .args .row) (s .args .c) (s .args .blame) _ (s .pre .1) (c .before .before .before .next-candidate .ensures) (c .before .if1 .left) _ (c .choose .ensures) (long t s),
+    let at5 = c .before .before .before .before .before in
+    let s = at5 in (
+      omega (
+        arith,
+        s .pre .0,
+        some-work (s .args .rows) (s .args .domain .now) (s .args .table .now) (s .args .t5) (s .args .work) (s .args .row) (s .args .c) (s .args .blame) _
+            (s .pre .1) (c .before .before .before .next-candidate .ensures) (c .before .if1 .left),
+      ),
+      placeable-next (s .args .rows) (s .args .domain .now) (s .args .table .now) (s .args .t5) (s .args .work) (s .args .row) (s .args .c) (s .args .blame) _ (s .pre .1)
+          (c .before .before .before .next-candidate .ensures) (c .before .if1 .left) _ (c .choose .ensures) (long t s),
     )
 
 try-candidate-returns-2 : (t : ℕ) → try-candidate-lts.Need-returns-2 (try-candidate-claims t) (try-candidate-at t) try-candidate.Post
@@ -157,24 +181,47 @@ try-candidate-shr-if3 t c = search needs
 
 try-candidate-returns-3 : (t : ℕ) → try-candidate-lts.Need-returns-3 (try-candidate-claims t) (try-candidate-at t) try-candidate.Post
 try-candidate-returns-3 t c =
-    let s = c .before .before .before .before .before .before .before .before .before in
-    failed-jump (s .args .rows) (s .args .domain .now) (s .args .table .now) (s .args .t5) (s .args .work) (s .args .row) (s .args .c) (s .args .blame) _ (s .pre .1) (c .before .before .before .before .before .before .before .next-candidate .ensures) (c .before .before .before .before .before .if1 .left) _ (c .before .before .before .before .choose .ensures) (long t s)
+    let at4 = c .before .before .before .before in
+    let at5 = at4 .before in
+    let at7 = at5 .before .before in
+    let at9 = at7 .before .before in
+    let s = at9 in
+    failed-jump (s .args .rows) (s .args .domain .now) (s .args .table .now) (s .args .t5) (s .args .work) (s .args .row) (s .args .c) (s .args .blame) _ (s .pre .1)
+    (at7 .next-candidate .ensures) (at5 .if1 .left) _ (at4 .choose .ensures) (long t s)
     _ (c .before .before .before .place-row .ensures) (c .before .before .if2 .left) (c .if3 .taken)
 
 try-candidate-sub-try-candidate : (t : ℕ) → try-candidate-lts.Need-sub-try-candidate (try-candidate-claims t) (try-candidate-at t) try-candidate.Post
 try-candidate-sub-try-candidate t c =
-    let s = c .before .before .before .before .before .before .before .before .before in
-    omega (arith, some-work (s .args .rows) (s .args .domain .now) (s .args .table .now) (s .args .t5) (s .args .work) (s .args .row) (s .args .c) (s .args .blame) _ (s .pre .1) (c .before .before .before .before .before .before .before .next-candidate .ensures) (c .before .before .before .before .before .if1 .left))
+    let at5 = c .before .before .before .before .before in
+    let at7 = at5 .before .before in
+    let at9 = at7 .before .before in
+    let s = at9 in
+    omega (
+      arith,
+      some-work (s .args .rows) (s .args .domain .now) (s .args .table .now) (s .args .t5) (s .args .work) (s .args .row) (s .args .c) (s .args .blame) _ (s .pre .1)
+          (at7 .next-candidate .ensures) (at5 .if1 .left),
+    )
 
 try-candidate-add-try-candidate : (t : ℕ) → try-candidate-lts.Need-add-try-candidate (try-candidate-claims t) (try-candidate-at t) try-candidate.Post
 try-candidate-add-try-candidate t c = search needs
 
 try-candidate-try-candidate-requires : (t : ℕ) → try-candidate-lts.Need-try-candidate-requires (try-candidate-claims t) (try-candidate-at t) try-candidate.Post
 try-candidate-try-candidate-requires t c κs =
-    let s = c .before .before .before .before .before .before .before .before .before .before in (
-      omega (arith, s .pre .0, some-work (s .args .rows) (s .args .domain .now) (s .args .table .now) (s .args .t5) (s .args .work) (s .args .row) (s .args .c) (s .args .blame) _ (s .pre .1) (c .before .before .before .before .before .before .before .before .next-candidate .ensures) (c .before .before .before .before .before .before .if1 .left)),
-      tryable-next (s .args .rows) (s .args .domain .now) (s .args .table .now) (s .args .t5) (s .args .work) (s .args .row) (s .args .c) (s .args .blame) _ (s .pre .1) (c .before .before .before .before .before .before .before .before .next-candidate .ensures) (c .before .before .before .before .before .before .if1 .left) _ (c .before .before .before .before .before .choose .ensures) (long t s)
-          _ (c .before .before .before .before .place-row .ensures) (c .before .before .before .if2 .left),
+    let at4 = c .before .before .before .before in
+    let at5 = at4 .before in
+    let at6 = at5 .before in
+    let at8 = at6 .before .before in
+    let at10 = at8 .before .before in
+    let s = at10 in (
+      omega (
+        arith,
+        s .pre .0,
+        some-work (s .args .rows) (s .args .domain .now) (s .args .table .now) (s .args .t5) (s .args .work) (s .args .row) (s .args .c) (s .args .blame) _
+            (s .pre .1) (at8 .next-candidate .ensures) (at6 .if1 .left),
+      ),
+      tryable-next (s .args .rows) (s .args .domain .now) (s .args .table .now) (s .args .t5) (s .args .work) (s .args .row) (s .args .c) (s .args .blame) _ (s .pre .1)
+          (at8 .next-candidate .ensures) (at6 .if1 .left) _ (at5 .choose .ensures) (long t s)
+          _ (at4 .place-row .ensures) (c .before .before .before .if2 .left),
     )
 
 try-candidate-returns-4 : (t : ℕ) → try-candidate-lts.Need-returns-4 (try-candidate-claims t) (try-candidate-at t) try-candidate.Post

@@ -35,12 +35,16 @@ possible-requires c κs =
 
 mul-mask : tie.Need-mul-mask Inv-loop μ-loop
 mul-mask c =
-    let room : c .before .before .before .loop .mask < 2048 = marks-room _ (c .before .before .before .before .candidates .result) (c .before .before .before .loop .d) (c .before .before .before .loop .mask) (c .before .before .before .before .candidates .ensures .1) (search needs) (c .before .before .before .loop .inv .0) (c .before .before .before .loop .inv .1) in
+    let at4 = c .before .before .before .before in
+    let room : c .before .before .before .loop .mask < 2048 = marks-room _ (at4 .candidates .result) (c .before .before .before .loop .d) (c .before .before .before .loop .mask)
+    (at4 .candidates .ensures .1) (search needs) (c .before .before .before .loop .inv .0) (c .before .before .before .loop .inv .1) in
     search needs
 
 add-mask : tie.Need-add-mask Inv-loop μ-loop
 add-mask c =
-    let room : c .before .before .before .loop .mask < 2048 = marks-room _ (c .before .before .before .before .candidates .result) (c .before .before .before .loop .d) (c .before .before .before .loop .mask) (c .before .before .before .before .candidates .ensures .1) (search needs) (c .before .before .before .loop .inv .0) (c .before .before .before .loop .inv .1) in
+    let at4 = c .before .before .before .before in
+    let room : c .before .before .before .loop .mask < 2048 = marks-room _ (at4 .candidates .result) (c .before .before .before .loop .d) (c .before .before .before .loop .mask)
+    (at4 .candidates .ensures .1) (search needs) (c .before .before .before .loop .inv .0) (c .before .before .before .loop .inv .1) in
     search needs
 
 loop-less : tie.Need-loop-less Inv-loop μ-loop
@@ -48,15 +52,20 @@ loop-less c = search needs
 
 loop-again : tie.Need-loop-again Inv-loop μ-loop
 loop-again c =
-    let args = c .before .before .before .before .before .before .before .args in
+    let at4 = c .before .before .before .before in
+    let at7 = at4 .before .before .before in
+    let args = at7 .args in
     let P : ℕ → Type 0 = Possible (args .source .now) (args .target .now) (args .named) (args .offered) (args .size) (args .r) in (
       search needs,
-      marks-one P (c .before .before .before .before .candidates .result) (c .before .before .before .loop .d) (c .before .before .before .loop .mask) (search needs) (c .before .before .before .loop .inv .0) (c .before .possible .ensures .0 (c .if1 .taken)) (c .before .before .before .loop .inv .1),
+      marks-one P (at4 .candidates .result) (c .before .before .before .loop .d) (c .before .before .before .loop .mask) (search needs) (c .before .before .before .loop .inv .0)
+          (c .before .possible .ensures .0 (c .if1 .taken)) (c .before .before .before .loop .inv .1),
     )
 
 mul-mask-2 : tie.Need-mul-mask-2 Inv-loop μ-loop
 mul-mask-2 c =
-    let room : c .before .before .before .loop .mask < 2048 = marks-room _ (c .before .before .before .before .candidates .result) (c .before .before .before .loop .d) (c .before .before .before .loop .mask) (c .before .before .before .before .candidates .ensures .1) (search needs) (c .before .before .before .loop .inv .0) (c .before .before .before .loop .inv .1) in
+    let at4 = c .before .before .before .before in
+    let room : c .before .before .before .loop .mask < 2048 = marks-room _ (at4 .candidates .result) (c .before .before .before .loop .d) (c .before .before .before .loop .mask)
+    (at4 .candidates .ensures .1) (search needs) (c .before .before .before .loop .inv .0) (c .before .before .before .loop .inv .1) in
     search needs
 
 loop-less-2 : tie.Need-loop-less-2 Inv-loop μ-loop
@@ -64,10 +73,13 @@ loop-less-2 c = search needs
 
 loop-again-2 : tie.Need-loop-again-2 Inv-loop μ-loop
 loop-again-2 c =
-    let args = c .before .before .before .before .before .before .before .args in
+    let at4 = c .before .before .before .before in
+    let at7 = at4 .before .before .before in
+    let args = at7 .args in
     let P : ℕ → Type 0 = Possible (args .source .now) (args .target .now) (args .named) (args .offered) (args .size) (args .r) in (
       search needs,
-      marks-zero P (c .before .before .before .before .candidates .result) (c .before .before .before .loop .d) (c .before .before .before .loop .mask) (search needs) (c .before .before .before .loop .inv .0) (λ p. false≢true (sym (c .if1 .left) ∙ c .before .possible .ensures .1 p)) (c .before .before .before .loop .inv .1),
+      marks-zero P (at4 .candidates .result) (c .before .before .before .loop .d) (c .before .before .before .loop .mask) (search needs) (c .before .before .before .loop .inv .0)
+          (λ p. false≢true (sym (c .if1 .left) ∙ c .before .possible .ensures .1 p)) (c .before .before .before .loop .inv .1),
     )
 
 returns : tie.Need-returns Inv-loop μ-loop

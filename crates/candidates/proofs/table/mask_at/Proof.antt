@@ -38,10 +38,14 @@ all-below-requires c κs = search needs
 
 returns-4 : tie.Need-returns-4
 returns-4 c a b d =
-    let args = c .before .before .before .before .before .before .before .before .before .before .before .before .args in
+    let at4 = c .before .before .before .before in
+    let at5 = at4 .before in
+    let at12 = at5 .before .before .before .before .before .before .before in
+    let args = at12 .args in
     let k = args .k in
-    apart-marks (args .source .now) (args .target .now) (args .size) (args .count) (k / 156) (k / 13 % 12) (k % 13) (c .before .before .before .before .before .row-at .result) (c .before .before .before .before .row-at2 .result) (c .before .candidates2 .result) (c .all-below .result)
-    (c .before .before .before .before .before .row-at .ensures .0) (c .before .before .before .before .row-at2 .ensures .0) (c .before .candidates2 .ensures .0)
+    apart-marks (args .source .now) (args .target .now) (args .size) (args .count) (k / 156) (k / 13 % 12) (k % 13) (at5 .row-at .result) (at4 .row-at2 .result)
+    (c .before .candidates2 .result) (c .all-below .result)
+    (at5 .row-at .ensures .0) (at4 .row-at2 .ensures .0) (c .before .candidates2 .ensures .0)
     (λ s. false≢true (sym (not-true _ (c .before .before .if4 .taken)) ∙ c .before .before .before .shares .ensures .1 s)) (c .all-below .ensures)
 
 together-requires : tie.Need-together-requires

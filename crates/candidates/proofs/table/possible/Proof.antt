@@ -7,7 +7,7 @@ use mathlib.Core.Bool.{false≢true}
 use mathlib.Core.Logic.{⊎-elim}
 use native.Mathlib.Nat.{not-le-of-lt}
 use Rattle.lists.proofs.Positions.{tells-false}
-use Rattle.candidates.proofs.Candidates.{possible-keeps, possible-when}
+use Rattle.candidates.proofs.Candidates.{possible-fixes, possible-when}
 use Rattle.candidates.proofs.table.possible.Statement.{statement}
 use Rattle.candidates.proofs.table.possible.Tie as tie
 
@@ -32,16 +32,16 @@ row-at-requires c κs = search needs
 image-at-requires : tie.Need-image-at-requires
 image-at-requires c κs = search needs
 
-keeps-requires : tie.Need-keeps-requires
-keeps-requires c κs = search needs
+fixes-requires : tie.Need-fixes-requires
+fixes-requires c κs = search needs
 
 returns-3 : tie.Need-returns-3
 returns-3 c =
     tells-false
     (λ p. false≢true
     (sym (not-true _ (c .if4 .taken))
-    ∙ c .before .keeps .ensures .1
-    (possible-keeps _ _ _ _ _ _ _ _ _ (c .before .before .before .row-at .ensures .0) (c .before .before .image-at .ensures .0) p)))
+    ∙ c .before .fixes .ensures .1
+    (possible-fixes _ _ _ _ _ _ _ _ _ (c .before .before .before .row-at .ensures .0) (c .before .before .image-at .ensures .0) p)))
 
 agrees-requires : tie.Need-agrees-requires
 agrees-requires c κs = search needs
@@ -51,7 +51,7 @@ returns-4 c =
     possible-when _ _ _ _ _ _ _ _ _ (c .before .before .before .before .row-at .ensures .0) (c .before .before .before .image-at .ensures .0) _
     (⊎-elim (λ w h. w .1 .left) (λ w h. absurd (not-le-of-lt h (w .left))) (c .before .before .before .before .before .if1 .came))
     (⊎-elim (λ w h again. false≢true (sym (w .3 .left) ∙ w .2 .ensures .1 again)) (λ w h. absurd (not-le-of-lt h (w .left))) (c .before .before .before .before .before .if1 .came))
-    (c .before .before .keeps .ensures .0 (not-false _ (c .before .if4 .left)))
+    (c .before .before .fixes .ensures .0 (not-false _ (c .before .if4 .left)))
     (c .agrees .ensures)
 
 pub possible-spec : {M : Type 1} → statement M
@@ -65,7 +65,7 @@ possible-spec =
     returns-2
     row-at-requires
     image-at-requires
-    keeps-requires
+    fixes-requires
     returns-3
     agrees-requires
     returns-4)

@@ -50,8 +50,9 @@ loop-again c =
 
 returns : tie.Need-returns Inv-loop μ-loop
 returns c =
-    let args = c .before .before .before .before .args in
-    masks-table (args .source .now) (args .target .now) (args .size) (args .count) (c .before .loop .all) (c .before .before .before .before .pre .few-rows) (c .before .before .before .before .pre .few-images)
+    let at4 = c .before .before .before .before in
+    let args = at4 .args in
+    masks-table (args .source .now) (args .target .now) (args .size) (args .count) (c .before .loop .all) (at4 .pre .few-rows) (at4 .pre .few-images)
     (λ k h. c .before .loop .inv .2 k (search needs))
 
 pub table-spec : {M : Type 1} → statement M

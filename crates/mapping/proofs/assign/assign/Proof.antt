@@ -44,10 +44,12 @@ loop-less c = search needs
 
 loop-again : tie.Need-loop-again Inv-loop μ-loop
 loop-again c =
-    let args = c .before .before .before .before .before .args in (
+    let at4 = c .before .before .before .before in
+    let at5 = at4 .before in
+    let args = at5 .args in (
       search needs,
-      rows-more (args .source) (args .target) (args .size) (choiceOf (args .t4)) (c .before .before .before .before .loop .r) (c .before .before .row-at .result) (c .before .image-at .result)
-          (c .before .before .before .before .loop .images) (c .assign-row .result) (c .before .before .row-at .ensures .0) (c .before .image-at .ensures .0) (c .before .before .before .before .loop .inv .1)
+      rows-more (args .source) (args .target) (args .size) (choiceOf (args .t4)) (at4 .loop .r) (c .before .before .row-at .result) (c .before .image-at .result)
+          (at4 .loop .images) (c .assign-row .result) (c .before .before .row-at .ensures .0) (c .before .image-at .ensures .0) (at4 .loop .inv .1)
           (c .assign-row .ensures),
     )
 

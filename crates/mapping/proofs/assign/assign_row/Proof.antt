@@ -4,7 +4,7 @@ use borrow.Author.Needs.{needs}
 use mathlib.Core.Path.{_≡_, sym, ap, _∙_, subst}
 use mathlib.Core.Logic.{⊎-elim}
 use Prim.Native.Nat.{ℕ, _+_, _-_, _≤_, _<_}
-use lib.ListN.{getD, length, length-set}
+use lib.ListN.{length, length-set}
 use Rattle.mapping.specs.internal.Lines.{RowAssigned}
 use Rattle.query.proofs.Codes.{code-constant}
 use Rattle.mapping.proofs.Images.{row-start, row-skip, row-store, variable-small}
@@ -52,17 +52,23 @@ cast-out c = search needs
 
 mul-out-2 : tie.Need-mul-out-2 Inv-loop μ-loop
 mul-out-2 c =
-    let s = c .before .before .before .before .before .before .before in
-    let place : s .args .row + c .before .before .before .before .before .before .loop .i < 104 = search needs in
-    let small = variable-small _ _ (s .pre .2 (s .args .row + c .before .before .before .before .before .before .loop .i) place) (sym (c .before .before .before .before .decode .ensures) ∙ c .before .before .own .given .1) in
+    let at4 = c .before .before .before .before in
+    let at6 = at4 .before .before in
+    let at7 = at6 .before in
+    let s = at7 in
+    let place : s .args .row + at6 .loop .i < 104 = search needs in
+    let small = variable-small _ _ (s .pre .2 (s .args .row + at6 .loop .i) place) (sym (at4 .decode .ensures) ∙ c .before .before .own .given .1) in
     let low = small .0 in
     search needs
 
 array-set-from-out : tie.Need-array-set-from-out Inv-loop μ-loop
 array-set-from-out c =
-    let s = c .before .before .before .before .before .before .before in
-    let place : s .args .row + c .before .before .before .before .before .before .loop .i < 104 = search needs in
-    let small = variable-small _ _ (s .pre .2 (s .args .row + c .before .before .before .before .before .before .loop .i) place) (sym (c .before .before .before .before .decode .ensures) ∙ c .before .before .own .given .1) in
+    let at4 = c .before .before .before .before in
+    let at6 = at4 .before .before in
+    let at7 = at6 .before in
+    let s = at7 in
+    let place : s .args .row + at6 .loop .i < 104 = search needs in
+    let small = variable-small _ _ (s .pre .2 (s .args .row + at6 .loop .i) place) (sym (at4 .decode .ensures) ∙ c .before .before .own .given .1) in
     small .0
 
 add-i : tie.Need-add-i Inv-loop μ-loop

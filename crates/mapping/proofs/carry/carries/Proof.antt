@@ -50,8 +50,9 @@ same-entry-requires c κs = search needs
 
 returns : tie.Need-returns Inv-loop μ-loop
 returns c =
+    let at6 = c .before .before .before .before .before .before in
     tells-false
-    (λ p. sameEntry-ne _ _ (sym (c .before .same-entry .ensures) ∙ not-true _ (c .if1 .taken)) (c .before .before .image-of .ensures ∙ p (c .before .before .before .before .before .before .loop .i) (search needs)))
+    (λ p. sameEntry-ne _ _ (sym (c .before .same-entry .ensures) ∙ not-true _ (c .if1 .taken)) (c .before .before .image-of .ensures ∙ p (at6 .loop .i) (search needs)))
 
 add-i : tie.Need-add-i Inv-loop μ-loop
 add-i c = search needs

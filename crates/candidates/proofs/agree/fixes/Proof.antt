@@ -1,4 +1,4 @@
--- `keeps` tells whether the image has the row's constants. The invariant: it has those of the columns passed.
+-- `fixes` tells whether the image has the row's constants. The invariant: it has those of the columns passed.
 -- Assumes nothing.
 use borrow.Author.Needs.{needs}
 use borrow.Author.Count.{below-more}
@@ -9,8 +9,8 @@ use mathlib.Core.Logic.{⊎-elim}
 use lib.ListN.{getD}
 use Rattle.query.proofs.Codes.{code-constant, code-variable}
 use Rattle.lists.proofs.Positions.{tells-true, tells-false}
-use Rattle.candidates.proofs.agree.keeps.Statement.{statement}
-use Rattle.candidates.proofs.agree.keeps.Tie as tie
+use Rattle.candidates.proofs.agree.fixes.Statement.{statement}
+use Rattle.candidates.proofs.agree.fixes.Tie as tie
 
 abbrev Inv-loop : tie.InvT-loop
 Inv-loop source target r d i₀ i =
@@ -72,8 +72,8 @@ loop-again c = (
 returns-2 : tie.Need-returns-2 Inv-loop μ-loop
 returns-2 c = tells-true (λ j h. c .before .loop .inv .1 j (search needs))
 
-pub keeps-spec : {M : Type 1} → statement M
-keeps-spec =
+pub fixes-spec : {M : Type 1} → statement M
+fixes-spec =
     tie.close
     (tie.spec
     Inv-loop

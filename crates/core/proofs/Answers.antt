@@ -2,7 +2,6 @@
 -- Assumes nothing.
 use mathlib.Core.Path.{_≡_, refl, sym, ap, subst, _∙_}
 use mathlib.Core.Logic.{_↔_}
-use mathlib.Core.Bool.{true}
 use mathlib.Core.List.{List, [], List·Memᴰ·not-nil}
 use Prim.Native.Nat.{ℕ}
 use Rattle.query.specs.declared.Query.{Query}
@@ -14,15 +13,15 @@ use Rattle.theory.specs.Answer.{Answer, Mapping}
 use Rattle.theory.specs.Chase.{chase, chaseFor, chaseOn, step, mapFound, firstBroken, firstFound}
 use Rattle.theory.specs.Reduction.{Reduction}
 use Rattle.theory.proofs.Reduction.{reduction-answers, reduction-wellformed}
-use Rattle.reduction.specs.Rows.{IsPruned}
+use Rattle.core.specs.CoreOf.{IsCoreOf}
 
 -- Without dependencies the chase rests at once
 chase-nothing : (q : theory.Query) → chase [] q .query ≡ q
 unfolding chase chaseFor chaseOn step mapFound firstBroken firstFound
 chase-nothing q = refl
 
-pruned-reduction : (schema : List ℕ) (q r : Query) → IsPruned schema q r → Reduction [] (queryOf schema q) (queryOf schema r)
-pruned-reduction schema q r p =
+core-reduction : (schema : List ℕ) (q r : Query) → IsCoreOf schema q r → Reduction [] (queryOf schema q) (queryOf schema r)
+core-reduction schema q r p =
     let is : queryOf schema q ≡ chase [] (queryOf schema q) .query = sym (chase-nothing (queryOf schema q)) in
     record {
       head = p .head ∙ ap (λ (x : theory.Query). x .head) is;
@@ -34,13 +33,13 @@ pruned-reduction schema q r p =
       core = p .core;
     }
 
-module _ (schema : List ℕ) (q r : Query) (p : IsPruned schema q r) where
+module _ (schema : List ℕ) (q r : Query) (p : IsCoreOf schema q r) where
   -- The answers are the same
-  pub pruned-answers : (D : Database) (t : List ℕ) → Answer D (queryOf schema q) t ↔ Answer D (queryOf schema r) t
-  pruned-answers D t =
-      reduction-answers [] (queryOf schema q) (queryOf schema r) (pruned-reduction schema q r p) D (λ d at. absurd (List·Memᴰ·not-nil at)) t
+  pub core-answers : (D : Database) (t : List ℕ) → Answer D (queryOf schema q) t ↔ Answer D (queryOf schema r) t
+  core-answers D t =
+      reduction-answers [] (queryOf schema q) (queryOf schema r) (core-reduction schema q r p) D (λ d at. absurd (List·Memᴰ·not-nil at)) t
 
   -- Each head variable still occurs in a row
-  pub pruned-safe : WellFormed schema (queryOf schema q) → (v : ℕ) → v ∈ variablesOf (queryOf schema r .head)
+  pub core-safe : WellFormed schema (queryOf schema q) → (v : ℕ) → v ∈ variablesOf (queryOf schema r .head)
       → v ∈ variablesOf (rowEntries (queryOf schema r .rows))
-  pruned-safe well = reduction-wellformed schema [] (queryOf schema q) (queryOf schema r) well (pruned-reduction schema q r p) .head-safe
+  core-safe well = reduction-wellformed schema [] (queryOf schema q) (queryOf schema r) well (core-reduction schema q r p) .head-safe

@@ -1,0 +1,3 @@
+-- What a core of a stored query is (CoreOf). `internal` is this crate's own.
+pub mod CoreOf
+pub mod internal
