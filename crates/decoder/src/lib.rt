@@ -298,7 +298,7 @@ pub fn read_place(part: &[u8], last: bool, count: u8, widths: [u8; 8]) -> PlaceR
     }
     let read = read_query(part, count, widths);
     if !read.good {
-        return no_place_read(refusals::BAD_QUERY);
+        return no_place_read(refusals::BAD_QUERY); // before the head is judged
     }
     let query = read.query;
     if rule::head_safe(count, widths, query) {

@@ -1,15 +1,15 @@
 use borrow.Author.Needs.{needs}
 use mathlib.Core.Path.{_≡_, sym, ap, refl, _∙_}
 use mathlib.Core.List.{List, [], _++_, append-nil}
-use Prim.Native.Nat.{ℕ, _+_, _*_, _-_, _≤_, _<_}
-use native.Mathlib.Nat.{zero-add}
+use Prim.Native.Nat.{ℕ, suc, _+_, _*_, _-_, _≤_, _<_}
+use native.Mathlib.Numerals.{add-one}
 use native.Mathlib.Omega.{arith}
 use lib.ListN.{length, take, drop, getD, set, replicate, length-drop, length-set, drop-of-length-le}
-use lib.Seq.{getD-take, getD-drop, length-take-le}
+use lib.Seq.{drop-cons, getD-take, getD-drop, length-take-le}
 use Rattle.query.specs.declared.Cell.{Cell}
 use Rattle.query.specs.Rule.{noCell}
 use Rattle.lists.specs.Over.{over}
-use Rattle.lists.proofs.Over.{over-nil, over-copies}
+use Rattle.lists.proofs.Over.{over-nil, over-set}
 use Rattle.encoder.proofs.row_of.Statement.{statement}
 use Rattle.encoder.proofs.row_of.Tie as tie
 
@@ -20,7 +20,7 @@ covered xs copy l =
     sym (ap (λ (ys : List Cell). xs ++ ys) d ∙ append-nil xs)
 
 turn : (xs copy : List Cell) (c : ℕ) (v : Cell) → c < length xs → c < length copy → v ≡ getD xs c noCell → over copy c (drop c xs) ≡ over (set copy c v) (c + 1) (drop (c + 1) xs)
-turn xs copy c v h l e = rw e (rw zero-add at (over-copies noCell copy xs 0 c h (omega arith)))
+turn xs copy c v h l e = rw (drop-cons xs c noCell h, e, add-one) (sym (over-set copy c (getD xs c noCell) (drop (suc c) xs) l))
 
 run-length : (cells : List Cell) (r : ℕ) → length cells ≡ 96 → r < 12 → length (take 8 (drop (8 * r) cells)) ≡ 8
 run-length cells r l h = length-take-le 8 (drop (8 * r) cells) (rw length-drop (omega arith))

@@ -11,7 +11,7 @@ use borrow.Author.Tests.{leb-true}
 use Rattle.refusals.specs.Refusals.{badDependency}
 use Rattle.query.specs.declared.Dependency.{Dependency}
 use Rattle.lists.specs.Tests.{between}
-use Rattle.query.specs.Rule.{blankDependency}
+use Rattle.query.specs.Rule.{blankDependency, noDependency}
 use Rattle.format.specs.Format.{Reading, got, mapReading, getByte, byte, padded}
 use Rattle.format.specs.Parts.{dependency, dependencies}
 use Rattle.format.specs.File.{complete}
