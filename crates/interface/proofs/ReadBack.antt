@@ -232,19 +232,19 @@ compare-left file hb p q r e clear said mapping part size mappingAfter partAfter
     Given : Result (ℕ × List ℕ) → List Cell → Type 0
     Given x images = ComparisonGiven x images said mapping part size 0 0 mappingAfter partAfter sizeAfter
 
-    -- a verdict that is told, with bytes
-    told : (n : ℕ) (bytes : List ℕ) (images : List Cell) (fits : Bool) → Given (cond fits (ok (n, bytes)) (refused bufferTooShort)) images
+    -- a verdict that is given, with bytes
+    given-back : (n : ℕ) (bytes : List ℕ) (images : List Cell) (fits : Bool) → Given (cond fits (ok (n, bytes)) (refused bufferTooShort)) images
         → (n ≡ 0) × (take sizeAfter partAfter ≡ bytes)
-    told n bytes images true k =
+    given-back n bytes images true k =
         (sym (k .1), rw (k .3, k .4) (take-at bytes (drop (0 + length bytes) part) (length bytes) refl))
-    told n bytes images false k = let z : _≡_ {A = ℕ} 0 10 = k .0 in absurd (omega arith)
+    given-back n bytes images false k = let z : _≡_ {A = ℕ} 0 10 = k .0 in absurd (omega arith)
 
     go : (c : Comparison) → Compared r p q c → ComparisonShape c → (images : List Cell) → Given (comparisonFits (length mapping) (length part) (schemaOf r) c) images
         → (v : Verdict) → c .verdict ≡ v
         → (chased : Query) × (readPlace (schemaOf r) true (take sizeAfter partAfter) ≡ ok (placeWith chased)) × (queryOf (schemaOf r) chased ≡ chasedAt r p)
     go c is shape images k verdict.Apart a =
         let bytes = query (schemaOf r) .put (c .query) in
-        let same = told 0 bytes images (leb 192 (length mapping) && leb (length bytes) (length part))
+        let same = given-back 0 bytes images (leb 192 (length mapping) && leb (length bytes) (length part))
         (subst (λ (x : Result (ℕ × List ℕ)). Given x images) (comparison-apart (length mapping) (length part) (schemaOf r) c a) k) .1 in
         let good = read-whole file hb r e .0 in (
           c .query,
@@ -254,10 +254,10 @@ compare-left file hb p q r e clear said mapping part size mappingAfter partAfter
           is .chased a .0,
         )
     go c is shape images k verdict.Contained a =
-        let z = told 1 [] images (leb 192 (length mapping) && leb 0 (length part))
+        let z = given-back 1 [] images (leb 192 (length mapping) && leb 0 (length part))
         (subst (λ (x : Result (ℕ × List ℕ)). Given x images) (comparison-contained (length mapping) (length part) (schemaOf r) c a) k) .0 in absurd (omega arith)
     go c is shape images k verdict.Never a =
-        let z = told 2 [] images (leb 192 (length mapping) && leb 0 (length part))
+        let z = given-back 2 [] images (leb 192 (length mapping) && leb 0 (length part))
         (subst (λ (x : Result (ℕ × List ℕ)). Given x images) (comparison-never (length mapping) (length part) (schemaOf r) c a) k) .0 in absurd (omega arith)
     go c is shape images k (verdict.Refused n) a =
         let view = verdictOn (chasedAt r p .rows) (search.mappable (queryAt r q) (chasedAt r p)) in

@@ -1,4 +1,4 @@
--- What reading a file told, and what a result leaves in what a call is lent. Assumes nothing.
+-- What reading a file tells, and what a result leaves in what a call is lent. Assumes nothing.
 use mathlib.Core.Path.{_≡_, refl, sym, ap, subst, _∙_}
 use mathlib.Core.Bool.{Bool, true, false, cond, _&&_}
 use mathlib.Core.List.{List}

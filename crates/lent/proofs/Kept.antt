@@ -53,7 +53,7 @@ module _ (r : Record) (good : goodRecord r ≡ true) where
   unfolding _>>=_
   part-read place part p h e = rw (lt-ltb place 8 h, e)
 
--- What reading a query part told
+-- What reading a query part tells
 pub place-accepted : (x : Result Place) (p : PlaceRead) → p ≡ placeRead x → p .answer ≡ Done → x ≡ ok (p .place)
 place-accepted (ok q) p e a = cc
 place-accepted (refused n) p e a = let z : _≡_ {A = ℕ} 0 1 = cc in absurd (omega arith)

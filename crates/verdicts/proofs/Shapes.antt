@@ -14,9 +14,9 @@ use Rattle.record.specs.declared.Place.{Place}
 use Rattle.record.specs.declared.Record.{Record}
 use Rattle.lists.specs.Tests.{every}
 use Rattle.lists.proofs.Loops.{mapped-length}
-use Rattle.record.proofs.Cell as cell
-use Rattle.record.proofs.Dependency as dependency
-use Rattle.record.proofs.Query as query
+use Rattle.query.proofs.Cell as cell
+use Rattle.query.proofs.Dependency as dependency
+use Rattle.query.proofs.Query as query
 use Rattle.record.proofs.Place as place
 use Rattle.record.proofs.Record as recorded
 use Rattle.format.specs.File.{shapedQuery, shaped}

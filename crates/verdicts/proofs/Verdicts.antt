@@ -58,36 +58,36 @@ module _ (images : List Cell) (said : ℕ) (mapping part : List ℕ) (size : ℕ
   pub comparison-none : {x : Result (ℕ × List ℕ)} {n : ℕ} → x ≡ refused n → ComparisonGiven x images said mapping part size n said mapping part size
   comparison-none {n = n} p = comparison-same p n said mapping part size (refl, refl, refl, refl, refl)
 
-  module _ (told : ℕ) (bytes : List ℕ) where
-    fits-short : length mapping < 192 → verdictFits (length mapping) (length part) (told, bytes) ≡ refused bufferTooShort
+  module _ (code : ℕ) (bytes : List ℕ) where
+    fits-short : length mapping < 192 → verdictFits (length mapping) (length part) (code, bytes) ≡ refused bufferTooShort
     fits-short h = rw (lt-leb 192 (length mapping) h)
 
-    fits-long : 192 ≤ length mapping → length part < length bytes → verdictFits (length mapping) (length part) (told, bytes) ≡ refused bufferTooShort
+    fits-long : 192 ≤ length mapping → length part < length bytes → verdictFits (length mapping) (length part) (code, bytes) ≡ refused bufferTooShort
     fits-long h l = rw (le-leb 192 (length mapping) h, lt-leb (length bytes) (length part) l)
 
-    fits-both : 192 ≤ length mapping → length bytes ≤ length part → verdictFits (length mapping) (length part) (told, bytes) ≡ ok (told, bytes)
+    fits-both : 192 ≤ length mapping → length bytes ≤ length part → verdictFits (length mapping) (length part) (code, bytes) ≡ ok (code, bytes)
     fits-both h l = rw (le-leb 192 (length mapping) h, le-leb (length bytes) (length part) l)
 
     -- there is no room for a mapping
     pub verdict-short : length mapping < 192
-        → ComparisonGiven (verdictFits (length mapping) (length part) (told, bytes)) images said mapping part size 10 said mapping part size
+        → ComparisonGiven (verdictFits (length mapping) (length part) (code, bytes)) images said mapping part size bufferTooShort said mapping part size
     verdict-short h = comparison-none (fits-short h)
 
     -- nor for the query
     pub verdict-long : 192 ≤ length mapping → length part < length bytes
-        → ComparisonGiven (verdictFits (length mapping) (length part) (told, bytes)) images said mapping part size 10 said mapping part size
+        → ComparisonGiven (verdictFits (length mapping) (length part) (code, bytes)) images said mapping part size bufferTooShort said mapping part size
     verdict-long h l = comparison-none (fits-long h l)
 
     -- there is room for both
     pub verdict-stored : (mapping′ part′ : List ℕ) (size′ : ℕ) → 192 ≤ length mapping → length bytes ≤ length part → mapping′ ≡ over mapping 0 (wordsOf images)
         → part′ ≡ over part 0 bytes → size′ ≡ length bytes
-        → ComparisonGiven (verdictFits (length mapping) (length part) (told, bytes)) images said mapping part size 0 told mapping′ part′ size′
-    verdict-stored mapping′ part′ size′ h l m p n = comparison-same (fits-both h l) 0 told mapping′ part′ size′ (refl, refl, m, p, n)
+        → ComparisonGiven (verdictFits (length mapping) (length part) (code, bytes)) images said mapping part size 0 code mapping′ part′ size′
+    verdict-stored mapping′ part′ size′ h l m p n = comparison-same (fits-both h l) 0 code mapping′ part′ size′ (refl, refl, m, p, n)
 
   -- a verdict without a query
-  pub contained-stored : (told : ℕ) (mapping′ : List ℕ) → 192 ≤ length mapping → mapping′ ≡ over mapping 0 (wordsOf images)
-      → ComparisonGiven (verdictFits (length mapping) (length part) (told, [])) images said mapping part size 0 told mapping′ part 0
-  contained-stored told mapping′ h m = verdict-stored told [] mapping′ part 0 h (omega arith) m (sym (over-nil part 0)) refl
+  pub contained-stored : (code : ℕ) (mapping′ : List ℕ) → 192 ≤ length mapping → mapping′ ≡ over mapping 0 (wordsOf images)
+      → ComparisonGiven (verdictFits (length mapping) (length part) (code, [])) images said mapping part size 0 code mapping′ part 0
+  contained-stored code mapping′ h m = verdict-stored code [] mapping′ part 0 h (omega arith) m (sym (over-nil part 0)) refl
 
 -- The part of a place that holds a query is the query's bytes
 pub query-part : (schema : List ℕ) (q : Query) → putPlace schema (placeWith q) ≡ query schema .put q
@@ -229,7 +229,7 @@ module _ (r : Record) (p q : ℕ) (words : List ℕ) (m : Mapped) (e : m ≡ map
 
 -- ---- the exported calls
 
--- A comparison that is told holds a query that is good with a safe head
+-- A comparison that gives a query holds one that is good with a safe head
 pub compared-sound : (r : Record) (p q : ℕ) (c : Comparison) → Compared r p q c → SoundComparison (schemaOf r) c
 unfolding headSafe
 compared-sound r p q c is apart =

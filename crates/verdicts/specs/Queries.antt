@@ -96,7 +96,7 @@ verdictBytes (verdict.Refused n) bytes = refused n
 
 -- A verdict for buffers with so much room. Refused: bufferTooShort, there is no room for a mapping or for the query's bytes
 abbrev pub verdictFits : ℕ → ℕ → ℕ × List ℕ → Result (ℕ × List ℕ)
-verdictFits words room told = cond (leb 192 words && leb (length (told .1)) room) (ok told) (refused bufferTooShort)
+verdictFits words room found = cond (leb 192 words && leb (length (found .1)) room) (ok found) (refused bufferTooShort)
 
 -- The verdict and bytes of a comparison, for buffers with so much room
 abbrev pub comparisonFits : ℕ → ℕ → List ℕ → Comparison → Result (ℕ × List ℕ)

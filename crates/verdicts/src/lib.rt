@@ -151,20 +151,20 @@ pub fn store_reduction(
 
 // Stores a verdict that has no query.
 fn store_contained(
-    told: u8,
+    code: u8,
     images: [Cell; 96],
     verdict: &mut u8,
     mapping: &mut [u32],
     part: &mut [u8],
     size: &mut usize,
 ) -> u8
-    ensures { λ r. ⌜ ComparisonGiven (verdictFits (length (now (mapping .entry))) (length (now (part .entry))) (told, [])) images (now (verdict .entry)) (now (mapping .entry)) (now (part .entry)) (now (size .entry)) r (now (verdict .exit)) (now (mapping .exit)) (now (part .exit)) (now (size .exit)) ⌝ }
+    ensures { λ r. ⌜ ComparisonGiven (verdictFits (length (now (mapping .entry))) (length (now (part .entry))) (code, [])) images (now (verdict .entry)) (now (mapping .entry)) (now (part .entry)) (now (size .entry)) r (now (verdict .exit)) (now (mapping .exit)) (now (part .exit)) (now (size .exit)) ⌝ }
 {
     if mapping.len() < 192 {
         return refusals::BUFFER_TOO_SHORT;
     }
     put_mapping(images, mapping);
-    *verdict = told;
+    *verdict = code;
     *size = 0;
     0
 }
@@ -216,9 +216,9 @@ pub fn store_comparison(
     requires { ⌜ SoundComparison (take count widths) compared ⌝ }
     ensures { λ r. ⌜ ComparisonGiven (comparisonFits (length (now (mapping .entry))) (length (now (part .entry))) (take count widths) compared) (compared .images) (now (verdict .entry)) (now (mapping .entry)) (now (part .entry)) (now (size .entry)) r (now (verdict .exit)) (now (mapping .exit)) (now (part .exit)) (now (size .exit)) ⌝ }
 {
-    let told = compared.verdict;
+    let found = compared.verdict;
     let images = compared.images;
-    match told {
+    match found {
         Verdict::Apart => {
             let chased = compared.query;
             store_apart(chased, images, count, widths, verdict, mapping, part, size)

@@ -24,8 +24,8 @@ enum-told-3 c = search needs
 store-contained-requires-2 : tie.Need-store-contained-requires-2
 store-contained-requires-2 c κs = search needs
 
-enum-known-told : tie.Need-enum-known-told
-enum-known-told c = search needs
+enum-known-found : tie.Need-enum-known-found
+enum-known-found c = search needs
 
 same-length : tie.Need-same-length
 same-length c = search needs
@@ -79,7 +79,7 @@ store-comparison-spec =
     store-contained-requires
     enum-told-3
     store-contained-requires-2
-    enum-known-told
+    enum-known-found
     same-length
     same-length-2
     returns
