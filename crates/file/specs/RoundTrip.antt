@@ -11,7 +11,7 @@ use Rattle.record.specs.Rule.{goodRecord}
 use Rattle.format.specs.Bytes.{Bytes}
 use Rattle.format.specs.File.{readFile, outcomeOf, shaped}
 use Rattle.writer.specs.declared.Written.the-variants.{Length}
-use Rattle.writer.specs.Write.{written, bufferAfter}
+use Rattle.writer.specs.Write.{written, afterWriting}
 
 -- Reading these bytes is done and gives this record
 abbrev pub Reads : List ℕ → Record → Type 0
@@ -26,12 +26,12 @@ abbrev pub WrittenBack : Type 0
 WrittenBack =
     (bytes buffer : List ℕ) (r : Record) → Bytes bytes → Reads bytes r → length bytes ≤ length buffer
     → Writes r buffer (length bytes)
-    × (take (length bytes) (bufferAfter r buffer) ≡ bytes)
-    × (drop (length bytes) (bufferAfter r buffer) ≡ drop (length bytes) buffer)
+    × (take (length bytes) (afterWriting r buffer) ≡ bytes)
+    × (drop (length bytes) (afterWriting r buffer) ≡ drop (length bytes) buffer)
 
 -- A record that is written is read back as the same record, so every written file is accepted
 abbrev pub ReadBack : Type 0
-ReadBack = (r : Record) (buffer : List ℕ) (n : ℕ) → shaped r ≡ true → Writes r buffer n → Reads (take n (bufferAfter r buffer)) r
+ReadBack = (r : Record) (buffer : List ℕ) (n : ℕ) → shaped r ≡ true → Writes r buffer n → Reads (take n (afterWriting r buffer)) r
 
 -- A record that reading gives keeps the record's rule, so refusal 14 passes it, and its arrays are as long as its types say
 abbrev pub ReadGood : Type 0

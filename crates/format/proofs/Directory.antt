@@ -9,9 +9,11 @@ use lib.ListN.{length, take, drop, length-append, length-take, length-drop, take
 use lib.Seq.{take-at, drop-at, length-take-le, drop-drop, take-add, drop-length}
 use borrow.Author.Tests.{eqb-true, eq-eqb, leb-true, le-leb}
 use Rattle.lists.specs.Tests.{between, every}
+use Rattle.refusals.specs.Refusals.{badOffsets}
 use Rattle.format.specs.Bytes.{number, digits, Bytes}
 use Rattle.format.specs.File.{Result, ok, refused, chained, stretches, tableFits, directory, tableOf, join, assemble}
-use Rattle.format.proofs.Lists.{and-left, and-right, and-both, and-iff, every-parts, bytes-++}
+use Rattle.lists.proofs.Tests.{and-left, and-right, and-both, and-iff, every-take, every-drop}
+use Rattle.format.proofs.Arrays.{bytes-append}
 use Rattle.format.proofs.Numbers.{number-digits, digits-number, length-digits}
 
 pub length-table : (start : ℕ) (parts : List (List ℕ)) → length (tableOf start parts) ≡ 4 * length parts
@@ -64,7 +66,7 @@ chained-table (p ∷ ps) start file rest l s =
     let hs : start < 65536 = omega arith in
     let hl : length p < 65536 = omega arith in
     rw (first-offset start p ps rest hs hl, first-length start p ps rest hs hl, after-pair start p ps rest hs hl)
-    (and-both (eq-eqb start start refl) (chained-table ps (start + length p) file rest (omega arith) s))
+    (and-both _ _ (eq-eqb start start refl) (chained-table ps (start + length p) file rest (omega arith) s))
 
 stretches-table : (parts : List (List ℕ)) (start : ℕ) (front file rest : List ℕ) → front ++ join parts ≡ file → length front ≡ start → length file < 65536
     → stretches (length parts) file (tableOf start parts ++ rest) ≡ parts
@@ -119,8 +121,8 @@ chained-back (suc n) due file table hb hl h =
     let k : (eqb (number 2 table) due ≡ true) × (chained n (due + number 2 (drop 2 table)) (length file) (drop 4 table) ≡ true) = simp and-iff at h in
     let e : number 2 table ≡ due = eqb-true (number 2 table) due (k .0) in
     let m : ℕ = number 2 (drop 2 table) in
-    let b₂ : Bytes (drop 2 table) = every-parts (λ b. ltb b 256) 2 table hb .1 in
-    let b₄ : Bytes (drop 4 table) = every-parts (λ b. ltb b 256) 4 table hb .1 in
+    let b₂ : Bytes (drop 2 table) = every-drop (λ b. ltb b 256) 2 table hb in
+    let b₄ : Bytes (drop 4 table) = every-drop (λ b. ltb b 256) 4 table hb in
     let l₂ : length (drop 2 table) ≡ length table - 2 = length-drop 2 table in
     let l₄ : length (drop 4 table) ≡ length table - 4 = length-drop 4 table in
     let (fits, tab, all, len) = chained-back n (due + m) file (drop 4 table) b₄ (omega arith) (k .1) in
@@ -141,18 +143,18 @@ assemble-directory file parts hb e =
     let n : ℕ = number 2 file in
     let ps : List (List ℕ) = stretches n file (drop 2 file) in
     let c : Bool = chained n (2 + 4 * n) (length file) (drop 2 file) in
-    let (fits, e₁) = cond-ok (tableFits file) (cond c (ok ps) (refused 2)) 1 parts e in
+    let (fits, e₁) = cond-ok (tableFits file) (cond c (ok ps) (refused badOffsets)) 1 parts e in
     let (h, e₂) = cond-ok c (ok ps) 2 parts e₁ in
     let p : ps ≡ parts = cc in
     let k : (leb 2 (length file) ≡ true) × (((leb 2 n ≡ true) × (leb n 10 ≡ true)) × (leb (2 + 4 * n) (length file) ≡ true)) = simp and-iff at fits in
     let l : 2 + 4 * n ≤ length file = leb-true (2 + 4 * n) (length file) (k .1 .1) in
     let low : 2 ≤ n = leb-true 2 n (k .1 .0 .0) in
     let high : n ≤ 10 = leb-true n 10 (k .1 .0 .1) in
-    let b₂ : Bytes (drop 2 file) = every-parts (λ b. ltb b 256) 2 file hb .1 in
+    let b₂ : Bytes (drop 2 file) = every-drop (λ b. ltb b 256) 2 file hb in
     let l₂ : length (drop 2 file) ≡ length file - 2 = length-drop 2 file in
     let (_, tab, all, len) = chained-back n (2 + 4 * n) file (drop 2 file) b₂ (omega arith) h in
     let g : digits 2 n ≡ take 2 file = digits-number 2 file hb (omega arith) in
-    let whole : digits 2 n ++ tableOf (2 + 4 * n) ps ++ join ps ≡ file =
+    let same : digits 2 n ++ tableOf (2 + 4 * n) ps ++ join ps ≡ file =
     rw (tab, all, g, ← take-add 2 (4 * n) file) (take-append-drop (2 + 4 * n) file) in
     subst (λ (ps : List (List ℕ)). (digits 2 (length ps) ++ tableOf (2 + 4 * length ps) ps ++ join ps ≡ file) × (2 ≤ length ps) × (length ps ≤ 10) × Bytes (join ps)) p
-    (rw len whole, rw len low, rw len high, rw all (every-parts (λ b. ltb b 256) (2 + 4 * n) file hb .1))
+    (rw len same, rw len low, rw len high, rw all (every-drop (λ b. ltb b 256) (2 + 4 * n) file hb))

@@ -11,7 +11,9 @@ use borrow.Author.Tests.{eqb-true, eq-eqb}
 use Rattle.lists.specs.Tests.{every, inUse}
 use Rattle.format.specs.Bytes.{Bytes}
 use Rattle.format.specs.Format.{Reading, none, got, andThen, mapReading, gotIf, Format, Lawful, getByte, byte, sequence, putAll, getTimes, pad, padded, via}
-use Rattle.format.proofs.Lists.{and-left, and-right, and-both, and-iff, every-parts, every-replicate, all-blank, drop-replicate, length-pad, bytes-++}
+use Rattle.lists.proofs.Tests.{and-left, and-right, and-both, and-iff, every-take, every-drop, every-replicate, every-same}
+use Rattle.lists.proofs.Loops.{replicate-drop}
+use Rattle.format.proofs.Arrays.{length-pad, bytes-append}
 
 -- ---- readings
 
@@ -70,9 +72,9 @@ module _ {A B : Type 0} (f : Format A) (g : A → Format B) (lf : Lawful f) (lg 
             let (a, r, ea, e₁) = andThen-got (f .get bytes) (λ a rest. mapReading (λ b. (a, b)) (g a .get rest)) p rest e in
             let (b, eb, ep) = mapReading-got (λ b. (a, b)) (g a .get r) p rest e₁ in
             let ka : (f .good a ≡ true) × (f .put a ++ r ≡ bytes) = lf .put-get bytes a r hb ea in
-            let kb : (g a .good b ≡ true) × (g a .put b ++ rest ≡ r) = lg a (ka .0) .put-get r b rest (bytes-++ (f .put a) r (rw ka.1 hb) .1) eb in
+            let kb : (g a .good b ≡ true) × (g a .put b ++ rest ≡ r) = lg a (ka .0) .put-get r b rest (bytes-append (f .put a) r (rw ka.1 hb) .1) eb in
             subst (λ (q : A × B). ((f .good (q .0) && g (q .0) .good (q .1)) ≡ true) × ((f .put (q .0) ++ g (q .0) .put (q .1)) ++ rest ≡ bytes)) ep
-            (and-both (ka .0) (kb .0), append-assoc (f .put a) (g a .put b) rest ∙ ap (λ (t : List ℕ). f .put a ++ t) (kb .1) ∙ ka .1);
+            (and-both _ _ (ka .0) (kb .0), append-assoc (f .put a) (g a .put b) rest ∙ ap (λ (t : List ℕ). f .put a ++ t) (kb .1) ∙ ka .1);
       }
 
 -- ---- n values
@@ -93,10 +95,10 @@ module _ {A : Type 0} (f : Format A) (lf : Lawful f) where
       let (y, r, ey, e₁) = andThen-got (f .get bytes) (λ x rest. mapReading (λ xs. x ∷ xs) (getTimes (f .get) n rest)) xs rest e in
       let (ys, es, ep) = mapReading-got (λ ys. y ∷ ys) (getTimes (f .get) n r) xs rest e₁ in
       let ky : (f .good y ≡ true) × (f .put y ++ r ≡ bytes) = lf .put-get bytes y r hb ey in
-      let ih : (length ys ≡ n) × (every (f .good) ys ≡ true) × (putAll (f .put) ys ++ rest ≡ r) = times-put-get n r ys rest (bytes-++ (f .put y) r (rw ky.1 hb) .1) es in
+      let ih : (length ys ≡ n) × (every (f .good) ys ≡ true) × (putAll (f .put) ys ++ rest ≡ r) = times-put-get n r ys rest (bytes-append (f .put y) r (rw ky.1 hb) .1) es in
       rw (← ep) (
         ap suc (ih .0),
-        and-both (ky .0) (ih .1),
+        and-both _ _ (ky .0) (ih .1),
         append-assoc (f .put y) (putAll (f .put) ys) rest ∙ ap (λ (t : List ℕ). f .put y ++ t) (ih .2) ∙ ky .1,
       )
 
@@ -110,7 +112,7 @@ module _ {A : Type 0} (total : ℕ) (blank : A) (isBlank : A → Bool) (n : ℕ)
   pad-take xs l h =
       let lt : length (take n xs) ≡ n = length-take-le n xs (omega arith) in
       let ld : length (drop n xs) ≡ total - n = simp length-drop (omega arith) in
-      let e : drop n xs ≡ drop n (replicate total blank) = all-blank isBlank blank is (drop n xs) h ∙ ap (λ (k : ℕ). replicate k blank) ld ∙ sym (drop-replicate n total blank) in
+      let e : drop n xs ≡ drop n (replicate total blank) = every-same isBlank blank is (drop n xs) h ∙ ap (λ (k : ℕ). replicate k blank) ld ∙ sym (replicate-drop n total blank) in
       rw (lt, ← e) (take-append-drop n xs)
 
   take-pad : (ys : List A) → length ys ≡ n → take n (pad total blank ys) ≡ ys
@@ -126,8 +128,8 @@ module _ {A : Type 0} (total : ℕ) (blank : A) (isBlank : A → Bool) (n : ℕ)
   padded-back ys l h =
       let used : every (f .good) (take n (pad total blank ys)) ≡ true = rw (take-pad ys l) h in
       let unused : every isBlank (drop n (pad total blank ys)) ≡ true =
-      rw (drop-pad ys l) (every-parts isBlank n (replicate total blank) (every-replicate isBlank total blank blank-is) .1) in
-      and-both (eq-eqb (length (pad total blank ys)) total (length-pad total blank ys (omega arith))) (and-both used unused)
+      rw (drop-pad ys l) (every-drop isBlank n (replicate total blank) (every-replicate isBlank total blank blank-is)) in
+      and-both _ _ (eq-eqb (length (pad total blank ys)) total (length-pad total blank ys (omega arith))) (and-both _ _ used unused)
 
   pub padded-lawful : Lawful (padded total blank isBlank n f)
   unfolding padded mapReading
@@ -162,5 +164,5 @@ module _ {A B : Type 0} (shaped : B → Bool) (hold : A → B) (release : B → 
             let (a, ea, ep) = mapReading-got hold (f .get bytes) b rest e in
             let k : (f .good a ≡ true) × (f .put a ++ rest ≡ bytes) = lf .put-get bytes a rest hb ea in
             subst (λ (b : B). ((shaped b && f .good (release b)) ≡ true) × (f .put (release b) ++ rest ≡ bytes)) ep
-            (and-both (there a (k .0) .1) (rw (there a (k .0) .0) (k .0)), rw (there a (k .0) .0) (k .1));
+            (and-both _ _ (there a (k .0) .1) (rw (there a (k .0) .0) (k .0)), rw (there a (k .0) .0) (k .1));
       }

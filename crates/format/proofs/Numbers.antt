@@ -9,7 +9,7 @@ use borrow.Author.Tests.{ltb-true}
 use lib.ListN.{length, getD, take, drop}
 use Rattle.lists.specs.Tests.{every}
 use Rattle.format.specs.Bytes.{number, digits, Bytes}
-use Rattle.format.proofs.Lists.{and-left, and-right}
+use Rattle.lists.proofs.Tests.{and-left, and-right}
 
 pub length-digits : (k n : ℕ) → length (digits k n) ≡ k
 unfolding digits

@@ -16,17 +16,16 @@ use Rattle.query.specs.declared.Query.{Query}
 use Rattle.query.specs.declared.Dependency.{Dependency}
 use Rattle.lists.specs.Tests.{between, every, inUse, isZero}
 use Rattle.query.specs.Rule.{blankEntry, blankCell, blankDependency, goodDependency, goodEntry, goodCell, noCell, noDependency}
+use Rattle.query.proofs.Shape.{blank-number, blank-cell, blank-dependency}
 use Rattle.format.specs.Bytes.{number, digits, Bytes}
 use Rattle.format.specs.Format.{Reading, none, got, gotIf, Format, Lawful, byte, sequence, padded, via}
 use Rattle.format.specs.Parts.{relations, dependencyAt, dependency, dependencies, putEntry, isEntry, entryFrom, entry, entries, row, noRow, blankRow, rows, chunk, flat, Fields, queryWith, fieldsOf, fullCells, query}
-use Rattle.format.proofs.Lists.{and-left, and-right, and-both, and-iff, every-parts, every-join, every-weaken, every-getD, all-blank, bytes-++}
+use Rattle.lists.proofs.Tests.{and-left, and-right, and-both, and-iff, every-take, every-drop, every-join, every-weaken, every-getD, every-same}
+use Rattle.format.proofs.Arrays.{bytes-append}
 use Rattle.format.proofs.Numbers.{number-digits, digits-number, length-digits}
 use Rattle.format.proofs.Formats.{not-got, gotIf-true, byte-lawful, sequence-lawful, padded-lawful, via-lawful}
 
 -- ---- part 0 and part 1
-
-pub zero-is : (n : ℕ) → isZero n ≡ true → n ≡ 0
-zero-is n h = eqb-true n 0 h
 
 pub relations-lawful : Lawful relations
 unfolding relations byte
@@ -34,12 +33,7 @@ relations-lawful =
     sequence-lawful (byte (between 1 8)) (λ n. padded 8 0 isZero n (byte (between 1 8))) (byte-lawful (between 1 8))
     (λ n h.
     let k : (leb 1 n ≡ true) × (leb n 8 ≡ true) = simp and-iff at h in
-    padded-lawful 8 0 isZero n (byte (between 1 8)) zero-is refl (leb-true n 8 (k .1)) (byte-lawful (between 1 8)))
-
-pub dependency-is : (d : Dependency) → blankDependency d ≡ true → d ≡ noDependency
-dependency-is d h =
-    let k : ((isZero (d .relation) ≡ true) × (isZero (d .left) ≡ true)) × (isZero (d .right) ≡ true) = simp and-iff at h in
-    λ i. record { relation = zero-is (d .relation) (k .0 .0) i; left = zero-is (d .left) (k .0 .1) i; right = zero-is (d .right) (k .1) i }
+    padded-lawful 8 0 isZero n (byte (between 1 8)) blank-number refl (leb-true n 8 (k .1)) (byte-lawful (between 1 8)))
 
 -- three bytes off the front
 three : (bytes : List ℕ) → leb 3 (length bytes) ≡ true → (getD bytes 0 0 ∷ getD bytes 1 0 ∷ getD bytes 2 0 ∷ drop 3 bytes) ≡ bytes
@@ -65,18 +59,9 @@ pub dependencies-lawful : (schema : List ℕ) → Lawful (dependencies schema)
 unfolding dependencies byte
 dependencies-lawful schema =
     sequence-lawful (byte (λ n. leb n 32)) (λ n. padded 32 noDependency blankDependency n (dependency schema)) (byte-lawful (λ n. leb n 32))
-    (λ n h. padded-lawful 32 noDependency blankDependency n (dependency schema) dependency-is refl (leb-true n 32 h) (dependency-lawful schema))
+    (λ n h. padded-lawful 32 noDependency blankDependency n (dependency schema) blank-dependency refl (leb-true n 32 h) (dependency-lawful schema))
 
 -- ---- entries and rows
-
-pub cell-is : (c : Cell) → blankCell c ≡ true → c ≡ noCell
-cell-is c h = go (c .entry) refl
-  where
-    go : (e : Entry) → c .entry ≡ e → c ≡ noCell
-    go (Constant n) p =
-        let q : c .entry ≡ Constant 0 = p ∙ ap Constant (zero-is n (rw p at h)) in
-        λ i. record { entry = q i }
-    go (Variable v) p = let z : false ≡ true = rw p at h in let y : _≡_ {A = ℕ} 0 1 = cc in absurd (omega arith)
 
 -- an entry's bytes, and what follows them
 putEntry-get : (e : Entry) (rest : List ℕ) → goodEntry e ≡ true → entry .get (putEntry e ++ rest) ≡ got (record { entry = e }) rest
@@ -128,7 +113,7 @@ entry-lawful =
 
 pub entries-lawful : (n : ℕ) → n ≤ 8 → Lawful (entries n)
 unfolding entries
-entries-lawful n h = padded-lawful 8 noCell blankCell n entry cell-is refl h entry-lawful
+entries-lawful n h = padded-lawful 8 noCell blankCell n entry blank-cell refl h entry-lawful
 
 -- No relation has more than 8 columns
 abbrev pub Narrow : List ℕ → Type 0
@@ -146,16 +131,16 @@ row-lawful schema hs =
     sequence-lawful (byte (λ r. ltb r (length schema))) (λ r. entries (getD schema r 0)) (byte-lawful (λ r. ltb r (length schema)))
     (λ r h. entries-lawful (getD schema r 0) (narrow-at schema r hs))
 
-pub row-is : (r : ℕ × List Cell) → blankRow r ≡ true → r ≡ noRow
-row-is r h =
+pub blank-row : (r : ℕ × List Cell) → blankRow r ≡ true → r ≡ noRow
+blank-row r h =
     let k : (isZero (r .0) ≡ true) × ((eqb (length (r .1)) 8 ≡ true) × (every blankCell (r .1) ≡ true)) = simp and-iff at h in
     let p : r .1 ≡ replicate 8 noCell =
-    all-blank blankCell noCell cell-is (r .1) (k .1 .1) ∙ ap (λ (n : ℕ). replicate n noCell) (eqb-true (length (r .1)) 8 (k .1 .0)) in
-    λ i. (zero-is (r .0) (k .0) i, p i)
+    every-same blankCell noCell blank-cell (r .1) (k .1 .1) ∙ ap (λ (n : ℕ). replicate n noCell) (eqb-true (length (r .1)) 8 (k .1 .0)) in
+    λ i. (blank-number (r .0) (k .0) i, p i)
 
 pub rows-lawful : (schema : List ℕ) (n : ℕ) → Narrow schema → n ≤ 12 → Lawful (rows schema n)
 unfolding rows every
-rows-lawful schema n hs h = padded-lawful 12 noRow blankRow n (row schema) row-is refl h (row-lawful schema hs)
+rows-lawful schema n hs h = padded-lawful 12 noRow blankRow n (row schema) blank-row refl h (row-lawful schema hs)
 
 -- ---- relations and cells as rows
 

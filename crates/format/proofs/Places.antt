@@ -14,60 +14,20 @@ use Rattle.record.specs.declared.Place.{Place}
 use Rattle.lists.specs.Tests.{every, isZero}
 use Rattle.query.specs.Rule.{blankCell, blankQuery, goodQuery, headSafe, noCell, noQuery}
 use Rattle.record.specs.Rule.{goodPlace, noPlace}
+use Rattle.refusals.specs.Refusals.{badQuery}
 use Rattle.format.specs.Bytes.{Bytes}
 use Rattle.format.specs.Format.{Reading, none, got, Format, Lawful, byte, sequence, via, pad}
 use Rattle.format.specs.Parts.{query}
-use Rattle.format.specs.File.{Result, ok, refused, _>>=_, whole, isVacant, placeWith, safeQuery, readPlace, noneLeft, readPlaces, join, putPlace, oneMore, upToFilled, shapedQuery}
-use Rattle.format.proofs.Lists.{and-left, and-right, and-both, and-iff, all-blank, bytes-++}
-use Rattle.format.proofs.Parts.{Narrow, cell-is, zero-is, query-lawful}
+use Rattle.format.specs.File.{Result, ok, refused, _>>=_, complete, isVacant, placeWith, safeQuery, readPlace, noneLeft, readPlaces, join, putPlace, oneMore, upToFilled, shapedQuery}
+use Rattle.lists.proofs.Tests.{and-left, and-right, and-both, and-iff, every-same}
+use Rattle.format.proofs.Arrays.{bytes-append}
+use Rattle.query.proofs.Shape.{blank-query}
+use Rattle.format.proofs.Parts.{Narrow, query-lawful}
 use Rattle.format.proofs.Rules.{query-good, good-query}
 use Rattle.format.proofs.Directory.{cond-ok}
-
--- ---- results
-
-pub not-ok : {A : Type 0} {n : ℕ} {a : A} → refused n ≡ ok a → ⊥
-not-ok e = let z : _≡_ {A = ℕ} 0 1 = cc in omega arith
-
-pub bind-ok : {A B : Type 0} (o : Result A) (next : A → Result B) (b : B) → (o >>= next) ≡ ok b → (a : A) × (o ≡ ok a) × (next a ≡ ok b)
-unfolding _>>=_
-bind-ok (ok a) next b e = (a, refl, e)
-bind-ok (refused n) next b e = absurd (not-ok e)
-
-pub whole-ok : {A : Type 0} (n : ℕ) (o : Reading A) (a : A) → whole n o ≡ ok a → o ≡ got a []
-unfolding whole
-whole-ok n none a e = absurd (not-ok e)
-whole-ok n (got b []) a e = let p : b ≡ a = cc in rw p
-whole-ok n (got b (x ∷ rest)) a e = absurd (not-ok e)
-
--- a part that holds a good value and no more
-pub whole-put : {A : Type 0} (n : ℕ) (f : Format A) → Lawful f → (a : A) → f .good a ≡ true → whole n (f .get (f .put a)) ≡ ok a
-unfolding whole
-whole-put n f lf a h = let e : f .get (f .put a) ≡ got a [] = rw append-nil at (lf .get-put a [] h) in rw e
-
--- what a part that is accepted holds
-pub whole-get : {A : Type 0} (n : ℕ) (f : Format A) → Lawful f → (part : List ℕ) (a : A) → Bytes part → whole n (f .get part) ≡ ok a → (f .good a ≡ true) × (f .put a ≡ part)
-whole-get n f lf part a hb e =
-    let k : (f .good a ≡ true) × (f .put a ++ [] ≡ part) = lf .put-get part a [] hb (whole-ok n (f .get part) a e) in
-    (k .0, rw append-nil at (k .1))
+use Rattle.format.proofs.Results.{not-ok, bind-ok, complete-put, complete-get}
 
 -- ---- vacant places
-
-pub query-is : (q : Query) → shapedQuery q ≡ true → blankQuery q ≡ true → q ≡ noQuery
-unfolding blankQuery
-query-is q hs h =
-    let s : ((eqb (length (q .head)) 8 ≡ true) × (eqb (length (q .relations)) 12 ≡ true)) × (eqb (length (q .cells)) 96 ≡ true) = simp and-iff at hs in
-    let k = simp and-iff at h in
-    let head : q .head ≡ replicate 8 noCell = all-blank blankCell noCell cell-is (q .head) (k .0 .0 .1) ∙ ap (λ (n : ℕ). replicate n noCell) (eqb-true (length (q .head)) 8 (s .0 .0)) in
-    let relations : q .relations ≡ replicate 12 0 = all-blank isZero 0 zero-is (q .relations) (k .0 .1) ∙ ap (λ (n : ℕ). replicate n 0) (eqb-true (length (q .relations)) 12 (s .0 .1)) in
-    let cells : q .cells ≡ replicate 96 noCell = all-blank blankCell noCell cell-is (q .cells) (k .1) ∙ ap (λ (n : ℕ). replicate n noCell) (eqb-true (length (q .cells)) 96 (s .1)) in
-    λ i.
-    record {
-      arity = zero-is (q .arity) (k .0 .0 .0 .0) i;
-      size = zero-is (q .size) (k .0 .0 .0 .1) i;
-      head = head i;
-      relations = relations i;
-      cells = cells i;
-    }
 
 -- The rule of a place, with its arrays' lengths
 abbrev pub sound : List ℕ → Place → Bool
@@ -76,7 +36,10 @@ sound schema p = goodPlace schema p && shapedQuery (p .query)
 pub vacant-is : (schema : List ℕ) (p : Place) → sound schema p ≡ true → p .filled ≡ false → p ≡ noPlace
 vacant-is schema p h e =
     let k : (goodPlace schema p ≡ true) × (shapedQuery (p .query) ≡ true) = and-iff (goodPlace schema p) (shapedQuery (p .query)) .0 h in
-    let q : p .query ≡ noQuery = query-is (p .query) (k .1) (rw e at (k .0)) in
+    let s : ((eqb (length (p .query .head)) 8 ≡ true) × (eqb (length (p .query .relations)) 12 ≡ true)) × (eqb (length (p .query .cells)) 96 ≡ true) =
+    simp and-iff at (k .1) in
+    let q : p .query ≡ noQuery =
+    blank-query (p .query) (eqb-true _ 8 (s .0 .0)) (eqb-true _ 12 (s .0 .1)) (eqb-true _ 96 (s .1)) (rw e at (k .0)) in
     λ i. record { filled = e i; query = q i }
 
 no-sound : (schema : List ℕ) → sound schema noPlace ≡ true
@@ -95,8 +58,8 @@ unfolding readPlace putPlace safeQuery _>>=_
 read-filled schema hn last p h e =
     let k : (goodPlace schema p ≡ true) × (shapedQuery (p .query) ≡ true) = and-iff (goodPlace schema p) (shapedQuery (p .query)) .0 h in
     let g : (goodQuery schema (p .query) ≡ true) × (headSafe schema (p .query) ≡ true) = and-iff (goodQuery schema (p .query)) (headSafe schema (p .query)) .0 (rw e at (k .0)) in
-    let w : whole 5 (query schema .get (query schema .put (p .query))) ≡ ok (p .query) =
-    whole-put 5 (query schema) (query-lawful schema hn) (p .query) (query-good schema (p .query) (k .1) (g .0)) in
+    let w : complete badQuery (query schema .get (query schema .put (p .query))) ≡ ok (p .query) =
+    complete-put badQuery (query schema) (query-lawful schema hn) (p .query) (query-good schema (p .query) (k .1) (g .0)) in
     rw (e, query-part schema (p .query), w) (rw (g .1))
 
 pub read-vacant : (schema : List ℕ) → readPlace schema false (255 ∷ []) ≡ ok noPlace
@@ -118,22 +81,22 @@ read-place : (schema : List ℕ) → Narrow schema → (last : Bool) (part : Lis
 unfolding readPlace safeQuery putPlace
 read-place schema hn last part p hb e = vacancy (isVacant part) refl e
   where
-    vacant : (t : Bool) → last ≡ t → isVacant part ≡ true → cond t (refused 5) (ok noPlace) ≡ ok p → Read schema last part p
+    vacant : (t : Bool) → last ≡ t → isVacant part ≡ true → cond t (refused badQuery) (ok noPlace) ≡ ok p → Read schema last part p
     vacant true el ev e = absurd (not-ok e)
     vacant false el ev e =
         let same : noPlace ≡ p = cc in
         subst (Read schema last part) same (no-sound schema, sym (vacant-part part ev), λ l. sym el ∙ l)
 
-    filled : (whole 5 (query schema .get part) >>= safeQuery schema) ≡ ok p → Read schema last part p
+    filled : (complete badQuery (query schema .get part) >>= safeQuery schema) ≡ ok p → Read schema last part p
     filled e =
-        let (q, w, s) = bind-ok (whole 5 (query schema .get part)) (safeQuery schema) p e in
+        let (q, w, s) = bind-ok (complete badQuery (query schema .get part)) (safeQuery schema) p e in
         let (safe, s₁) = cond-ok (headSafe schema q) (ok (placeWith q)) 6 p s in
         let same : placeWith q ≡ p = cc in
-        let (good, put) = whole-get 5 (query schema) (query-lawful schema hn) part q hb w in
+        let (good, put) = complete-get badQuery (query schema) (query-lawful schema hn) part q hb w in
         let (shape, rule) = good-query schema q good in
-        subst (Read schema last part) same (and-both (and-both rule safe) shape, put, λ l. refl)
+        subst (Read schema last part) same (and-both _ _ (and-both _ _ rule safe) shape, put, λ l. refl)
 
-    vacancy : (t : Bool) → isVacant part ≡ t → cond t (cond last (refused 5) (ok noPlace)) (whole 5 (query schema .get part) >>= safeQuery schema) ≡ ok p
+    vacancy : (t : Bool) → isVacant part ≡ t → cond t (cond last (refused badQuery) (ok noPlace)) (complete badQuery (query schema .get part) >>= safeQuery schema) ≡ ok p
         → Read schema last part p
     vacancy true ev e = vacant last refl ev e
     vacancy false ev e = filled e
@@ -171,12 +134,12 @@ read-places schema hn (part ∷ parts) places hb e =
     let (p, e₁, e₂) = bind-ok (readPlace schema (noneLeft parts) part) (λ place. readPlaces schema parts >>= (λ places. ok (place ∷ places))) places e in
     let (ps, e₃, e₄) = bind-ok (readPlaces schema parts) (λ places. ok (p ∷ places)) places e₂ in
     let same : p ∷ ps ≡ places = cc in
-    let (b₁, b₂) = bytes-++ part (join parts) hb in
+    let (b₁, b₂) = bytes-append part (join parts) hb in
     let (good, put, last) = read-place schema hn (noneLeft parts) part p b₁ e₁ in
     let (goods, puts, upTo) = read-places schema hn parts ps b₂ e₃ in
     let l : length ps ≡ length parts = sym (length-map ps (putPlace schema)) ∙ ap length puts in
     let all : map (putPlace schema) (p ∷ ps) ≡ part ∷ parts = rw (put, puts) in
-    subst (AllRead schema (part ∷ parts)) same (and-both good goods, all, λ k. one-more p ps (ps ++ replicate k noPlace) parts last l (upTo k))
+    subst (AllRead schema (part ∷ parts)) same (and-both _ _ good goods, all, λ k. one-more p ps (ps ++ replicate k noPlace) parts last l (upTo k))
 
 -- ---- reading back
 

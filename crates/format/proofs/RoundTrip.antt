@@ -17,27 +17,24 @@ use Rattle.record.specs.View.{schemaOf}
 use Rattle.lists.specs.Tests.{every}
 use Rattle.record.specs.Rule.{goodPlace, goodRecord, noPlace}
 use Rattle.query.specs.Rule.{goodRelations, goodDependencies, goodQuery, headSafe, blankQuery}
+use Rattle.query.proofs.Good as good
+use Rattle.refusals.specs.Refusals.{badDependency, badRelations}
 use Rattle.format.specs.Bytes.{Bytes}
 use Rattle.format.specs.Format.{Format, Lawful, pad}
 use Rattle.format.specs.Parts.{relations, dependencies, query}
-use Rattle.format.specs.File.{Result, ok, refused, _>>=_, whole, directory, join, assemble, readPlaces, recordWith, readParts, readAll, readFile, putPlace, upToFilled, partsOf, fileOf, shapedQuery, shaped}
-use Rattle.format.proofs.Lists.{and-left, and-right, and-both, and-iff, every-parts, every-join, every-weaken, every-replicate, every-++, drop-replicate, length-pad, bytes-++}
+use Rattle.format.specs.File.{Result, ok, refused, _>>=_, complete, directory, join, assemble, readPlaces, recordWith, readParts, readAll, readFile, putPlace, upToFilled, partsOf, fileOf, shapedQuery, shaped}
+use Rattle.lists.proofs.Tests.{and-left, and-right, and-both, and-iff, every-take, every-drop, every-both, every-join, every-weaken, every-replicate, every-append-is}
+use Rattle.lists.proofs.Loops.{replicate-drop}
+use Rattle.format.proofs.Arrays.{length-pad, bytes-append}
 use Rattle.format.proofs.Parts.{Narrow, relations-lawful, dependencies-lawful}
-use Rattle.format.proofs.Rules.{relations-good, good-relations, good-narrow, dependencies-good, good-dependencies, good-sizes}
+use Rattle.format.proofs.Rules.{relations-good, good-relations, good-narrow, dependencies-good, good-dependencies}
 use Rattle.format.proofs.Directory.{directory-assemble, assemble-directory, length-assemble}
 use Rattle.format.proofs.Lengths.{take-short, length-relations, length-dependencies, query-short}
-use Rattle.format.proofs.Places.{bind-ok, not-ok, whole-put, whole-get, sound, read-places, places-read, pad-places, upTo-fits}
-
--- ---- the rule of the places, with their arrays' lengths
-
-every-both : {A : Type 0} (s t : A → Bool) (xs : List A) → every s xs ≡ true → every t xs ≡ true → every (λ x. s x && t x) xs ≡ true
-unfolding every
-every-both s t [] p q = refl
-every-both s t (x ∷ xs) p q =
-    and-both (and-both (and-left (s x) (every s xs) p) (and-left (t x) (every t xs) q)) (every-both s t xs (and-right (s x) (every s xs) p) (and-right (t x) (every t xs) q))
+use Rattle.format.proofs.Results.{bind-ok, not-ok, complete-put, complete-get}
+use Rattle.format.proofs.Places.{sound, read-places, places-read, pad-places, upTo-fits}
 
 -- The rule of a record, part by part, with its arrays' lengths
-pub record Parts (r : Record) : Type 0 where
+pub record SoundRecord (r : Record) : Type 0 where
   pub relations : goodRelations (r .relations) (r .widths) ≡ true
   pub dependencies : goodDependencies (schemaOf r) (r .held) (r .dependencies) ≡ true
   pub places : every (sound (schemaOf r)) (r .places) ≡ true
@@ -45,9 +42,9 @@ pub record Parts (r : Record) : Type 0 where
   pub dependencies-long : length (r .dependencies) ≡ 32
   pub places-long : length (r .places) ≡ 8
 
-pub parts-of : (r : Record) → goodRecord r ≡ true → shaped r ≡ true → Parts r
+pub sound-record : (r : Record) → goodRecord r ≡ true → shaped r ≡ true → SoundRecord r
 unfolding goodRecord
-parts-of r h s =
+sound-record r h s =
     let k : ((goodRelations (r .relations) (r .widths) ≡ true) × (goodDependencies (schemaOf r) (r .held) (r .dependencies) ≡ true)) × (every (goodPlace (schemaOf r)) (r .places) ≡ true) = simp and-iff at h in
     let l : (((eqb (length (r .widths)) 8 ≡ true) × (eqb (length (r .dependencies)) 32 ≡ true)) × (eqb (length (r .places)) 8 ≡ true)) × (every (λ p. shapedQuery (p .query)) (r .places) ≡ true) = simp and-iff at s in
     record {
@@ -59,29 +56,29 @@ parts-of r h s =
       places-long = eqb-true (length (r .places)) 8 (l .0 .1);
     }
 
-pub of-parts : (r : Record) → Parts r → (goodRecord r ≡ true) × (shaped r ≡ true)
+pub sound-good : (r : Record) → SoundRecord r → (goodRecord r ≡ true) × (shaped r ≡ true)
 unfolding goodRecord
-of-parts r k =
+sound-good r k =
     let good : every (goodPlace (schemaOf r)) (r .places) ≡ true =
     every-weaken (sound (schemaOf r)) (goodPlace (schemaOf r)) (λ p g. and-left (goodPlace (schemaOf r) p) (shapedQuery (p .query)) g) (r .places) (k .places) in
     let long : every (λ p. shapedQuery (p .query)) (r .places) ≡ true =
     every-weaken (sound (schemaOf r)) (λ p. shapedQuery (p .query)) (λ p g. and-right (goodPlace (schemaOf r) p) (shapedQuery (p .query)) g) (r .places) (k .places) in (
-      and-both (and-both (k .relations) (k .dependencies)) good,
-      and-both
-          (and-both (and-both (eq-eqb (length (r .widths)) 8 (k .widths-long)) (eq-eqb (length (r .dependencies)) 32 (k .dependencies-long)))
+      and-both _ _ (and-both _ _ (k .relations) (k .dependencies)) good,
+      and-both _ _
+          (and-both _ _ (and-both _ _ (eq-eqb (length (r .widths)) 8 (k .widths-long)) (eq-eqb (length (r .dependencies)) 32 (k .dependencies-long)))
           (eq-eqb (length (r .places)) 8 (k .places-long)))
           long,
     )
 
 -- ---- a record written and read back
 
-pub parts-read : (r : Record) → Parts r → readAll (partsOf r) ≡ ok r
+pub parts-read : (r : Record) → SoundRecord r → readAll (partsOf r) ≡ ok r
 unfolding readAll partsOf readParts _>>=_
 parts-read r k =
-    let e₀ : whole 3 (relations .get (relations .put (r .relations, r .widths))) ≡ ok (r .relations, r .widths) =
-    whole-put 3 relations relations-lawful (r .relations, r .widths) (relations-good (r .relations) (r .widths) (k .widths-long) (k .relations)) in
-    let e₁ : whole 4 (dependencies (schemaOf r) .get (dependencies (schemaOf r) .put (r .held, r .dependencies))) ≡ ok (r .held, r .dependencies) =
-    whole-put 4 (dependencies (schemaOf r)) (dependencies-lawful (schemaOf r)) (r .held, r .dependencies)
+    let e₀ : complete badRelations (relations .get (relations .put (r .relations, r .widths))) ≡ ok (r .relations, r .widths) =
+    complete-put badRelations relations relations-lawful (r .relations, r .widths) (relations-good (r .relations) (r .widths) (k .widths-long) (k .relations)) in
+    let e₁ : complete badDependency (dependencies (schemaOf r) .get (dependencies (schemaOf r) .put (r .held, r .dependencies))) ≡ ok (r .held, r .dependencies) =
+    complete-put badDependency (dependencies (schemaOf r)) (dependencies-lawful (schemaOf r)) (r .held, r .dependencies)
     (dependencies-good (schemaOf r) (r .held) (r .dependencies) (k .dependencies-long) (k .dependencies)) in
     let e₂ = places-read (schemaOf r) (good-narrow (r .relations) (r .widths) (k .relations)) (r .places) (k .places) in
     let e₃ : pad 8 noPlace (take (upToFilled (r .places)) (r .places)) ≡ r .places = pad-places (schemaOf r) (r .places) (k .places) (k .places-long) in
@@ -98,26 +95,26 @@ sound-places : (schema : List ℕ) (ps : List Place) → every (sound schema) ps
 unfolding pad
 sound-places schema ps h =
     let t : every (sound schema) (drop (length ps) (replicate 8 noPlace)) ≡ true =
-    every-parts (sound schema) (length ps) (replicate 8 noPlace) (every-replicate (sound schema) 8 noPlace (no-place-sound schema)) .1 in
-    every-++ (sound schema) ps (drop (length ps) (replicate 8 noPlace)) ∙ and-both h t
+    every-drop (sound schema) (length ps) (replicate 8 noPlace) (every-replicate (sound schema) 8 noPlace (no-place-sound schema)) in
+    every-append-is (sound schema) ps (drop (length ps) (replicate 8 noPlace)) ∙ and-both _ _ h t
 
 -- what is written of them is what was read
 take-places : (ps : List Place) → ((k : ℕ) → upToFilled (ps ++ replicate k noPlace) ≡ length ps) → take (upToFilled (pad 8 noPlace ps)) (pad 8 noPlace ps) ≡ ps
 unfolding pad
 take-places ps last =
-    let n : upToFilled (ps ++ drop (length ps) (replicate 8 noPlace)) ≡ length ps = rw drop-replicate (last (8 - length ps)) in
+    let n : upToFilled (ps ++ drop (length ps) (replicate 8 noPlace)) ≡ length ps = rw replicate-drop (last (8 - length ps)) in
     rw n (take-at ps (drop (length ps) (replicate 8 noPlace)) (length ps) refl)
 
 -- the record of good parts
 read-fields : (part0 part1 : List ℕ) (parts : List (List ℕ)) (rs : ℕ × List ℕ) (ds : ℕ × List Dependency) (ps : List Place)
     → Bytes part0 → Bytes part1 → Bytes (join parts) → length parts ≤ 8
-    → whole 3 (relations .get part0) ≡ ok rs → whole 4 (dependencies (take (rs .0) (rs .1)) .get part1) ≡ ok ds → readPlaces (take (rs .0) (rs .1)) parts ≡ ok ps
-    → Parts (recordWith rs ds ps) × (partsOf (recordWith rs ds ps) ≡ part0 ∷ part1 ∷ parts)
+    → complete badRelations (relations .get part0) ≡ ok rs → complete badDependency (dependencies (take (rs .0) (rs .1)) .get part1) ≡ ok ds → readPlaces (take (rs .0) (rs .1)) parts ≡ ok ps
+    → SoundRecord (recordWith rs ds ps) × (partsOf (recordWith rs ds ps) ≡ part0 ∷ part1 ∷ parts)
 unfolding partsOf
 read-fields part0 part1 parts rs ds ps b₀ b₁ b few e₀ e₁ e₂ =
     let schema : List ℕ = take (rs .0) (rs .1) in
-    let (g₀, w₀) = whole-get 3 relations relations-lawful part0 rs b₀ e₀ in
-    let (g₁, w₁) = whole-get 4 (dependencies schema) (dependencies-lawful schema) part1 ds b₁ e₁ in
+    let (g₀, w₀) = complete-get badRelations relations relations-lawful part0 rs b₀ e₀ in
+    let (g₁, w₁) = complete-get badDependency (dependencies schema) (dependencies-lawful schema) part1 ds b₁ e₁ in
     let (l₀, k₀) = good-relations rs g₀ in
     let (l₁, k₁) = good-dependencies schema ds g₁ in
     let narrow : Narrow schema = good-narrow (rs .0) (rs .1) k₀ in
@@ -137,14 +134,14 @@ read-fields part0 part1 parts rs ds ps b₀ b₁ b few e₀ e₁ e₂ =
     )
 
 read-parts : (part0 part1 : List ℕ) (parts : List (List ℕ)) (r : Record) → Bytes part0 → Bytes part1 → Bytes (join parts) → length parts ≤ 8
-    → readParts part0 part1 parts ≡ ok r → Parts r × (partsOf r ≡ part0 ∷ part1 ∷ parts)
+    → readParts part0 part1 parts ≡ ok r → SoundRecord r × (partsOf r ≡ part0 ∷ part1 ∷ parts)
 unfolding readParts
 read-parts part0 part1 parts r b₀ b₁ b few e =
-    let (rs, e₀, f₀) = bind-ok (whole 3 (relations .get part0)) (λ rs. whole 4 (dependencies (take (rs .0) (rs .1)) .get part1) >>= (λ ds. readPlaces (take (rs .0) (rs .1)) parts >>= (λ ps. ok (recordWith rs ds ps)))) r e in
-    let (ds, e₁, f₁) = bind-ok (whole 4 (dependencies (take (rs .0) (rs .1)) .get part1)) (λ ds. readPlaces (take (rs .0) (rs .1)) parts >>= (λ ps. ok (recordWith rs ds ps))) r f₀ in
+    let (rs, e₀, f₀) = bind-ok (complete badRelations (relations .get part0)) (λ rs. complete badDependency (dependencies (take (rs .0) (rs .1)) .get part1) >>= (λ ds. readPlaces (take (rs .0) (rs .1)) parts >>= (λ ps. ok (recordWith rs ds ps)))) r e in
+    let (ds, e₁, f₁) = bind-ok (complete badDependency (dependencies (take (rs .0) (rs .1)) .get part1)) (λ ds. readPlaces (take (rs .0) (rs .1)) parts >>= (λ ps. ok (recordWith rs ds ps))) r f₀ in
     let (ps, e₂, f₂) = bind-ok (readPlaces (take (rs .0) (rs .1)) parts) (λ ps. ok (recordWith rs ds ps)) r f₁ in
     let same : recordWith rs ds ps ≡ r = cc in
-    subst (λ (r : Record). Parts r × (partsOf r ≡ part0 ∷ part1 ∷ parts)) {x = recordWith rs ds ps} same (read-fields part0 part1 parts rs ds ps b₀ b₁ b few e₀ e₁ e₂)
+    subst (λ (r : Record). SoundRecord r × (partsOf r ≡ part0 ∷ part1 ∷ parts)) {x = recordWith rs ds ps} same (read-fields part0 part1 parts rs ds ps b₀ b₁ b few e₀ e₁ e₂)
 
 -- ---- lengths
 
@@ -152,7 +149,7 @@ parts-two : (r : Record) → 2 ≤ length (partsOf r)
 unfolding partsOf
 parts-two r = omega arith
 
-parts-few : (r : Record) → Parts r → length (partsOf r) ≤ 10
+parts-few : (r : Record) → SoundRecord r → length (partsOf r) ≤ 10
 unfolding partsOf
 parts-few r k =
     let n : length (map (putPlace (schemaOf r)) (take (upToFilled (r .places)) (r .places))) ≡ upToFilled (r .places) =
@@ -165,8 +162,8 @@ place-short schema p hn h = go (p .filled) (and-left (goodPlace schema p) (shape
   where
     go : (t : Bool) → cond t (goodQuery schema (p .query) && headSafe schema (p .query)) (blankQuery (p .query)) ≡ true → length (cond t (query schema .put (p .query)) (255 ∷ [])) ≤ 534
     go true g =
-        let (a, z) = good-sizes schema (p .query) (and-left (goodQuery schema (p .query)) (headSafe schema (p .query)) g) in
-        query-short schema (p .query) hn a z
+        let q = good.good-query schema (p .query) (and-left (goodQuery schema (p .query)) (headSafe schema (p .query)) g) in
+        query-short schema (p .query) hn (q .arity) (q .size)
     go false g = lit≤ tt
 
 join-short : (schema : List ℕ) (places : List Place) → Narrow schema → every (sound schema) places ≡ true → length (join (map (putPlace schema) places)) ≤ 534 * length places
@@ -176,7 +173,7 @@ join-short schema (p ∷ ps) hn h =
     let ih : length (join (map (putPlace schema) ps)) ≤ 534 * length ps = join-short schema ps hn (and-right (sound schema p) (every (sound schema) ps) h) in
     rw (length-append (putPlace schema p) (join (map (putPlace schema) ps))) (omega (arith, place-short schema p hn (and-left (sound schema p) (every (sound schema) ps) h)))
 
-file-short : (r : Record) → Parts r → length (assemble (partsOf r)) ≤ 4420
+file-short : (r : Record) → SoundRecord r → length (assemble (partsOf r)) ≤ 4420
 unfolding partsOf join
 file-short r k =
     let schema : List ℕ = schemaOf r in
@@ -189,20 +186,20 @@ file-short r k =
     let l₀ : length part0 ≤ 9 = omega (arith, length-relations (r .relations) (r .widths), lib.ListN.length-take (r .relations) (r .widths), k .widths-long) in
     let l₁ : length part1 ≤ 97 = omega (arith, length-dependencies schema (r .held) (r .dependencies), lib.ListN.length-take (r .held) (r .dependencies), k .dependencies-long) in
     let l₂ : length (join ps) ≤ 534 * length ps =
-    rw (length-map (take n (r .places)) (putPlace schema)) (join-short schema (take n (r .places)) narrow (every-parts (sound schema) n (r .places) (k .places) .0)) in
+    rw (length-map (take n (r .places)) (putPlace schema)) (join-short schema (take n (r .places)) narrow (every-take (sound schema) n (r .places) (k .places))) in
     let e : length (part0 ++ (part1 ++ join ps)) ≡ length part0 + (length part1 + length (join ps)) = simp length-append in
     omega (arith, length-assemble (part0 ∷ part1 ∷ ps))
 
 -- ---- the theorems
 
 -- a file has at least the count's two bytes, so its parts are split as the reader takes them
-split-parts : (parts : List (List ℕ)) (r : Record) → Bytes (join parts) → length parts ≤ 10 → readAll parts ≡ ok r → Parts r × (partsOf r ≡ parts)
+split-parts : (parts : List (List ℕ)) (r : Record) → Bytes (join parts) → length parts ≤ 10 → readAll parts ≡ ok r → SoundRecord r × (partsOf r ≡ parts)
 unfolding readAll join
 split-parts [] r b few e = absurd (not-ok e)
 split-parts (part0 ∷ []) r b few e = absurd (not-ok e)
 split-parts (part0 ∷ part1 ∷ parts) r b few e =
-    let (b₀, b′) = bytes-++ part0 (part1 ++ join parts) b in
-    let (b₁, b₂) = bytes-++ part1 (join parts) b′ in
+    let (b₀, b′) = bytes-append part0 (part1 ++ join parts) b in
+    let (b₁, b₂) = bytes-append part1 (join parts) b′ in
     read-parts part0 part1 parts r b₀ b₁ b₂ (omega arith) e
 
 -- An accepted file gives a good record, and written back it is the same bytes
@@ -212,14 +209,14 @@ file-written-back file r hb e =
     let (parts, e₀, e₁) = bind-ok (directory file) readAll r e in
     let (same, low, high, b) = assemble-directory file parts hb e₀ in
     let (k, p) = split-parts parts r b high e₁ in
-    let (good, long) = of-parts r k in
+    let (good, long) = sound-good r k in
     (good, long, ap assemble p ∙ same)
 
 -- A good record written and read back is the same record; every written file is accepted
 pub record-read-back : (r : Record) → goodRecord r ≡ true → shaped r ≡ true → readFile (fileOf r) ≡ ok r
 unfolding readFile fileOf _>>=_
 record-read-back r h s =
-    let k : Parts r = parts-of r h s in
+    let k : SoundRecord r = sound-record r h s in
     let few : length (partsOf r) ≤ 10 = parts-few r k in
     let e : directory (assemble (partsOf r)) ≡ ok (partsOf r) = directory-assemble (partsOf r) (parts-two r) few (lt-of-le-of-lt (file-short r k) (lit≤ tt)) in
     rw e (parts-read r k)
@@ -227,4 +224,4 @@ record-read-back r h s =
 -- No file is longer than 4,420 bytes
 pub file-fits : (r : Record) → goodRecord r ≡ true → shaped r ≡ true → length (fileOf r) ≤ 4420
 unfolding fileOf
-file-fits r h s = file-short r (parts-of r h s)
+file-fits r h s = file-short r (sound-record r h s)

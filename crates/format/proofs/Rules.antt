@@ -16,8 +16,8 @@ use Rattle.query.specs.Rule.{blankCell, blankDependency, blankQuery, goodDepend
 use Rattle.format.specs.Format.{Format, byte, sequence, padded, via}
 use Rattle.format.specs.Parts.{relations, dependency, dependencies, entry, entries, row, noRow, blankRow, rows, chunk, flat, Fields, queryWith, fieldsOf, fullCells, query}
 use Rattle.format.specs.File.{shapedQuery}
-use Rattle.format.proofs.Lists.{and-left, and-right, and-both, and-iff, and-assoc, every-++, every-parts, every-weaken, all-blank}
-use Rattle.format.proofs.Parts.{Narrow, cell-is, zero-is, map-chunk}
+use Rattle.lists.proofs.Tests.{and-left, and-right, and-both, and-iff, every-append-is, every-take, every-drop, every-weaken, every-same}
+use Rattle.format.proofs.Parts.{Narrow, map-chunk}
 
 -- ---- relations and dependencies
 
@@ -87,7 +87,7 @@ all-rows-blank (r ∷ rs) cells l =
     let e : eqb (length (take 8 cells)) 8 ≡ true = eq-eqb (length (take 8 cells)) 8 (length-take-le 8 cells (omega arith)) in
     let ih : every blankRow (chunk rs (drop 8 cells)) ≡ (every isZero rs && every blankCell (drop 8 cells)) = all-rows-blank rs (drop 8 cells) (length-drop 8 cells ∙ omega arith) in
     let c : every blankCell cells ≡ (every blankCell (take 8 cells) && every blankCell (drop 8 cells)) =
-    sym (ap (every blankCell) (take-append-drop 8 cells)) ∙ every-++ blankCell (take 8 cells) (drop 8 cells) in
+    sym (ap (every blankCell) (take-append-drop 8 cells)) ∙ every-append-is blankCell (take 8 cells) (drop 8 cells) in
     rw (e, ih, c) (swap-and (isZero r) (every blankCell (take 8 cells)) (every isZero rs) (every blankCell (drop 8 cells)))
 
 pub rows-blank : (n : ℕ) (rs : List ℕ) (cells : List Cell) → length cells ≡ 8 * length rs
@@ -109,7 +109,7 @@ query-good schema q hs h =
     let lc : length (q .cells) ≡ 8 * length (q .relations) = eqb-true (length (q .cells)) 96 (s .1) ∙ omega arith in
     let k = simp and-iff at h in
     let used : every (row schema .good) (take (q .size) (chunk (q .relations) (q .cells))) ≡ true = rw (rows-good schema (q .size) (q .relations) (q .cells) lc) (k .0 .0 .1) in
-    let unused : every blankRow (drop (q .size) (chunk (q .relations) (q .cells))) ≡ true = rw (rows-blank (q .size) (q .relations) (q .cells) lc) (and-both (k .0 .1) (k .1)) in
+    let unused : every blankRow (drop (q .size) (chunk (q .relations) (q .cells))) ≡ true = rw (rows-blank (q .size) (q .relations) (q .cells) lc) (and-both _ _ (k .0 .1) (k .1)) in
     let l : eqb (length (chunk (q .relations) (q .cells))) 12 ≡ true = eq-eqb (length (chunk (q .relations) (q .cells))) 12 (length-chunk (q .relations) (q .cells) ∙ lr) in
     simp and-iff (s .1, (k .0 .0 .0 .0 .0, (k .0 .0 .0 .0 .1, ((s .0 .0, k .0 .0 .0 .1), (l, (used, unused))))))
 
@@ -126,8 +126,3 @@ good-query schema q h =
       simp and-iff ((k .1 .1 .1 .0 .0, eq-eqb (length (q .relations)) 12 l), k .0),
       simp and-iff (((((k .1 .0, k .1 .1 .0), k .1 .1 .1 .0 .1), used), u .0), u .1),
     )
-
--- a good query has at most 8 head entries and 12 rows
-pub good-sizes : (schema : List ℕ) (q : Query) → goodQuery schema q ≡ true → (q .arity ≤ 8) × (q .size ≤ 12)
-unfolding goodQuery
-good-sizes schema q h = let k = simp and-iff at h in (leb-true (q .arity) 8 (k .0 .0 .0 .0 .0), leb-true (q .size) 12 (k .0 .0 .0 .0 .1))

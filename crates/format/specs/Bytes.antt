@@ -1,10 +1,10 @@
--- Little-endian numbers, and a list laid over another.
+-- Bytes and little-endian numbers.
 use mathlib.Core.Path.{_≡_}
 use mathlib.Core.Bool.{true}
-use mathlib.Core.List.{List, [], _∷_, _++_}
+use mathlib.Core.List.{List, [], _∷_}
 use Prim.Native.Nat.{ℕ, zero, suc, _+_, _*_, _/_, _%_}
 use lib.Dec.{ltb}
-use lib.ListN.{length, getD, take, drop}
+use lib.ListN.{getD, drop}
 use Rattle.lists.specs.Tests.{every}
 
 -- The little-endian number of the first k bytes
@@ -20,7 +20,3 @@ digits (suc k) n = n % 256 ∷ digits k (n / 256)
 -- Each number of a list is a byte
 abbrev pub Bytes : List ℕ → Type 0
 Bytes numbers = every (λ n. ltb n 256) numbers ≡ true
-
--- A list with another written over it from a position on
-abbrev pub over : {A : Type 0} → List A → ℕ → List A → List A
-over under at xs = take at under ++ xs ++ drop (at + length xs) under

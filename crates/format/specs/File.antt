@@ -1,4 +1,4 @@
--- The whole file: the directory of its parts, the reader with its refusals, and the bytes of a record. Document 01's "The file" and refusals 1 to 6.
+-- The file: the directory of its parts, the reader with its refusals, and the bytes of a record (SPECIFICATION, The file and Refusals, 1 to 6).
 use mathlib.Core.Bool.{Bool, true, false, cond, _&&_}
 use mathlib.Core.List.{List, [], _∷_, _++_, map}
 use Prim.Native.Nat.{ℕ, zero, suc, _+_, _*_}
@@ -15,13 +15,14 @@ use Rattle.record.specs.View.{schemaOf}
 use Rattle.lists.specs.Tests.{between, every}
 use Rattle.query.specs.Rule.{headSafe}
 use Rattle.record.specs.Rule.{noPlace, blankRecord}
+use Rattle.refusals.specs.Refusals.{badDependency, badDirectory, badOffsets, badQuery, badRelations, unsafeHead}
 use Rattle.format.specs.Bytes.{number, digits}
 use Rattle.format.specs.Format.{Reading, none, got, Format, pad}
 use Rattle.format.specs.Parts.{relations, dependencies, query}
 
 -- ---- the first fault decides
 
--- A value, or a refusal with document 01's number
+-- A value, or a refusal with its number
 pub data Result (A : Type 0) : Type 0 where
   ok : A → Result A
   refused : ℕ → Result A
@@ -33,10 +34,10 @@ ok a >>= next = next a
 refused n >>= next = refused n
 
 -- A part that is to hold one value and no more: refused if the value is bad or the part too short, and refused if it is too long
-unfoldable pub whole : {A : Type 0} → ℕ → Reading A → Result A
-whole n none = refused n
-whole n (got a []) = ok a
-whole n (got a (b ∷ rest)) = refused n
+unfoldable pub complete : {A : Type 0} → ℕ → Reading A → Result A
+complete n none = refused n
+complete n (got a []) = ok a
+complete n (got a (b ∷ rest)) = refused n
 
 -- ---- the directory
 
@@ -54,7 +55,7 @@ unfoldable pub stretches : ℕ → List ℕ → List ℕ → List (List ℕ)
 stretches zero file table = []
 stretches (suc n) file table = stretch file table ∷ stretches n file (drop 4 table)
 
--- At least 2 bytes, 2 to 10 parts, and a pair of 4 bytes for each: what refusal 1 asks
+-- At least 2 bytes, 2 to 10 parts, and a pair of 4 bytes for each: what badDirectory is refused for
 abbrev pub tableFits : List ℕ → Bool
 tableFits file = leb 2 (length file) && (between 2 10 (number 2 file) && leb (2 + 4 * number 2 file) (length file))
 
@@ -64,8 +65,8 @@ directory file =
     cond (tableFits file)
     (cond (chained (number 2 file) (2 + 4 * number 2 file) (length file) (drop 2 file))
     (ok (stretches (number 2 file) file (drop 2 file)))
-    (refused 2))
-    (refused 1)
+    (refused badOffsets))
+    (refused badDirectory)
 
 -- The table of some parts, the first of which starts at the given offset
 unfoldable pub tableOf : ℕ → List (List ℕ) → List ℕ
@@ -95,12 +96,12 @@ placeWith q = record { filled = true; query = q }
 
 -- A query whose head is safe. Refused: 6, a head variable in no row
 unfoldable pub safeQuery : List ℕ → Query → Result Place
-safeQuery schema q = cond (headSafe schema q) (ok (placeWith q)) (refused 6)
+safeQuery schema q = cond (headSafe schema q) (ok (placeWith q)) (refused unsafeHead)
 
 -- A query part. Refused: 5, a bad query, another length, or a last part that is vacant; then 6
 unfoldable pub readPlace : List ℕ → Bool → List ℕ → Result Place
 readPlace schema last part =
-    cond (isVacant part) (cond last (refused 5) (ok noPlace)) (whole 5 (query schema .get part) >>= safeQuery schema)
+    cond (isVacant part) (cond last (refused badQuery) (ok noPlace)) (complete badQuery (query schema .get part) >>= safeQuery schema)
 
 -- Whether there is no part left
 unfoldable pub noneLeft : List (List ℕ) → Bool
@@ -123,15 +124,15 @@ recordWith rs ds places =
 -- The parts in file order. Refused: 3, relations; 4, dependencies; 5 and 6, query parts
 unfoldable pub readParts : List ℕ → List ℕ → List (List ℕ) → Result Record
 readParts part0 part1 parts = do
-  rs ← whole 3 (relations .get part0)
-  ds ← whole 4 (dependencies (take (rs .0) (rs .1)) .get part1)
+  rs ← complete badRelations (relations .get part0)
+  ds ← complete badDependency (dependencies (take (rs .0) (rs .1)) .get part1)
   places ← readPlaces (take (rs .0) (rs .1)) parts
   ok (recordWith rs ds places)
 
 -- All parts. The directory gives at least two
 unfoldable pub readAll : List (List ℕ) → Result Record
-readAll [] = refused 1
-readAll (part0 ∷ []) = refused 1
+readAll [] = refused badDirectory
+readAll (part0 ∷ []) = refused badDirectory
 readAll (part0 ∷ part1 ∷ parts) = readParts part0 part1 parts
 
 -- The record of a file, or the first fault

@@ -1,4 +1,4 @@
--- The parts of the file as formats: relations, dependencies and queries, as document 01's "The file" lists them.
+-- The parts of the file as formats: relations, dependencies and queries, as SPECIFICATION, The file, lists them.
 -- Arrays are those of the record: the elements in use are written, those after them are blank.
 use mathlib.Core.Bool.{Bool, true, false, cond, _&&_}
 use mathlib.Core.List.{List, [], _∷_, _++_, map}

@@ -27,14 +27,16 @@ use Rattle.record.specs.Calls.{queryAt, concluded, broken, above, vacant, fille
 use Rattle.lists.proofs.Tests.{and-left, and-right, and-both, every-set}
 use Rattle.record.proofs.Good.{good-record}
 use Rattle.record.proofs.Meaning.{open-keeps, add-keeps, put-keeps, drop-keeps}
-use Rattle.format.specs.Bytes.{Bytes, over}
+use Rattle.lists.specs.Over.{over}
+use Rattle.format.specs.Bytes.{Bytes}
 use Rattle.format.specs.Parts.{query}
-use Rattle.format.specs.File.{Result, ok, refused, _>>=_, whole, isVacant, placeWith, safeQuery, readPlace, readFile, fileOf, shapedQuery, shaped}
+use Rattle.format.specs.File.{Result, ok, refused, _>>=_, complete, isVacant, placeWith, safeQuery, readPlace, readFile, fileOf, shapedQuery, shaped}
 use Rattle.format.proofs.Directory.{cond-ok}
 use Rattle.format.proofs.Parts.{Narrow, query-lawful}
-use Rattle.format.proofs.Places.{not-ok, bind-ok, whole-get, read-filled}
+use Rattle.format.proofs.Places.{read-filled}
+use Rattle.format.proofs.Results.{not-ok, bind-ok, complete-get}
 use Rattle.format.proofs.Rules.{good-narrow, good-query}
-use Rattle.format.proofs.RoundTrip.{parts-of, file-written-back, record-read-back}
+use Rattle.format.proofs.RoundTrip.{sound-record, file-written-back, record-read-back}
 use Rattle.comparison.specs.declared.Comparison.{Comparison}
 use Rattle.comparison.specs.declared.Verdict.{Verdict}
 use Rattle.comparison.specs.declared.Verdict.the-variants as verdict
@@ -42,12 +44,12 @@ use Rattle.comparison.specs.Comparison.{chasedAt, verdictOn, judged, Compared}
 use Rattle.theory.specs.Query as theory
 use Rattle.theory.specs.Search as search
 use Rattle.reduction.specs.declared.Reduced.{Reduced}
-use Rattle.interface.specs.Lent.{fitted, Wrote}
-use Rattle.interface.specs.Records.{answered, resultOf, stored, putPart}
-use Rattle.interface.specs.Queries.{ReductionGiven, Reducing, comparisonFits, ComparisonGiven, ComparisonShape, Comparing}
+use Rattle.lent.specs.Lent.{fitted, Wrote}
+use Rattle.lent.specs.Records.{answered, resultOf, stored, putPart}
+use Rattle.verdicts.specs.Queries.{ReductionGiven, Reducing, comparisonFits, ComparisonGiven, ComparisonShape, Comparing}
 use Rattle.interface.specs.ReadBack.{FileLeft, WriteLeft, OpenLeft, AddLeft, PutLeft, DropLeft, ReduceLeft, CompareLeft}
-use Rattle.interface.proofs.Files.{goes-on}
-use Rattle.interface.proofs.Verdicts.{query-part, comparison-apart, comparison-contained, comparison-never, compared-sound}
+use Rattle.lent.proofs.Files.{goes-on}
+use Rattle.verdicts.proofs.Verdicts.{query-part, comparison-apart, comparison-contained, comparison-never, compared-sound}
 
 -- ---- records that are written whole
 
@@ -63,7 +65,7 @@ over-read r w out outAfter sizeAfter b n =
     ap readFile same ∙ record-read-back r (w .0) (w .1)
 
 fitted-read : (r : Record) → Whole r → (file : List ℕ) → fileOf r ≡ file → (fits : Bool) (out : List ℕ) (size : ℕ) (outAfter : List ℕ) (sizeAfter : ℕ)
-    → Wrote (cond fits (ok file) (refused 10)) out size 0 outAfter sizeAfter → readFile (take sizeAfter outAfter) ≡ ok r
+    → Wrote (cond fits (ok file) (refused bufferTooShort)) out size 0 outAfter sizeAfter → readFile (take sizeAfter outAfter) ≡ ok r
 fitted-read r w file e true out size outAfter sizeAfter g = over-read r w out outAfter sizeAfter (g .1 ∙ ap (over out 0) (sym e)) (g .2 ∙ ap length (sym e))
 fitted-read r w file e false out size outAfter sizeAfter g = let z : _≡_ {A = ℕ} 0 10 = g .0 in absurd (omega arith)
 
@@ -118,12 +120,12 @@ module _ (r : Record) (w : Whole r) where
 
   dependency-shaped : (d : Dependency) → shaped (withDependency r d) ≡ true
   dependency-shaped d =
-      let k = parts-of r (w .0) (w .1) in
+      let k = sound-record r (w .0) (w .1) in
       shaped-from (withDependency r d) (k .widths-long) (length-set (r .dependencies) (r .held) d ∙ k .dependencies-long) (k .places-long) queries
 
   place-shaped : (place : ℕ) (p : Place) → shapedQuery (p .query) ≡ true → shaped (withPlace r place p) ≡ true
   place-shaped place p s =
-      let k = parts-of r (w .0) (w .1) in
+      let k = sound-record r (w .0) (w .1) in
       shaped-from (withPlace r place p) (k .widths-long) (k .dependencies-long) (length-set (r .places) place p ∙ k .places-long)
       (every-set (λ p. shapedQuery (p .query)) (r .places) place p queries s)
 
@@ -154,13 +156,13 @@ module _ (r : Record) (w : Whole r) where
       narrow : Narrow schema
       narrow = good-narrow (r .relations) (r .widths) (good-record r (w .0) .relations)
 
-      go : (t : Bool) → cond t (refused 5) (whole 5 (query schema .get part) >>= safeQuery schema) ≡ ok p → shapedQuery (p .query) ≡ true
+      go : (t : Bool) → cond t (refused badQuery) (complete badQuery (query schema .get part) >>= safeQuery schema) ≡ ok p → shapedQuery (p .query) ≡ true
       go true e = absurd (not-ok e)
       go false e =
-          let (q, g, s) = bind-ok (whole 5 (query schema .get part)) (safeQuery schema) p e in
+          let (q, g, s) = bind-ok (complete badQuery (query schema .get part)) (safeQuery schema) p e in
           let (safe, s₁) = cond-ok (headSafe schema q) (ok (placeWith q)) 6 p s in
           let same : placeWith q ≡ p = cc in
-          let (good, put) = whole-get 5 (query schema) (query-lawful schema narrow) part q hb g in
+          let (good, put) = complete-get badQuery (query schema) (query-lawful schema narrow) part q hb g in
           subst (λ (x : Place). shapedQuery (x .query) ≡ true) same (good-query schema q good .0)
 
   put-whole : (place : ℕ) (part : List ℕ) → Bytes part → (after : Record) → putPart place part r ≡ ok after → Whole after
@@ -190,7 +192,7 @@ pub add-left : AddLeft
 add-left file hb relation left right =
     let d : Dependency = record { relation = relation; left = left; right = right } in
     after-read file hb (λ r. resultOf (addDependency r d))
-    (λ r after w e. outcome-whole (addDependency r d) after e (λ a. (add-keeps r d (parts-of r (w .0) (w .1) .dependencies-long) a, add-shaped r w d a)))
+    (λ r after w e. outcome-whole (addDependency r d) after e (λ a. (add-keeps r d (sound-record r (w .0) (w .1) .dependencies-long) a, add-shaped r w d a)))
 
 pub put-left : PutLeft
 put-left file hb place part hp = after-read file hb (putPart place part) (λ r after w e. put-whole r w place part hp after e)
@@ -205,12 +207,12 @@ unfolding _>>=_
 reduce-left file source target r e clear out size count mapping outAfter sizeAfter countAfter mappingAfter g =
     let (o, is, shape, same) = subst (λ (x : Result Record). Reducing x source target (g .result) (length out) (length mapping)) e (g .reducing) in
     let fits : Bool = leb 192 (length mapping) && leb (length (fileOf (o .«record»))) (length out) in
-    let known : g .result ≡ cond fits (ok o) (refused 10) = same ∙ rw (is .accepted clear) refl in
+    let known : g .result ≡ cond fits (ok o) (refused bufferTooShort) = same ∙ rw (is .accepted clear) refl in
     let w : Whole (o .«record») = (is .good clear, shape .0) in
     (o, is, go o w fits (subst (λ (x : Result Reduced). ReductionGiven x out size count mapping 0 outAfter sizeAfter countAfter mappingAfter) known (g .given)))
   where
     go : (o : Reduced) → Whole (o .«record») → (fits : Bool)
-        → ReductionGiven (cond fits (ok o) (refused 10)) out size count mapping 0 outAfter sizeAfter countAfter mappingAfter
+        → ReductionGiven (cond fits (ok o) (refused bufferTooShort)) out size count mapping 0 outAfter sizeAfter countAfter mappingAfter
         → readFile (take sizeAfter outAfter) ≡ ok (o .«record»)
     go o w true k = over-read (o .«record») w out outAfter sizeAfter (k .1) (k .2)
     go o w false k = let z : _≡_ {A = ℕ} 0 10 = k .0 in absurd (omega arith)
@@ -230,19 +232,19 @@ compare-left file hb p q r e clear said mapping part size mappingAfter partAfter
     Given : Result (ℕ × List ℕ) → List Cell → Type 0
     Given x images = ComparisonGiven x images said mapping part size 0 0 mappingAfter partAfter sizeAfter
 
-    -- a verdict that is told, with bytes
-    told : (n : ℕ) (bytes : List ℕ) (images : List Cell) (fits : Bool) → Given (cond fits (ok (n, bytes)) (refused 10)) images
+    -- a verdict that is given, with bytes
+    given-back : (n : ℕ) (bytes : List ℕ) (images : List Cell) (fits : Bool) → Given (cond fits (ok (n, bytes)) (refused bufferTooShort)) images
         → (n ≡ 0) × (take sizeAfter partAfter ≡ bytes)
-    told n bytes images true k =
+    given-back n bytes images true k =
         (sym (k .1), rw (k .3, k .4) (take-at bytes (drop (0 + length bytes) part) (length bytes) refl))
-    told n bytes images false k = let z : _≡_ {A = ℕ} 0 10 = k .0 in absurd (omega arith)
+    given-back n bytes images false k = let z : _≡_ {A = ℕ} 0 10 = k .0 in absurd (omega arith)
 
     go : (c : Comparison) → Compared r p q c → ComparisonShape c → (images : List Cell) → Given (comparisonFits (length mapping) (length part) (schemaOf r) c) images
         → (v : Verdict) → c .verdict ≡ v
         → (chased : Query) × (readPlace (schemaOf r) true (take sizeAfter partAfter) ≡ ok (placeWith chased)) × (queryOf (schemaOf r) chased ≡ chasedAt r p)
     go c is shape images k verdict.Apart a =
         let bytes = query (schemaOf r) .put (c .query) in
-        let same = told 0 bytes images (leb 192 (length mapping) && leb (length bytes) (length part))
+        let same = given-back 0 bytes images (leb 192 (length mapping) && leb (length bytes) (length part))
         (subst (λ (x : Result (ℕ × List ℕ)). Given x images) (comparison-apart (length mapping) (length part) (schemaOf r) c a) k) .1 in
         let good = read-whole file hb r e .0 in (
           c .query,
@@ -252,10 +254,10 @@ compare-left file hb p q r e clear said mapping part size mappingAfter partAfter
           is .chased a .0,
         )
     go c is shape images k verdict.Contained a =
-        let z = told 1 [] images (leb 192 (length mapping) && leb 0 (length part))
+        let z = given-back 1 [] images (leb 192 (length mapping) && leb 0 (length part))
         (subst (λ (x : Result (ℕ × List ℕ)). Given x images) (comparison-contained (length mapping) (length part) (schemaOf r) c a) k) .0 in absurd (omega arith)
     go c is shape images k verdict.Never a =
-        let z = told 2 [] images (leb 192 (length mapping) && leb 0 (length part))
+        let z = given-back 2 [] images (leb 192 (length mapping) && leb 0 (length part))
         (subst (λ (x : Result (ℕ × List ℕ)). Given x images) (comparison-never (length mapping) (length part) (schemaOf r) c a) k) .0 in absurd (omega arith)
     go c is shape images k (verdict.Refused n) a =
         let view = verdictOn (chasedAt r p .rows) (search.mappable (queryAt r q) (chasedAt r p)) in

@@ -7,7 +7,7 @@ use Rattle.database.specs.declared.Verdict.the-variants as verdict
 use Rattle.database.specs.declared.Answered.{Answered}
 use Rattle.database.specs.declared.Answered.the-variants as answered
 use Rattle.database.specs.Calls.{tested, evaluated, bufferThen}
-use Rattle.interface.specs.Lent.{leaves}
+use Rattle.lent.specs.Lent.{leaves}
 
 -- What a test leaves: 1 where the database obeys, the rest 0; or 0, the dependency and its pair of rows
 pub record Tested : Type 0 where

@@ -16,9 +16,9 @@ use Rattle.format.specs.File.{Result, ok, _>>=_, placeWith, readPlace, readFile
 use Rattle.comparison.specs.Comparison.{chasedAt, pairRefusal}
 use Rattle.reduction.specs.declared.Reduced.{Reduced}
 use Rattle.reduction.specs.Reduced.{reductionRefusal, IsReduced}
-use Rattle.interface.specs.Lent.{Wrote}
-use Rattle.interface.specs.Records.{resultOf, copied, opened, added, putPart, filled, dropped}
-use Rattle.interface.specs.Queries.{ReduceGives, CompareGives}
+use Rattle.lent.specs.Lent.{Wrote}
+use Rattle.lent.specs.Records.{resultOf, copied, opened, added, putPart, filled, dropped}
+use Rattle.verdicts.specs.Queries.{ReduceGives, CompareGives}
 
 -- A call with the record `after`, which wrote what `given` says of a buffer's room and returned 0: the bytes that it left are read as that record
 abbrev pub FileLeft : Result Record → (ℕ → Result (List ℕ)) → Type 0

@@ -1,25 +1,14 @@
-// The calls of document 01 for programs in other languages, on numbers, bytes and words: a record is the bytes of its file, in and out.
-// Each returns 0, or document 01's number of the refusal, which leaves every buffer and number that it is lent as it was.
-mod queries; // queries.rt: mappings as words, and what reducing, comparing and checking a mapping leave
-mod records; // records.rt: the file of a record, stored in a lent buffer
-
-use crate::queries::check_words;
-use crate::queries::store_comparison;
-use crate::queries::store_reduction;
-use crate::records::put_part;
-use crate::records::store_outcome;
+// The calls of SPECIFICATION for programs in other languages, on numbers, bytes and words: a record is the bytes of its file, in and out.
+// Each returns 0, or the number of the refusal, which leaves every buffer and number that it is lent as it was.
 use database::Answered;
 use database::Verdict;
-use query::Dependency;
 use record::Answer;
-use record::Columns;
-use record::Record;
 ghost use mathlib.Core.Path.{_≡_};
 ghost use lib.ListN.{length};
 ghost use Rattle.format.specs.File.{readFile};
-ghost use Rattle.interface.specs.Lent.{numberIn, leaves, Wrote};
-ghost use Rattle.interface.specs.Records.{copied, opened, added, filled, dropped, determinedIn};
-ghost use Rattle.interface.specs.Queries.{ReduceGives, CompareGives, CheckGives};
+ghost use Rattle.lent.specs.Lent.{numberIn, leaves, Wrote};
+ghost use Rattle.lent.specs.Records.{copied, opened, added, filled, dropped, determinedIn};
+ghost use Rattle.verdicts.specs.Queries.{ReduceGives, CompareGives, CheckGives};
 ghost use Rattle.interface.specs.Databases.{testedIn, evaluatedIn, answersIn};
 
 // ---- files
@@ -29,12 +18,7 @@ ghost use Rattle.interface.specs.Databases.{testedIn, evaluatedIn, answe
 pub extern "C" fn spernevan_read(file: &[u8]) -> u8
     ensures { λ r. ⌜ r ≡ numberIn (readFile (now (file .entry))) ⌝ }
 {
-    let outcome = file::read(file);
-    let answer = outcome.answer;
-    match answer {
-        Answer::Done => 0,
-        Answer::Refused(n) => n,
-    }
+    lent::check_file(file)
 }
 
 // Reads a file and writes its record back.
@@ -42,7 +26,7 @@ pub extern "C" fn spernevan_read(file: &[u8]) -> u8
 pub extern "C" fn spernevan_write(file: &[u8], out: &mut [u8], size: &mut usize) -> u8
     ensures { λ r. ⌜ Wrote (copied (now (file .entry)) (length (now (out .entry)))) (now (out .entry)) (now (size .entry)) r (now (out .exit)) (now (size .exit)) ⌝ }
 {
-    store_outcome(file::read(file), out, size)
+    lent::copy_file(file, out, size)
 }
 
 // ---- the record
@@ -52,7 +36,7 @@ pub extern "C" fn spernevan_write(file: &[u8], out: &mut [u8], size: &mut usize)
 pub extern "C" fn spernevan_open(widths: &[u8], out: &mut [u8], size: &mut usize) -> u8
     ensures { λ r. ⌜ Wrote (opened (now (widths .entry)) (length (now (out .entry)))) (now (out .entry)) (now (size .entry)) r (now (out .exit)) (now (size .exit)) ⌝ }
 {
-    store_outcome(Record::open(widths), out, size)
+    lent::open_file(widths, out, size)
 }
 
 // Adds a dependency after those held.
@@ -67,20 +51,7 @@ pub extern "C" fn spernevan_add(
 ) -> u8
     ensures { λ r. ⌜ Wrote (added (now (file .entry)) relation left right (length (now (out .entry)))) (now (out .entry)) (now (size .entry)) r (now (out .exit)) (now (size .exit)) ⌝ }
 {
-    let outcome = file::read(file);
-    let answer = outcome.answer;
-    match answer {
-        Answer::Done => {
-            let given = outcome.record;
-            let d = Dependency {
-                relation,
-                left,
-                right,
-            };
-            store_outcome(given.add_dependency(d), out, size)
-        }
-        Answer::Refused(n) => n,
-    }
+    lent::add_in_file(file, relation, left, right, out, size)
 }
 
 // Puts a query, the bytes of a query part, into a vacant place.
@@ -94,15 +65,7 @@ pub extern "C" fn spernevan_put(
 ) -> u8
     ensures { λ r. ⌜ Wrote (filled (now (file .entry)) place (now (query .entry)) (length (now (out .entry)))) (now (out .entry)) (now (size .entry)) r (now (out .exit)) (now (size .exit)) ⌝ }
 {
-    let outcome = file::read(file);
-    let answer = outcome.answer;
-    match answer {
-        Answer::Done => {
-            let given = outcome.record;
-            store_outcome(put_part(given, place, query), out, size)
-        }
-        Answer::Refused(n) => n,
-    }
+    lent::put_in_file(file, place, query, out, size)
 }
 
 // Drops a filled place.
@@ -110,15 +73,7 @@ pub extern "C" fn spernevan_put(
 pub extern "C" fn spernevan_drop(file: &[u8], place: usize, out: &mut [u8], size: &mut usize) -> u8
     ensures { λ r. ⌜ Wrote (dropped (now (file .entry)) place (length (now (out .entry)))) (now (out .entry)) (now (size .entry)) r (now (out .exit)) (now (size .exit)) ⌝ }
 {
-    let outcome = file::read(file);
-    let answer = outcome.answer;
-    match answer {
-        Answer::Done => {
-            let given = outcome.record;
-            store_outcome(given.drop_query(place), out, size)
-        }
-        Answer::Refused(n) => n,
-    }
+    lent::drop_in_file(file, place, out, size)
 }
 
 // The columns that a left set determines, bit c for column c, and their number.
@@ -134,23 +89,7 @@ pub extern "C" fn spernevan_determined(
     ensures { λ _. ⌜ now (columns .exit) ≡ leaves (determinedIn (now (file .entry)) relation left) (λ s. s .0) (now (columns .entry)) ⌝ }
     ensures { λ _. ⌜ now (count .exit) ≡ leaves (determinedIn (now (file .entry)) relation left) (λ s. s .1) (now (count .entry)) ⌝ }
 {
-    let outcome = file::read(file);
-    let answer = outcome.answer;
-    match answer {
-        Answer::Done => {
-            let given = outcome.record;
-            let found = given.determined(relation, left);
-            match found {
-                Columns::Determined(mask, n) => {
-                    *columns = mask;
-                    *count = n;
-                    0
-                }
-                Columns::Refused(n) => n,
-            }
-        }
-        Answer::Refused(n) => n,
-    }
+    lent::determined_in_file(file, relation, left, columns, count)
 }
 
 // ---- queries
@@ -168,16 +107,7 @@ pub extern "C" fn spernevan_reduce(
 ) -> u8
     ensures { λ r. ⌜ ReduceGives (now (file .entry)) source target (now (out .entry)) (now (size .entry)) (now (count .entry)) (now (mapping .entry)) r (now (out .exit)) (now (size .exit)) (now (count .exit)) (now (mapping .exit)) ⌝ }
 {
-    let outcome = file::read(file);
-    let answer = outcome.answer;
-    match answer {
-        Answer::Done => {
-            let given = outcome.record;
-            let reduced = reduction::reduce(given, source, target);
-            store_reduction(reduced, out, size, count, mapping)
-        }
-        Answer::Refused(n) => n,
-    }
+    verdicts::reduce_in_file(file, source, target, out, size, count, mapping)
 }
 
 // Compares the queries of two places.
@@ -193,18 +123,7 @@ pub extern "C" fn spernevan_compare(
 ) -> u8
     ensures { λ r. ⌜ CompareGives (now (file .entry)) p q (now (verdict .entry)) (now (mapping .entry)) (now (query .entry)) (now (size .entry)) r (now (verdict .exit)) (now (mapping .exit)) (now (query .exit)) (now (size .exit)) ⌝ }
 {
-    let outcome = file::read(file);
-    let answer = outcome.answer;
-    match answer {
-        Answer::Done => {
-            let given = outcome.record;
-            let count = given.relations;
-            let widths = given.widths;
-            let compared = comparison::compare(given, p, q);
-            store_comparison(compared, count, widths, verdict, mapping, query, size)
-        }
-        Answer::Refused(n) => n,
-    }
+    verdicts::compare_in_file(file, p, q, verdict, mapping, query, size)
 }
 
 // Checks a mapping from the query of place q to that of place p.
@@ -218,15 +137,7 @@ pub extern "C" fn spernevan_check(
 ) -> u8
     ensures { λ r. ⌜ CheckGives (readFile (now (file .entry))) p q (now (mapping .entry)) (now (verdict .entry)) r (now (verdict .exit)) ⌝ }
 {
-    let outcome = file::read(file);
-    let answer = outcome.answer;
-    match answer {
-        Answer::Done => {
-            let given = outcome.record;
-            check_words(given, p, q, mapping, verdict)
-        }
-        Answer::Refused(n) => n,
-    }
+    verdicts::check_in_file(file, p, q, mapping, verdict)
 }
 
 // ---- databases

@@ -1,5 +1,6 @@
--- What a test that holds tells (Tests), and how a loop makes it (Loops); maps (Maps); elements by position (Positions).
+-- What a test that holds tells (Tests), and how a loop makes it (Loops); maps (Maps); elements by position (Positions); one list written over another (Over).
 pub mod Tests
 pub mod Loops
 pub mod Maps
 pub mod Positions
+pub mod Over

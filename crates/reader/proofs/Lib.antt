@@ -1,10 +1,3 @@
 -- Laws that several functions cite.
-pub mod Words
-pub mod Positions
-pub mod Filling
-pub mod Counted
-pub mod RowLaws
-pub mod ReadingRows
-pub mod Safety
-pub mod QueryLaws
+pub mod Dependencies
 pub mod Stretches

@@ -1,18 +1,19 @@
 -- The directory at a position: the offset rule pair by pair, and where a pair's stretch lies.
 use mathlib.Core.Path.{_≡_, refl, sym, ap, _∙_, subst}
 use mathlib.Core.Bool.{Bool, true, false, cond, _&&_, and-false}
-use mathlib.Core.List.{List, [], _∷_}
+use mathlib.Core.List.{List, _∷_}
 use Prim.Native.Nat.{ℕ, zero, suc, _+_, _*_, _-_, _≤_, _<_}
 use native.Mathlib.Omega.{arith}
 use lib.Dec.{eqb, leb}
-use lib.ListN.{length, take, drop}
+use lib.ListN.{length, drop}
 use lib.Seq.{drop-drop}
 use borrow.Author.Tests.{eqb-true, eq-eqb, ne-eqb, lt-leb, le-leb, leb-true}
+use Rattle.refusals.specs.Refusals.{badDirectory, badOffsets}
 use Rattle.format.specs.Bytes.{number}
 use Rattle.format.specs.File.{Result, ok, refused, chained, stretch, stretches, tableFits, directory}
 use Rattle.reader.specs.declared.DirectoryRead.the-variants.{Parts, Broken}
-use Rattle.reader.specs.Read.{directoryRead}
-use Rattle.format.proofs.Lists.{and-iff}
+use Rattle.reader.specs.internal.Read.{directoryRead}
+use Rattle.lists.proofs.Tests.{and-iff}
 
 -- The rest of the table from pair k on
 abbrev pub tableAt : List ℕ → ℕ → List ℕ
@@ -90,28 +91,28 @@ length-stretches zero file table = refl
 length-stretches (suc n) file table = ap suc (length-stretches n file (drop 4 table))
 
 module _ (file : List ℕ) where
-  no-table : tableFits file ≡ false → directory file ≡ refused 1
+  no-table : tableFits file ≡ false → directory file ≡ refused badDirectory
   unfolding directory
   no-table h = rw h
 
-  pub too-short : length file < 2 → directory file ≡ refused 1
+  pub too-short : length file < 2 → directory file ≡ refused badDirectory
   too-short h = no-table (rw (lt-leb 2 (length file) h))
 
   module _ (n : ℕ) (e : n ≡ number 2 file) where
-    pub too-few : n < 2 → directory file ≡ refused 1
+    pub too-few : n < 2 → directory file ≡ refused badDirectory
     too-few h = no-table (rw (lt-leb 2 (number 2 file) (rw (← e) h)) (and-false (leb 2 (length file))))
 
-    pub too-many : 10 < n → directory file ≡ refused 1
+    pub too-many : 10 < n → directory file ≡ refused badDirectory
     too-many h = no-table (rw (lt-leb (number 2 file) 10 (rw (← e) h), and-false (leb 2 (number 2 file))) (and-false (leb 2 (length file))))
 
-    pub cut-table : length file < 2 + 4 * n → directory file ≡ refused 1
+    pub cut-table : length file < 2 + 4 * n → directory file ≡ refused badDirectory
     cut-table h =
         no-table (rw (← e, lt-leb (2 + 4 * n) (length file) h, and-false (leb 2 n && leb n 10)) (and-false (leb 2 (length file))))
 
-    pub whole-table : 2 ≤ n → n ≤ 10 → 2 + 4 * n ≤ length file → (t : Bool) → chained n (2 + 4 * n) (length file) (drop 2 file) ≡ t
-        → directory file ≡ cond t (ok (stretches n file (drop 2 file))) (refused 2)
+    pub full-table : 2 ≤ n → n ≤ 10 → 2 + 4 * n ≤ length file → (t : Bool) → chained n (2 + 4 * n) (length file) (drop 2 file) ≡ t
+        → directory file ≡ cond t (ok (stretches n file (drop 2 file))) (refused badOffsets)
     unfolding directory
-    whole-table low high fits t c =
+    full-table low high fits t c =
         let l : leb 2 (length file) ≡ true = le-leb 2 (length file) (omega arith) in
         rw (← e, l, le-leb 2 n low, le-leb n 10 high, le-leb (2 + 4 * n) (length file) fits, c)
 
@@ -131,7 +132,7 @@ accepts file n h = fitting (tableFits file) refl h
     count = number 2 file
 
     chaining : tableFits file ≡ true → (t : Bool) → chained count (2 + 4 * count) (length file) (drop 2 file) ≡ t
-        → Parts n ≡ directoryRead (cond t (ok (stretches count file (drop 2 file))) (refused 2)) → Accepted file n
+        → Parts n ≡ directoryRead (cond t (ok (stretches count file (drop 2 file))) (refused badOffsets)) → Accepted file n
     chaining f true c h =
         let e : count ≡ n = sym (length-stretches count file (drop 2 file)) ∙ sym (cc) in
         let k : (leb 2 (length file) ≡ true) × (((leb 2 count ≡ true) × (leb count 10 ≡ true)) × (leb (2 + 4 * count) (length file) ≡ true)) = simp and-iff at f in
@@ -146,7 +147,7 @@ accepts file n h = fitting (tableFits file) refl h
     chaining f false c h = let z : _≡_ {A = ℕ} 0 1 = cc in absurd (omega arith)
 
     fitting : (t : Bool) → tableFits file ≡ t
-        → Parts n ≡ directoryRead (cond t (cond (chained count (2 + 4 * count) (length file) (drop 2 file)) (ok (stretches count file (drop 2 file))) (refused 2)) (refused 1))
+        → Parts n ≡ directoryRead (cond t (cond (chained count (2 + 4 * count) (length file) (drop 2 file)) (ok (stretches count file (drop 2 file))) (refused badOffsets)) (refused badDirectory))
         → Accepted file n
     fitting true f h = chaining f (chained count (2 + 4 * count) (length file) (drop 2 file)) refl h
     fitting false f h = let z : _≡_ {A = ℕ} 0 1 = cc in absurd (omega arith)

@@ -1,3 +1,2 @@
--- What the reader's functions answer, as values of the code's types, for what the format's definitions give.
-pub mod Read
-pub mod Safe
+-- Nothing public: what a file is stands in `format`. `internal` is what the functions answer.
+pub mod internal

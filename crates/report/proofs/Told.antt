@@ -16,14 +16,10 @@ use Rattle.format.specs.Bytes.{Bytes}
 use Rattle.format.specs.File.{Result, ok, refused, readFile, outcomeOf}
 use Rattle.format.proofs.RoundTrip.{file-written-back}
 use Rattle.format.proofs.Arrays.{bytes-known}
-use Rattle.file.proofs.RoundTrip.{accepted}
+use Rattle.format.proofs.Results.{outcome-done, outcome-refused}
 use Rattle.text.specs.Text.{refusedText}
 use Rattle.text.specs.Writing.{over, Written}
 use Rattle.report.specs.Report.{ListingOf, IsReport, ListingWritten}
-
-turned-down : (x : Result Record) (o : Outcome) (n : ℕ) → o ≡ outcomeOf x → o .answer ≡ Refused n → x ≡ refused n
-turned-down (ok r) o n e a = let z : _≡_ {A = ℕ} 0 1 = cc in absurd (omega arith)
-turned-down (refused m) o n e a = cc
 
 -- What is written over a buffer is no longer than the buffer after it
 over-fits : (d s : List ℕ) → length s ≤ length (over d 0 s)
@@ -32,14 +28,14 @@ over-fits d s = simp length-append (omega arith)
 module _ (file : List ℕ) (o : Outcome) (e : o ≡ outcomeOf (readFile file)) where
   -- The record of an accepted file is good
   pub told-good : ((i : ℕ) → getD file i 0 < 256) → o .answer ≡ Done → goodRecord (o .«record») ≡ true
-  told-good bytes a = file-written-back file (o .«record») (bytes-known file bytes) (accepted (readFile file) o e a) .0
+  told-good bytes a = file-written-back file (o .«record») (bytes-known file bytes) (outcome-done (readFile file) o e a) .0
 
   -- The lines of its filled places are a listing
   pub told-lines : o .answer ≡ Done → (before after : List ℕ) (end : ℕ) → ListingWritten (o .«record») before after end → IsReport file before after end
   told-lines a before after end w =
       record {
         text = w .text;
-        listing = subst (λ (x : Result Record). ListingOf x (w .text)) (sym (accepted (readFile file) o e a)) (w .lines);
+        listing = subst (λ (x : Result Record). ListingOf x (w .text)) (sym (outcome-done (readFile file) o e a)) (w .lines);
         written = w .written .buffer;
         length-returned = omega (arith, w .written .position);
         fits = omega (arith, w .written .position, over-fits before (w .text), ap (λ (l : List ℕ). length l) (w .written .buffer));
@@ -50,7 +46,7 @@ module _ (file : List ℕ) (o : Outcome) (e : o ≡ outcomeOf (readFile file)) w
   told-refused n a before after end w =
       record {
         text = refusedText n;
-        listing = subst (λ (x : Result Record). ListingOf x (refusedText n)) (sym (turned-down (readFile file) o n e a)) refl;
+        listing = subst (λ (x : Result Record). ListingOf x (refusedText n)) (sym (outcome-refused (readFile file) o n e a)) refl;
         written = w .buffer;
         length-returned = omega (arith, w .position);
         fits = omega (arith, w .position, over-fits before (refusedText n), ap (λ (l : List ℕ). length l) (w .buffer));

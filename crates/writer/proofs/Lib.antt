@@ -1,4 +1,3 @@
 -- Laws that several functions cite.
-pub mod Stores
-pub mod PlaceParts
+pub mod FirstPlaces
 pub mod RecordParts

@@ -1,51 +1,34 @@
 -- The parts of a good record: their lengths, and the file as directory and parts.
-use mathlib.Core.Path.{_≡_, refl, sym, ap, _∙_}
+use mathlib.Core.Path.{_≡_, refl, ap, _∙_}
 use mathlib.Core.Bool.{true}
-use mathlib.Core.List.{List, [], _∷_, _++_, map, append-assoc}
-use Prim.Native.Nat.{ℕ, suc, _+_, _*_, _≤_, _<_}
+use mathlib.Core.List.{List, _++_, map, append-assoc}
+use Prim.Native.Nat.{ℕ, suc, _+_, _*_, _≤_}
 use native.Mathlib.Omega.{arith}
-use lib.Dec.{leb}
-use lib.ListN.{length, take, drop, length-append, length-map}
+use lib.ListN.{length, take, length-append, length-map}
 use lib.Seq.{length-take-le}
-use borrow.Author.Tests.{leb-true}
 use Rattle.record.specs.declared.Record.{Record}
 use Rattle.record.specs.View.{schemaOf}
-use Rattle.lists.specs.Tests.{every}
-use Rattle.record.specs.Rule.{goodPlace, goodRecord}
-use Rattle.query.specs.Rule.{goodRelations, goodDependencies, goodDependency, blankDependency}
+use Rattle.record.specs.Rule.{goodRecord}
 use Rattle.format.specs.Bytes.{digits}
 use Rattle.format.specs.Format.{putAll, byte, sequence, padded}
 use Rattle.format.specs.Parts.{relations, dependency, dependencies}
 use Rattle.format.specs.File.{tableOf, join, assemble, putPlace, upToFilled, partsOf, fileOf}
-use Rattle.format.proofs.Lists.{and-left, and-iff}
 use Rattle.format.proofs.Numbers.{length-digits}
 use Rattle.format.proofs.Directory.{length-table}
 use Rattle.format.proofs.Lengths.{length-putAll, length-relations}
-use Rattle.writer.specs.Pieces.{putDependency, dependencyBytes, directoryBytes, partBytes}
-use Rattle.format.proofs.Schema.{count-bounds}
+use Rattle.writer.specs.internal.Pieces.{putDependency, dependencyBytes, directoryBytes, partBytes}
+use Rattle.record.proofs.Good.{good-record}
+use Rattle.query.proofs.Relations.{relations-bounds}
 
 module _ (r : Record) (good : goodRecord r ≡ true) where
-  pub good-parts : (goodRelations (r .relations) (r .widths) ≡ true) × (goodDependencies (schemaOf r) (r .held) (r .dependencies) ≡ true) × (every (goodPlace (schemaOf r)) (r .places) ≡ true)
-  unfolding goodRecord
-  good-parts =
-      let k : ((goodRelations (r .relations) (r .widths) ≡ true) × (goodDependencies (schemaOf r) (r .held) (r .dependencies) ≡ true)) × (every (goodPlace (schemaOf r)) (r .places) ≡ true) = simp and-iff at good in
-      (k .0 .0, k .0 .1, k .1)
-
-  pub held-few : r .held ≤ 32
-  unfolding goodDependencies
-  held-few =
-      let d : goodDependencies (schemaOf r) (r .held) (r .dependencies) ≡ true = good-parts .1 in
-      let k : (leb (r .held) 32 ≡ true) × ((every (goodDependency (schemaOf r)) (take (r .held) (r .dependencies)) ≡ true) × (every blankDependency (drop (r .held) (r .dependencies)) ≡ true)) = simp and-iff at d in
-      leb-true (r .held) 32 (k .0)
-
   module _ (lw : length (r .widths) ≡ 8) (ld : length (r .dependencies) ≡ 32) where
     pub first-long : length (relations .put (r .relations, r .widths)) ≡ 1 + r .relations
-    first-long = length-relations (r .relations) (r .widths) ∙ ap (λ (n : ℕ). 1 + n) (length-take-le (r .relations) (r .widths) (omega (arith, count-bounds (r .relations) (r .widths) (good-parts .0) lw .1)))
+    first-long = length-relations (r .relations) (r .widths) ∙ ap (λ (n : ℕ). 1 + n) (length-take-le (r .relations) (r .widths) (omega (arith, relations-bounds (r .relations) (r .widths) (good-record r good .relations) .1)))
 
     pub second-long : length (dependencyBytes (r .held) (r .dependencies)) ≡ 1 + 3 * r .held
     second-long =
         let e : length (putAll putDependency (take (r .held) (r .dependencies))) ≡ 3 * length (take (r .held) (r .dependencies)) = length-putAll putDependency 3 (λ d. refl) (take (r .held) (r .dependencies)) in
-        let k : length (take (r .held) (r .dependencies)) ≡ r .held = length-take-le (r .held) (r .dependencies) (omega (arith, held-few)) in
+        let k : length (take (r .held) (r .dependencies)) ≡ r .held = length-take-le (r .held) (r .dependencies) (omega (arith, good-record r good .held)) in
         omega arith
 
     pub parts-long : (n : ℕ) → length (partBytes r n) ≡ 1 + r .relations + (1 + 3 * r .held) + length (join (map (putPlace (schemaOf r)) (take n (r .places))))

@@ -1,3 +1,3 @@
--- What writing a record promises, and the pieces that it is written in.
+-- What writing a record promises (Write). `internal` is this crate's own.
 pub mod Write
-pub mod Pieces
+pub mod internal

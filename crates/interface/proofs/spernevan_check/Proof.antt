@@ -1,34 +1,13 @@
--- `spernevan_check` gives what checking promises, once the file is read. Assumes nothing.
-use Rattle.format.specs.File.{readFile}
-use Rattle.interface.proofs.Files.{accepted, turned-down}
-use Rattle.interface.proofs.Verdicts.{check-done, check-unread}
+-- `spernevan_check` is `check_in_file`. Assumes nothing.
 use borrow.Author.Needs.{needs}
 use Rattle.interface.proofs.spernevan_check.Statement.{statement}
 use Rattle.interface.proofs.spernevan_check.Tie as tie
 
-read-requires : tie.Need-read-requires
-read-requires c κs = search needs
-
-enum-told : tie.Need-enum-told
-enum-told c = search needs
-
-check-words-requires : tie.Need-check-words-requires
-check-words-requires c κs = search needs
-
-enum-known-answer : tie.Need-enum-known-answer
-enum-known-answer c = search needs
+check-in-file-requires : tie.Need-check-in-file-requires
+check-in-file-requires c κs = search needs
 
 returns : tie.Need-returns
-returns c =
-    let a = c .before .before .before .before .before .before .before .before .args in
-    check-done (a .p) (a .q) (a .mapping .now) (a .verdict .now) (accepted (readFile (a .file .now)) (c .before .before .before .before .before .read .result) (c .before .before .before .before .before .read .ensures) (c .before .before .before .enum-told .given .1)) _ _ (c .check-words .ensures)
-
-returns-2 : tie.Need-returns-2
-returns-2 c =
-    let a = c .before .before .before .before .before .before .args in
-    check-unread (a .p) (a .q) (a .mapping .now) (a .verdict .now) (turned-down (readFile (a .file .now)) (c .before .before .before .read .result) _ (c .before .before .before .read .ensures) (c .before .answer .given .1))
+returns c = c .check-in-file .ensures
 
 pub spernevan-check-spec : {M : Type 1} → statement M
-spernevan-check-spec =
-    tie.close
-    (tie.spec read-requires enum-told check-words-requires enum-known-answer returns returns-2)
+spernevan-check-spec = tie.close (tie.spec check-in-file-requires returns)

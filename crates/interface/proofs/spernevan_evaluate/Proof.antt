@@ -4,7 +4,8 @@ use lib.ListN.{length}
 use Rattle.database.specs.Calls.{evaluated, bufferThen}
 use Rattle.interface.specs.Databases.{countResult, evaluatedIn}
 use Rattle.format.specs.File.{ok, refused, readFile}
-use Rattle.interface.proofs.Files.{accepted, turned-down, read-done, read-refused, done-number, done-leaves, refused-number, refused-leaves}
+use Rattle.lent.proofs.Files.{read-done, read-refused, done-number, done-leaves, refused-number, refused-leaves}
+use Rattle.format.proofs.Results.{outcome-done, outcome-refused}
 use borrow.Author.Needs.{needs}
 use Rattle.interface.proofs.spernevan_evaluate.Statement.{statement}
 use Rattle.interface.proofs.spernevan_evaluate.Tie as tie
@@ -38,7 +39,7 @@ returns c =
     let p : evaluatedIn file (s .args .place) (s .args .words .now) (length buffer) ≡ ok (c .before .done .given .0 .0) =
     read-done file (c .before .before .before .before .before .before .before .before .before .before .read .result) (c .before .before .before .before .before .before .before .before .before .before .read .ensures) (λ r. countResult (evaluated r (s .args .place) (s .args .words .now) (length buffer))) (c .before .before .before .before .before .before .before .before .enum-told .given .1)
     ∙ ap countResult (sym (c .before .before .before .before .before .evaluate .ensures .0) ∙ c .before .done .given .1) in
-    (done-number p, (c .before .before .before .before .before .evaluate .ensures .1 ∙ done-leaves (accepted (readFile file) (c .before .before .before .before .before .before .before .before .before .before .read .result) (c .before .before .before .before .before .before .before .before .before .before .read .ensures) (c .before .before .before .before .before .before .before .before .enum-told .given .1)) (λ r. bufferThen r (s .args .place) (s .args .words .now) buffer) buffer, done-leaves p (λ n. n) (s .args .count .now)))
+    (done-number p, (c .before .before .before .before .before .evaluate .ensures .1 ∙ done-leaves (outcome-done (readFile file) (c .before .before .before .before .before .before .before .before .before .before .read .result) (c .before .before .before .before .before .before .before .before .before .before .read .ensures) (c .before .before .before .before .before .before .before .before .enum-told .given .1)) (λ r. bufferThen r (s .args .place) (s .args .words .now) buffer) buffer, done-leaves p (λ n. n) (s .args .count .now)))
 
 same-length-2 : tie.Need-same-length-2
 same-length-2 c = search needs
@@ -51,7 +52,7 @@ returns-2 c =
     let p : evaluatedIn file (s .args .place) (s .args .words .now) (length buffer) ≡ refused (c .before .done2 .given .0 .0) =
     read-done file (c .before .before .before .before .before .before .before .before .before .before .read .result) (c .before .before .before .before .before .before .before .before .before .before .read .ensures) (λ r. countResult (evaluated r (s .args .place) (s .args .words .now) (length buffer))) (c .before .before .before .before .before .before .before .before .enum-told .given .1)
     ∙ ap countResult (sym (c .before .before .before .before .before .evaluate .ensures .0) ∙ c .before .done2 .given .1) in
-    (refused-number p, (c .before .before .before .before .before .evaluate .ensures .1 ∙ done-leaves (accepted (readFile file) (c .before .before .before .before .before .before .before .before .before .before .read .result) (c .before .before .before .before .before .before .before .before .before .before .read .ensures) (c .before .before .before .before .before .before .before .before .enum-told .given .1)) (λ r. bufferThen r (s .args .place) (s .args .words .now) buffer) buffer, refused-leaves p (λ n. n) (s .args .count .now)))
+    (refused-number p, (c .before .before .before .before .before .evaluate .ensures .1 ∙ done-leaves (outcome-done (readFile file) (c .before .before .before .before .before .before .before .before .before .before .read .result) (c .before .before .before .before .before .before .before .before .before .before .read .ensures) (c .before .before .before .before .before .before .before .before .enum-told .given .1)) (λ r. bufferThen r (s .args .place) (s .args .words .now) buffer) buffer, refused-leaves p (λ n. n) (s .args .count .now)))
 
 returns-3 : tie.Need-returns-3
 returns-3 c =
@@ -60,7 +61,7 @@ returns-3 c =
     let buffer = s .args .answers .now in
     let p : evaluatedIn file (s .args .place) (s .args .words .now) (length buffer) ≡ refused (c .before .answer .given .0 .0) =
     read-refused file (c .before .before .before .read .result) (c .before .before .before .read .ensures) (λ r. countResult (evaluated r (s .args .place) (s .args .words .now) (length buffer))) _ (c .before .answer .given .1) in
-    (refused-number p, (refused-leaves (turned-down (readFile file) (c .before .before .before .read .result) _ (c .before .before .before .read .ensures) (c .before .answer .given .1)) (λ r. bufferThen r (s .args .place) (s .args .words .now) buffer) buffer, refused-leaves p (λ n. n) (s .args .count .now)))
+    (refused-number p, (refused-leaves (outcome-refused (readFile file) (c .before .before .before .read .result) _ (c .before .before .before .read .ensures) (c .before .answer .given .1)) (λ r. bufferThen r (s .args .place) (s .args .words .now) buffer) buffer, refused-leaves p (λ n. n) (s .args .count .now)))
 
 pub spernevan-evaluate-spec : {M : Type 1} → statement M
 spernevan-evaluate-spec =

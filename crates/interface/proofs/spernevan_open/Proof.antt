@@ -1,29 +1,16 @@
--- `spernevan_open` gives the file of the record that is opened. Assumes nothing.
-use mathlib.Core.Path.{sym, ap}
-use lib.ListN.{length}
-use Rattle.record.specs.declared.Outcome.{Outcome}
-use Rattle.interface.specs.Records.{resultOf, stored}
-use Rattle.interface.proofs.Files.{wrote-same}
-use Rattle.interface.proofs.Kept.{open-sound}
+-- `spernevan_open` is `open_file`. Assumes nothing.
 use borrow.Author.Needs.{needs}
 use Rattle.interface.proofs.spernevan_open.Statement.{statement}
 use Rattle.interface.proofs.spernevan_open.Tie as tie
 
-open-requires : tie.Need-open-requires
-open-requires c κs = search needs
-
-store-outcome-requires : tie.Need-store-outcome-requires
-store-outcome-requires c κs =
-    open-sound (c .before .before .before .before .before .args .widths .now) (c .before .before .«open» .result) (c .before .before .«open» .ensures)
+open-file-requires : tie.Need-open-file-requires
+open-file-requires c κs = search needs
 
 same-length : tie.Need-same-length
 same-length c = search needs
 
 returns : tie.Need-returns
-returns c =
-    let s = c .before .before .before .before .before .before .before .before in
-    let out = s .args .out .now in
-    wrote-same (ap (λ (o : Outcome). stored (length out) (resultOf o)) (sym (c .before .before .before .before .before .«open» .ensures))) out (s .args .size .now) _ _ _ (c .before .before .store-outcome .ensures)
+returns c = c .before .before .open-file .ensures
 
 pub spernevan-open-spec : {M : Type 1} → statement M
-spernevan-open-spec = tie.close (tie.spec open-requires store-outcome-requires same-length returns)
+spernevan-open-spec = tie.close (tie.spec open-file-requires same-length returns)

@@ -1,27 +1,13 @@
--- `spernevan_read` returns the number that reading gives. Assumes nothing.
-use Rattle.format.specs.File.{readFile}
-use Rattle.interface.proofs.Files.{accepted, turned-down, done-number, refused-number}
+-- `spernevan_read` is `check_file`. Assumes nothing.
 use borrow.Author.Needs.{needs}
 use Rattle.interface.proofs.spernevan_read.Statement.{statement}
 use Rattle.interface.proofs.spernevan_read.Tie as tie
 
-read-requires : tie.Need-read-requires
-read-requires c κs = search needs
-
-enum-told : tie.Need-enum-told
-enum-told c = search needs
-
-enum-known-answer : tie.Need-enum-known-answer
-enum-known-answer c = search needs
+check-file-requires : tie.Need-check-file-requires
+check-file-requires c κs = search needs
 
 returns : tie.Need-returns
-returns c =
-    done-number (accepted (readFile (c .before .before .before .before .args .file .now)) (c .before .before .read .result) (c .before .before .read .ensures) (c .enum-told .given .1))
-
-returns-2 : tie.Need-returns-2
-returns-2 c =
-    refused-number (turned-down (readFile (c .before .before .before .before .before .args .file .now)) (c .before .before .before .read .result) _ (c .before .before .before .read .ensures) (c .before .answer .given .1))
+returns c = c .check-file .ensures
 
 pub spernevan-read-spec : {M : Type 1} → statement M
-spernevan-read-spec =
-    tie.close (tie.spec read-requires enum-told enum-known-answer returns returns-2)
+spernevan-read-spec = tie.close (tie.spec check-file-requires returns)

@@ -3,7 +3,7 @@ use mathlib.Core.Path.{_≡_, sym, ap, _∙_}
 use Rattle.database.specs.Calls.{tested}
 use Rattle.interface.specs.Databases.{verdictResult, testedIn}
 use Rattle.format.specs.File.{ok, refused}
-use Rattle.interface.proofs.Files.{read-done, read-refused, done-number, done-leaves, refused-number, refused-leaves}
+use Rattle.lent.proofs.Files.{read-done, read-refused, done-number, done-leaves, refused-number, refused-leaves}
 use borrow.Author.Needs.{needs}
 use Rattle.interface.proofs.spernevan_test.Statement.{statement}
 use Rattle.interface.proofs.spernevan_test.Tie as tie

@@ -1,26 +1,16 @@
--- `spernevan_write` gives the file back. Assumes nothing.
-use lib.ListN.{length}
-use Rattle.interface.proofs.Files.{read-good, copied-is, wrote-same}
+-- `spernevan_write` is `copy_file`. Assumes nothing.
 use borrow.Author.Needs.{needs}
 use Rattle.interface.proofs.spernevan_write.Statement.{statement}
 use Rattle.interface.proofs.spernevan_write.Tie as tie
 
-read-requires : tie.Need-read-requires
-read-requires c κs = search needs
-
-store-outcome-requires : tie.Need-store-outcome-requires
-store-outcome-requires c κs =
-    read-good (c .before .before .before .before .before .args .file .now) (c .before .before .read .result) (c .before .before .read .ensures) (λ i. c .before .before .before .before .shared-slice-known .given i .fits)
+copy-file-requires : tie.Need-copy-file-requires
+copy-file-requires c κs = search needs
 
 same-length : tie.Need-same-length
 same-length c = search needs
 
 returns : tie.Need-returns
-returns c =
-    let s = c .before .before .before .before .before .before .before .before in
-    let out = s .args .out .now in
-    wrote-same (copied-is (s .args .file .now) (c .before .before .before .before .before .read .result) (c .before .before .before .before .before .read .ensures) (λ i. c .before .before .before .before .before .before .before .shared-slice-known .given i .fits) (length out)) out (s .args .size .now) _ _ _ (c .before .before .store-outcome .ensures)
+returns c = c .before .before .copy-file .ensures
 
 pub spernevan-write-spec : {M : Type 1} → statement M
-spernevan-write-spec =
-    tie.close (tie.spec read-requires store-outcome-requires same-length returns)
+spernevan-write-spec = tie.close (tie.spec copy-file-requires same-length returns)

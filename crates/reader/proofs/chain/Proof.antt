@@ -1,6 +1,6 @@
 use borrow.Author.Needs.{needs}
-use mathlib.Core.Path.{_≡_, sym, ap, refl, _∙_}
-use Prim.Native.Nat.{ℕ, _+_, _*_, _-_, _≤_, _<_}
+use mathlib.Core.Path.{_≡_, sym, _∙_}
+use Prim.Native.Nat.{_+_, _*_, _-_, _≤_}
 use native.Mathlib.Nat.{sub-zero}
 use native.Mathlib.Omega.{arith}
 use lib.ListN.{length, drop}
@@ -8,9 +8,6 @@ use Rattle.format.specs.File.{chained}
 use Rattle.reader.proofs.Stretches.{tableAt, chained-turns, chained-breaks, chained-ends}
 use Rattle.reader.proofs.chain.Statement.{statement}
 use Rattle.reader.proofs.chain.Tie as tie
-use Rattle.reader.proofs.chain.Reads as reads
-use Rattle.reader.proofs.chain.Lts as lts
-use Rattle.reader.proofs.word16.Reads as word16-reads
 
 abbrev Inv-loop : tie.InvT-loop
 Inv-loop file n due₀ k₀ due k =

@@ -1,15 +1,12 @@
 use borrow.Author.Needs.{needs}
-use mathlib.Core.Path.{_≡_, sym, ap, refl, _∙_}
-use Prim.Native.Nat.{ℕ, _+_, _*_, _-_, _≤_, _<_}
+use mathlib.Core.Path.{_≡_, sym, ap, _∙_}
+use Prim.Native.Nat.{_+_, _-_}
 use native.Mathlib.Omega.{arith}
 use lib.ListN.{drop}
 use Rattle.format.specs.Bytes.{number}
 use Rattle.reader.proofs.Stretches.{tableAt, table-size}
 use Rattle.reader.proofs.part.Statement.{statement}
 use Rattle.reader.proofs.part.Tie as tie
-use Rattle.reader.proofs.part.Reads as reads
-use Rattle.reader.proofs.part.Lts as lts
-use Rattle.reader.proofs.word16.Reads as word16-reads
 
 mul-word16 : tie.Need-mul-word16
 mul-word16 c = search needs

@@ -1,16 +1,11 @@
 use borrow.Author.Needs.{needs}
-use mathlib.Core.Path.{_≡_, sym, ap, _∙_}
+use mathlib.Core.Path.{sym, ap, _∙_}
 use mathlib.Core.List.{List}
 use Prim.Native.Nat.{ℕ}
 use Rattle.format.specs.File.{Result, _>>=_, directory, readAll, readFile, outcomeOf}
 use Rattle.reader.proofs.Stretches.{accepts, refuses}
 use Rattle.reader.proofs.read.Statement.{statement}
 use Rattle.reader.proofs.read.Tie as tie
-use Rattle.reader.proofs.read.Reads as reads
-use Rattle.reader.proofs.read.Lts as lts
-use Rattle.reader.proofs.read_directory.Reads as read-directory-reads
-use Rattle.reader.proofs.read_parts.Reads as read-parts-reads
-use Rattle.reader.proofs.refusal.Reads as refusal-reads
 
 read-directory-requires : tie.Need-read-directory-requires
 read-directory-requires c κs = search needs

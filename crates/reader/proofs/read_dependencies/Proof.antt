@@ -8,27 +8,24 @@ use lib.Dec.{leb}
 use lib.ListN.{length, take, drop, set, replicate, length-set}
 use lib.Seq.{drop-drop}
 use borrow.Author.Tests.{leb-true}
+use Rattle.refusals.specs.Refusals.{badDependency}
 use Rattle.query.specs.declared.Dependency.{Dependency}
 use Rattle.lists.specs.Tests.{between}
-use Rattle.query.specs.Rule.{blankDependency}
-use Rattle.format.specs.Format.{Reading, none, got, mapReading, getByte, byte, padded}
+use Rattle.query.specs.Rule.{blankDependency, noDependency}
+use Rattle.format.specs.Format.{Reading, got, mapReading, getByte, byte, padded}
 use Rattle.format.specs.Parts.{dependency, dependencies}
-use Rattle.format.specs.File.{whole}
-use Rattle.reader.specs.declared.ByteRead.{ByteRead}
-use Rattle.reader.specs.declared.ByteRead.the-variants.{Byte, NoByte}
+use Rattle.format.specs.File.{complete}
+use Rattle.decoder.specs.declared.ByteRead.{ByteRead}
+use Rattle.decoder.specs.declared.ByteRead.the-variants.{Byte, NoByte}
 use Rattle.reader.specs.declared.DependencyRead.{DependencyRead}
 use Rattle.reader.specs.declared.DependencyRead.the-variants.{Found, NoDependency}
-use Rattle.reader.specs.Read.{byteRead, dependencyRead, noDependencies, dependenciesRead}
-use Rattle.reader.proofs.Positions.{dependency-read, dependency-none}
-use Rattle.reader.proofs.Filling.{Filling, filling-starts, filling-turns, filling-fails, filling-ends}
-use Rattle.reader.proofs.Counted.{byte-read, byte-none, no-low, sequence-none, sequence-got, whole-none, whole-fails, whole-ends, whole-long}
+use Rattle.decoder.specs.internal.Read.{byteRead}
+use Rattle.reader.specs.internal.Read.{dependencyRead, noDependencies, dependenciesRead}
+use Rattle.reader.proofs.Dependencies.{dependency-read, dependency-none}
+use Rattle.decoder.proofs.Filling.{Filling, filling-starts, filling-turns, filling-fails, filling-ends}
+use Rattle.decoder.proofs.Counted.{byte-read, byte-none, no-low, sequence-none, sequence-got, complete-none, complete-fails, complete-ends, complete-long}
 use Rattle.reader.proofs.read_dependencies.Statement.{statement}
 use Rattle.reader.proofs.read_dependencies.Tie as tie
-use Rattle.reader.proofs.read_dependencies.Reads as reads
-use Rattle.reader.proofs.read_dependencies.Lts as lts
-use Rattle.reader.proofs.no_dependencies.Reads as no-dependencies-reads
-use Rattle.reader.proofs.read_byte.Reads as read-byte-reads
-use Rattle.reader.proofs.read_dependency.Reads as read-dependency-reads
 
 -- The dependencies after the count, as the format reads them
 Held : List ℕ → List ℕ → ℕ → Reading (List Dependency)
@@ -59,17 +56,17 @@ goes-on schema part n ds i r d f h l p q =
     let m : drop 3 (drop (1 + 3 * i) part) ≡ drop (1 + 3 * (i + 1)) part = drop-drop 3 (1 + 3 * i) part ∙ ap (λ (j : ℕ). drop j part) k in
     filling-turns f d (drop (1 + 3 * (i + 1)) part) h l (e ∙ ap (λ (rest : List ℕ). got d rest) m)
 
-no-count : (schema part : List ℕ) (r : ByteRead) → r ≡ byteRead (getByte (between 0 32) part) → r ≡ NoByte → noDependencies ≡ dependenciesRead (whole 4 (dependencies schema .get part))
+no-count : (schema part : List ℕ) (r : ByteRead) → r ≡ byteRead (getByte (between 0 32) part) → r ≡ NoByte → noDependencies ≡ dependenciesRead (complete badDependency (dependencies schema .get part))
 unfolding dependencies byte
 no-count schema part r p q =
-    sym (ap dependenciesRead (whole-none 4 (dependencies schema .get part)
+    sym (ap dependenciesRead (complete-none badDependency (dependencies schema .get part)
     (sequence-none (byte (λ n. leb n 32)) (λ n. padded 32 noDependency blankDependency n (dependency schema)) part
     (byte-none (getByte (λ n. leb n 32) part) (rw no-low at (sym q ∙ p))))))
 
 fails : (schema part : List ℕ) (n : ℕ) (ds : List Dependency) (i : ℕ) (r : DependencyRead) → Head schema part n → At schema part n ds i → i < n
-    → r ≡ dependencyRead (dependency schema .get (drop (1 + 3 * i) part)) → r ≡ NoDependency → noDependencies ≡ dependenciesRead (whole 4 (dependencies schema .get part))
+    → r ≡ dependencyRead (dependency schema .get (drop (1 + 3 * i) part)) → r ≡ NoDependency → noDependencies ≡ dependenciesRead (complete badDependency (dependencies schema .get part))
 fails schema part n ds i r hd f h p q =
-    sym (ap dependenciesRead (whole-fails 4 (λ ds. (n, ds)) (Held schema part n) (dependencies schema .get part) hd
+    sym (ap dependenciesRead (complete-fails badDependency (λ ds. (n, ds)) (Held schema part n) (dependencies schema .get part) hd
     (filling-fails f h (dependency-none (dependency schema .get (drop (1 + 3 * i) part)) (sym q ∙ p)))))
 
 -- the whole reading, after the last turn
@@ -77,14 +74,14 @@ ended : (schema part : List ℕ) (n : ℕ) (ds : List Dependency) (i : ℕ) → 
 ended schema part n ds i f h l = let e : i ≡ n = omega arith in filling-ends f l ∙ ap (λ (k : ℕ). got ds (drop (1 + 3 * k) part)) e
 
 too-long : (schema part : List ℕ) (n : ℕ) (ds : List Dependency) (i : ℕ) → Head schema part n → At schema part n ds i → i ≤ n → n ≤ i → 1 + 3 * n < length part
-    → noDependencies ≡ dependenciesRead (whole 4 (dependencies schema .get part))
+    → noDependencies ≡ dependenciesRead (complete badDependency (dependencies schema .get part))
 too-long schema part n ds i hd f h l t =
-    sym (ap dependenciesRead (whole-long 4 (λ ds. (n, ds)) (Held schema part n) (dependencies schema .get part) hd ds part (1 + 3 * n) (ended schema part n ds i f h l) t))
+    sym (ap dependenciesRead (complete-long badDependency (λ ds. (n, ds)) (Held schema part n) (dependencies schema .get part) hd ds part (1 + 3 * n) (ended schema part n ds i f h l) t))
 
 accepted : (schema part : List ℕ) (n : ℕ) (ds : List Dependency) (i : ℕ) → Head schema part n → At schema part n ds i → i ≤ n → n ≤ i → length part ≤ 1 + 3 * n
-    → record { good = true; held = n; dependencies = ds } ≡ dependenciesRead (whole 4 (dependencies schema .get part))
+    → record { good = true; held = n; dependencies = ds } ≡ dependenciesRead (complete badDependency (dependencies schema .get part))
 accepted schema part n ds i hd f h l t =
-    sym (ap dependenciesRead (whole-ends 4 (λ ds. (n, ds)) (Held schema part n) (dependencies schema .get part) hd ds part (1 + 3 * n) (ended schema part n ds i f h l) t))
+    sym (ap dependenciesRead (complete-ends badDependency (λ ds. (n, ds)) (Held schema part n) (dependencies schema .get part) hd ds part (1 + 3 * n) (ended schema part n ds i f h l) t))
 
 abbrev Inv-loop : tie.InvT-loop
 Inv-loop part count widths held n dependencies₀ i₀ dependencies i =

@@ -1,11 +1,9 @@
 use borrow.Author.Needs.{needs}
 use native.Mathlib.Omega.{arith}
 use lib.ListN.{take}
-use Rattle.reader.proofs.Positions.{dependency-short, found-dependency, bad-dependency}
+use Rattle.reader.proofs.Dependencies.{dependency-short, found-dependency, bad-dependency}
 use Rattle.reader.proofs.read_dependency.Statement.{statement}
 use Rattle.reader.proofs.read_dependency.Tie as tie
-use Rattle.reader.proofs.read_dependency.Reads as reads
-use Rattle.reader.proofs.read_dependency.Lts as lts
 
 returns : tie.Need-returns
 returns c =

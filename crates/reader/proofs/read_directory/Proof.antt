@@ -1,16 +1,12 @@
 use borrow.Author.Needs.{needs}
-use mathlib.Core.Path.{_≡_, sym, ap, _∙_}
+use mathlib.Core.Path.{sym, ap, _∙_}
 use mathlib.Core.Bool.{true, false}
 use lib.ListN.{drop}
 use Rattle.reader.specs.declared.DirectoryRead.the-variants.{Parts}
-use Rattle.reader.specs.Read.{directoryRead}
-use Rattle.reader.proofs.Stretches.{length-stretches, too-short, too-few, too-many, cut-table, whole-table}
+use Rattle.reader.specs.internal.Read.{directoryRead}
+use Rattle.reader.proofs.Stretches.{length-stretches, too-short, too-few, too-many, cut-table, full-table}
 use Rattle.reader.proofs.read_directory.Statement.{statement}
 use Rattle.reader.proofs.read_directory.Tie as tie
-use Rattle.reader.proofs.read_directory.Reads as reads
-use Rattle.reader.proofs.read_directory.Lts as lts
-use Rattle.reader.proofs.chain.Reads as chain-reads
-use Rattle.reader.proofs.word16.Reads as word16-reads
 
 returns : tie.Need-returns
 returns c =
@@ -47,11 +43,11 @@ returns-5 : tie.Need-returns-5
 returns-5 c =
     let n = c .before .before .before .before .before .word16 .result in
     let file = c .before .before .before .before .before .before .before .before .args .file .now in
-    ap Parts (sym (length-stretches n file (drop 2 file))) ∙ sym (ap directoryRead (whole-table (c .before .before .before .before .before .before .before .before .args .file .now) (c .before .before .before .before .before .word16 .result) (c .before .before .before .before .before .word16 .ensures .0) (c .before .before .before .before .if2 .left) (c .before .before .before .if3 .left) (c .before .before .if4 .left) true (sym (c .before .chain .ensures) ∙ c .if5 .taken)))
+    ap Parts (sym (length-stretches n file (drop 2 file))) ∙ sym (ap directoryRead (full-table (c .before .before .before .before .before .before .before .before .args .file .now) (c .before .before .before .before .before .word16 .result) (c .before .before .before .before .before .word16 .ensures .0) (c .before .before .before .before .if2 .left) (c .before .before .before .if3 .left) (c .before .before .if4 .left) true (sym (c .before .chain .ensures) ∙ c .if5 .taken)))
 
 returns-6 : tie.Need-returns-6
 returns-6 c =
-    sym (ap directoryRead (whole-table (c .before .before .before .before .before .before .before .before .args .file .now) (c .before .before .before .before .before .word16 .result) (c .before .before .before .before .before .word16 .ensures .0) (c .before .before .before .before .if2 .left) (c .before .before .before .if3 .left) (c .before .before .if4 .left) false (sym (c .before .chain .ensures) ∙ c .if5 .left)))
+    sym (ap directoryRead (full-table (c .before .before .before .before .before .before .before .before .args .file .now) (c .before .before .before .before .before .word16 .result) (c .before .before .before .before .before .word16 .ensures .0) (c .before .before .before .before .if2 .left) (c .before .before .before .if3 .left) (c .before .before .if4 .left) false (sym (c .before .chain .ensures) ∙ c .if5 .left)))
 
 pub read-directory-spec : {M : Type 1} → statement M
 read-directory-spec =

@@ -3,37 +3,30 @@ use borrow.Author.Tests.{not-true, not-false}
 use mathlib.Core.Path.{_≡_, sym, ap, refl, _∙_}
 use mathlib.Core.Bool.{true, false}
 use mathlib.Core.List.{List, [], _∷_}
-use Prim.Native.Nat.{ℕ, _+_, _*_, _-_, _≤_, _<_}
+use Prim.Native.Nat.{ℕ, _+_, _*_, _-_, _≤_}
 use native.Mathlib.Nat.{sub-zero}
 use native.Mathlib.Omega.{arith}
 use lib.Dec.{ltb}
 use lib.ListN.{take, drop}
 use denote.Ref.{now}
+use Rattle.refusals.specs.Refusals.{badDependency, badRelations}
 use Rattle.query.specs.declared.Dependency.{Dependency}
 use Rattle.record.specs.declared.Place.{Place}
 use Rattle.query.specs.Rule.{goodRelations}
 use Rattle.format.specs.Bytes.{number, Bytes}
 use Rattle.format.specs.Format.{Reading, none, got}
 use Rattle.format.specs.Parts.{relations, dependencies}
-use Rattle.format.specs.File.{Result, ok, refused, _>>=_, whole, stretch, stretches, readPlaces, recordWith, readParts, readAll, outcomeOf}
-use Rattle.format.proofs.Lists.{every-parts}
+use Rattle.format.specs.File.{Result, ok, refused, _>>=_, complete, stretch, stretches, readPlaces, recordWith, readParts, readAll, outcomeOf}
+use Rattle.format.proofs.Arrays.{bytes-known}
 use Rattle.format.proofs.Parts.{relations-lawful}
 use Rattle.format.proofs.Rules.{good-relations}
-use Rattle.format.proofs.Places.{whole-get}
+use Rattle.format.proofs.Results.{complete-get}
 use Rattle.reader.specs.declared.RelationsRead.{RelationsRead}
 use Rattle.reader.specs.declared.DependenciesRead.{DependenciesRead}
-use Rattle.reader.specs.Read.{relationsRead, dependenciesRead, recordRead}
-use Rattle.format.proofs.Arrays.{bytes-known}
+use Rattle.reader.specs.internal.Read.{relationsRead, dependenciesRead, recordRead}
 use Rattle.reader.proofs.Stretches.{tableAt, stretches-cons, stretch-fits}
 use Rattle.reader.proofs.read_parts.Statement.{statement}
 use Rattle.reader.proofs.read_parts.Tie as tie
-use Rattle.reader.proofs.read_parts.Reads as reads
-use Rattle.reader.proofs.read_parts.Lts as lts
-use Rattle.reader.proofs.part.Reads as part-reads
-use Rattle.reader.proofs.read_dependencies.Reads as read-dependencies-reads
-use Rattle.reader.proofs.read_places.Reads as read-places-reads
-use Rattle.reader.proofs.read_relations.Reads as read-relations-reads
-use Rattle.reader.proofs.refusal.Reads as refusal-reads
 
 -- ---- the parts
 
@@ -46,15 +39,15 @@ first-two file n h =
 
 stretch-bytes : (file table : List ℕ) → Bytes file → Bytes (stretch file table)
 stretch-bytes file table hb =
-    every-parts (λ b. ltb b 256) (number 2 (drop 2 table)) (drop (number 2 table) file) (every-parts (λ b. ltb b 256) (number 2 table) file hb .1) .0
+    every-take (λ b. ltb b 256) (number 2 (drop 2 table)) (drop (number 2 table) file) (every-drop (λ b. ltb b 256) (number 2 table) file hb)
 
 -- ---- the answers of the part readers
 
-whole-refused : {A : Type 0} (m : ℕ) (o : Reading A) (n : ℕ) → whole m o ≡ refused n → whole m o ≡ refused m
-unfolding whole
-whole-refused m none n e = refl
-whole-refused m (got a []) n e = let z : _≡_ {A = ℕ} 0 1 = cc in absurd (omega arith)
-whole-refused m (got a (b ∷ rest)) n e = refl
+complete-refused : {A : Type 0} (m : ℕ) (o : Reading A) (n : ℕ) → complete m o ≡ refused n → complete m o ≡ refused m
+unfolding complete
+complete-refused m none n e = refl
+complete-refused m (got a []) n e = let z : _≡_ {A = ℕ} 0 1 = cc in absurd (omega arith)
+complete-refused m (got a (b ∷ rest)) n e = refl
 
 relations-bad : (o : Result (ℕ × List ℕ)) (r : RelationsRead) → r ≡ relationsRead o → r .good ≡ false → (n : ℕ) × (o ≡ refused n)
 relations-bad (ok rs) r e g = let t : r .good ≡ true = ap (λ (r : RelationsRead). r .good) e in let z : _≡_ {A = ℕ} 0 1 = cc in absurd (omega arith)
@@ -75,16 +68,16 @@ dependencies-some (refused n) r e g = let t : r .good ≡ false = ap (λ (r : De
 -- ---- the parts by their results
 
 module _ (part0 part1 : List ℕ) (parts : List (List ℕ)) where
-  parts-3 : whole 3 (relations .get part0) ≡ refused 3 → readParts part0 part1 parts ≡ refused 3
+  bad-relations-part : complete badRelations (relations .get part0) ≡ refused badRelations → readParts part0 part1 parts ≡ refused badRelations
   unfolding readParts _>>=_
-  parts-3 w = rw w
+  bad-relations-part w = rw w
 
-  module _ (rs : ℕ × List ℕ) (w₀ : whole 3 (relations .get part0) ≡ ok rs) where
-    parts-4 : whole 4 (dependencies (take (rs .0) (rs .1)) .get part1) ≡ refused 4 → readParts part0 part1 parts ≡ refused 4
+  module _ (rs : ℕ × List ℕ) (w₀ : complete badRelations (relations .get part0) ≡ ok rs) where
+    bad-dependencies-part : complete badDependency (dependencies (take (rs .0) (rs .1)) .get part1) ≡ refused badDependency → readParts part0 part1 parts ≡ refused badDependency
     unfolding readParts _>>=_
-    parts-4 w = rw (w₀, w)
+    bad-dependencies-part w = rw (w₀, w)
 
-    module _ (ds : ℕ × List Dependency) (w₁ : whole 4 (dependencies (take (rs .0) (rs .1)) .get part1) ≡ ok ds) where
+    module _ (ds : ℕ × List Dependency) (w₁ : complete badDependency (dependencies (take (rs .0) (rs .1)) .get part1) ≡ ok ds) where
       parts-places : outcomeOf (readParts part0 part1 parts) ≡ recordRead rs ds (readPlaces (take (rs .0) (rs .1)) parts)
       unfolding readParts _>>=_
       parts-places = rw (w₀, w₁) (same (readPlaces (take (rs .0) (rs .1)) parts))
@@ -100,34 +93,34 @@ module _ (file : List ℕ) (n : ℕ) (low : 2 ≤ n) (part0 part1 : List ℕ) (e
   unfolding readAll
   all = ap readAll (first-two file n low) ∙ rw (e₀, e₁)
 
-module _ (file : List ℕ) (n : ℕ) (low : 2 ≤ n) (part0 : List ℕ) (e₀ : part0 ≡ stretch file (tableAt file 0)) (rs : RelationsRead) (er : rs ≡ relationsRead (whole 3 (relations .get part0))) where
-  refuses-3 : rs .good ≡ false → outcomeOf (refused 3) ≡ outcomeOf (readAll (stretches n file (drop 2 file)))
-  refuses-3 g =
-      let (m, w) = relations-bad (whole 3 (relations .get part0)) rs er g in
-      let w′ = whole-refused 3 (relations .get part0) m w in
-      sym (ap outcomeOf (all file n low part0 (stretch file (tableAt file 1)) e₀ refl ∙ parts-3 part0 (stretch file (tableAt file 1)) (stretches (n - 2) file (drop 10 file)) w′))
+module _ (file : List ℕ) (n : ℕ) (low : 2 ≤ n) (part0 : List ℕ) (e₀ : part0 ≡ stretch file (tableAt file 0)) (rs : RelationsRead) (er : rs ≡ relationsRead (complete badRelations (relations .get part0))) where
+  refuses-relations : rs .good ≡ false → outcomeOf (refused badRelations) ≡ outcomeOf (readAll (stretches n file (drop 2 file)))
+  refuses-relations g =
+      let (m, w) = relations-bad (complete badRelations (relations .get part0)) rs er g in
+      let w′ = complete-refused badRelations (relations .get part0) m w in
+      sym (ap outcomeOf (all file n low part0 (stretch file (tableAt file 1)) e₀ refl ∙ bad-relations-part part0 (stretch file (tableAt file 1)) (stretches (n - 2) file (drop 10 file)) w′))
 
   good-count : Bytes file → rs .good ≡ true → goodRelations (rs .count) (rs .widths) ≡ true
   good-count hb g =
-      let w = relations-some (whole 3 (relations .get part0)) rs er g in
+      let w = relations-some (complete badRelations (relations .get part0)) rs er g in
       let b : Bytes part0 = rw e₀ (stretch-bytes file (tableAt file 0) hb) in
-      good-relations (rs .count, rs .widths) (whole-get 3 relations relations-lawful part0 (rs .count, rs .widths) b w .0) .1
+      good-relations (rs .count, rs .widths) (complete-get badRelations relations relations-lawful part0 (rs .count, rs .widths) b w .0) .1
 
   module _ (part1 : List ℕ) (e₁ : part1 ≡ stretch file (tableAt file 1)) (g₀ : rs .good ≡ true) (ds : DependenciesRead)
-      (ed : ds ≡ dependenciesRead (whole 4 (dependencies (take (rs .count) (rs .widths)) .get part1))) where
-    refuses-4 : ds .good ≡ false → outcomeOf (refused 4) ≡ outcomeOf (readAll (stretches n file (drop 2 file)))
-    refuses-4 g =
-        let w₀ = relations-some (whole 3 (relations .get part0)) rs er g₀ in
-        let (m, w) = dependencies-bad (whole 4 (dependencies (take (rs .count) (rs .widths)) .get part1)) ds ed g in
-        let w₁ = whole-refused 4 (dependencies (take (rs .count) (rs .widths)) .get part1) m w in
-        sym (ap outcomeOf (all file n low part0 part1 e₀ e₁ ∙ parts-4 part0 part1 (stretches (n - 2) file (drop 10 file)) (rs .count, rs .widths) w₀ w₁))
+      (ed : ds ≡ dependenciesRead (complete badDependency (dependencies (take (rs .count) (rs .widths)) .get part1))) where
+    refuses-dependencies : ds .good ≡ false → outcomeOf (refused badDependency) ≡ outcomeOf (readAll (stretches n file (drop 2 file)))
+    refuses-dependencies g =
+        let w₀ = relations-some (complete badRelations (relations .get part0)) rs er g₀ in
+        let (m, w) = dependencies-bad (complete badDependency (dependencies (take (rs .count) (rs .widths)) .get part1)) ds ed g in
+        let w₁ = complete-refused badDependency (dependencies (take (rs .count) (rs .widths)) .get part1) m w in
+        sym (ap outcomeOf (all file n low part0 part1 e₀ e₁ ∙ bad-dependencies-part part0 part1 (stretches (n - 2) file (drop 10 file)) (rs .count, rs .widths) w₀ w₁))
 
     reads-places : ds .good ≡ true
         → recordRead (rs .count, rs .widths) (ds .held, ds .dependencies) (readPlaces (take (rs .count) (rs .widths)) (stretches (n - 2) file (drop 10 file)))
         ≡ outcomeOf (readAll (stretches n file (drop 2 file)))
     reads-places g₁ =
-        let w₀ = relations-some (whole 3 (relations .get part0)) rs er g₀ in
-        let w₁ = dependencies-some (whole 4 (dependencies (take (rs .count) (rs .widths)) .get part1)) ds ed g₁ in
+        let w₀ = relations-some (complete badRelations (relations .get part0)) rs er g₀ in
+        let w₁ = dependencies-some (complete badDependency (dependencies (take (rs .count) (rs .widths)) .get part1)) ds ed g₁ in
         sym (ap outcomeOf (all file n low part0 part1 e₀ e₁) ∙ parts-places part0 part1 (stretches (n - 2) file (drop 10 file)) (rs .count, rs .widths) w₀ (ds .held, ds .dependencies) w₁)
 
 part-requires : tie.Need-part-requires
@@ -142,7 +135,7 @@ refusal-requires c κs = search needs
 
 returns : tie.Need-returns
 returns c =
-    c .refusal .ensures ∙ refuses-3 (c .before .before .before .before .before .before .args .file .now) (c .before .before .before .before .before .before .args .n) (c .before .before .before .before .before .before .pre .0 .0) (now (c .before .before .before .before .part .result)) (c .before .before .before .before .part .ensures) (c .before .before .before .read-relations .result) (c .before .before .before .read-relations .ensures) (not-true (c .before .before .before .read-relations .result .good) (c .before .if1 .taken))
+    c .refusal .ensures ∙ refuses-relations (c .before .before .before .before .before .before .args .file .now) (c .before .before .before .before .before .before .args .n) (c .before .before .before .before .before .before .pre .0 .0) (now (c .before .before .before .before .part .result)) (c .before .before .before .before .part .ensures) (c .before .before .before .read-relations .result) (c .before .before .before .read-relations .ensures) (not-true (c .before .before .before .read-relations .result .good) (c .before .if1 .taken))
 
 part-requires-2 : tie.Need-part-requires-2
 part-requires-2 c κs =
@@ -157,7 +150,7 @@ refusal-requires-2 c κs = search needs
 
 returns-2 : tie.Need-returns-2
 returns-2 c =
-    c .refusal2 .ensures ∙ refuses-4 (c .before .before .before .before .before .before .before .before .before .before .before .args .file .now) (c .before .before .before .before .before .before .before .before .before .before .before .args .n) (c .before .before .before .before .before .before .before .before .before .before .before .pre .0 .0) (now (c .before .before .before .before .before .before .before .before .before .part .result)) (c .before .before .before .before .before .before .before .before .before .part .ensures) (c .before .before .before .before .before .before .before .before .read-relations .result) (c .before .before .before .before .before .before .before .before .read-relations .ensures) (now (c .before .before .before .before .part2 .result)) (c .before .before .before .before .part2 .ensures) (not-false (c .before .before .before .before .before .before .before .before .read-relations .result .good) (c .before .before .before .before .before .before .if1 .left)) (c .before .before .before .read-dependencies .result) (c .before .before .before .read-dependencies .ensures) (not-true (c .before .before .before .read-dependencies .result .good) (c .before .if2 .taken))
+    c .refusal2 .ensures ∙ refuses-dependencies (c .before .before .before .before .before .before .before .before .before .before .before .args .file .now) (c .before .before .before .before .before .before .before .before .before .before .before .args .n) (c .before .before .before .before .before .before .before .before .before .before .before .pre .0 .0) (now (c .before .before .before .before .before .before .before .before .before .part .result)) (c .before .before .before .before .before .before .before .before .before .part .ensures) (c .before .before .before .before .before .before .before .before .read-relations .result) (c .before .before .before .before .before .before .before .before .read-relations .ensures) (now (c .before .before .before .before .part2 .result)) (c .before .before .before .before .part2 .ensures) (not-false (c .before .before .before .before .before .before .before .before .read-relations .result .good) (c .before .before .before .before .before .before .if1 .left)) (c .before .before .before .read-dependencies .result) (c .before .before .before .read-dependencies .ensures) (not-true (c .before .before .before .read-dependencies .result .good) (c .before .if2 .taken))
 
 read-places-requires : tie.Need-read-places-requires
 read-places-requires c κs =

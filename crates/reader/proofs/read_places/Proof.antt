@@ -2,7 +2,7 @@ use borrow.Author.Needs.{needs}
 use borrow.Author.Tests.{eq-eqb, ne-eqb}
 use mathlib.Core.Path.{_≡_, sym, ap, refl, _∙_, subst}
 use mathlib.Core.Bool.{Bool, true, false}
-use mathlib.Core.List.{List, [], _∷_}
+use mathlib.Core.List.{List, _∷_}
 use Prim.Native.Nat.{ℕ, zero, suc, _+_, _*_, _-_, _≤_, _<_}
 use native.Mathlib.Omega.{arith}
 use lib.Dec.{eqb}
@@ -13,19 +13,16 @@ use Rattle.record.specs.declared.Place.{Place}
 use Rattle.record.specs.declared.Outcome.{Outcome}
 use Rattle.record.specs.declared.Answer.the-variants.{Done, Refused}
 use Rattle.record.specs.Rule.{noPlace}
-use Rattle.format.specs.Bytes.{over}
+use Rattle.lists.specs.Over.{over}
 use Rattle.format.specs.File.{Result, ok, refused, _>>=_, stretch, stretches, readPlace, noneLeft, readPlaces, outcomeOf}
-use Rattle.format.proofs.Lists.{over-nil, over-set, pad-over}
-use Rattle.reader.specs.declared.PlaceRead.{PlaceRead}
-use Rattle.reader.specs.Read.{placeRead, recordRead}
+use Rattle.lists.proofs.Over.{over-nil, over-set}
+use Rattle.format.proofs.Arrays.{pad-over}
+use Rattle.decoder.specs.declared.PlaceRead.{PlaceRead}
+use Rattle.decoder.specs.internal.Read.{placeRead}
+use Rattle.reader.specs.internal.Read.{recordRead}
 use Rattle.reader.proofs.Stretches.{tableAt, stretches-cons, stretch-fits}
 use Rattle.reader.proofs.read_places.Statement.{statement}
 use Rattle.reader.proofs.read_places.Tie as tie
-use Rattle.reader.proofs.read_places.Reads as reads
-use Rattle.reader.proofs.read_places.Lts as lts
-use Rattle.reader.proofs.refusal.Reads as refusal-reads
-use Rattle.reader.proofs.part.Reads as part-reads
-use Rattle.reader.proofs.read_place.Reads as read-place-reads
 
 -- The record with the places read so far and the others laid over what follows them
 abbrev recordOver : ℕ × List ℕ → ℕ × List Dependency → List Place → ℕ → Result (List Place) → Outcome

@@ -2,27 +2,25 @@ use borrow.Author.Needs.{needs}
 use mathlib.Core.Path.{_≡_, sym, ap, refl, _∙_}
 use mathlib.Core.Bool.{true}
 use mathlib.Core.List.{List}
-use Prim.Native.Nat.{ℕ, _+_, _*_, _-_, _≤_, _<_}
+use Prim.Native.Nat.{ℕ, _+_, _-_, _≤_, _<_}
 use native.Mathlib.Omega.{arith}
 use lib.Dec.{leb}
 use lib.ListN.{length, drop, set, replicate, length-set}
 use borrow.Author.Tests.{leb-true}
+use Rattle.refusals.specs.Refusals.{badRelations}
 use Rattle.lists.specs.Tests.{between, isZero}
-use Rattle.format.specs.Format.{Reading, none, got, mapReading, getByte, byte, padded}
+use Rattle.format.specs.Format.{Reading, got, mapReading, getByte, byte, padded}
 use Rattle.format.specs.Parts.{relations}
-use Rattle.format.specs.File.{whole}
-use Rattle.format.proofs.Lists.{and-iff}
-use Rattle.reader.specs.declared.ByteRead.{ByteRead}
-use Rattle.reader.specs.declared.ByteRead.the-variants.{Byte, NoByte}
-use Rattle.reader.specs.Read.{byteRead, noRelations, relationsRead}
-use Rattle.reader.proofs.Filling.{Filling, filling-starts, filling-turns, filling-fails, filling-ends}
-use Rattle.reader.proofs.Counted.{byte-read, byte-none, sequence-none, sequence-got, whole-none, whole-fails, whole-ends, whole-long}
+use Rattle.format.specs.File.{complete}
+use Rattle.lists.proofs.Tests.{and-iff}
+use Rattle.decoder.specs.declared.ByteRead.{ByteRead}
+use Rattle.decoder.specs.declared.ByteRead.the-variants.{Byte, NoByte}
+use Rattle.decoder.specs.internal.Read.{byteRead}
+use Rattle.reader.specs.internal.Read.{noRelations, relationsRead}
+use Rattle.decoder.proofs.Filling.{Filling, filling-starts, filling-turns, filling-fails, filling-ends}
+use Rattle.decoder.proofs.Counted.{byte-read, byte-none, sequence-none, sequence-got, complete-none, complete-fails, complete-ends, complete-long}
 use Rattle.reader.proofs.read_relations.Statement.{statement}
 use Rattle.reader.proofs.read_relations.Tie as tie
-use Rattle.reader.proofs.read_relations.Reads as reads
-use Rattle.reader.proofs.read_relations.Lts as lts
-use Rattle.reader.proofs.no_relations.Reads as no-relations-reads
-use Rattle.reader.proofs.read_byte.Reads as read-byte-reads
 
 -- The widths after the count, as the format reads them
 Widths : List ℕ → ℕ → Reading (List ℕ)
@@ -53,30 +51,30 @@ goes-on part n widths i r w f h l p q =
     let k : 1 + i + 1 ≡ 1 + (i + 1) = omega arith in
     filling-turns f w (drop (1 + (i + 1)) part) h l (e ∙ rw k)
 
-no-count : (part : List ℕ) (r : ByteRead) → r ≡ byteRead (getByte (between 1 8) part) → r ≡ NoByte → noRelations ≡ relationsRead (whole 3 (relations .get part))
+no-count : (part : List ℕ) (r : ByteRead) → r ≡ byteRead (getByte (between 1 8) part) → r ≡ NoByte → noRelations ≡ relationsRead (complete badRelations (relations .get part))
 unfolding relations byte
 no-count part r p q =
-    sym (ap relationsRead (whole-none 3 (relations .get part)
+    sym (ap relationsRead (complete-none badRelations (relations .get part)
     (sequence-none (byte (between 1 8)) (λ n. padded 8 0 isZero n (byte (between 1 8))) part (byte-none (getByte (between 1 8) part) (sym q ∙ p)))))
 
 fails : (part : List ℕ) (n : ℕ) (widths : List ℕ) (i : ℕ) (r : ByteRead) → Head part n → At part n widths i → i < n
-    → r ≡ byteRead (getByte (between 1 8) (drop (1 + i) part)) → r ≡ NoByte → noRelations ≡ relationsRead (whole 3 (relations .get part))
+    → r ≡ byteRead (getByte (between 1 8) (drop (1 + i) part)) → r ≡ NoByte → noRelations ≡ relationsRead (complete badRelations (relations .get part))
 fails part n widths i r hd f h p q =
-    sym (ap relationsRead (whole-fails 3 (λ ws. (n, ws)) (Widths part n) (relations .get part) hd (filling-fails f h (byte-none (getByte (between 1 8) (drop (1 + i) part)) (sym q ∙ p)))))
+    sym (ap relationsRead (complete-fails badRelations (λ ws. (n, ws)) (Widths part n) (relations .get part) hd (filling-fails f h (byte-none (getByte (between 1 8) (drop (1 + i) part)) (sym q ∙ p)))))
 
 -- the whole reading, after the last turn
 ended : (part : List ℕ) (n : ℕ) (widths : List ℕ) (i : ℕ) → At part n widths i → i ≤ n → n ≤ i → Widths part n ≡ got widths (drop (1 + n) part)
 ended part n widths i f h l = let e : i ≡ n = omega arith in filling-ends f l ∙ ap (λ (k : ℕ). got widths (drop (1 + k) part)) e
 
 too-long : (part : List ℕ) (n : ℕ) (widths : List ℕ) (i : ℕ) → Head part n → At part n widths i → i ≤ n → n ≤ i → 1 + n < length part
-    → noRelations ≡ relationsRead (whole 3 (relations .get part))
+    → noRelations ≡ relationsRead (complete badRelations (relations .get part))
 too-long part n widths i hd f h l t =
-    sym (ap relationsRead (whole-long 3 (λ ws. (n, ws)) (Widths part n) (relations .get part) hd widths part (1 + n) (ended part n widths i f h l) t))
+    sym (ap relationsRead (complete-long badRelations (λ ws. (n, ws)) (Widths part n) (relations .get part) hd widths part (1 + n) (ended part n widths i f h l) t))
 
 accepted : (part : List ℕ) (n : ℕ) (widths : List ℕ) (i : ℕ) → Head part n → At part n widths i → i ≤ n → n ≤ i → length part ≤ 1 + n
-    → record { good = true; count = n; widths = widths } ≡ relationsRead (whole 3 (relations .get part))
+    → record { good = true; count = n; widths = widths } ≡ relationsRead (complete badRelations (relations .get part))
 accepted part n widths i hd f h l t =
-    sym (ap relationsRead (whole-ends 3 (λ ws. (n, ws)) (Widths part n) (relations .get part) hd widths part (1 + n) (ended part n widths i f h l) t))
+    sym (ap relationsRead (complete-ends badRelations (λ ws. (n, ws)) (Widths part n) (relations .get part) hd widths part (1 + n) (ended part n widths i f h l) t))
 
 abbrev Inv-loop : tie.InvT-loop
 Inv-loop part count n widths₀ i₀ widths i = (i ≤ n) × (n ≤ 8) × (length widths ≡ 8) × Head part n × At part n widths i

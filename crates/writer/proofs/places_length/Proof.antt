@@ -8,14 +8,11 @@ use lib.ListN.{length, take, drop, getD, length-append}
 use Rattle.record.specs.declared.Place.{Place}
 use Rattle.record.specs.Rule.{goodPlace}
 use Rattle.format.specs.File.{join, putPlace}
-use Rattle.format.proofs.Lists.{every-getD}
+use Rattle.lists.proofs.Tests.{every-getD}
 use Rattle.format.proofs.Arrays.{pastPlace}
-use Rattle.writer.proofs.PlaceParts.{parts-next, parts-end}
+use Rattle.writer.proofs.FirstPlaces.{parts-next, parts-end}
 use Rattle.writer.proofs.places_length.Statement.{statement}
 use Rattle.writer.proofs.places_length.Tie as tie
-use Rattle.writer.proofs.places_length.Reads as reads
-use Rattle.writer.proofs.places_length.Lts as lts
-use Rattle.writer.proofs.place_length.Reads as place-length-reads
 
 next : (schema : List ℕ) (places : List Place) (n k : ℕ) → n ≤ length places → k < n
     → length (join (map (putPlace schema) (drop k (take n places)))) ≡ length (putPlace schema (getD places k pastPlace)) + length (join (map (putPlace schema) (drop (k + 1) (take n places))))

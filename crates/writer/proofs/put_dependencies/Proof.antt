@@ -7,16 +7,13 @@ use native.Mathlib.Omega.{arith}
 use lib.ListN.{length, take, getD, set, length-set}
 use lib.Seq.{length-take-le, getD-take}
 use Rattle.query.specs.declared.Dependency.{Dependency}
-use Rattle.format.specs.Bytes.{over}
+use Rattle.lists.specs.Over.{over}
 use Rattle.format.specs.Format.{putAll}
 use Rattle.format.proofs.Lengths.{length-putAll}
-use Rattle.writer.specs.Pieces.{putDependency}
-use Rattle.writer.proofs.Stores.{Writing, writing-starts, writing-room, writing-turns, writing-ends, byte-and-run}
+use Rattle.writer.specs.internal.Pieces.{putDependency}
+use Rattle.encoder.proofs.Stores.{Writing, writing-starts, writing-room, writing-turns, writing-ends, byte-and-run}
 use Rattle.writer.proofs.put_dependencies.Statement.{statement}
 use Rattle.writer.proofs.put_dependencies.Tie as tie
-use Rattle.writer.proofs.put_dependencies.Reads as reads
-use Rattle.writer.proofs.put_dependencies.Lts as lts
-use Rattle.writer.proofs.put_dependency.Reads as put-dependency-reads
 
 -- The dependency that an index past the end would give
 abbrev past : Dependency

@@ -1,11 +1,9 @@
 use borrow.Author.Needs.{needs}
 use native.Mathlib.Omega.{arith}
 use lib.ListN.{length-set}
-use Rattle.writer.proofs.Stores.{three-stores}
+use Rattle.encoder.proofs.Stores.{three-stores}
 use Rattle.writer.proofs.put_dependency.Statement.{statement}
 use Rattle.writer.proofs.put_dependency.Tie as tie
-use Rattle.writer.proofs.put_dependency.Reads as reads
-use Rattle.writer.proofs.put_dependency.Lts as lts
 
 slice-write-buffer : tie.Need-slice-write-buffer
 slice-write-buffer c = search needs

@@ -1,5 +1,5 @@
 use borrow.Author.Needs.{needs}
-use mathlib.Core.Path.{_≡_, refl, _∙_}
+use mathlib.Core.Path.{refl}
 use mathlib.Core.List.{List, [], _++_, map}
 use Prim.Native.Nat.{ℕ, _+_, _*_, _≤_}
 use native.Mathlib.Omega.{arith}
@@ -8,13 +8,9 @@ use Rattle.format.specs.Bytes.{digits}
 use Rattle.format.specs.File.{tableOf, putPlace}
 use Rattle.format.proofs.Directory.{length-table}
 use Rattle.format.proofs.Lengths.{take-short}
-use Rattle.writer.proofs.Stores.{Run, run-starts, run-turns, word-run}
+use Rattle.encoder.proofs.Stores.{Run, run-starts, run-turns, word-run}
 use Rattle.writer.proofs.put_directory.Statement.{statement}
 use Rattle.writer.proofs.put_directory.Tie as tie
-use Rattle.writer.proofs.put_directory.Reads as reads
-use Rattle.writer.proofs.put_directory.Lts as lts
-use Rattle.writer.proofs.put_table.Reads as put-table-reads
-use Rattle.writer.proofs.put_word.Reads as put-word-reads
 
 -- ---- the run after each store
 run-1 : (c : tie.After-put-word) → Run (c .before .before .before .args .buffer .now) 0 ([] ++ digits 2 (c .before .before .before .args .n + 2)) (c .put-word .last .0) 2

@@ -7,25 +7,21 @@ use lib.ListN.{length, take}
 use Rattle.record.specs.View.{schemaOf}
 use Rattle.format.specs.Parts.{relations}
 use Rattle.format.specs.File.{join, putPlace}
-use Rattle.writer.specs.Pieces.{dependencyBytes}
-use Rattle.format.proofs.Arrays.{length-mapped}
-use Rattle.format.proofs.Schema.{count-bounds}
-use Rattle.writer.proofs.Stores.{Run, run-starts, run-turns}
-use Rattle.writer.proofs.RecordParts.{good-parts, held-few, first-long, second-long, parts-long}
+use Rattle.writer.specs.internal.Pieces.{dependencyBytes}
+use Rattle.lists.proofs.Loops.{mapped-length}
+use Rattle.record.proofs.Good.{good-record}
+use Rattle.query.proofs.Relations.{relations-bounds}
+use Rattle.encoder.proofs.Stores.{Run, run-starts, run-turns}
+use Rattle.writer.proofs.RecordParts.{first-long, second-long, parts-long}
 use Rattle.writer.proofs.put_parts.Statement.{statement}
 use Rattle.writer.proofs.put_parts.Tie as tie
-use Rattle.writer.proofs.put_parts.Reads as reads
-use Rattle.writer.proofs.put_parts.Lts as lts
-use Rattle.writer.proofs.put_dependencies.Reads as put-dependencies-reads
-use Rattle.writer.proofs.put_places.Reads as put-places-reads
-use Rattle.writer.proofs.put_relations.Reads as put-relations-reads
 
 -- ---- what holds at each place, proved where it first does
 widths-long : (c : tie.Start) → length (c .args .given .widths) ≡ 8
-widths-long c = search (length-mapped, needs)
+widths-long c = search (mapped-length, needs)
 
 list-long : (c : tie.Start) → length (c .args .given .dependencies) ≡ 32
-list-long c = search (length-mapped, needs)
+list-long c = search (mapped-length, needs)
 
 -- The bytes of each part
 abbrev relationBytes : tie.Start → List ℕ
@@ -90,15 +86,15 @@ add-second-2 : tie.Need-add-second-2
 add-second-2 c = omega (arith, room (c .before .before .before .before), short (c .before .before .before .before))
 
 put-relations-requires : tie.Need-put-relations-requires
-put-relations-requires c κs = (count-bounds (c .before .before .before .before .before .args .given .relations) (c .before .before .before .before .before .args .given .widths) (good-parts (c .before .before .before .before .before .args .given) (c .before .before .before .before .before .pre .0) .0) (widths-long (c .before .before .before .before .before)) .1, omega (arith, room (c .before .before .before .before .before)))
+put-relations-requires c κs = (relations-bounds (c .before .before .before .before .before .args .given .relations) (c .before .before .before .before .before .args .given .widths) (good-record (c .before .before .before .before .before .args .given) (c .before .before .before .before .before .pre .0) .relations) .1, omega (arith, room (c .before .before .before .before .before)))
 
 put-dependencies-requires : tie.Need-put-dependencies-requires
-put-dependencies-requires c κs = (held-few (c .before .before .before .before .before .before .before .before .before .args .given) (c .before .before .before .before .before .before .before .before .before .pre .0), omega (arith, first-run (c .before .before .before) .long, room (c .before .before .before .before .before .before .before .before .before)))
+put-dependencies-requires c κs = (good-record (c .before .before .before .before .before .before .before .before .before .args .given) (c .before .before .before .before .before .before .before .before .before .pre .0) .held, omega (arith, first-run (c .before .before .before) .long, room (c .before .before .before .before .before .before .before .before .before)))
 
 put-places-requires : tie.Need-put-places-requires
 put-places-requires c κs =
-    let parts = good-parts (c .before .before .before .before .before .before .before .before .before .before .before .before .before .args .given) (c .before .before .before .before .before .before .before .before .before .before .before .before .before .pre .0) in
-    (parts .0, (parts .2, (c .before .before .before .before .before .before .before .before .before .before .before .before .before .pre .1 .0, omega (arith, second-run (c .before .before .before) .long, room (c .before .before .before .before .before .before .before .before .before .before .before .before .before)))))
+    let parts = good-record (c .before .before .before .before .before .before .before .before .before .before .before .before .before .args .given) (c .before .before .before .before .before .before .before .before .before .before .before .before .before .pre .0) in
+    (parts .relations, (parts .places, (c .before .before .before .before .before .before .before .before .before .before .before .before .before .pre .1 .0, omega (arith, second-run (c .before .before .before) .long, room (c .before .before .before .before .before .before .before .before .before .before .before .before .before)))))
 
 same-length : tie.Need-same-length
 same-length c = third-run (c .before .before) .long

@@ -1,23 +1,20 @@
 use borrow.Author.Needs.{needs}
 use mathlib.Core.Path.{_≡_, sym, ap, refl, _∙_}
 use mathlib.Core.List.{List, [], _∷_, _++_, map}
-use Prim.Native.Nat.{ℕ, _+_, _*_, _-_, _≤_, _<_}
+use Prim.Native.Nat.{ℕ, _+_, _-_, _≤_, _<_}
 use native.Mathlib.Omega.{arith}
 use lib.ListN.{length, take, getD}
 use lib.Seq.{length-take-le, getD-take}
 use Rattle.record.specs.declared.Place.{Place}
 use Rattle.record.specs.Rule.{goodPlace}
-use Rattle.format.specs.Bytes.{over}
+use Rattle.lists.specs.Over.{over}
 use Rattle.format.specs.Format.{putAll}
 use Rattle.format.specs.File.{join, putPlace}
-use Rattle.format.proofs.Lists.{every-getD}
+use Rattle.lists.proofs.Tests.{every-getD}
 use Rattle.format.proofs.Arrays.{pastPlace}
-use Rattle.writer.proofs.Stores.{Writing, writing-starts, writing-room, writing-turns, writing-ends}
+use Rattle.encoder.proofs.Stores.{Writing, writing-starts, writing-room, writing-turns, writing-ends}
 use Rattle.writer.proofs.put_places.Statement.{statement}
 use Rattle.writer.proofs.put_places.Tie as tie
-use Rattle.writer.proofs.put_places.Reads as reads
-use Rattle.writer.proofs.put_places.Lts as lts
-use Rattle.writer.proofs.put_place.Reads as put-place-reads
 
 joined : (f : Place → List ℕ) (ps : List Place) → join (map f ps) ≡ putAll f ps
 unfolding join putAll

@@ -9,11 +9,9 @@ use lib.Seq.{sets-eq, length-take-le, getD-take}
 use Rattle.format.specs.Format.{byte, sequence, padded, putAll}
 use Rattle.format.specs.Parts.{relations}
 use Rattle.format.proofs.Lengths.{length-putAll}
-use Rattle.writer.proofs.Stores.{Writing, writing-starts, writing-room, writing-turns, writing-ends, byte-and-run}
+use Rattle.encoder.proofs.Stores.{Writing, writing-starts, writing-room, writing-turns, writing-ends, byte-and-run}
 use Rattle.writer.proofs.put_relations.Statement.{statement}
 use Rattle.writer.proofs.put_relations.Tie as tie
-use Rattle.writer.proofs.put_relations.Reads as reads
-use Rattle.writer.proofs.put_relations.Lts as lts
 
 -- The bytes of a width
 abbrev one : ℕ → List ℕ

@@ -1,6 +1,6 @@
 use borrow.Author.Needs.{needs}
 use mathlib.Core.Path.{_≡_, sym, ap, refl, _∙_}
-use mathlib.Core.List.{List, [], _∷_, _++_, map}
+use mathlib.Core.List.{List, _∷_, _++_, map}
 use Prim.Native.Nat.{ℕ, _+_, _*_, _-_, _≤_, _<_}
 use native.Mathlib.Nat.{add-zero}
 use native.Mathlib.Omega.{arith}
@@ -8,19 +8,17 @@ use lib.ListN.{length, take, drop, getD, length-append, length-drop, length-map}
 use lib.Seq.{length-take-le}
 use Rattle.record.specs.declared.Place.{Place}
 use Rattle.record.specs.Rule.{goodPlace}
-use Rattle.format.specs.Bytes.{digits, over}
+use Rattle.lists.specs.Over.{over}
+use Rattle.format.specs.Bytes.{digits}
 use Rattle.format.specs.File.{tableOf, putPlace}
-use Rattle.format.proofs.Lists.{over-nil, over-length, over-over, every-getD}
+use Rattle.lists.proofs.Over.{over-nil, over-length, over-over}
+use Rattle.lists.proofs.Tests.{every-getD}
+use Rattle.format.proofs.Arrays.{pastPlace}
 use Rattle.format.proofs.Numbers.{length-digits}
 use Rattle.format.proofs.Directory.{length-table}
-use Rattle.format.proofs.Arrays.{pastPlace}
-use Rattle.writer.proofs.PlaceParts.{parts-next, parts-end}
+use Rattle.writer.proofs.FirstPlaces.{parts-next, parts-end}
 use Rattle.writer.proofs.put_table.Statement.{statement}
 use Rattle.writer.proofs.put_table.Tie as tie
-use Rattle.writer.proofs.put_table.Reads as reads
-use Rattle.writer.proofs.put_table.Lts as lts
-use Rattle.writer.proofs.place_length.Reads as place-length-reads
-use Rattle.writer.proofs.put_word.Reads as put-word-reads
 
 -- The parts from place k on
 abbrev partsFrom : List ℕ → List Place → ℕ → ℕ → List (List ℕ)

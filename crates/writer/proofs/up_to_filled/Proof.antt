@@ -3,7 +3,7 @@ use mathlib.Core.Path.{_≡_, sym, ap, refl, _∙_}
 use mathlib.Core.Bool.{Bool, true, false, cond}
 use mathlib.Core.Logic.{⊎-elim}
 use mathlib.Core.List.{List, [], _∷_, _++_}
-use Prim.Native.Nat.{ℕ, suc, _+_, _*_, _-_, _≤_, _<_}
+use Prim.Native.Nat.{ℕ, suc, _+_, _-_, _≤_, _<_}
 use native.Mathlib.Numerals.{add-one}
 use native.Mathlib.Omega.{arith}
 use lib.ListN.{length, take, getD}
@@ -13,8 +13,6 @@ use Rattle.format.proofs.Arrays.{pastPlace}
 use Rattle.format.specs.File.{oneMore, upToFilled}
 use Rattle.writer.proofs.up_to_filled.Statement.{statement}
 use Rattle.writer.proofs.up_to_filled.Tie as tie
-use Rattle.writer.proofs.up_to_filled.Reads as reads
-use Rattle.writer.proofs.up_to_filled.Lts as lts
 
 -- one place more at the end
 last-place : (ps : List Place) (p : Place) (t : Bool) → p .filled ≡ t → upToFilled (ps ++ (p ∷ [])) ≡ cond t (suc (length ps)) (upToFilled ps)

@@ -1,20 +1,20 @@
 -- `write` refuses a record that breaks its rule, and writes a good one.
 -- Assumes nothing.
 use mathlib.Core.Path.{_≡_, refl, sym, _∙_}
-use mathlib.Core.Bool.{true, false}
+use mathlib.Core.Bool.{false}
 use mathlib.Core.List.{List}
 use Prim.Native.Nat.{ℕ}
 use borrow.Author.Needs.{needs}
 use borrow.Author.Tests.{not-true, not-false}
+use Rattle.refusals.specs.Refusals.{badRecord}
 use Rattle.record.specs.declared.Record.{Record}
 use Rattle.record.specs.Rule.{goodRecord}
-use Rattle.writer.specs.declared.Written.{Written}
-use Rattle.writer.specs.declared.Written.the-variants.{Length, Refused}
-use Rattle.writer.specs.Write.{written, bufferAfter}
+use Rattle.writer.specs.declared.Written.the-variants.{Refused}
+use Rattle.writer.specs.Write.{written, afterWriting}
 use Rattle.writer.proofs.write.Statement.{statement}
 use Rattle.writer.proofs.write.Tie as tie
 
-broken : (r : Record) (buffer : List ℕ) → goodRecord r ≡ false → (Refused 14 ≡ written r buffer) × (buffer ≡ bufferAfter r buffer)
+broken : (r : Record) (buffer : List ℕ) → goodRecord r ≡ false → (Refused badRecord ≡ written r buffer) × (buffer ≡ afterWriting r buffer)
 broken r buffer e = (rw e refl, rw e refl)
 
 is-good-requires : tie.Need-is-good-requires

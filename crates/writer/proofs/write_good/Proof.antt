@@ -7,64 +7,60 @@ use Prim.Native.Nat.{ℕ, _+_, _*_, _≤_, _<_}
 use native.Mathlib.Omega.{arith}
 use lib.Dec.{leb}
 use lib.ListN.{length, take}
+use Rattle.refusals.specs.Refusals.{bufferTooShort}
 use Rattle.record.specs.declared.Record.{Record}
 use Rattle.record.specs.View.{schemaOf}
 use Rattle.record.specs.Rule.{goodRecord}
-use Rattle.format.specs.Bytes.{over}
+use Rattle.lists.specs.Over.{over}
 use Rattle.format.specs.File.{putPlace, fileOf}
 use Rattle.writer.specs.declared.Written.the-variants.{Length, Refused}
-use Rattle.writer.specs.Pieces.{directoryBytes, partBytes}
-use Rattle.writer.specs.Write.{written, bufferAfter}
-use Rattle.format.proofs.Arrays.{length-mapped}
-use Rattle.format.proofs.Schema.{count-bounds}
-use Rattle.writer.proofs.Stores.{Run, run-starts, run-turns}
-use Rattle.writer.proofs.RecordParts.{good-parts, held-few, parts-long, file-split, file-long}
+use Rattle.writer.specs.internal.Pieces.{directoryBytes, partBytes}
+use Rattle.writer.specs.Write.{written, afterWriting}
+use Rattle.lists.proofs.Loops.{mapped-length}
+use Rattle.record.proofs.Good.{good-record}
+use Rattle.query.proofs.Relations.{relations-bounds}
+use Rattle.encoder.proofs.Stores.{Run, run-starts, run-turns}
+use Rattle.writer.proofs.RecordParts.{parts-long, file-split, file-long}
 use Rattle.writer.proofs.write_good.Statement.{statement}
 use Rattle.writer.proofs.write_good.Tie as tie
-use Rattle.writer.proofs.write_good.Reads as reads
-use Rattle.writer.proofs.write_good.Lts as lts
-use Rattle.writer.proofs.places_length.Reads as places-length-reads
-use Rattle.writer.proofs.put_directory.Reads as put-directory-reads
-use Rattle.writer.proofs.put_parts.Reads as put-parts-reads
-use Rattle.writer.proofs.up_to_filled.Reads as up-to-filled-reads
 
 module _ (r : Record) (good : goodRecord r ≡ true) (buffer : List ℕ) (size : ℕ) (es : size ≡ length (fileOf r)) where
-  refused : length buffer < size → (Refused 10 ≡ written r buffer) × (buffer ≡ bufferAfter r buffer)
+  refused : length buffer < size → (Refused bufferTooShort ≡ written r buffer) × (buffer ≡ afterWriting r buffer)
   refused h =
       let t : leb (length (fileOf r)) (length buffer) ≡ false = lt-leb (length (fileOf r)) (length buffer) (omega arith) in
       rw (good, t) (refl, refl)
 
-  done : (after : List ℕ) → size ≤ length buffer → after ≡ over buffer 0 (fileOf r) → (Length size ≡ written r buffer) × (after ≡ bufferAfter r buffer)
+  done : (after : List ℕ) → size ≤ length buffer → after ≡ over buffer 0 (fileOf r) → (Length size ≡ written r buffer) × (after ≡ afterWriting r buffer)
   done after h e =
       let t : leb (length (fileOf r)) (length buffer) ≡ true = le-leb (length (fileOf r)) (length buffer) (omega arith) in
       rw (good, t) (ap Length es, e)
 
 -- ---- what holds at each place, proved where it first does
 widths-long : (c : tie.Start) → length (c .args .given .widths) ≡ 8
-widths-long c = search (length-mapped, needs)
+widths-long c = search (mapped-length, needs)
 
 list-long : (c : tie.Start) → length (c .args .given .dependencies) ≡ 32
-list-long c = search (length-mapped, needs)
+list-long c = search (mapped-length, needs)
 
 places-long : (c : tie.Start) → length (c .args .given .places) ≡ 8
-places-long c = search (length-mapped, needs)
+places-long c = search (mapped-length, needs)
 
 counts : (c : tie.Start) → c .args .given .relations ≤ 8
-counts c = count-bounds (c .args .given .relations) (c .args .given .widths) (good-parts (c .args .given) (c .pre) .0) (widths-long c) .1
+counts c = relations-bounds (c .args .given .relations) (c .args .given .widths) (good-record (c .args .given) (c .pre) .relations) .1
 
 -- The directory, where n parts are places
 abbrev directory : tie.Start → ℕ → List ℕ
 directory c n = directoryBytes n (1 + c .args .given .relations) (1 + 3 * c .args .given .held) (map (putPlace (schemaOf (c .args .given))) (take n (c .args .given .places)))
 
--- The whole length
-abbrev whole : tie.Start → ℕ → ℕ → ℕ
-whole c n others = 2 + 4 * (n + 2) + (1 + c .args .given .relations) + (1 + 3 * c .args .given .held) + others
+-- The length of the file
+abbrev fileLength : tie.Start → ℕ → ℕ → ℕ
+fileLength c n others = 2 + 4 * (n + 2) + (1 + c .args .given .relations) + (1 + 3 * c .args .given .held) + others
 
 held : (c : tie.After-up-to-filled) → c .up-to-filled .result ≤ length (c .before .before .before .before .args .given .places)
 held c = rw (places-long (c .before .before .before .before)) (c .up-to-filled .ensures .1)
 
 lengths : (c : tie.After-places-length) → (length (directory (c .before .before .before .before .before) (c .before .up-to-filled .result)) ≡ 2 + 4 * (c .before .up-to-filled .result + 2))
-    × (whole (c .before .before .before .before .before) (c .before .up-to-filled .result) (c .places-length .result) ≡ length (fileOf (c .before .before .before .before .before .args .given)))
+    × (fileLength (c .before .before .before .before .before) (c .before .up-to-filled .result) (c .places-length .result) ≡ length (fileOf (c .before .before .before .before .before .args .given)))
 lengths c =
     file-long (c .before .before .before .before .before .args .given) (c .before .before .before .before .before .pre) (widths-long (c .before .before .before .before .before)) (list-long (c .before .before .before .before .before)) (c .before .up-to-filled .result) (c .places-length .result) (c .before .up-to-filled .ensures .0) (held (c .before)) (c .places-length .ensures .0)
 
@@ -95,18 +91,18 @@ add-first : tie.Need-add-first
 add-first c = omega (arith, counts (c .before .before .before .before))
 
 cast-second : tie.Need-cast-second
-cast-second c = omega (arith, held-few (c .before .before .before .before .args .given) (c .before .before .before .before .pre))
+cast-second c = omega (arith, good-record (c .before .before .before .before .args .given) (c .before .before .before .before .pre) .held)
 
 mul-second : tie.Need-mul-second
-mul-second c = omega (arith, held-few (c .before .before .before .before .args .given) (c .before .before .before .before .pre))
+mul-second c = omega (arith, good-record (c .before .before .before .before .args .given) (c .before .before .before .before .pre) .held)
 
 add-second : tie.Need-add-second
-add-second c = omega (arith, held-few (c .before .before .before .before .args .given) (c .before .before .before .before .pre))
+add-second c = omega (arith, good-record (c .before .before .before .before .args .given) (c .before .before .before .before .pre) .held)
 
 places-length-requires : tie.Need-places-length-requires
 places-length-requires c κs =
-    let parts = good-parts (c .before .before .before .before .args .given) (c .before .before .before .before .pre) in
-    (parts .0, (parts .2, c .up-to-filled .ensures .1))
+    let parts = good-record (c .before .before .before .before .args .given) (c .before .before .before .before .pre) in
+    (parts .relations, (parts .places, c .up-to-filled .ensures .1))
 
 add-size : tie.Need-add-size
 add-size c = omega (arith, c .before .up-to-filled .ensures .1)
@@ -121,21 +117,21 @@ add-size-3 : tie.Need-add-size-3
 add-size-3 c = omega (arith, c .before .up-to-filled .ensures .1, counts (c .before .before .before .before .before))
 
 add-size-4 : tie.Need-add-size-4
-add-size-4 c = omega (arith, c .before .up-to-filled .ensures .1, counts (c .before .before .before .before .before), held-few (c .before .before .before .before .before .args .given) (c .before .before .before .before .before .pre))
+add-size-4 c = omega (arith, c .before .up-to-filled .ensures .1, counts (c .before .before .before .before .before), good-record (c .before .before .before .before .before .args .given) (c .before .before .before .before .before .pre) .held)
 
 add-size-5 : tie.Need-add-size-5
-add-size-5 c = omega (arith, c .before .up-to-filled .ensures .1, counts (c .before .before .before .before .before), held-few (c .before .before .before .before .before .args .given) (c .before .before .before .before .before .pre), c .places-length .ensures .1)
+add-size-5 c = omega (arith, c .before .up-to-filled .ensures .1, counts (c .before .before .before .before .before), good-record (c .before .before .before .before .before .args .given) (c .before .before .before .before .before .pre) .held, c .places-length .ensures .1)
 
 returns : tie.Need-returns
-returns c = refused (c .before .before .before .before .before .before .args .given) (c .before .before .before .before .before .before .pre) (c .before .before .before .before .before .before .args .buffer .now) (whole (c .before .before .before .before .before .before) (c .before .before .up-to-filled .result) (c .before .places-length .result)) (lengths (c .before) .1) (c .if1 .taken)
+returns c = refused (c .before .before .before .before .before .before .args .given) (c .before .before .before .before .before .before .pre) (c .before .before .before .before .before .before .args .buffer .now) (fileLength (c .before .before .before .before .before .before) (c .before .before .up-to-filled .result) (c .before .places-length .result)) (lengths (c .before) .1) (c .if1 .taken)
 
 put-directory-requires : tie.Need-put-directory-requires
 put-directory-requires c κs =
-    let parts = good-parts (c .before .before .before .before .before .before .before .args .given) (c .before .before .before .before .before .before .before .pre) in (
-      parts .0,
+    let parts = good-record (c .before .before .before .before .before .before .before .args .given) (c .before .before .before .before .before .before .before .pre) in (
+      parts .relations,
       (
-        parts .2,
-        ((c .before .before .before .up-to-filled .ensures .1, omega (arith, counts (c .before .before .before .before .before .before .before)), omega (arith, held-few (c .before .before .before .before .before .before .before .args .given) (c .before .before .before .before .before .before .before .pre))), omega (arith, c .before .if1 .left)),
+        parts .places,
+        ((c .before .before .before .up-to-filled .ensures .1, omega (arith, counts (c .before .before .before .before .before .before .before)), omega (arith, good-record (c .before .before .before .before .before .before .before .args .given) (c .before .before .before .before .before .before .before .pre) .held)), omega (arith, c .before .if1 .left)),
       ),
     )
 
@@ -161,7 +157,7 @@ returns-2 c =
     let buffer = c .before .before .before .before .before .before .before .before .before .before .before .before .before .before .args .buffer .now in
     let n = c .before .before .before .before .before .before .before .before .before .before .up-to-filled .result in
     let split = file-split given good (widths-long (c .before .before .before .before .before .before .before .before .before .before .before .before .before .before)) (list-long (c .before .before .before .before .before .before .before .before .before .before .before .before .before .before)) n (c .before .before .before .before .before .before .before .before .before .before .up-to-filled .ensures .0) (held (c .before .before .before .before .before .before .before .before .before .before)) in
-    done given good buffer (whole (c .before .before .before .before .before .before .before .before .before .before .before .before .before .before) n (c .before .before .before .before .before .before .before .before .before .places-length .result)) (lengths (c .before .before .before .before .before .before .before .before .before) .1) (c .before .before .put-parts .last .0) (c .before .before .before .before .before .before .before .before .if1 .left) (second-run (c .before .before) .written ∙ ap (over buffer 0) (sym split))
+    done given good buffer (fileLength (c .before .before .before .before .before .before .before .before .before .before .before .before .before .before) n (c .before .before .before .before .before .before .before .before .before .places-length .result)) (lengths (c .before .before .before .before .before .before .before .before .before) .1) (c .before .before .put-parts .last .0) (c .before .before .before .before .before .before .before .before .if1 .left) (second-run (c .before .before) .written ∙ ap (over buffer 0) (sym split))
 
 pub write-good-spec : {M : Type 1} → statement M
 write-good-spec =

@@ -1,0 +1,145 @@
+use borrow.Author.Needs.{needs}
+use borrow.Author.Tests.{not-true, not-false}
+use mathlib.Core.Path.{_≡_, sym, ap, refl, _∙_}
+use mathlib.Core.Bool.{Bool, true, false, cond}
+use mathlib.Core.List.{List, [], _∷_}
+use Prim.Native.Nat.{ℕ, _≤_}
+use native.Mathlib.Omega.{arith}
+use lib.ListN.{take}
+use Rattle.refusals.specs.Refusals.{badQuery, unsafeHead}
+use Rattle.query.specs.declared.Query.{Query}
+use Rattle.record.specs.declared.Answer.the-variants.{Done}
+use Rattle.query.specs.Rule.{headSafe}
+use Rattle.query.proofs.Good as stored
+use Rattle.record.specs.Rule.{noPlace}
+use Rattle.format.specs.Bytes.{Bytes}
+use Rattle.format.specs.Format.{Reading, none, got}
+use Rattle.format.specs.Parts.{query}
+use Rattle.format.specs.File.{Result, ok, refused, _>>=_, complete, isVacant, placeWith, safeQuery, readPlace}
+use Rattle.format.proofs.Arrays.{bytes-known}
+use Rattle.format.proofs.Parts.{Narrow, query-lawful}
+use Rattle.format.proofs.Rules.{good-query, good-narrow}
+use Rattle.format.proofs.Results.{complete-get}
+use Rattle.decoder.specs.declared.QueryRead.{QueryRead}
+use Rattle.decoder.specs.internal.Read.{queryRead, placeRead}
+use Rattle.decoder.proofs.read_place.Statement.{statement}
+use Rattle.decoder.proofs.read_place.Tie as tie
+
+-- ---- the place by tests
+
+module _ (schema part : List ℕ) (last : Bool) where
+  vacant-last : isVacant part ≡ true → last ≡ true → readPlace schema last part ≡ refused badQuery
+  unfolding readPlace
+  vacant-last v l = rw (v, l)
+
+  vacant-place : isVacant part ≡ true → last ≡ false → readPlace schema last part ≡ ok noPlace
+  unfolding readPlace
+  vacant-place v l = rw (v, l)
+
+  module _ (v : isVacant part ≡ false) where
+    bad-query : (n : ℕ) → complete badQuery (query schema .get part) ≡ refused n → readPlace schema last part ≡ refused n
+    unfolding readPlace _>>=_
+    bad-query n e = rw (v, e)
+
+    good-query-part : (q : Query) (t : Bool) → complete badQuery (query schema .get part) ≡ ok q → headSafe schema q ≡ t → readPlace schema last part ≡ cond t (ok (placeWith q)) (refused unsafeHead)
+    unfolding readPlace _>>=_ safeQuery
+    good-query-part q t e h = rw (v, e, h)
+
+-- ---- the query reader's answer
+
+query-bad : (o : Reading Query) (r : QueryRead) → r ≡ queryRead (complete badQuery o) → r .good ≡ false → complete badQuery o ≡ refused badQuery
+unfolding complete
+query-bad none r e g = refl
+query-bad (got q []) r e g = let t : r .good ≡ true = ap (λ (r : QueryRead). r .good) e in let z : _≡_ {A = ℕ} 0 1 = cc in absurd (omega arith)
+query-bad (got q (b ∷ rest)) r e g = refl
+
+query-some : (o : Result Query) (r : QueryRead) → r ≡ queryRead o → r .good ≡ true → o ≡ ok (r .query)
+query-some (ok q) r e g = ap (λ (r : QueryRead). ok (r .query)) (sym e)
+query-some (refused n) r e g = let t : r .good ≡ false = ap (λ (r : QueryRead). r .good) e in let z : _≡_ {A = ℕ} 0 1 = cc in absurd (omega arith)
+
+-- a query that was read keeps the limits of its sizes
+read-sizes : (schema part : List ℕ) (q : Query) → Narrow schema → Bytes part → complete badQuery (query schema .get part) ≡ ok q → (q .arity ≤ 8) × (q .size ≤ 12)
+read-sizes schema part q narrow hb e =
+    let (good, put) = complete-get badQuery (query schema) (query-lawful schema narrow) part q hb e in
+    let g = stored.good-query schema q (good-query schema q good .1) in
+    (g .arity, g .size)
+
+is-vacant-requires : tie.Need-is-vacant-requires
+is-vacant-requires c κs = search needs
+
+no-place-read-requires : tie.Need-no-place-read-requires
+no-place-read-requires c κs = search needs
+
+returns : tie.Need-returns
+returns c =
+    c .no-place-read .ensures ∙ sym (ap placeRead (vacant-last (take (c .before .before .before .before .before .args .count) (c .before .before .before .before .before .args .widths)) (c .before .before .before .before .before .args .part .now) (c .before .before .before .before .before .args .last) (sym (c .before .before .before .is-vacant .ensures) ∙ c .before .before .if1 .taken) (c .before .if2 .taken)))
+
+no-place-requires : tie.Need-no-place-requires
+no-place-requires c κs = search needs
+
+returns-2 : tie.Need-returns-2
+returns-2 c =
+    (λ i. record { answer = Done; place = c .no-place .ensures i })
+    ∙ sym (ap placeRead (vacant-place (take (c .before .before .before .before .before .args .count) (c .before .before .before .before .before .args .widths)) (c .before .before .before .before .before .args .part .now) (c .before .before .before .before .before .args .last) (sym (c .before .before .before .is-vacant .ensures) ∙ c .before .before .if1 .taken) (c .before .if2 .left)))
+
+read-query-requires : tie.Need-read-query-requires
+read-query-requires c κs = search needs
+
+no-place-read-requires-2 : tie.Need-no-place-read-requires-2
+no-place-read-requires-2 c κs = search needs
+
+returns-3 : tie.Need-returns-3
+returns-3 c =
+    c .no-place-read2 .ensures ∙ sym (ap placeRead (bad-query (take (c .before .before .before .before .before .before .before .args .count) (c .before .before .before .before .before .before .before .args .widths)) (c .before .before .before .before .before .before .before .args .part .now) (c .before .before .before .before .before .before .before .args .last) (sym (c .before .before .before .before .before .is-vacant .ensures) ∙ c .before .before .before .before .if1 .left) 5
+    (query-bad (query (take (c .before .before .before .before .before .before .before .args .count) (c .before .before .before .before .before .before .before .args .widths)) .get (c .before .before .before .before .before .before .before .args .part .now)) (c .before .before .before .read-query .result) (c .before .before .before .read-query .ensures) (not-true (c .before .before .before .read-query .result .good) (c .before .if3 .taken)))))
+
+head-safe-requires : tie.Need-head-safe-requires
+head-safe-requires c κs =
+    let s = c .before .before .before .before .before .before .before in
+    let schema = take (s .args .count) (s .args .widths) in
+    let part = s .args .part .now in
+    let read = c .before .before .before .read-query in
+    let e = query-some (complete badQuery (query schema .get part)) (read .result) (read .ensures) (not-false (read .result .good) (c .before .if3 .left)) in
+    let bytes = bytes-known part (λ i. c .before .before .before .before .before .before .shared-slice-known .given i .fits) in
+    let (arity, size) = read-sizes schema part (read .result .query) (good-narrow (s .args .count) (s .args .widths) (s .pre)) bytes e in
+    (s .pre, arity, size)
+
+returns-4 : tie.Need-returns-4
+returns-4 c =
+    let s = c .before .before .before .before .before .before .before .before .before in
+    let schema = take (s .args .count) (s .args .widths) in
+    let part = s .args .part .now in
+    let read = c .before .before .before .before .before .read-query in
+    let e = query-some (complete badQuery (query schema .get part)) (read .result) (read .ensures) (not-false (read .result .good) (c .before .before .before .if3 .left)) in
+    let v = sym (c .before .before .before .before .before .before .before .is-vacant .ensures) ∙ c .before .before .before .before .before .before .if1 .left in
+    sym (ap placeRead (good-query-part schema part (s .args .last) v (read .result .query) true e (sym (c .before .head-safe .ensures) ∙ c .if4 .taken)))
+
+no-place-read-requires-3 : tie.Need-no-place-read-requires-3
+no-place-read-requires-3 c κs = search needs
+
+returns-5 : tie.Need-returns-5
+returns-5 c =
+    let s = c .before .before .before .before .before .before .before .before .before .before in
+    let schema = take (s .args .count) (s .args .widths) in
+    let part = s .args .part .now in
+    let read = c .before .before .before .before .before .before .read-query in
+    let e = query-some (complete badQuery (query schema .get part)) (read .result) (read .ensures) (not-false (read .result .good) (c .before .before .before .before .if3 .left)) in
+    let v = sym (c .before .before .before .before .before .before .before .before .is-vacant .ensures) ∙ c .before .before .before .before .before .before .before .if1 .left in
+    c .no-place-read3 .ensures ∙ sym (ap placeRead (good-query-part schema part (s .args .last) v (read .result .query) false e (sym (c .before .before .head-safe .ensures) ∙ c .before .if4 .left)))
+
+pub read-place-spec : {M : Type 1} → statement M
+read-place-spec =
+    tie.close
+    (tie.spec
+    is-vacant-requires
+    no-place-read-requires
+    returns
+    no-place-requires
+    returns-2
+    read-query-requires
+    no-place-read-requires-2
+    returns-3
+    head-safe-requires
+    returns-4
+    no-place-read-requires-3
+    returns-5)

@@ -1,0 +1,211 @@
+// A query part, written into a lent buffer. Each function writes one piece over the buffer at a position: what stands before and after it stays.
+use query::Cell;
+use query::Entry;
+use query::Query;
+use query::rule;
+use record::Place;
+ghost use mathlib.Core.Path.{_≡_};
+ghost use mathlib.Core.Bool.{true};
+ghost use mathlib.Core.List.{_∷_};
+ghost use Prim.Native.Nat.{_+_, _*_, _≤_, _<_};
+ghost use lib.ListN.{length, take, drop, getD};
+ghost use Rattle.lists.specs.Over.{over};
+ghost use Rattle.query.specs.Rule.{goodRelations};
+ghost use Rattle.record.specs.Rule.{goodPlace};
+ghost use Rattle.format.specs.Bytes.{digits};
+ghost use Rattle.format.specs.Format.{putAll};
+ghost use Rattle.format.specs.Parts.{putEntry, entries, row, chunk, query};
+ghost use Rattle.format.specs.File.{putPlace};
+ghost use Rattle.encoder.specs.internal.Lengths.{rowsLength};
+
+// ---- numbers and entries
+
+// 16 bits at a position.
+pub fn put_word(buffer: &mut [u8], at: usize, n: usize)
+    requires { ⌜ at + 2 ≤ length (now buffer) ⌝ }
+    ensures { λ _. ⌜ now (buffer .exit) ≡ over (now (buffer .entry)) at (digits 2 n) ⌝ }
+{
+    buffer[at] = (n % 256) as u8;
+    buffer[at + 1] = (n / 256 % 256) as u8;
+}
+
+// A byte and 32 bits at a position.
+fn put_tagged(buffer: &mut [u8], at: usize, tag: u8, n: u32)
+    requires { ⌜ at + 5 ≤ length (now buffer) ⌝ }
+    ensures { λ _. ⌜ now (buffer .exit) ≡ over (now (buffer .entry)) at (tag ∷ digits 4 n) ⌝ }
+{
+    buffer[at] = tag;
+    buffer[at + 1] = (n % 256) as u8;
+    buffer[at + 2] = (n / 256 % 256) as u8;
+    buffer[at + 3] = (n / 256 / 256 % 256) as u8;
+    buffer[at + 4] = (n / 256 / 256 / 256 % 256) as u8;
+}
+
+// An entry at a position.
+fn put_entry(buffer: &mut [u8], at: usize, entry: Entry)
+    requires { ⌜ at + 5 ≤ length (now buffer) ⌝ }
+    ensures { λ _. ⌜ now (buffer .exit) ≡ over (now (buffer .entry)) at (putEntry entry) ⌝ }
+{
+    match entry {
+        Entry::Constant(n) => put_tagged(buffer, at, 0, n),
+        Entry::Variable(v) => put_tagged(buffer, at, 1, v as u32),
+    }
+}
+
+// The first n entries of 8 cells.
+fn put_entries(buffer: &mut [u8], at: usize, cells: [Cell; 8], n: usize)
+    requires { ⌜ n ≤ 8 ⌝ }
+    requires { ⌜ at + 5 * n ≤ length (now buffer) ⌝ }
+    ensures { λ _. ⌜ now (buffer .exit) ≡ over (now (buffer .entry)) at (entries n .put cells) ⌝ }
+{
+    for i in 0..n {
+        let cell = cells[i];
+        let entry = cell.entry;
+        put_entry(buffer, at + 5 * i, entry);
+    }
+}
+
+// ---- rows
+
+// The 8 cells of a row.
+pub struct Row {
+    pub cells: [Cell; 8],
+}
+
+// The cells of row r.
+fn row_of(cells: [Cell; 96], r: usize) -> Row
+    requires { ⌜ r < 12 ⌝ }
+    ensures { λ x. ⌜ x .cells ≡ take 8 (drop (8 * r) cells) ⌝ }
+{
+    let mut copy = [Cell {
+        entry: Entry::Constant(0),
+    }; 8];
+    for c in 0..8 {
+        copy[c] = cells[8 * r + c];
+    }
+    Row { cells: copy }
+}
+
+// The width of a relation, 0 of an unknown one.
+fn width_of(count: u8, widths: [u8; 8], relation: u8) -> usize
+    requires { ⌜ goodRelations count widths ≡ true ⌝ }
+    ensures { λ r. ⌜ (r ≡ getD (take count widths) relation 0) × (r ≤ 8) ⌝ }
+{
+    rule::width_of(count, widths, relation) as usize
+}
+
+// A row at a position: the relation byte and one entry a column. Returns the position after it.
+fn put_row(buffer: &mut [u8], at: usize, relation: u8, cells: [Cell; 8], width: usize) -> usize
+    requires { ⌜ width ≤ 8 ⌝ }
+    requires { ⌜ at + 1 + 5 * width ≤ length (now buffer) ⌝ }
+    ensures { λ r. ⌜ (now (buffer .exit) ≡ over (now (buffer .entry)) at (relation ∷ entries width .put cells)) × (r ≡ at + 1 + 5 * width) ⌝ }
+{
+    buffer[at] = relation;
+    put_entries(buffer, at + 1, cells, width);
+    at + 1 + 5 * width
+}
+
+// The first `size` rows from a position on. Returns the position after them.
+fn put_rows(
+    buffer: &mut [u8],
+    start: usize,
+    size: usize,
+    named: [u8; 12],
+    cells: [Cell; 96],
+    count: u8,
+    widths: [u8; 8],
+) -> usize
+    requires { ⌜ goodRelations count widths ≡ true ⌝ }
+    requires { ⌜ size ≤ 12 ⌝ }
+    requires { ⌜ start + length (putAll (row (take count widths) .put) (take size (chunk named cells))) ≤ length (now buffer) ⌝ }
+    ensures { λ r. ⌜ (now (buffer .exit) ≡ over (now (buffer .entry)) start (putAll (row (take count widths) .put) (take size (chunk named cells)))) × (r ≡ start + length (putAll (row (take count widths) .put) (take size (chunk named cells)))) ⌝ }
+{
+    let mut at = start;
+    for r in 0..size {
+        let relation = named[r];
+        let width = width_of(count, widths, relation);
+        let line = row_of(cells, r);
+        let line_cells = line.cells;
+        at = put_row(buffer, at, relation, line_cells, width);
+    }
+    at
+}
+
+// ---- query parts
+
+// A query at a position. Returns the position after it.
+fn put_query(buffer: &mut [u8], at: usize, q: Query, count: u8, widths: [u8; 8]) -> usize
+    requires { ⌜ goodRelations count widths ≡ true ⌝ }
+    requires { ⌜ (q .arity ≤ 8) × (q .size ≤ 12) ⌝ }
+    requires { ⌜ at + length (query (take count widths) .put q) ≤ length (now buffer) ⌝ }
+    ensures { λ r. ⌜ (now (buffer .exit) ≡ over (now (buffer .entry)) at (query (take count widths) .put q)) × (r ≡ at + length (query (take count widths) .put q)) ⌝ }
+{
+    let arity = q.arity;
+    let size = q.size;
+    buffer[at] = arity;
+    buffer[at + 1] = size;
+    let used = rule::head_in_use(arity, size);
+    let head = q.head;
+    put_entries(buffer, at + 2, head, used);
+    let named = q.relations;
+    let cells = q.cells;
+    put_rows(
+        buffer,
+        at + 2 + 5 * used,
+        size as usize,
+        named,
+        cells,
+        count,
+        widths,
+    )
+}
+
+// The part of a place at a position: 255 alone if it is vacant, else its query. Returns the position after it.
+pub fn put_place(buffer: &mut [u8], at: usize, place: Place, count: u8, widths: [u8; 8]) -> usize
+    requires { ⌜ goodRelations count widths ≡ true ⌝ }
+    requires { ⌜ goodPlace (take count widths) place ≡ true ⌝ }
+    requires { ⌜ at + length (putPlace (take count widths) place) ≤ length (now buffer) ⌝ }
+    ensures { λ r. ⌜ (now (buffer .exit) ≡ over (now (buffer .entry)) at (putPlace (take count widths) place)) × (r ≡ at + length (putPlace (take count widths) place)) ⌝ }
+{
+    if place.filled {
+        let q = place.query;
+        return put_query(buffer, at, q, count, widths);
+    }
+    buffer[at] = 255;
+    at + 1
+}
+
+// ---- lengths
+
+// How long the first `size` rows are.
+fn rows_length(size: usize, named: [u8; 12], count: u8, widths: [u8; 8]) -> usize
+    requires { ⌜ goodRelations count widths ≡ true ⌝ }
+    requires { ⌜ size ≤ 12 ⌝ }
+    ensures { λ r. ⌜ (r ≡ rowsLength (take count widths) (take size named)) × (r ≤ 492) ⌝ }
+{
+    let mut sum = 0;
+    for r in 0..size {
+        let relation = named[r];
+        let width = width_of(count, widths, relation);
+        sum = sum + 1 + 5 * width;
+    }
+    sum
+}
+
+// How long the part of a place is.
+pub fn place_length(place: Place, count: u8, widths: [u8; 8]) -> usize
+    requires { ⌜ goodRelations count widths ≡ true ⌝ }
+    requires { ⌜ goodPlace (take count widths) place ≡ true ⌝ }
+    ensures { λ r. ⌜ (r ≡ length (putPlace (take count widths) place)) × (r ≤ 534) ⌝ }
+{
+    if place.filled {
+        let q = place.query;
+        let arity = q.arity;
+        let size = q.size;
+        let named = q.relations;
+        let used = rule::head_in_use(arity, size);
+        let rows = rows_length(size as usize, named, count, widths);
+        return 2 + 5 * used + rows;
+    }
+    1
+}

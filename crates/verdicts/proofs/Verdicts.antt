@@ -1,0 +1,300 @@
+-- What reducing, comparing and checking a mapping leave. Assumes nothing.
+use mathlib.Core.Path.{_≡_, refl, sym, ap, subst, _∙_}
+use mathlib.Core.Logic.{_⊎_, inl, inr, ⊎-elim}
+use mathlib.Core.Bool.{Bool, true, false, cond, _&&_}
+use mathlib.Core.List.{List, [], _∷_}
+use mathlib.Core.Option.{Option}
+use mathlib.Core.Option as option
+use Prim.Native.Nat.{ℕ, _≤_, _<_}
+use native.Mathlib.Omega.{arith}
+use lib.Dec.{leb}
+use lib.ListN.{length}
+use borrow.Author.Tests.{le-leb, lt-leb}
+use Rattle.refusals.specs.Refusals.{badRecord, bufferTooShort}
+use Rattle.record.specs.Calls.{queryAt}
+use Rattle.query.specs.declared.Cell.{Cell}
+use Rattle.query.specs.declared.Query.{Query}
+use Rattle.record.specs.declared.Record.{Record}
+use Rattle.record.specs.declared.Answer.the-variants.{Done, Refused}
+use Rattle.record.specs.View.{schemaOf, dependenciesOf}
+use Rattle.query.specs.Rule.{headSafe}
+use Rattle.record.specs.Rule.{goodRecord}
+use Rattle.record.proofs.Kept.{filled-place}
+use Rattle.lists.specs.Over.{over}
+use Rattle.format.specs.Format.{Reading, none, got}
+use Rattle.format.specs.Parts.{query}
+use Rattle.format.specs.File.{Result, ok, refused, _>>=_, placeWith, putPlace, readFile, fileOf}
+use Rattle.lists.proofs.Over.{over-nil}
+use Rattle.writer.specs.declared.Written.the-variants as written
+use Rattle.mapping.specs.Mapped.{imagesOf}
+use Rattle.comparison.specs.declared.Checked.{Checked}
+use Rattle.comparison.specs.declared.Checked.the-variants as checked
+use Rattle.comparison.specs.declared.Comparison.{Comparison}
+use Rattle.comparison.specs.declared.Verdict.{Verdict}
+use Rattle.comparison.specs.declared.Verdict.the-variants as verdict
+use Rattle.comparison.specs.Comparison.{pairRefusal, judged, Compared, CheckedMapping}
+use Rattle.reduction.specs.declared.Reduced.{Reduced}
+use Rattle.reduction.specs.Reduced.{reductionRefusal, refusal, IsReduced}
+use Rattle.comparison.proofs.Verdicts.{queries}
+use Rattle.chase.proofs.Callers.{chases-safe}
+use Rattle.theory.specs.Query as theory
+use Rattle.theory.specs.Query.{rowEntries, variablesOf}
+use Rattle.theory.specs.Determined.{subset}
+use Rattle.theory.specs.Answer as answer
+use Rattle.theory.proofs.Chase.{chase-chases}
+use Rattle.theory.proofs.Determined.{subset-true, subset-of}
+use Rattle.verdicts.specs.Queries.{wordsOf, imagesIn, reductionFits, ReductionGiven, ReducedShape, Reducing, ReduceGives, verdictFits, comparisonFits, ComparisonGiven, ComparisonShape, Comparing, CompareGives, CheckGiven, CheckGives}
+use Rattle.verdicts.specs.internal.Steps.{mappingRead, SoundReduction, SoundComparison}
+use Rattle.mapping.specs.declared.Mapped.{Mapped}
+
+-- ---- what a comparison leaves
+
+module _ (images : List Cell) (said : ℕ) (mapping part : List ℕ) (size : ℕ) where
+  pub comparison-same : {x y : Result (ℕ × List ℕ)} → x ≡ y → (number said′ : ℕ) (mapping′ part′ : List ℕ) (size′ : ℕ)
+      → ComparisonGiven y images said mapping part size number said′ mapping′ part′ size′ → ComparisonGiven x images said mapping part size number said′ mapping′ part′ size′
+  comparison-same p number said′ mapping′ part′ size′ w =
+      subst (λ (z : Result (ℕ × List ℕ)). ComparisonGiven z images said mapping part size number said′ mapping′ part′ size′) (sym p) w
+
+  pub comparison-none : {x : Result (ℕ × List ℕ)} {n : ℕ} → x ≡ refused n → ComparisonGiven x images said mapping part size n said mapping part size
+  comparison-none {n = n} p = comparison-same p n said mapping part size (refl, refl, refl, refl, refl)
+
+  module _ (code : ℕ) (bytes : List ℕ) where
+    fits-short : length mapping < 192 → verdictFits (length mapping) (length part) (code, bytes) ≡ refused bufferTooShort
+    fits-short h = rw (lt-leb 192 (length mapping) h)
+
+    fits-long : 192 ≤ length mapping → length part < length bytes → verdictFits (length mapping) (length part) (code, bytes) ≡ refused bufferTooShort
+    fits-long h l = rw (le-leb 192 (length mapping) h, lt-leb (length bytes) (length part) l)
+
+    fits-both : 192 ≤ length mapping → length bytes ≤ length part → verdictFits (length mapping) (length part) (code, bytes) ≡ ok (code, bytes)
+    fits-both h l = rw (le-leb 192 (length mapping) h, le-leb (length bytes) (length part) l)
+
+    -- there is no room for a mapping
+    pub verdict-short : length mapping < 192
+        → ComparisonGiven (verdictFits (length mapping) (length part) (code, bytes)) images said mapping part size bufferTooShort said mapping part size
+    verdict-short h = comparison-none (fits-short h)
+
+    -- nor for the query
+    pub verdict-long : 192 ≤ length mapping → length part < length bytes
+        → ComparisonGiven (verdictFits (length mapping) (length part) (code, bytes)) images said mapping part size bufferTooShort said mapping part size
+    verdict-long h l = comparison-none (fits-long h l)
+
+    -- there is room for both
+    pub verdict-stored : (mapping′ part′ : List ℕ) (size′ : ℕ) → 192 ≤ length mapping → length bytes ≤ length part → mapping′ ≡ over mapping 0 (wordsOf images)
+        → part′ ≡ over part 0 bytes → size′ ≡ length bytes
+        → ComparisonGiven (verdictFits (length mapping) (length part) (code, bytes)) images said mapping part size 0 code mapping′ part′ size′
+    verdict-stored mapping′ part′ size′ h l m p n = comparison-same (fits-both h l) 0 code mapping′ part′ size′ (refl, refl, m, p, n)
+
+  -- a verdict without a query
+  pub contained-stored : (code : ℕ) (mapping′ : List ℕ) → 192 ≤ length mapping → mapping′ ≡ over mapping 0 (wordsOf images)
+      → ComparisonGiven (verdictFits (length mapping) (length part) (code, [])) images said mapping part size 0 code mapping′ part 0
+  contained-stored code mapping′ h m = verdict-stored code [] mapping′ part 0 h (omega arith) m (sym (over-nil part 0)) refl
+
+-- The part of a place that holds a query is the query's bytes
+pub query-part : (schema : List ℕ) (q : Query) → putPlace schema (placeWith q) ≡ query schema .put q
+unfolding putPlace
+query-part schema q = refl
+
+module _ (words room : ℕ) (schema : List ℕ) (c : Comparison) where
+  pub comparison-apart : c .verdict ≡ verdict.Apart → comparisonFits words room schema c ≡ verdictFits words room (0, query schema .put (c .query))
+  unfolding _>>=_
+  comparison-apart e = rw e
+
+  pub comparison-contained : c .verdict ≡ verdict.Contained → comparisonFits words room schema c ≡ verdictFits words room (1, [])
+  unfolding _>>=_
+  comparison-contained e = rw e
+
+  pub comparison-never : c .verdict ≡ verdict.Never → comparisonFits words room schema c ≡ verdictFits words room (2, [])
+  unfolding _>>=_
+  comparison-never e = rw e
+
+  pub comparison-refused : (n : ℕ) → c .verdict ≡ verdict.Refused n → comparisonFits words room schema c ≡ refused n
+  unfolding _>>=_
+  comparison-refused n e = rw e
+
+-- ---- what a reduction leaves
+
+module _ (o : Reduced) (out : List ℕ) (size count : ℕ) (mapping : List ℕ) where
+  reduction-same : {x y : Result Reduced} → x ≡ y → (number : ℕ) (out′ : List ℕ) (size′ count′ : ℕ) (mapping′ : List ℕ)
+      → ReductionGiven y out size count mapping number out′ size′ count′ mapping′ → ReductionGiven x out size count mapping number out′ size′ count′ mapping′
+  reduction-same p number out′ size′ count′ mapping′ w =
+      subst (λ (z : Result Reduced). ReductionGiven z out size count mapping number out′ size′ count′ mapping′) (sym p) w
+
+  pub reduction-none : {x : Result Reduced} {n : ℕ} → x ≡ refused n → ReductionGiven x out size count mapping n out size count mapping
+  reduction-none {n = n} p = reduction-same p n out size count mapping (refl, refl, refl, refl, refl)
+
+  pub reduction-refused : (n : ℕ) → o .answer ≡ Refused n → reductionFits (length out) (length mapping) o ≡ refused n
+  unfolding _>>=_
+  reduction-refused n e = rw e
+
+  module _ (done : o .answer ≡ Done) where
+    pub reduction-short : length mapping < 192 → reductionFits (length out) (length mapping) o ≡ refused bufferTooShort
+    unfolding _>>=_
+    reduction-short h = rw (done, lt-leb 192 (length mapping) h)
+
+    module _ (h : 192 ≤ length mapping) where
+      roomy : (t : Bool) → leb (length (fileOf (o .«record»))) (length out) ≡ t → reductionFits (length out) (length mapping) o ≡ cond t (ok o) (refused bufferTooShort)
+      unfolding _>>=_
+      roomy t e = rw (done, le-leb 192 (length mapping) h, e)
+
+      from : (good fits : Bool) (n : ℕ) (out′ : List ℕ) (mapping′ : List ℕ) → good ≡ true → leb (length (fileOf (o .«record»))) (length out) ≡ fits
+          → cond good (cond fits (written.Length (length (fileOf (o .«record»)))) (written.Refused bufferTooShort)) (written.Refused badRecord) ≡ written.Length n
+          → out′ ≡ cond (good && fits) (over out 0 (fileOf (o .«record»))) out → mapping′ ≡ over mapping 0 (wordsOf (o .images))
+          → ReductionGiven (reductionFits (length out) (length mapping) o) out size count mapping 0 out′ n (o .count) mapping′
+      from true true n out′ mapping′ g f w b m = reduction-same (roomy true f) 0 out′ n (o .count) mapping′ (refl, b, cc, refl, m)
+      from true false n out′ mapping′ g f w b m = let z : _≡_ {A = ℕ} 0 1 = cc in absurd (omega arith)
+      from false fits n out′ mapping′ g f w b m = let z : _≡_ {A = ℕ} 0 1 = cc in absurd (omega arith)
+
+      -- its file is written
+      pub reduction-stored : (n : ℕ) (out′ : List ℕ) (mapping′ : List ℕ) → goodRecord (o .«record») ≡ true
+          → cond (goodRecord (o .«record»))
+          (cond (leb (length (fileOf (o .«record»))) (length out)) (written.Length (length (fileOf (o .«record»)))) (written.Refused bufferTooShort)) (written.Refused badRecord) ≡ written.Length n
+          → out′ ≡ cond (goodRecord (o .«record») && leb (length (fileOf (o .«record»))) (length out)) (over out 0 (fileOf (o .«record»))) out
+          → mapping′ ≡ over mapping 0 (wordsOf (o .images))
+          → ReductionGiven (reductionFits (length out) (length mapping) o) out size count mapping 0 out′ n (o .count) mapping′
+      reduction-stored n out′ mapping′ g w b m = from (goodRecord (o .«record»)) (leb (length (fileOf (o .«record»))) (length out)) n out′ mapping′ g refl w b m
+
+      from-long : (good fits : Bool) (n : ℕ) (out′ : List ℕ) → good ≡ true → leb (length (fileOf (o .«record»))) (length out) ≡ fits
+          → cond good (cond fits (written.Length (length (fileOf (o .«record»)))) (written.Refused bufferTooShort)) (written.Refused badRecord) ≡ written.Refused n
+          → out′ ≡ cond (good && fits) (over out 0 (fileOf (o .«record»))) out
+          → ReductionGiven (reductionFits (length out) (length mapping) o) out size count mapping n out′ size count mapping
+      from-long true false n out′ g f w b = reduction-same (roomy false f) n out′ size count mapping (cc, b, refl, refl, refl)
+      from-long true true n out′ g f w b = let z : _≡_ {A = ℕ} 0 1 = cc in absurd (omega arith)
+      from-long false fits n out′ g f w b = let z : _≡_ {A = ℕ} 0 1 = cc in absurd (omega arith)
+
+      -- or too long
+      pub reduction-long : (n : ℕ) (out′ : List ℕ) → goodRecord (o .«record») ≡ true
+          → cond (goodRecord (o .«record»))
+          (cond (leb (length (fileOf (o .«record»))) (length out)) (written.Length (length (fileOf (o .«record»)))) (written.Refused bufferTooShort)) (written.Refused badRecord) ≡ written.Refused n
+          → out′ ≡ cond (goodRecord (o .«record») && leb (length (fileOf (o .«record»))) (length out)) (over out 0 (fileOf (o .«record»))) out
+          → ReductionGiven (reductionFits (length out) (length mapping) o) out size count mapping n out′ size count mapping
+      reduction-long n out′ g w b = from-long (goodRecord (o .«record»)) (leb (length (fileOf (o .«record»))) (length out)) n out′ g refl w b
+
+-- A reduction's record is good
+pub reduced-sound : (r : Record) (source target : ℕ) (o : Reduced) → IsReduced r source target o → SoundReduction o
+reduced-sound r source target o is done = go (reductionRefusal r source target) refl
+  where
+    go : (x : Option ℕ) → reductionRefusal r source target ≡ x → goodRecord (o .«record») ≡ true
+    go option.none e = is .good e
+    go (option.some n) e = let p : o ≡ refusal r n = is .refused n e in let z : _≡_ {A = ℕ} 0 1 = cc in absurd (omega arith)
+
+-- ---- checking a mapping
+
+-- Words that were read as a mapping
+read-yes : (x : Reading (List Cell)) (m : Mapped) → m ≡ mappingRead x → m .found ≡ true → x ≡ got (m .images) []
+read-yes none m e g = let z : _≡_ {A = ℕ} 0 1 = cc in absurd (omega arith)
+read-yes (got images []) m e g = cc
+read-yes (got images (w ∷ ws)) m e g = let z : _≡_ {A = ℕ} 0 1 = cc in absurd (omega arith)
+
+module _ (r : Record) (p q : ℕ) (words : List ℕ) (m : Mapped) (e : m ≡ mappingRead (imagesIn words)) where
+  mapped-words : (images : List Cell) → imagesIn words ≡ got images [] → (m .found ≡ true) × (m .images ≡ images)
+  mapped-words images i = let k : m ≡ mappingRead (got images []) = e ∙ ap mappingRead i in (ap (λ (x : Mapped). x .found) k, ap (λ (x : Mapped). x .images) k)
+
+  module _ (c : Checked) (is : CheckedMapping r p q (m .images) c) (said : ℕ) where
+    pub check-refused : (n : ℕ) → c ≡ checked.Refused n → CheckGiven (pairRefusal r p q) r p q words said n said
+    check-refused n k = go (pairRefusal r p q) refl
+      where
+        go : (x : Option ℕ) → pairRefusal r p q ≡ x → CheckGiven x r p q words said n said
+        go (option.some l) a = let w : c ≡ checked.Refused l = is .refused l a in (cc, refl)
+        go option.none a =
+            ⊎-elim (λ h. let k′ = h .0 in let z : _≡_ {A = ℕ} 0 1 = cc in absurd (omega arith))
+            (λ h. let k′ = h .0 in let z : _≡_ {A = ℕ} 0 1 = cc in absurd (omega arith)) (is .decided a)
+
+    pub check-yes : c ≡ checked.Yes → m .found ≡ true → CheckGiven (pairRefusal r p q) r p q words said 0 1
+    check-yes k g = go (pairRefusal r p q) refl
+      where
+        go : (x : Option ℕ) → pairRefusal r p q ≡ x → CheckGiven x r p q words said 0 1
+        go (option.some l) a = let w : c ≡ checked.Refused l = is .refused l a in let z : _≡_ {A = ℕ} 0 1 = cc in absurd (omega arith)
+        go option.none a =
+            ⊎-elim (λ h. (refl, inl (refl, (m .images, read-yes (imagesIn words) m e g, h .1))))
+            (λ h. let k′ = h .0 in let z : _≡_ {A = ℕ} 0 1 = cc in absurd (omega arith)) (is .decided a)
+
+    pub check-bad : c ≡ checked.Yes → m .found ≡ false → CheckGiven (pairRefusal r p q) r p q words said 0 0
+    check-bad k g = go (pairRefusal r p q) refl
+      where
+        go : (x : Option ℕ) → pairRefusal r p q ≡ x → CheckGiven x r p q words said 0 0
+        go (option.some l) a = let w : c ≡ checked.Refused l = is .refused l a in let z : _≡_ {A = ℕ} 0 1 = cc in absurd (omega arith)
+        go option.none a =
+            (refl, inr (refl, λ w. let t = mapped-words (w .0) (w .1) .0 in let z : _≡_ {A = ℕ} 0 1 = cc in omega arith))
+
+    pub check-no : c ≡ checked.No → CheckGiven (pairRefusal r p q) r p q words said 0 0
+    check-no k = go (pairRefusal r p q) refl
+      where
+        go : (x : Option ℕ) → pairRefusal r p q ≡ x → CheckGiven x r p q words said 0 0
+        go (option.some l) a = let w : c ≡ checked.Refused l = is .refused l a in let z : _≡_ {A = ℕ} 0 1 = cc in absurd (omega arith)
+        go option.none a =
+            ⊎-elim (λ h. let k′ = h .0 in let z : _≡_ {A = ℕ} 0 1 = cc in absurd (omega arith))
+            (λ h.
+            (refl, inr (refl, λ w. h .1 (subst (λ (images : List Cell). answer.IsMapping (queryAt r q) (queryAt r p) (imagesOf images)) (sym (mapped-words (w .0) (w .1) .1)) (w .2)))))
+            (is .decided a)
+
+-- ---- the exported calls
+
+-- A comparison that gives a query holds one that is good with a safe head
+pub compared-sound : (r : Record) (p q : ℕ) (c : Comparison) → Compared r p q c → SoundComparison (schemaOf r) c
+unfolding headSafe
+compared-sound r p q c is apart =
+    let accepted : pairRefusal r p q ≡ option.none = unrefused (pairRefusal r p q) _ (sym (is .verdict) ∙ apart) in
+    let view = queryAt r p in
+    let chased = is .chased apart in
+    let safe : headSafe (schemaOf r) (c .query) ≡ true =
+    subst (λ (x : theory.Query). subset (variablesOf (x .head)) (variablesOf (rowEntries (x .rows))) ≡ true) (sym (chased .0))
+    (subset-of _ _
+    (chases-safe (chase-chases (dependenciesOf r) view) (subset-true (variablesOf (view .head)) (variablesOf (rowEntries (view .rows))) (queries r p q accepted .safe-p)))) in
+    filled-place (schemaOf r) (c .query) (chased .1) safe
+  where
+    unrefused : (x : Option ℕ) (v : Verdict) → judged x v ≡ verdict.Apart → x ≡ option.none
+    unrefused option.none v e = refl
+    unrefused (option.some n) v e = let z : _≡_ {A = ℕ} 0 1 = cc in absurd (omega arith)
+
+module _ (file : List ℕ) (source target : ℕ) (out : List ℕ) (size count : ℕ) (mapping : List ℕ) where
+  pub reduce-done : (r : Record) → readFile file ≡ ok r → (o : Reduced) → IsReduced r source target o → ReducedShape o
+      → (number : ℕ) (out′ : List ℕ) (size′ count′ : ℕ) (mapping′ : List ℕ)
+      → ReductionGiven (reductionFits (length out) (length mapping) o) out size count mapping number out′ size′ count′ mapping′
+      → ReduceGives file source target out size count mapping number out′ size′ count′ mapping′
+  reduce-done r e o is shape number out′ size′ count′ mapping′ w =
+      record {
+        result = reductionFits (length out) (length mapping) o;
+        reducing =
+            subst (λ (x : Result Record). Reducing x source target (reductionFits (length out) (length mapping) o) (length out) (length mapping)) (sym e) (o, is, shape, refl);
+        given = w;
+      }
+
+  pub reduce-refused : (n : ℕ) → readFile file ≡ refused n → ReduceGives file source target out size count mapping n out size count mapping
+  reduce-refused n e =
+      record {
+        result = refused n;
+        reducing = subst (λ (x : Result Record). Reducing x source target (refused n) (length out) (length mapping)) (sym e) refl;
+        given = (refl, refl, refl, refl, refl);
+      }
+
+module _ (file : List ℕ) (p q said : ℕ) (mapping part : List ℕ) (size : ℕ) where
+  pub compare-done : (r : Record) → readFile file ≡ ok r → (c : Comparison) → Compared r p q c → ComparisonShape c
+      → (number said′ : ℕ) (mapping′ part′ : List ℕ) (size′ : ℕ)
+      → ComparisonGiven (comparisonFits (length mapping) (length part) (schemaOf r) c) (c .images) said mapping part size number said′ mapping′ part′ size′
+      → CompareGives file p q said mapping part size number said′ mapping′ part′ size′
+  compare-done r e c is shape number said′ mapping′ part′ size′ w =
+      record {
+        result = comparisonFits (length mapping) (length part) (schemaOf r) c;
+        images = c .images;
+        comparing =
+            subst (λ (x : Result Record). Comparing x p q (comparisonFits (length mapping) (length part) (schemaOf r) c) (c .images) (length mapping) (length part)) (sym e)
+            (c, is, shape, refl, refl);
+        given = w;
+      }
+
+  pub compare-refused : (n : ℕ) → readFile file ≡ refused n → CompareGives file p q said mapping part size n said mapping part size
+  compare-refused n e =
+      record {
+        result = refused n;
+        images = [];
+        comparing = subst (λ (x : Result Record). Comparing x p q (refused n) [] (length mapping) (length part)) (sym e) refl;
+        given = (refl, refl, refl, refl, refl);
+      }
+
+module _ (p q : ℕ) (words : List ℕ) (said : ℕ) where
+  pub check-done : {x : Result Record} {r : Record} → x ≡ ok r → (number said′ : ℕ) → CheckGiven (pairRefusal r p q) r p q words said number said′
+      → CheckGives x p q words said number said′
+  check-done e number said′ w = subst (λ (y : Result Record). CheckGives y p q words said number said′) (sym e) w
+
+  pub check-unread : {x : Result Record} {n : ℕ} → x ≡ refused n → CheckGives x p q words said n said
+  check-unread {n = n} e = subst (λ (y : Result Record). CheckGives y p q words said n said) (sym e) (refl, refl)

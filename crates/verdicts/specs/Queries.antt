@@ -1,0 +1,144 @@
+-- Reducing, comparing and checking a mapping, on files. A mapping is 192 words: for each of 96 variables a tag (0 constant, 1 variable) and a number.
+use mathlib.Core.Path.{_≡_}
+use mathlib.Core.Logic.{_⊎_}
+use mathlib.Core.Bool.{Bool, true, cond, _&&_}
+use mathlib.Core.List.{List, [], _∷_}
+use mathlib.Core.Option.{Option}
+use mathlib.Core.Option as option
+use Prim.Native.Nat.{ℕ}
+use lib.Dec.{eqb, leb}
+use lib.ListN.{length}
+use Rattle.refusals.specs.Refusals.{bufferTooShort}
+use Rattle.record.specs.Calls.{queryAt}
+use Rattle.query.specs.declared.Entry.{Entry}
+use Rattle.query.specs.declared.Entry.the-variants.{Constant, Variable}
+use Rattle.query.specs.declared.Cell.{Cell}
+use Rattle.record.specs.declared.Record.{Record}
+use Rattle.record.specs.View.{schemaOf}
+use Rattle.lists.specs.Over.{over}
+use Rattle.format.specs.Format.{Reading, none, got, gotIf, getTimes, putAll}
+use Rattle.format.specs.Parts.{entryFrom, query}
+use Rattle.format.specs.File.{Result, ok, refused, _>>=_, readFile, fileOf, shapedQuery, shaped}
+use Rattle.mapping.specs.Mapped.{imagesOf}
+use Rattle.comparison.specs.declared.Comparison.{Comparison}
+use Rattle.comparison.specs.declared.Verdict.{Verdict}
+use Rattle.comparison.specs.declared.Verdict.the-variants as verdict
+use Rattle.comparison.specs.Comparison.{pairRefusal, Compared}
+use Rattle.reduction.specs.declared.Reduced.{Reduced}
+use Rattle.reduction.specs.Reduced.{IsReduced}
+use Rattle.theory.specs.Answer as answer
+use Rattle.lent.specs.Lent.{numberIn, leaves}
+use Rattle.lent.specs.Records.{answered}
+
+-- ---- mappings as words
+
+-- The tag and the number of an entry
+abbrev pub entryWords : Entry → List ℕ
+entryWords (Constant n) = 0 ∷ n ∷ []
+entryWords (Variable v) = 1 ∷ v ∷ []
+
+-- The words of some cells
+abbrev pub wordsOf : List Cell → List ℕ
+wordsOf cells = putAll (λ c. entryWords (c .entry)) cells
+
+-- Whether a tag and a number stand for an entry: the tag is 0, or it is 1 and the number at most 255
+abbrev pub isImage : ℕ → ℕ → Bool
+isImage tag n = cond (eqb tag 0) true (eqb tag 1 && leb n 255)
+
+-- An entry is read off the front of some words
+unfoldable pub getImage : List ℕ → Reading Cell
+getImage [] = none
+getImage (tag ∷ []) = none
+getImage (tag ∷ n ∷ words) = gotIf (isImage tag n) (entryFrom tag n) words
+
+-- The images of 96 variables are read off the front of some words
+abbrev pub imagesIn : List ℕ → Reading (List Cell)
+imagesIn words = getTimes getImage 96 words
+
+-- ---- reducing
+
+-- A reduction for buffers with so much room. Refused, after the refusals of the reduction itself: bufferTooShort, its file is longer than the one buffer,
+-- or the other has no room for a mapping. The file is that of the reduction `o`: nothing here says that all reductions of a place have files of one length
+abbrev pub reductionFits : ℕ → ℕ → Reduced → Result Reduced
+reductionFits room words o =
+    answered (o .answer) o >>= λ _. cond (leb 192 words && leb (length (fileOf (o .«record»))) room) (ok o) (refused bufferTooShort)
+
+-- What a reduction returns and leaves: the file of the record after it with its length, the count of replacements, and the mapping's words
+abbrev pub ReductionGiven : Result Reduced → List ℕ → ℕ → ℕ → List ℕ → ℕ → List ℕ → ℕ → ℕ → List ℕ → Type 0
+ReductionGiven result out size count mapping number outAfter sizeAfter countAfter mappingAfter =
+    (number ≡ numberIn result) × (outAfter ≡ leaves result (λ o. over out 0 (fileOf (o .«record»))) out)
+    × (sizeAfter ≡ leaves result (λ o. length (fileOf (o .«record»))) size) × (countAfter ≡ leaves result (λ o. o .count) count)
+    × (mappingAfter ≡ leaves result (λ o. over mapping 0 (wordsOf (o .images))) mapping)
+
+-- The arrays of a reduction are as long as their types say: without it, shorter ones that read the same would do
+abbrev pub ReducedShape : Reduced → Type 0
+ReducedShape o = (shaped (o .«record») ≡ true) × (length (o .images) ≡ 96)
+
+-- A reduction of a place of the record of a file: a refusal of the file, or what reducing promises. Which one is free, as "Reduction" says
+abbrev pub Reducing : Result Record → ℕ → ℕ → Result Reduced → ℕ → ℕ → Type 0
+Reducing (refused n) source target result room words = result ≡ refused n
+Reducing (ok r) source target result room words = (o : Reduced) × IsReduced r source target o × ReducedShape o × (result ≡ reductionFits room words o)
+
+-- What `spernevan_reduce` promises: some reduction of the source place, returned and left as above
+pub record ReduceGives (file : List ℕ) (source target : ℕ) (out : List ℕ) (size count : ℕ) (mapping : List ℕ) (number : ℕ) (outAfter : List ℕ) (sizeAfter countAfter : ℕ) (mappingAfter : List ℕ) : Type 0 where
+  pub result : Result Reduced
+  pub reducing : Reducing (readFile file) source target result (length out) (length mapping)
+  pub given : ReductionGiven result out size count mapping number outAfter sizeAfter countAfter mappingAfter
+
+-- ---- comparing
+
+-- A verdict's number with the bytes of the query that goes with it: 0 not contained, 1 contained by a mapping, 2 contained because the first chases to never
+abbrev pub verdictBytes : Verdict → List ℕ → Result (ℕ × List ℕ)
+verdictBytes verdict.Apart bytes = ok (0, bytes)
+verdictBytes verdict.Contained bytes = ok (1, [])
+verdictBytes verdict.Never bytes = ok (2, [])
+verdictBytes (verdict.Refused n) bytes = refused n
+
+-- A verdict for buffers with so much room. Refused: bufferTooShort, there is no room for a mapping or for the query's bytes
+abbrev pub verdictFits : ℕ → ℕ → ℕ × List ℕ → Result (ℕ × List ℕ)
+verdictFits words room found = cond (leb 192 words && leb (length (found .1)) room) (ok found) (refused bufferTooShort)
+
+-- The verdict and bytes of a comparison, for buffers with so much room
+abbrev pub comparisonFits : ℕ → ℕ → List ℕ → Comparison → Result (ℕ × List ℕ)
+comparisonFits words room schema c = verdictBytes (c .verdict) (query schema .put (c .query)) >>= verdictFits words room
+
+-- What a comparison returns and leaves: the verdict, the mapping's words, the bytes of the query with their length
+abbrev pub ComparisonGiven : Result (ℕ × List ℕ) → List Cell → ℕ → List ℕ → List ℕ → ℕ → ℕ → ℕ → List ℕ → List ℕ → ℕ → Type 0
+ComparisonGiven result images said mapping part size number saidAfter mappingAfter partAfter sizeAfter =
+    (number ≡ numberIn result) × (saidAfter ≡ leaves result (λ t. t .0) said)
+    × (mappingAfter ≡ leaves result (λ _. over mapping 0 (wordsOf images)) mapping)
+    × (partAfter ≡ leaves result (λ t. over part 0 (t .1)) part) × (sizeAfter ≡ leaves result (λ t. length (t .1)) size)
+
+-- The arrays of a comparison are as long as their types say, as those of a reduction
+abbrev pub ComparisonShape : Comparison → Type 0
+ComparisonShape c = (shapedQuery (c .query) ≡ true) × (length (c .images) ≡ 96)
+
+-- A comparison of two places of the record of a file: a refusal of the file, or what comparing promises. Which mapping is free
+abbrev pub Comparing : Result Record → ℕ → ℕ → Result (ℕ × List ℕ) → List Cell → ℕ → ℕ → Type 0
+Comparing (refused n) p q result images words room = result ≡ refused n
+Comparing (ok r) p q result images words room =
+    (c : Comparison) × Compared r p q c × ComparisonShape c × (images ≡ c .images) × (result ≡ comparisonFits words room (schemaOf r) c)
+
+-- What `spernevan_compare` promises: a comparison of the two places, returned and left as above
+pub record CompareGives (file : List ℕ) (p q said : ℕ) (mapping part : List ℕ) (size number saidAfter : ℕ) (mappingAfter partAfter : List ℕ) (sizeAfter : ℕ) : Type 0 where
+  pub result : Result (ℕ × List ℕ)
+  pub images : List Cell
+  pub comparing : Comparing (readFile file) p q result images (length mapping) (length part)
+  pub given : ComparisonGiven result images said mapping part size number saidAfter mappingAfter partAfter sizeAfter
+
+-- ---- checking a mapping
+
+-- The words are a mapping from the query of place q to that of place p, as they are stored
+abbrev pub WordsMap : Record → ℕ → ℕ → List ℕ → Type 0
+WordsMap r p q words = (images : List Cell) × (imagesIn words ≡ got images []) × answer.IsMapping (queryAt r q) (queryAt r p) (imagesOf images)
+
+-- What checking words returns and leaves, once the places are not refused: 1 exactly when they are a mapping
+abbrev pub CheckGiven : Option ℕ → Record → ℕ → ℕ → List ℕ → ℕ → ℕ → ℕ → Type 0
+CheckGiven (option.some n) r p q words said number saidAfter = (number ≡ n) × (saidAfter ≡ said)
+CheckGiven option.none r p q words said number saidAfter =
+    (number ≡ 0) × (((saidAfter ≡ 1) × WordsMap r p q words) ⊎ ((saidAfter ≡ 0) × (WordsMap r p q words → ⊥)))
+
+-- What `spernevan_check` promises: a refusal of the file, then of the places, else the verdict
+abbrev pub CheckGives : Result Record → ℕ → ℕ → List ℕ → ℕ → ℕ → ℕ → Type 0
+CheckGives (refused n) p q words said number saidAfter = (number ≡ n) × (saidAfter ≡ said)
+CheckGives (ok r) p q words said number saidAfter = CheckGiven (pairRefusal r p q) r p q words said number saidAfter
