@@ -1,16 +1,19 @@
 -- The demands from the calls' own contracts. Assumes nothing.
 use mathlib.Core.Path.{_≡_, refl, sym, ap, _∙_}
 use mathlib.Core.Logic.{_↔_}
-use mathlib.Core.Bool.{Bool, true, false}
+use mathlib.Core.Bool.{Bool, true, false, not}
 use mathlib.Core.List.{List, [], _∷_}
 use mathlib.Core.Option.{Option, none, some}
-use Prim.Native.Nat.{ℕ}
+use Prim.Native.Nat.{ℕ, _<_}
+use lib.Dec.{ltb}
+use lib.ListN.{length}
+use borrow.Author.Tests.{ltb-true, not-false}
 use native.Mathlib.Omega.{arith}
 use Rattle.refusals.specs.Refusals.{order, follows}
 use Rattle.record.specs.declared.Record.{Record}
 use Rattle.query.specs.View.{queryOf}
 use Rattle.record.specs.View.{schemaOf, dependenciesOf}
-use Rattle.record.specs.Calls.{queryAt}
+use Rattle.record.specs.Calls.{isFilled, queryAt, above, vacant}
 use Rattle.comparison.specs.declared.Comparison.{Comparison}
 use Rattle.comparison.specs.declared.Verdict.{Verdict}
 use Rattle.comparison.specs.declared.Verdict.the-variants.{Never, Contained, Apart, Refused}
@@ -18,8 +21,16 @@ use Rattle.comparison.specs.Comparison.{pairRefusal, verdictOn, judged, verdict
 use Rattle.reduction.specs.declared.Reduced.{Reduced}
 use Rattle.reduction.specs.Reduced.{reductionRefusal, IsReduced}
 use Rattle.theory.specs.Query as theory
+use Rattle.refusals.specs.Refusals.{badRecord, noSuchPlace, placeVacant}
+use Rattle.refusals.proofs.Refusals.{none-holds}
+use Rattle.record.specs.Rule.{goodRecord}
+use Rattle.evaluation.specs.Evaluated.{answerWords}
+use Rattle.database.specs.declared.Answered.{Answered}
+use Rattle.database.specs.Calls.{unspelled, tooLong, evaluationRefused, placeAnswers, countUnless, wordsUnless, evaluated, bufferThen}
+use Rattle.database.proofs.Meaning.{place-ascending, place-answers}
+use Rattle.file.proofs.RoundTrip.{written-back, read-back}
 use Rattle.theory.specs.Search as search
-use Rattle.demands.specs.Demands.{AsksInOrder, Decides, Shortens}
+use Rattle.demands.specs.Demands.{AsksInOrder, Decides, Evaluates, Undoes, Shortens}
 
 -- ---- demand 1
 
@@ -34,6 +45,8 @@ asks-in-order =
       determines = λ r relation left. refl;
       compares = λ r p q. refl;
       reduces = λ r source target. refl;
+      tests = λ r words. refl;
+      evaluates = λ r place words room. refl;
     }
 
 -- ---- demand 2
@@ -76,6 +89,36 @@ module _ (r : Record) (p q : ℕ) (c : Comparison) (compared : Compared r p q c)
         );
         shown = λ accepted not. compared .apart (apart-else (c .verdict) (not-refused accepted) not);
       }
+
+-- What an evaluation that is not refused stands on
+accepted-place : (r : Record) (place : ℕ) (words : List ℕ) (room : ℕ) → evaluationRefused r place words room ≡ none
+    → (goodRecord r ≡ true) × (place < 8) × (isFilled r place ≡ true)
+unfolding evaluationRefused
+accepted-place r place words room e =
+    let later = unspelled r words ∷ tooLong r place words room ∷ [] in
+    let a = none-holds (not (goodRecord r)) badRecord (above place ∷ vacant r place ∷ later) e in
+    let b = none-holds (not (ltb place 8)) noSuchPlace (vacant r place ∷ later) (a .1) in
+    let c = none-holds (not (isFilled r place)) placeVacant later (b .1) in
+    (not-false (goodRecord r) (a .0), ltb-true place 8 (not-false (ltb place 8) (b .0)), not-false (isFilled r place) (c .0))
+
+pub evaluates : (r : Record) (place : ℕ) (words before after : List ℕ) (a : Answered) → length (r .places) ≡ 8
+    → a ≡ evaluated r place words (length before) → after ≡ bufferThen r place words before → Evaluates r place words before after a
+unfolding evaluated bufferThen
+evaluates r place words before after a long is-a is-after =
+    let n = length (placeAnswers r place words) in
+    let found = answerWords (placeAnswers r place words) in
+    record {
+      refused = λ m e. (is-a ∙ ap (λ (o : Option ℕ). countUnless o n) e, is-after ∙ ap (λ (o : Option ℕ). wordsUnless o found before) e);
+      count = λ e. is-a ∙ ap (λ (o : Option ℕ). countUnless o n) e;
+      written = λ e. is-after ∙ ap (λ (o : Option ℕ). wordsUnless o found before) e;
+      ascends = place-ascending r place words;
+      exactly = λ e.
+          let k = accepted-place r place words (length before) e in
+          place-answers r place words (k .0) (omega (arith, k .1, long)) (k .2);
+    }
+
+pub undoes : Undoes
+undoes = (written-back, read-back)
 
 -- ---- demand 3
 

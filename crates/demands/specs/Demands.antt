@@ -3,10 +3,10 @@
 use mathlib.Core.Path.{_≡_}
 use mathlib.Core.Logic.{_≢_, _↔_}
 use mathlib.Core.Bool.{true}
-use mathlib.Core.List.{List, [], map}
+use mathlib.Core.List.{List, [], _++_, map}
 use mathlib.Core.Option.{none, some}
 use Prim.Native.Nat.{ℕ, _≤_}
-use lib.ListN.{length}
+use lib.ListN.{length, drop}
 use Rattle.refusals.specs.Refusals.{Condition, order, follows}
 use Rattle.query.specs.declared.Dependency.{Dependency}
 use Rattle.query.specs.declared.Query.{Query}
@@ -22,7 +22,15 @@ use Rattle.comparison.specs.declared.Verdict.the-variants as verdict
 use Rattle.comparison.specs.Comparison.{pairConditions, pairRefusal, SaysContained, base}
 use Rattle.reduction.specs.declared.Reduced.{Reduced}
 use Rattle.reduction.specs.Reduced.{reductionConditions, reductionRefusal, refusal}
+use Rattle.rows.specs.Words.{rowsOf}
+use Rattle.answers.specs.Ascending.{Ascending}
+use Rattle.evaluation.specs.Evaluated.{answerWords}
+use Rattle.database.specs.declared.Answered.{Answered}
+use Rattle.database.specs.declared.Answered.the-variants as answered
+use Rattle.database.specs.Calls.{testConditions, evaluationConditions, evaluationRefused, placeAnswers}
+use Rattle.file.specs.RoundTrip.{WrittenBack, ReadBack}
 use Rattle.theory.specs.Query as theory
+use Rattle.theory.specs.Query.{_∈_}
 use Rattle.theory.specs.Database.{Database, Obeys, Sound}
 use Rattle.theory.specs.Answer.{Answer, IsMapping}
 use Rattle.theory.specs.Chase.{chase}
@@ -45,6 +53,8 @@ pub record AsksInOrder : Type 0 where
   pub determines : (r : Record) (relation left : ℕ) → InOrder (determinedConditions r relation left)
   pub compares : (r : Record) (p q : ℕ) → InOrder (pairConditions r p q)
   pub reduces : (r : Record) (source target : ℕ) → InOrder (reductionConditions r source target)
+  pub tests : (r : Record) (words : List ℕ) → InOrder (testConditions r words)
+  pub evaluates : (r : Record) (place : ℕ) (words : List ℕ) (room : ℕ) → InOrder (evaluationConditions r place words room)
 
 -- ---- demand 2: comparison
 
@@ -56,6 +66,23 @@ pub record Decides (r : Record) (p q : ℕ) (c : Comparison) : Type 0 where
   pub shown : pairRefusal r p q ≡ none → (SaysContained (c .verdict) → ⊥)
       → Counterexample (schemaOf r) (dependenciesOf r) (queryAt r p) (queryAt r q)
       (frozenRows base (queryOf (schemaOf r) (c .query))) (frozenHead base (queryOf (schemaOf r) (c .query)))
+
+-- ---- demand 2: answers and files
+
+-- The answers that an evaluation writes and counts are those of the place's query on the rows that the words spell, ascending, so each once; the words of the
+-- buffer after them stay. A refusal leaves the buffer as it was
+pub record Evaluates (r : Record) (place : ℕ) (words before after : List ℕ) (a : Answered) : Type 0 where
+  pub refused : (n : ℕ) → evaluationRefused r place words (length before) ≡ some n → (a ≡ answered.Refused n) × (after ≡ before)
+  pub count : evaluationRefused r place words (length before) ≡ none → a ≡ answered.Count (length (placeAnswers r place words))
+  pub written : evaluationRefused r place words (length before) ≡ none
+      → after ≡ answerWords (placeAnswers r place words) ++ drop (length (answerWords (placeAnswers r place words))) before
+  pub ascends : Ascending (placeAnswers r place words)
+  pub exactly : evaluationRefused r place words (length before) ≡ none
+      → (t : List ℕ) → (t ∈ placeAnswers r place words) ↔ Answer (rowsOf (schemaOf r) words) (queryAt r place) t
+
+-- A file that is read and written back is the same bytes, and a record that is written and read back the same record
+abbrev pub Undoes : Type 0
+Undoes = WrittenBack × ReadBack
 
 -- ---- demand 3: reduction
 
