@@ -22,7 +22,7 @@ use Rattle.query.specs.View.{queryOf}
 use Rattle.lists.specs.Tests.{between, every}
 use Rattle.query.specs.Rule.{goodDependency, goodQuery, headSafe}
 use Rattle.record.specs.Rule.{goodPlace, goodRecord, noPlace, blankRecord}
-use Rattle.refusals.specs.Refusals.{firstHolding}
+use Rattle.refusals.specs.Refusals.{badQuery, bufferTooShort, firstHolding}
 use Rattle.record.specs.Calls.{queryAt, concluded, broken, above, vacant, filled, withPlace, withDependency, emptyRecord, openRecord, addDependency, putQuery, dropQuery}
 use Rattle.lists.proofs.Tests.{and-left, and-right, and-both, every-set}
 use Rattle.record.proofs.Good.{good-record}

@@ -288,10 +288,10 @@ pub fn compare_in_file(
     q: usize,
     verdict: &mut u8,
     mapping: &mut [u32],
-    query: &mut [u8],
+    part: &mut [u8],
     size: &mut usize,
 ) -> u8
-    ensures { λ r. ⌜ CompareGives (now (file .entry)) p q (now (verdict .entry)) (now (mapping .entry)) (now (query .entry)) (now (size .entry)) r (now (verdict .exit)) (now (mapping .exit)) (now (query .exit)) (now (size .exit)) ⌝ }
+    ensures { λ r. ⌜ CompareGives (now (file .entry)) p q (now (verdict .entry)) (now (mapping .entry)) (now (part .entry)) (now (size .entry)) r (now (verdict .exit)) (now (mapping .exit)) (now (part .exit)) (now (size .exit)) ⌝ }
 {
     let outcome = file::read(file);
     let answer = outcome.answer;
@@ -301,7 +301,7 @@ pub fn compare_in_file(
             let count = given.relations;
             let widths = given.widths;
             let compared = comparison::compare(given, p, q);
-            store_comparison(compared, count, widths, verdict, mapping, query, size)
+            store_comparison(compared, count, widths, verdict, mapping, part, size)
         }
         Answer::Refused(n) => n,
     }
