@@ -24,7 +24,7 @@ use Rattle.query.proofs.Good.{good-query}
 use Rattle.record.proofs.Stored as stored
 use Rattle.query.proofs.Stored as query-stored
 use Rattle.chase.proofs.Callers.{good-widths}
-use Rattle.chase.proofs.Good.{every-getD}
+use Rattle.lists.proofs.Positions.{every-getD-else}
 use Rattle.theory.specs.Query as theory
 use Rattle.theory.specs.Database as database
 use Rattle.theory.specs.Answer as answer
@@ -51,7 +51,7 @@ filled-good : (r : Record) → goodRecord r ≡ true → (place : ℕ) → isFil
     → (goodQuery (schemaOf r) (storedAt r place) ≡ true) × (headSafe (schemaOf r) (storedAt r place) ≡ true)
 filled-good r good place filled =
     stored.filled-parts (schemaOf r) (getD (r .places) place noPlace)
-    (every-getD (goodPlace (schemaOf r)) (r .places) place noPlace (good-record r good .places) (no-place-good (schemaOf r))) filled
+    (every-getD-else (goodPlace (schemaOf r)) (r .places) place noPlace (good-record r good .places) (no-place-good (schemaOf r))) filled
 
 -- What is known of the queries of two places that are not refused
 pub record Queries (r : Record) (p q : ℕ) : Type 0 where
