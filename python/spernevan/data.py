@@ -85,8 +85,7 @@ class Database:
 
     def cells(self, text: bool = False) -> Cells:
         """A reader of one column's cells that have no type, as in CSV; `text` leaves them as they are."""
-        read: Callable[[Any], Value] = str if text else read_cell
-        return Cells(self.values, self._null, read)
+        return Cells(self.values, self._null, str) if text else Cells(self.values, self._null, read_cell)
 
     def literals(self) -> Cells:
         """A reader of one column's values as rows of text have them."""

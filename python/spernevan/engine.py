@@ -53,7 +53,7 @@ class Refused(Exception):
 
     def __init__(self, number: int, meaning: Optional[str] = None) -> None:
         self.number = number
-        self.meaning: str = meaning or MEANINGS.get(number, "this package does not know the number")
+        self.meaning: str = MEANINGS.get(number, "this package does not know the number") if meaning is None else meaning
         super().__init__(number)
 
     def __str__(self) -> str:

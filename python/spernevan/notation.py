@@ -260,11 +260,11 @@ def read_rule(reader: Reader, names: Names) -> Tuple[Query, Dict[int, str]]:
     start = reader.take("name", "'ans'")
     if start.text != "ans":
         raise reader.error(start, f"a rule begins with ans, not {start.text}")
-    head_at: List[Token] = []
+    begins: List[Token] = []
 
     def term() -> _Term:
         token = reader.next
-        head_at.append(token)
+        begins.append(token)
         if token.kind != "name":
             return Constant(names.values.encode(reader.value("a variable or a value")))
         reader.take("name")
@@ -273,7 +273,7 @@ def read_rule(reader: Reader, names: Names) -> Tuple[Query, Dict[int, str]]:
         return token
 
     head = reader.listed(term)
-    head_at = head_at[: len(head)]
+    head_at = tuple(begins)
     if len(head) > MOST_HEAD:
         raise reader.error(head_at[MOST_HEAD], f"a head has {MOST_HEAD} entries at most")
     reader.take(":-")

@@ -129,14 +129,15 @@ class Values:
         """The number that stands for a value; it gets a code if it needs one and has none. Null and ValueError if it is no value."""
         if type(value) is int and 0 <= value < FIRST_CODE:
             return value
-        held = plain(value)
+        held = value if type(value) is str else plain(value)
         if isinstance(held, int) and 0 <= held < FIRST_CODE:
-            return int(held)
-        key = _key(held)
+            return held
+        key = held if type(held) is str else _key(held)
         code = self._codes.get(key)
         if code is None:
             code = held if isinstance(held, int) and self._free(held) else self._new()
-            self.define(code, held)
+            self._codes[key] = code
+            self._values[code] = held
         elif isinstance(held, date) and isinstance(self._values[code], str):
             self._values[code] = held
         return code
@@ -198,6 +199,8 @@ def read_cell(cell: str) -> Value:
 
     A number with zeros before it, as 007, is a text.
     """
+    if cell[:1] > "9":
+        return cell
     word = cell.strip()
     if _WHOLE.fullmatch(word) and len(word) <= MOST_DIGITS:
         return int(word)
