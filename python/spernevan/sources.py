@@ -209,7 +209,7 @@ def read_csv(path: str, relation: int, database: Database, kept: AbstractSet[Tup
     try:
         with open(path, encoding="utf-8-sig", newline="") as file:
             first = file.readline()
-            sign = _delimiter(first, table)
+            sign = _delimiter(first, table, path)
             header: List[str] = next(csv.reader([first], delimiter=sign, skipinitialspace=True), [])
             if not header:
                 raise DataError(f"{path}:1: a header line with the names of the columns was expected, not an empty line")
@@ -246,11 +246,11 @@ def read_csv(path: str, relation: int, database: Database, kept: AbstractSet[Tup
             database.notes.append(f"{path}: {one} and {other} are one number in {name}; if they are no numbers, say --text {name}")
 
 
-def _delimiter(header: str, table: Table) -> str:
+def _delimiter(header: str, table: Table, path: str) -> str:
     """The sign between cells: the one by which the header has the table's columns, else a comma."""
     for sign in ",;\t":
         labels: List[str] = next(csv.reader([header], delimiter=sign, skipinitialspace=True), [])
-        if all(matched(column, labels, table.name) is not None for column in table.columns):
+        if all(matched(column, labels, f"{path}:1") is not None for column in table.columns):
             return sign
     return ";" if ";" in header and "," not in header else ","
 
