@@ -365,6 +365,8 @@ def put_command(options: Options) -> int:
 def drop_command(options: Options) -> int:
     record, was_text = load_record(options.file)
     for place in options.place:
+        record.drop(place)
+    for place in options.place:
         record = record.drop(place)
     save(options, record, was_text, f"vacant now: {', '.join(map(str, options.place))}")
     return YES

@@ -9,6 +9,7 @@ from __future__ import annotations
 
 import ctypes
 import os
+import signal
 import threading
 from array import array
 from functools import lru_cache
@@ -132,6 +133,7 @@ class _Worker:
                 threading.stack_size(before)
 
     def _run(self) -> None:
+        signal.pthread_sigmask(signal.SIG_BLOCK, signal.valid_signals())  # Signals are for the thread that waits.
         while True:
             call = self._calls.get()
             if call is None:

@@ -6,9 +6,11 @@ import hashlib
 import os
 import secrets
 import shutil
+import signal
 import stat
 import sys
-from typing import BinaryIO, List, Optional, Sequence, Tuple, Union
+from contextlib import contextmanager
+from typing import BinaryIO, Iterator, List, Optional, Sequence, Tuple, Union
 
 from .notation import NamesFile, read_names_file
 
@@ -120,22 +122,37 @@ def _is_plain(path: str) -> bool:
         return True
 
 
+@contextmanager
+def _uninterrupted() -> Iterator[None]:
+    """Keeps an interrupt back until the work is done."""
+    before = signal.pthread_sigmask(signal.SIG_BLOCK, {signal.SIGINT, signal.SIGTERM, signal.SIGHUP})
+    try:
+        yield
+    finally:
+        signal.pthread_sigmask(signal.SIG_SETMASK, before)
+
+
 def write_files(files: Sequence[Tuple[Path, bytes]]) -> None:
     """Writes files: all of them are new afterwards, or, on a failure, all as they were.
 
     Each is written beside its place, to the disk, and then renamed. A symbolic link stays one.
     """
+    with _uninterrupted():
+        _write_files(files)
+
+
+def _write_files(files: Sequence[Tuple[Path, bytes]]) -> None:
     made: List[Tuple[str, str, str]] = []
     done: List[Tuple[str, Optional[str]]] = []
     try:
         for given, data in files:
-            path = os.path.realpath(given)
-            if not _is_plain(path):
-                if os.path.isdir(path):
+            if not _is_plain(os.fspath(given)):
+                if os.path.isdir(given):
                     raise IsADirectoryError(21, os.strerror(21), os.fspath(given))
-                with open(path, "wb") as device:
+                with open(given, "wb") as device:
                     device.write(data)
                 continue
+            path = os.path.realpath(given)
             if os.path.exists(path) and not os.access(path, os.W_OK):
                 raise PermissionError(13, os.strerror(13), os.fspath(given))
             new = _beside(path)

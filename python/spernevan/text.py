@@ -19,7 +19,7 @@ from __future__ import annotations
 from typing import Dict, List, NamedTuple, Sequence, Tuple
 
 from .engine import Refused
-from .model import MOST_DEPENDENCIES, Dependency, Query
+from .model import MOST_DEPENDENCIES, Dependency, Entry, Query
 from .notation import (
     Names,
     Reader,
@@ -136,13 +136,21 @@ def _constants(record: Record, place: int) -> List[int]:
     return [] if query is None else constants(query)
 
 
+def _entries_of(query: Query) -> List[Entry]:
+    return [*query.head, *(entry for row in query.rows for entry in row.entries)]
+
+
 def _rule(record: Record, place: int, names: Names) -> str:
-    """A saved query as a rule: under the names of its variables if it is read back with the same numbers."""
+    """A saved query as a rule: under the names of those of its variables that are read back with the same numbers."""
     query = record.queries[place]
     assert query is not None
-    variables = names.variables.get(place)
-    if parse_query(format_query(query, names, variables), names) != query:
-        variables = None
+    variables = dict(names.variables.get(place, {}))
+    while True:
+        again = parse_query(format_query(query, names, variables), names)
+        wrong = [old.number for old, new in zip(_entries_of(query), _entries_of(again)) if old != new and old.number in variables]
+        if not wrong:
+            break
+        del variables[wrong[0]]
     rule = format_query(query, names, variables)
     if len(rule) <= 96:
         return rule
