@@ -28,7 +28,7 @@ from .layout import (
     set_tables,
     write_answers,
 )
-from .model import FROZEN, PLACES, Query
+from .model import FROZEN, PLACES
 from .notation import Names, NotationError, Reader, constants, count, format_columns, format_datum, format_dependency, format_query, parse_rule
 from .record import Asked, Broken, Comparison, Record
 from .sources import read_database
@@ -138,10 +138,7 @@ class Subject:
         self.variables: Dict[int, str]
         self.asked: Asked
         if isinstance(asked, int):
-            record.placed(asked, Query.never(0)) if asked >= PLACES or record.queries[asked] is None else None
-            query = record.queries[asked]
-            assert query is not None
-            self.title, self.asked, self.query = f"place {asked}", asked, query
+            self.title, self.asked, self.query = f"place {asked}", asked, record.query(asked)
             self.variables = record.names.variables.get(asked, {})
             self.shown: Union[int, str] = asked
         else:

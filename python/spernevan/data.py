@@ -198,9 +198,9 @@ class Cells(Dict[Any, int]):
                 raise
             return self._null
         if self._read is read_cell and isinstance(value, (int, Decimal)):
-            written = self._written.setdefault(word, cell)
-            if written != cell and self.same is None:
-                self.same = written, cell
+            written = self._written.setdefault(word, cell.strip())
+            if written != cell.strip() and self.same is None:
+                self.same = written, cell.strip()
         try:
             self[cell] = word
         except TypeError:

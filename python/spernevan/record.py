@@ -25,6 +25,7 @@ from .model import (
     Entry,
     Mapping,
     Query,
+    Row,
     Variable,
     columns_of,
     decode_file,
@@ -105,14 +106,16 @@ class Record:
         self.file = bytes(file)
         if names is not None:
             names.fit(self.widths)
-        self._given = names
+        self._names = names
+        self._named = names is not None
 
     @classmethod
-    def _of(cls, file: bytes, names: Optional[Names]) -> Record:
-        """The record of a file that the engine wrote."""
+    def _of(cls, file: bytes, names: Optional[Names], named: bool) -> Record:
+        """The record of a file that the engine wrote. Names that were not given are held for their dictionary alone."""
         record = cls.__new__(cls)
         record.file = file
-        record._given = names
+        record._names = names
+        record._named = named
         return record
 
     @classmethod
@@ -122,7 +125,7 @@ class Record:
         named = [table for table in held if isinstance(table, Table)]
         widths = bytes(len(one.columns) if isinstance(one, Table) else whole("a width", one, BYTE) for one in held)
         names = Names(tuple(named)) if named and len(named) == len(held) else None
-        return cls._of(engine.open_record(widths), names)
+        return cls._of(engine.open_record(widths), names, names is not None)
 
     @classmethod
     def read(cls, path: Path, names: Union[bool, Path] = True) -> Record:
@@ -142,7 +145,7 @@ class Record:
     def named(self, names: Names) -> Record:
         """The record under other names."""
         names.fit(self.widths)
-        return self._of(self.file, names)
+        return self._of(self.file, names, True)
 
     def write(self, path: Path) -> None:
         """Writes the archive file, and the names file beside it if there are names: both, or neither.
@@ -152,7 +155,7 @@ class Record:
         beside = names_path(path)
         files = [(path, engine.write(self.file))]
         names = self.own_names()
-        if self._given is not None or not names.is_default():
+        if self._named or not names.is_default():
             files.append((beside, format_names(names, checksum(self.file)).encode()))
         elif os.path.lexists(beside):
             raise ValueError(
@@ -198,12 +201,13 @@ class Record:
     def _contents(self) -> Contents:
         return decode_file(self.file)
 
-    @cached_property
+    @property
     def names(self) -> Names:
         """The names of the tables, variables and constants; R0, R1, .. where there are none."""
-        names = Names.default(self.widths) if self._given is None else self._given
-        names.values.reserve(number for query in self.queries if query is not None for number in constants(query))
-        return names
+        if self._names is None:
+            self._names = Names.default(self.widths)
+        self._names.values.reserve(number for query in self.queries if query is not None for number in constants(query))
+        return self._names
 
     def own_names(self) -> Names:
         """The names with the values that the saved queries have, and no others."""
@@ -264,24 +268,21 @@ class Record:
                 record = record.add(one.relation, one.left, one.right)
             return record
         try:
-            return self._of(engine.add(self.file, relation, mask_of(left), right), self._given)
+            return self._of(engine.add(self.file, relation, mask_of(left), right), self._names, self._named)
         except Refused as refused:
             raise self._explained(refused) from None
 
     def put(self, place: int, query: Union[str, Query], variables: Optional[Dict[int, str]] = None) -> Record:
         """The record with a query, or the query of a rule, in a vacant place. A rule brings the names of its variables."""
-        names = self._given
         if isinstance(query, str):
             query, found = parse_rule(query, self.names)
             variables = found if variables is None else variables
-            names = self.names
         try:
             file = engine.put(self.file, place, encode_query(query, self.widths))
         except Refused as refused:
             raise self._explained(refused, (), place) from None
-        if names is None and variables:
-            names = self.names
-        return self._of(file, names and names.with_variables(place, variables or {}))
+        names = self.names if variables else self._names
+        return self._of(file, None if names is None else names.with_variables(place, variables or {}), self._named)
 
     def drop(self, place: int) -> Record:
         """The record with a filled place made vacant."""
@@ -289,7 +290,7 @@ class Record:
             file = engine.drop(self.file, place)
         except Refused as refused:
             raise self._explained(refused, [place]) from None
-        return self._of(file, self._given and self._given.with_variables(place, None))
+        return self._of(file, None if self._names is None else self._names.with_variables(place, None), self._named)
 
     def determined(self, relation: int, left: Iterable[int]) -> FrozenSet[int]:
         """The columns that the left columns determine."""
@@ -308,11 +309,11 @@ class Record:
             if isinstance(one, (str, Query)):
                 record = record.put(position, one)
                 continue
-            query = self._query(one)
+            query = self.query(one)
             record = record.put(position, query, self.names.variables.get(one))
         return record, list(range(len(asked)))
 
-    def _query(self, place: int) -> Query:
+    def query(self, place: int) -> Query:
         """The query of a place; Refused if there is none."""
         if whole("a place", place) >= PLACES:
             raise self._explained(Refused(7), [place])
@@ -330,13 +331,13 @@ class Record:
             file, number, words = engine.reduce(self.file, source, target)
         except Refused as refused:
             raise self._explained(refused, [source], target) from None
-        after = self._of(file, self._given)
+        after = self._of(file, self._names, self._named)
         long, result = self.queries[source], after.queries[target]
         assert long is not None and result is not None
-        if self._given is not None:
-            held = self._given.variables.get(source, {})
+        if self._names is not None:
+            held = self._names.variables.get(source, {})
             named = {variable: held[variable] for variable in result.variables() if variable in held}
-            after = self._of(file, self._given.with_variables(target, named))
+            after = self._of(file, self._names.with_variables(target, named), self._named)
         return Reduction(after, result, number, None if result.is_never else _mapping(words, long))
 
     def alone(self, place: int) -> Record:
@@ -353,7 +354,7 @@ class Record:
             record, _ = self.placed(place)
             return record.reduce(0, 1)
         if isinstance(place, int) and 0 <= place < PLACES:
-            self._query(place)
+            self.query(place)
         return self.alone(place).reduce(place, 1 if place == 0 else 0)
 
     def compare(self, p: Asked, q: Asked) -> Comparison:
@@ -397,6 +398,8 @@ class Record:
         """
         record, (at,) = self.placed(place)
         held = record._data(database)
+        if isinstance(held, Database):
+            record, at = record._translated(at, held)
         words = held.words if isinstance(held, Database) else held
         size = max(4096, 2 * len(words)) if room is None else room
         while True:
@@ -414,6 +417,19 @@ class Record:
             return held.decoded(answers[: number * length], length, number)
         return [tuple(answers[start * length : (start + 1) * length]) for start in range(number)]
 
+    def _translated(self, place: int, database: Database) -> Tuple[Record, int]:
+        """A record whose query at a place has the constants by the database's dictionary, which may have grown apart from this one."""
+        if place >= PLACES or self.queries[place] is None:
+            return self, place
+        query = self.query(place)
+
+        def entry(held: Entry) -> Entry:
+            return Constant(database.values.encode(self.names.values.decode(held.number))) if isinstance(held, Constant) else held
+
+        rows = [Row(row.relation, tuple(map(entry, row.entries))) for row in query.rows]
+        same = Query(tuple(map(entry, query.head)), tuple(rows), query.head_length)
+        return (self, place) if same == query else (self.alone(place).drop(place).put(0, same), 0)
+
     def database(self, data: Any, null: Optional[Value] = None) -> Database:
         """A database for `test` and `evaluate`.
 
@@ -428,7 +444,11 @@ class Record:
 
     def _data(self, data: Any) -> Union[Database, Words]:
         """A database as the engine takes it. A row of a known relation must have its width."""
-        if isinstance(data, (Database, array)):
+        if isinstance(data, array):
+            return data
+        if isinstance(data, Database):
+            if data.names.tables != self.names.tables:
+                raise ValueError(f"the database is of other tables: {', '.join(map(str, data.names.tables))}")
             return data
         if isinstance(data, dict) or hasattr(data, "dtype") or hasattr(data, "iloc"):
             return self.database(data)

@@ -261,6 +261,18 @@ class FromPython(Data):
             self.record.database([(1, 2)])
         self.assertEqual(record.evaluate("ans(h) :- burst('x', h)", record.database([("x", 2)])), [(2,)])
 
+    def test_a_dictionary_that_grew_apart(self):
+        """A database stays good for queries with values that it was not read with."""
+        data = self.record.database({"flight": [("a", "b", "c"), ("d", "e", "f")]})
+        after = self.record.put(3, "ans(f, 'g') :- flight(f, 'e', t)")
+        self.assertEqual(after.evaluate(3, data), [("d", "g")])
+        self.assertEqual(after.evaluate("ans(f, 'h') :- flight(f, 'b', t)", data), [("a", "h")])
+        again = pack(TEXT)[0].put(4, "ans(f) :- flight(f, p, 'f')")
+        self.assertEqual(again.evaluate(4, data), [("d",)])
+        self.assertEqual(Record(again.file, again.own_names()).evaluate(4, data), [("d",)])
+        with self.assertRaisesRegex(ValueError, r"the database is of other tables: flight\(number, site, launch\), burst"):
+            Record.open([3, 2]).test(data)
+
     def test_wrong_rows(self):
         for data, message in [
             ({"kite": []}, "there is no table 'kite'; there is flight, burst"), ({1: []}, "there is no table 1"),
