@@ -17,7 +17,7 @@ from typing import Callable, Dict, List, NoReturn, Optional, Sequence, Tuple, Un
 from . import __version__
 from .data import Database
 from .engine import EngineMissing, Refused
-from .files import FILE_BYTES, Failure, is_text, names_path, read_bytes, read_names_beside, read_text, shown, standard_input, text_of, write_files
+from .files import FILE_BYTES, Failure, is_text, names_path, read_bytes, read_names_beside, shown, standard_input, text_of, write_files
 from .layout import (
     answer_columns,
     comparison_json,
@@ -33,7 +33,7 @@ from .notation import Names, NotationError, Reader, constants, count, format_col
 from .record import Asked, Broken, Comparison, Record
 from .sources import read_database
 from .text import pack, unpack
-from .values import Value, read_cell, read_literal
+from .values import FIRST_CODE, Value, read_cell, read_literal
 
 YES, NO, TROUBLE = 0, 1, 2
 
@@ -61,7 +61,14 @@ def load_record(file: str, names: Optional[str] = None, plain: bool = False) -> 
     if plain or (names is None and file == "-"):
         return record, False
     found = read_names_beside(file, data, names)
-    if found is not None:
+    if found is None:
+        coded = [number for query in record.queries if query is not None for number in constants(query) if number >= FIRST_CODE]
+        if coded:
+            say(
+                f"spernevan: {shown(file)} has the constant {coded[0]} and no names file, {names_path(file)}, beside it: if it is a code for a text or a date, "
+                f"what it stands for is lost; --plain takes it for a number"
+            )
+    else:
         try:
             record = record.named(found.names)
             record.names
@@ -82,7 +89,7 @@ def save(options: Options, record: Record, was_text: bool, said: str) -> None:
     if out == "-":
         write_out(unpack(record, record.names).encode() if was_text else record.file)
         return
-    if was_text and options.output is None:
+    if was_text and os.path.realpath(out) == os.path.realpath(options.file):
         raise Failure(f"{out} is a text: pack it first, or say with --output where the archive file goes; a text is changed in an editor")
     record.write(out)
     print(f"{out}: {said}")
@@ -324,7 +331,10 @@ def determined_command(options: Options) -> int:
 
 
 def pack_command(options: Options) -> int:
-    record, _ = pack(read_text(options.text), shown(options.text))
+    data = read_bytes(options.text)
+    if data[1:2] == b"\0":
+        raise Failure(f"{shown(options.text)} is no text; if it is an archive file, unpack makes a text of it")
+    record, _ = pack(text_of(data, options.text), shown(options.text))
     if options.file == "-":
         write_out(record.file)
         say("spernevan: standard output has the archive without the names")
@@ -503,7 +513,7 @@ def main(arguments: Optional[Sequence[str]] = None) -> int:
         _close_output()
         return 128 + signal.SIGPIPE
     except Refused as refused:
-        say(f"spernevan: {shown(options.file)}: {refused.meaning}")
+        say(f"spernevan: {shown(getattr(options, 'file', 'the record'))}: {refused.meaning}")
     except (Failure, EngineMissing, ValueError) as error:
         say(f"spernevan: {error}")
     except OSError as error:

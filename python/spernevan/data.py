@@ -164,10 +164,11 @@ class Cells(Dict[Any, int]):
         """Cells in words. A cell that is no value raises ValueError, or Null; `fault` then says which."""
         if self._read is plain:
             try:
-                words = array("I", cells)
-                if not words or max(words) < FIRST_CODE:
-                    return words
-            except (TypeError, OverflowError):
+                if {int}.issuperset(map(type, cells)):
+                    words = array("I", cells)
+                    if not words or max(words) < FIRST_CODE:
+                        return words
+            except OverflowError:
                 pass
         elif self._read is not str:
             found = _whole_numbers(cells)

@@ -153,6 +153,8 @@ class Record:
         A names file that is there already is replaced; a record that has no names of its own then raises ValueError.
         """
         beside = names_path(path)
+        if os.path.realpath(beside) == os.path.realpath(path):
+            raise ValueError(f"{path} is a name for a names file; an archive file has another ending, such as .file")
         files = [(path, engine.write(self.file))]
         names = self.own_names()
         if self._named or not names.is_default():
@@ -459,11 +461,11 @@ class Record:
                 raise ValueError(f"row {position} must be a relation and its values, not {row!r:.40}")
             relation, values = pair[0], items(f"the values of row {position}", pair[1])
             try:
+                if not {int}.issuperset(map(type, (relation, *values))):
+                    raise TypeError
                 words.fromlist([relation, *values])
             except (TypeError, OverflowError):
-                for value in (relation, *values):
-                    whole(f"each number of row {position}", value, WORD)
-                raise
+                words.fromlist([whole(f"each number of row {position}", value, WORD) for value in (relation, *values)])
             if relation < len(self.widths) and len(values) != self.widths[relation]:
                 raise ValueError(
                     f"row {position} has {len(values)} values, "

@@ -58,6 +58,9 @@ class Changes(Command):
         self.assertEqual((self.file.read_bytes(), Record.read(other).filled()), (before, [1, 2, 3, 5, 6]))
         text = self.write("a.text", "flight(a, b)\n# a comment\n")
         self.failed(f"{text} is a text: pack it first, or say with --output where the archive file goes", "put", text, 0, "ans() :- never")
+        self.failed(f"{text} is a text: pack it first", "put", text, 0, "ans() :- never", "-o", text)
+        self.failed(f"{self.folder}/x.names is a name for a names file; an archive file has another ending", "drop", self.file, 0, "-o", self.folder / "x.names")
+        self.failed(f"{self.file} is no text; if it is an archive file, unpack makes a text of it", "pack", self.file, other)
         self.done("put", text, 0, "ans() :- never", "--output", other)
         self.assertEqual(Record.read(other).names.tables[0].name, "flight")
 

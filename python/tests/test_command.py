@@ -211,7 +211,7 @@ class Messages(Command):
             (b"flight(a)\n# \xff\n", "2:3: this byte is not UTF-8 text"),
             ("flight(a)\r\n0: ans(x) :- sonde(y)\r\n", "2:14: there is no table sonde; there is flight"),
             ("", "1:1: a text has at least one table"),
-            (b"\0" * 9, "1:1: '\\x00' has no meaning here; is this a text at all?"),
+            (b"flight(a)\n\0", "2:1: '\\x00' has no meaning here; is this a text at all?"),
             ("flight(a, b)\n0: ans(x) :- flight(x, y)\n   flight(x, z)\n", "3:4: there is a table flight already; where a rule goes on, the line before it ends with a comma"),
             ("flight(a, b)\n0: ans(x) :- flight(x, y) flight(x, z)\n", "2:27: a comma is missing before flight"),
             ("flight(a, b)\n0: ans(x) :- flight(x y)\n", "2:23: a comma is missing before y"),

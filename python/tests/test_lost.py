@@ -128,6 +128,14 @@ class Parting(Lost):
         self.names.write_text("kite(a, b)\n")
         self.assertIn("kite(v0, v0)", self.done("list", self.file))
 
+    def test_an_archive_whose_names_are_gone(self):
+        self.done("put", self.file, 3, "ans(a) :- flight(a, 'Lindenberg')")
+        self.names.unlink()
+        status, out, err = run("show", self.file, 3)
+        self.assertEqual((status, out.count("2000000000"), err.count("\n")), (0, 2, 1))
+        self.assertIn(f"{self.file} has the constant 2000000000 and no names file, {self.names}, beside it", err)
+        self.done("list", "--plain", self.file)
+
     def test_every_change_writes_both(self):
         for arguments in (
             ["put", self.file, 3, "ans(a, b) :- flight(a, b), flight(a, 'Lindenberg')"], ["add", self.file, "flight: number -> sonde"],
