@@ -1,5 +1,6 @@
 """Databases from rows of text, CSV, SQLite and Python objects: what comes in comes out, and what is wrong is said with its place."""
 
+import csv
 import importlib.util
 import io
 import json
@@ -14,8 +15,9 @@ from decimal import Decimal
 from pathlib import Path
 
 import context
-from spernevan import Broken, DataError, Record, Table, pack, read_database
+from spernevan import Broken, Constant, DataError, Query, Record, Row, Table, pack, read_database
 from spernevan.data import Progress
+from spernevan.notation import format_datum
 from test_command import Command, run
 
 TEXT = """
@@ -311,6 +313,67 @@ class FromPython(Data):
         self.assertEqual(self.record.evaluate("ans(t) :- flight(f, p, t)", data), [(0,), (datetime(2026, 1, 14, 11, 45),)])
         many = pandas.DataFrame({"flight": range(70_000), "height": range(70_000)})
         self.assertEqual(len(self.record.evaluate("ans(f) :- burst(f, f)", {"burst": many})), 70_000)
+
+
+class Random(Data):
+    def test_values_instead_of_numbers(self):
+        """Under other names for its values a database has the same answers and the same broken dependency, from every source."""
+        rng = random.Random(14)
+        pool = ["Lindenberg", "it's, \"so\"", Decimal("12.5"), date(2026, 1, 14), 7, -1, 2**31, "007", 2_000_000_000, "a\nb"]
+        seen = set()
+        for number in range(40):
+            plain = context.random_record(rng, 3, 2, 2, most_rows=3, most_head=3, constants=len(pool))
+            rows = context.random_data(rng, plain.widths, values=len(pool), most_rows=25)
+            named = Record.open(plain.widths)
+            for dependency in plain.dependencies:
+                named = named.add(dependency.relation, dependency.left, dependency.right)
+            for place in plain.filled():
+                named = named.put(place, self.renamed(plain.queries[place], pool, named.names.values))
+            tables = {f"R{relation}": [[pool[value] for value in values] for r, values in rows if r == relation] for relation in range(len(plain.widths))}
+            grouped = [(r, values) for relation in range(len(plain.widths)) for r, values in rows if r == relation]
+            for data in (named.database(tables), self.from_csv(number, tables, named), self.from_rows(tables, named), self.from_sqlite(number, tables, named)):
+                self.assertEqual(named.test(data), plain.test(grouped))
+                seen.add(named.test(data) is None)
+                for place in plain.filled():
+                    wanted = {tuple(pool[value] for value in answer) for answer in plain.evaluate(place, rows)}
+                    answers = named.evaluate(place, data)
+                    self.assertEqual((set(answers), len(answers)), (wanted, len(wanted)))
+        self.assertEqual(seen, {True, False})
+
+    @staticmethod
+    def renamed(query, pool, values):
+        def entry(held):
+            return Constant(values.encode(pool[held.number])) if isinstance(held, Constant) else held
+
+        rows = tuple(Row(row.relation, tuple(map(entry, row.entries))) for row in query.rows)
+        return Query(tuple(map(entry, query.head)), rows, query.head_length)
+
+    def from_csv(self, number, tables, record):
+        folder = self.folder / f"random{number}"
+        folder.mkdir()
+        for name, rows in tables.items():
+            with open(folder / f"{name}.csv", "w", newline="", encoding="utf-8") as file:
+                writer = csv.writer(file)
+                writer.writerow(record.names.tables[int(name[1:])].columns)
+                writer.writerows(rows)
+        return read_database([folder], record.names)
+
+    def from_rows(self, tables, record):
+        return read_database([self.write("r.data", "".join(f"{format_datum(name, row)}\n" for name, rows in tables.items() for row in rows))], record.names)
+
+    def from_sqlite(self, number, tables, record):
+        path = self.folder / f"random{number}.db"
+        connection = sqlite3.connect(path)
+        for name, rows in tables.items():
+            columns = record.names.tables[int(name[1:])].columns
+            connection.execute(f"CREATE TABLE {name} ({', '.join(columns)})")
+            kept = [[float(value) if isinstance(value, Decimal) else str(value) if isinstance(value, date) else value for value in row] for row in rows]
+            connection.executemany(f"INSERT INTO {name} VALUES ({', '.join('?' * len(columns))})", kept)
+        connection.commit()
+        connection.close()
+        found = read_database([path], record.names)
+        found.values.encode(date(2026, 1, 14))
+        return found
 
 
 class Large(Data):
