@@ -111,11 +111,10 @@ class Database:
 
     def text_and_number(self, others: Iterable[int] = ()) -> Optional[str]:
         """A text that looks like a number which is there too, in the rows or among `others`; such a pair is never equal."""
-        texts = self.values.numbers_as_text()
-        if not texts:
+        numbers = self.values.numbers_as_text()
+        found = {number for number in numbers if self.values.known(number)}.union(set(numbers).intersection(others))
+        if not numbers:
             return None
-        numbers = {self.values.encode(number): text for number, text in texts.items() if number >= 0}
-        found = set(numbers).intersection(others)
         for start, end, relation in self._spans():
             width = len(self.names.tables[relation].columns) + 1
             for column in range(1, width):

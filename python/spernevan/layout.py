@@ -7,7 +7,7 @@ import json
 import textwrap
 from datetime import date
 from decimal import Decimal
-from typing import Any, Dict, Iterable, List, Optional, Sequence, TextIO, Tuple
+from typing import Any, Dict, List, Optional, Sequence, TextIO, Tuple
 
 from .model import Constant, Entry, Mapping, Query, Variable
 from .notation import Names, count, format_datum, format_entry, format_mapping, format_parts, format_query
@@ -170,7 +170,3 @@ def _json_text(value: Value) -> str:
     if isinstance(value, (int, Decimal)) and not isinstance(value, date):
         return bare(value)
     return json.dumps(bare(value))
-
-
-def joined(parts: Iterable[str]) -> str:
-    return "\n\n".join(parts)

@@ -256,7 +256,8 @@ class Record:
             meaning = "32 dependencies are held, which is as many as there may be; each column on the right counts one"
         elif refused.number == 8:
             lengths = [query.head_length for query in (self.queries[place] for place in read) if query is not None]
-            meaning = f"the first query shows {count(lengths[0], 'column')} and the second {lengths[-1]}: only heads of one length can be compared"
+            shows = f"the first query shows {count(lengths[0], 'column')} and the second {lengths[-1]}"
+            meaning = f"{shows}: only heads of one length can be compared"
         return Refused(refused.number, meaning)
 
     def add(self, relation: Union[int, str], left: Iterable[int] = (), right: int = 0) -> Record:

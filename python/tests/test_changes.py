@@ -143,7 +143,7 @@ class Rules(Command):
     def test_a_mistake_of_the_command_itself(self):
         from unittest import mock
 
-        with mock.patch("spernevan.command.unpack", side_effect=TypeError("x")):
+        with mock.patch("spernevan.commands.unpack", side_effect=TypeError("x")):
             self.failed("a mistake in the command itself, TypeError: x; SPERNEVAN_TRACE=1 shows where", "unpack", FLIGHTS)
 
 

@@ -12,7 +12,7 @@ from pathlib import Path
 from unittest import mock
 
 import context
-from spernevan import Names, Record, parse_query, read_names
+from spernevan import Record, parse_query, read_names
 from spernevan.command import main
 from spernevan.files import names_path
 

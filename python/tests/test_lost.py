@@ -9,7 +9,6 @@ import stat
 import subprocess
 import sys
 import unittest
-from pathlib import Path
 from unittest import mock
 
 import context
