@@ -187,9 +187,8 @@ class Record:
 
         def table(heads: Sequence[str], rows: Iterable[Sequence[object]]) -> str:
             top = "".join(f"<th style='text-align:left'>{head}</th>" for head in heads)
-            body = "".join(
-                "<tr>" + "".join(f"<td style='text-align:left;white-space:pre'>{html.escape(str(cell))}</td>" for cell in row) + "</tr>" for row in rows
-            )
+            cells = [[f"<td style='text-align:left;white-space:pre'>{html.escape(str(cell))}</td>" for cell in row] for row in rows]
+            body = "".join(f"<tr>{''.join(row)}</tr>" for row in cells)
             return f"<table><thead><tr>{top}</tr></thead><tbody>{body}</tbody></table>"
 
         parts = [table(["Table", "Columns"], [(held.name, ", ".join(held.columns)) for held in tables])]

@@ -32,17 +32,27 @@ class Changes(Command):
         self.assertEqual(Record.read(self.file).filled(), [1, 2, 3, 5, 6])
 
     def test_add(self):
-        self.assertEqual(self.done("add", self.file, "burst: height -> flight", "layer: level -> height, flight"), f"{self.file}: 3 dependencies added, 13 in all\n")
+        self.assertEqual(
+            self.done("add", self.file, "burst: height -> flight", "layer: level -> height, flight"),
+            f"{self.file}: 3 dependencies added, 13 in all\n",
+        )
         self.assertIn("burst: flight -> height\nburst: height -> flight\nlayer: level -> height, flight\n", self.done("unpack", self.file))
         self.failed("dependency:1:8: burst(flight, height) has no column site", "add", self.file, "burst: site -> flight")
         self.failed("dependency:1:7: the name of a column was expected, not the end", "add", self.file, "burst:")
-        self.failed(f"{self.file}: 32 dependencies are held, which is as many as there may be; each column on the right counts one", "add", self.file, *["burst: flight -> height"] * 20)
+        self.failed(
+            f"{self.file}: 32 dependencies are held, which is as many as there may be; each column on the right counts one",
+            "add",
+            self.file,
+            *["burst: flight -> height"] * 20,
+        )
         self.assertEqual(len(Record.read(self.file).dependencies), 13)
 
     def test_reduce(self):
         rule = "ans(f, h) :- flight(f, s, 7, t), sonde(s, c, m), calibration(c, l, 2), burst(f, h)"
         self.assertEqual(self.done("reduce", self.file, 0), f"{self.file}: place 4 holds the short form of place 0, 4 rows: {rule}\n")
-        self.assertIn("4: ans(f, h) :- flight(f, s, 7, t), sonde(s, v7, v8), calibration(v7, v11, 2), burst(f, h)\n", self.done("unpack", self.file))
+        self.assertIn(
+            "4: ans(f, h) :- flight(f, s, 7, t), sonde(s, v7, v8), calibration(v7, v11, 2), burst(f, h)\n", self.done("unpack", self.file)
+        )
         self.failed(f"{self.file}: place 5 is filled; vacant: 7", "reduce", self.file, 0, 5)
         self.assertEqual(
             self.done("reduce", self.file, "ans(a, b, c) :- burst(a, b), burst(a, c)", 7),
@@ -59,7 +69,14 @@ class Changes(Command):
         text = self.write("a.text", "flight(a, b)\n# a comment\n")
         self.failed(f"{text} is a text: pack it first, or say with --output where the archive file goes", "put", text, 0, "ans() :- never")
         self.failed(f"{text} is a text: pack it first", "put", text, 0, "ans() :- never", "-o", text)
-        self.failed(f"{self.folder}/x.names is a name for a names file; an archive file has another ending", "drop", self.file, 0, "-o", self.folder / "x.names")
+        self.failed(
+            f"{self.folder}/x.names is a name for a names file; an archive file has another ending",
+            "drop",
+            self.file,
+            0,
+            "-o",
+            self.folder / "x.names",
+        )
         self.failed(f"{self.file} is no text; if it is an archive file, unpack makes a text of it", "pack", self.file, other)
         self.done("put", text, 0, "ans() :- never", "--output", other)
         self.assertEqual(Record.read(other).names.tables[0].name, "flight")
@@ -67,13 +84,21 @@ class Changes(Command):
     def test_pipes(self):
         """Text goes through as text and an archive as an archive."""
         text = b"flight(a, b)\n"
-        for command in (["put", "-", "0", "ans(x) :- flight(x, 'y'), flight(x, z)"], ["reduce", "-", "0", "1"], ["add", "-", "flight: a -> b"]):
+        for command in (
+            ["put", "-", "0", "ans(x) :- flight(x, 'y'), flight(x, z)"],
+            ["reduce", "-", "0", "1"],
+            ["add", "-", "flight: a -> b"],
+        ):
             done = subprocess.run([*PROGRAM, *command], input=text, capture_output=True)
             self.assertEqual((done.returncode, done.stderr), (0, b""))
             text = done.stdout
-        self.assertEqual(text.decode(), "flight(a, b)\n\nflight: a -> b\n\n0: ans(x) :- flight(x, 'y'), flight(x, z)\n1: ans(x) :- flight(x, 'y')\n")
+        self.assertEqual(
+            text.decode(), "flight(a, b)\n\nflight: a -> b\n\n0: ans(x) :- flight(x, 'y'), flight(x, z)\n1: ans(x) :- flight(x, 'y')\n"
+        )
         packed = subprocess.run([*PROGRAM, "pack", "-", "-"], input=text, capture_output=True)
-        self.assertEqual((packed.stdout, packed.stderr), (pack(text.decode())[0].file, b"spernevan: standard output has the archive without the names\n"))
+        self.assertEqual(
+            (packed.stdout, packed.stderr), (pack(text.decode())[0].file, b"spernevan: standard output has the archive without the names\n")
+        )
         dropped = subprocess.run([*PROGRAM, "drop", "-", "0"], input=packed.stdout, capture_output=True)
         self.assertEqual(dropped.stdout, pack(text.decode())[0].drop(0).file)
         ruled = subprocess.run([*PROGRAM, "put", str(self.file), "7", "-"], input=b"ans(x) :-\n  burst(x, y)\n", capture_output=True)
@@ -105,7 +130,12 @@ class Rules(Command):
         self.assertEqual(self.done("show", FLIGHTS), self.done("unpack", FLIGHTS))
         self.assertEqual(self.done("show", FLIGHTS, 1), self.done("list", FLIGHTS).split("\n\n")[1] + "\n")
         shown = self.done("show", FLIGHTS, "ans(a) :- burst(a, b), burst(a, c)", 3)
-        self.assertTrue(shown.startswith("The rule\n  Long form, 2 rows:\n    ans(a) :- burst(a, b),\n              burst(a, c)\n  Short form, 1 row:\n"), shown)
+        self.assertTrue(
+            shown.startswith(
+                "The rule\n  Long form, 2 rows:\n    ans(a) :- burst(a, b),\n              burst(a, c)\n  Short form, 1 row:\n"
+            ),
+            shown,
+        )
         self.assertIn("\n\nPlace 3\n", shown)
         found = json.loads(self.done("show", "--json", FLIGHTS, 1, "ans(a) :- burst(a, b)"))
         self.assertEqual([one["query"] for one in found], [1, "ans(a) :- burst(a, b)"])
@@ -113,7 +143,16 @@ class Rules(Command):
 
     def test_a_text_wherever_a_file_is(self):
         text = context.SAMPLES / "flights.text"
-        for arguments in (["list"], ["unpack"], ["evaluate", 5, DATA], ["test", DATA], ["determined", "burst", "flight"], ["compare", 0, 5], ["show", 1], ["equivalent", 0, 0]):
+        for arguments in (
+            ["list"],
+            ["unpack"],
+            ["evaluate", 5, DATA],
+            ["test", DATA],
+            ["determined", "burst", "flight"],
+            ["compare", 0, 5],
+            ["show", 1],
+            ["equivalent", 0, 0],
+        ):
             name, *rest = arguments
             self.assertEqual(self.done(name, text, *rest), self.done(name, FLIGHTS, *rest))
         self.failed(f"{text} is a text, which has its names in it; --names is for archive files", "list", "--names", "x", text)
@@ -121,7 +160,10 @@ class Rules(Command):
 
     def test_keys_and_short_forms(self):
         record, _ = pack("layer(flight*, level*, height, temperature)\nburst(flight*, height)\nburst: height -> flight, height\n")
-        self.assertEqual([(d.relation, sorted(d.left), d.right) for d in record.dependencies], [(0, [0, 1], 2), (0, [0, 1], 3), (1, [0], 1), (1, [1], 0), (1, [1], 1)])
+        self.assertEqual(
+            [(d.relation, sorted(d.left), d.right) for d in record.dependencies],
+            [(0, [0, 1], 2), (0, [0, 1], 3), (1, [0], 1), (1, [1], 0), (1, [1], 1)],
+        )
         self.assertEqual(pack("a(b*)\n")[0].dependencies, ())
 
     def test_version_and_help(self):
@@ -135,7 +177,12 @@ class Rules(Command):
                 self.assertTrue(action.help and len(action.help) > 8, (name, action.dest))
 
     def test_what_is_no_place_and_no_rule(self):
-        for arguments in (["compare", FLIGHTS, 0, "burst(x)"], ["drop", FLIGHTS, "ans() :- never"], ["reduce", FLIGHTS, 0, "x"], ["show", FLIGHTS, "1.5"]):
+        for arguments in (
+            ["compare", FLIGHTS, 0, "burst(x)"],
+            ["drop", FLIGHTS, "ans() :- never"],
+            ["reduce", FLIGHTS, 0, "x"],
+            ["show", FLIGHTS, "1.5"],
+        ):
             status, out, err = run(*arguments)
             self.assertEqual((status, out), (2, ""))
             self.assertRegex(err, "is neither a place, 0 to 7, nor a rule|is not a place; places go from 0 to 7")

@@ -4,6 +4,7 @@ import csv
 import importlib.util
 import io
 import json
+import os
 import random
 import sqlite3
 import subprocess
@@ -73,7 +74,9 @@ class Data(Command):
             self.write("a.data", rows),
             self.write("b.data", rows.replace("(", "(\n  ")),
             self.csv("launch,number,site,further\n" + cells, "Flight; HEIGHT \n" + heights),
-            self.csv("\ufefflaunch,number,site,further\r\n\r\n" + cells.replace("\n", "\r\n"), "flight\theight\n" + heights.replace(";", "\t")),
+            self.csv(
+                "\ufefflaunch,number,site,further\r\n\r\n" + cells.replace("\n", "\r\n"), "flight\theight\n" + heights.replace(";", "\t")
+            ),
             self.sqlite(),
         ]
 
@@ -84,7 +87,8 @@ class Files(Data):
             with self.subTest(source=str(source)):
                 self.assertEqual(self.done("test", self.text, source), "Obeys: 6 rows, 3 dependencies\n")
                 self.assertEqual(
-                    self.done("evaluate", self.text, 0, source), "ans('F-1', 31200.5, 2026-01-14)\nans('F-3', 30000.25, 2026-01-14)\n# 2 answers\n"
+                    self.done("evaluate", self.text, 0, source),
+                    "ans('F-1', 31200.5, 2026-01-14)\nans('F-3', 30000.25, 2026-01-14)\n# 2 answers\n",
                 )
                 self.assertEqual(self.done("evaluate", self.text, 1, source, "--format", "csv"), 'p\nDe Bilt\n"Lindenberg, D"\n')
                 self.assertEqual(self.done("evaluate", self.text, 2, source), "ans('F-1')\n# 1 answer\n")
@@ -117,7 +121,11 @@ class Files(Data):
 
     def test_standard_input(self):
         program = [sys.executable, str(context.HERE.parent / "program")]
-        done = subprocess.run([*program, "evaluate", self.text, "2", "-"], input=b"burst('F-1', 31200.5)\nflight('F-1', 'x', 2026-01-14)\n", capture_output=True)
+        done = subprocess.run(
+            [*program, "evaluate", self.text, "2", "-"],
+            input=b"burst('F-1', 31200.5)\nflight('F-1', 'x', 2026-01-14)\n",
+            capture_output=True,
+        )
         self.assertEqual((done.returncode, done.stdout, done.stderr), (0, b"ans('F-1')\n# 1 answer\n", b""))
         done = subprocess.run([*program, "unpack", "-"], input=Path(self.text).read_bytes(), capture_output=True)
         self.assertEqual(pack(done.stdout.decode())[0], self.record)
@@ -127,14 +135,25 @@ class Files(Data):
     def test_the_samples(self):
         text, folder = context.SAMPLES / "soundings.text", context.SAMPLES / "soundings"
         self.assertEqual(self.done("test", text, folder), "Obeys: 9 rows, 6 dependencies\n")
-        self.assertEqual(self.done("evaluate", text, 0, folder), "ans('F-101', 31200.5, 'Graw')\nans('F-103', 30410.25, 'Vaisala')\n# 2 answers\n")
+        self.assertEqual(
+            self.done("evaluate", text, 0, folder), "ans('F-101', 31200.5, 'Graw')\nans('F-103', 30410.25, 'Vaisala')\n# 2 answers\n"
+        )
 
     def test_nulls(self):
         cells = self.csv("number,site,launch\nF-1,De Bilt,2026-01-14\n\nF-2,,2026-01-14\n")
-        self.failed(f"{cells}/flight.csv:4: column site: the cell is empty (NULL); say what it stands for with --null VALUE", "test", self.text, cells)
+        self.failed(
+            f"{cells}/flight.csv:4: column site: the cell is empty (NULL); say what it stands for with --null VALUE",
+            "test",
+            self.text,
+            cells,
+        )
         base = self.sqlite(flights=[*FLIGHTS, ("F-4", None, "2026-01-16")])
         self.failed(
-            f"{base}: row 4 of flight, column site: NULL in flight('F-4', NULL, '2026-01-16'); say what it stands for with --null VALUE", "evaluate", self.text, 1, base
+            f"{base}: row 4 of flight, column site: NULL in flight('F-4', NULL, '2026-01-16'); say what it stands for with --null VALUE",
+            "evaluate",
+            self.text,
+            1,
+            base,
         )
         for null, shown in [("unknown", "'unknown'"), ("''", "''"), ("0", "0"), ("-1.5", "-1.5"), ("2026-01-01", "2026-01-01")]:
             self.assertIn(f"ans({shown})\n", self.done("evaluate", self.text, 1, cells, f"--null={null}"))
@@ -151,11 +170,17 @@ class Files(Data):
         )
         self.assertEqual(self.done("test", self.text, cells, status=1).splitlines()[0], "Breaks burst: flight -> height (dependency 2):")
         base = self.sqlite(bursts=[*BURSTS, ("F-2", 1)])
-        self.assertIn(f"  {base}: row 2 of Burst: burst('F-2', 29000)\n  {base}: row 4 of Burst: burst('F-2', 1)\n", self.done("test", self.text, base, status=1))
+        self.assertIn(
+            f"  {base}: row 2 of Burst: burst('F-2', 29000)\n  {base}: row 4 of Burst: burst('F-2', 1)\n",
+            self.done("test", self.text, base, status=1),
+        )
 
     def test_lines_of_rows_with_line_breaks(self):
         cells = self.csv(flight='number,site,launch\n"a\nb",x,1\n\n\nc,x,1\nc,x,2\n')
-        self.assertIn(f"  {cells}/flight.csv:6: flight('c', 'x', 1)\n  {cells}/flight.csv:7: flight('c', 'x', 2)\n", self.done("test", self.text, cells, status=1))
+        self.assertIn(
+            f"  {cells}/flight.csv:6: flight('c', 'x', 1)\n  {cells}/flight.csv:7: flight('c', 'x', 2)\n",
+            self.done("test", self.text, cells, status=1),
+        )
 
     def test_what_cannot_be_read(self):
         header = "number,site,launch\n"
@@ -172,11 +197,18 @@ class Files(Data):
             cells = self.csv(flight)
             self.failed(f"{cells}/{message}", "test", self.text, cells)
         empty = self.folder_of()
-        self.failed(f"{empty}: there is no CSV file of a table of the archive here; it may have flight.csv, burst.csv", "test", self.text, empty)
+        self.failed(
+            f"{empty}: there is no CSV file of a table of the archive here; it may have flight.csv, burst.csv", "test", self.text, empty
+        )
         self.failed("the data has no table burst, which a dependency speaks of; ", "test", self.text, self.folder_of(flight=header))
         self.failed("the data has no table burst, which the query asks for; ", "evaluate", self.text, 0, self.folder_of(flight=header))
         self.assertEqual(self.done("evaluate", self.text, 1, self.folder_of(flight=header)), "# 0 answers\n")
-        self.failed(f"{self.folder}/kite.csv: the archive has no table of that name; a CSV file is called flight.csv, burst.csv", "test", self.text, self.folder / "kite.csv")
+        self.failed(
+            f"{self.folder}/kite.csv: the archive has no table of that name; a CSV file is called flight.csv, burst.csv",
+            "test",
+            self.text,
+            self.folder / "kite.csv",
+        )
         both = self.csv()
         (both / "FLIGHT.csv").write_text(header)
         self.failed(f"{both}: FLIGHT.csv and flight.csv are both for the table flight", "test", self.text, both)
@@ -195,7 +227,9 @@ class Files(Data):
         connection.close()
         self.failed(f"{other}: table flight: there is no column launch; there is number, site", "test", self.text, other)
         blob = self.sqlite("UPDATE flight SET site = x'00ff' WHERE number = 'F-2'")
-        self.failed(f"{blob}: row 2 of flight, column site: a value must be a number, a text or a date, not b'\\x00\\xff'", "test", self.text, blob)
+        self.failed(
+            f"{blob}: row 2 of flight, column site: a value must be a number, a text or a date, not b'\\x00\\xff'", "test", self.text, blob
+        )
         wrong = self.sqlite("UPDATE flight SET site = CAST(x'ff' AS TEXT) WHERE number = 'F-2'")
         self.failed(f"{wrong}: SQLite says: Could not decode to UTF-8", "test", self.text, wrong)
 
@@ -224,17 +258,24 @@ class Files(Data):
         status, out, err = run("evaluate", self.text, 1, cells)
         self.assertEqual((status, out), (0, "ans(1.1)\nans('007')\n# 2 answers\n"))
         self.assertIn("flight.csv: 1.1 and 1.10 are one number in flight.site; if they are no numbers, say --text flight.site", err)
-        self.assertEqual(self.done("evaluate", self.text, 1, cells, "--text", "flight.site"), "ans('007')\nans('1.1')\nans('1.10')\n# 3 answers\n")
+        self.assertEqual(
+            self.done("evaluate", self.text, 1, cells, "--text", "flight.site"), "ans('007')\nans('1.1')\nans('1.10')\n# 3 answers\n"
+        )
 
     def test_formats(self):
         data = self.write("x.data", "flight(1, 'a\"b,c', 2026-01-14)\nflight(2, '', 3)\n")
         rule = "ans(p, p, 'k', f, v9) :- flight(f, p, v9)"
         self.assertEqual(
-            self.done("evaluate", self.text, rule, data, "--format", "csv"), 'p,p_2,constant2,f,launch\n,,k,2,3\n"a""b,c","a""b,c",k,1,2026-01-14\n'
+            self.done("evaluate", self.text, rule, data, "--format", "csv"),
+            'p,p_2,constant2,f,launch\n,,k,2,3\n"a""b,c","a""b,c",k,1,2026-01-14\n',
         )
         found = json.loads(self.done("evaluate", self.text, rule, data, "--format", "json"))
         self.assertEqual(found[1], {"p": 'a"b,c', "p_2": 'a"b,c', "constant2": "k", "f": 1, "launch": "2026-01-14"})
-        for kind, yes, no in [("csv", "answer\nyes\n", "answer\n"), ("json", "[\n  {}\n]\n", "[]\n"), ("rows", "ans()\n# 1 answer\n", "# 0 answers\n")]:
+        for kind, yes, no in [
+            ("csv", "answer\nyes\n", "answer\n"),
+            ("json", "[\n  {}\n]\n", "[]\n"),
+            ("rows", "ans()\n# 1 answer\n", "# 0 answers\n"),
+        ]:
             self.assertEqual(self.done("evaluate", self.text, "ans() :- flight(1, p, t)", data, "--format", kind), yes)
             self.assertEqual(self.done("evaluate", self.text, "ans() :- flight(9, p, t)", data, "--format", kind), no)
         self.assertEqual(self.done("evaluate", self.text, "ans(_, _) :- never", data, "--format", "csv"), "column0,column1\n")
@@ -243,7 +284,10 @@ class Files(Data):
 class FromPython(Data):
     def setUp(self):
         super().setUp()
-        self.data = {"flight": [("F-1", "De Bilt", date(2026, 1, 14)), ("F-2", "x", None)], "burst": [{"height": Decimal("31200.5"), "flight": "F-1"}]}
+        self.data = {
+            "flight": [("F-1", "De Bilt", date(2026, 1, 14)), ("F-2", "x", None)],
+            "burst": [{"height": Decimal("31200.5"), "flight": "F-1"}],
+        }
 
     def test_rows(self):
         with self.assertRaisesRegex(DataError, "flight: column launch, row 1: there is no value here"):
@@ -254,7 +298,10 @@ class FromPython(Data):
         self.assertEqual(self.record.evaluate("ans(t) :- flight(f, p, t)", data), [(date(2026, 1, 14),), ("none",)])
         self.assertEqual(self.record.test({"burst": [(1, 2), (1, 3)]}), Broken(2, 0, 1))
         self.assertEqual(self.record.evaluate(1, {"flight": []}), [])
-        self.assertEqual(self.record.evaluate(1, {"flight": [(1, 3.0, 1), (1, 2.5, 1), (1, -4, 1), (1, "a", 1), (1, 2**40, 1)]}), [(-4,), (2.5,), (3,), (2**40,), ("a",)])
+        self.assertEqual(
+            self.record.evaluate(1, {"flight": [(1, 3.0, 1), (1, 2.5, 1), (1, -4, 1), (1, "a", 1), (1, 2**40, 1)]}),
+            [(-4,), (2.5,), (3,), (2**40,), ("a",)],
+        )
         self.assertEqual(len(self.record.names.values), len(pack(TEXT)[1].values))
 
     def test_a_single_table(self):
@@ -277,11 +324,16 @@ class FromPython(Data):
 
     def test_wrong_rows(self):
         for data, message in [
-            ({"kite": []}, "there is no table 'kite'; there is flight, burst"), ({1: []}, "there is no table 1"),
-            ({"burst": 5}, "burst: rows must be a list, not 5"), ({"burst": [5]}, "burst, row 0: a row must be a list or a tuple, not 5"),
-            ({"burst": ["ab"]}, "burst, row 0: a row must be"), ({"burst": [(1, 2), (1,)]}, r"burst, row 1: burst\(flight, height\) has 2 columns, not 1"),
-            ({"burst": [{"flight": 1}]}, "burst, row 0: there is no column height; there is flight"), ({"burst": [(1, b"x")]}, "column height, row 0: a value must be"),
-            ({"burst": [(1, [2])]}, "column height, row 0: a value must be"), ({"burst": [(1, float("nan"))]}, "column height, row 0: there is no value"),
+            ({"kite": []}, "there is no table 'kite'; there is flight, burst"),
+            ({1: []}, "there is no table 1"),
+            ({"burst": 5}, "burst: rows must be a list, not 5"),
+            ({"burst": [5]}, "burst, row 0: a row must be a list or a tuple, not 5"),
+            ({"burst": ["ab"]}, "burst, row 0: a row must be"),
+            ({"burst": [(1, 2), (1,)]}, r"burst, row 1: burst\(flight, height\) has 2 columns, not 1"),
+            ({"burst": [{"flight": 1}]}, "burst, row 0: there is no column height; there is flight"),
+            ({"burst": [(1, b"x")]}, "column height, row 0: a value must be"),
+            ({"burst": [(1, [2])]}, "column height, row 0: a value must be"),
+            ({"burst": [(1, float("nan"))]}, "column height, row 0: there is no value"),
         ]:
             with self.subTest(data=repr(data)), self.assertRaisesRegex(DataError, message):
                 self.record.test(data)
@@ -291,7 +343,9 @@ class FromPython(Data):
         import numpy
 
         self.assertEqual(self.record.evaluate("ans(f, h) :- burst(f, h)", {"burst": numpy.array([[1, 2], [3, 4]])}), [(1, 2), (3, 4)])
-        self.assertEqual(self.record.evaluate("ans(h) :- burst(f, h)", {"burst": numpy.array([[1, -2], [3, 2**40]])}), [(-2,), (2**40,)])
+        self.assertEqual(
+            self.record.evaluate("ans(h) :- burst(f, h)", {"burst": numpy.array([[1, -2], [3, 2**40]])}), [(-2,), (2**40,)]
+        )
         self.assertEqual(self.record.evaluate("ans(h) :- burst(f, h)", {"burst": numpy.array([[1, 2.5], [3, 4]])}), [(2.5,), (4,)])
         named = numpy.array([(1.5, "x")], dtype=[("height", "f4"), ("flight", "U5")])
         self.assertEqual(self.record.evaluate("ans(f, h) :- burst(f, h)", {"burst": named}), [("x", 1.5)])
@@ -303,7 +357,9 @@ class FromPython(Data):
     def test_pandas(self):
         import pandas
 
-        frame = pandas.DataFrame({"launch": pandas.to_datetime(["2026-01-14", "2026-01-15"]), "number": ["F-1", "F-2"], "Site": ["De Bilt", "x"], "n": [1, 2]})
+        frame = pandas.DataFrame(
+            {"launch": pandas.to_datetime(["2026-01-14", "2026-01-15"]), "number": ["F-1", "F-2"], "Site": ["De Bilt", "x"], "n": [1, 2]}
+        )
         burst = pandas.DataFrame({"flight": ["F-1", "F-2"], "height": [31200.5, 7]})
         self.assertEqual(self.record.evaluate(0, {"flight": frame, "burst": burst}), [("F-1", Decimal("31200.5"), date(2026, 1, 14))])
         times = frame.assign(launch=pandas.to_datetime(["2026-01-14 11:45", None]))
@@ -319,7 +375,7 @@ class Random(Data):
     def test_values_instead_of_numbers(self):
         """Under other names for its values a database has the same answers and the same broken dependency, from every source."""
         rng = random.Random(14)
-        pool = ["Lindenberg", "it's, \"so\"", Decimal("12.5"), date(2026, 1, 14), 7, -1, 2**31, "007", 2_000_000_000, "a\nb"]
+        pool = ["Lindenberg", 'it\'s, "so"', Decimal("12.5"), date(2026, 1, 14), 7, -1, 2**31, "007", 2_000_000_000, "a\nb"]
         seen = set()
         for number in range(40):
             plain = context.random_record(rng, 3, 2, 2, most_rows=3, most_head=3, constants=len(pool))
@@ -329,9 +385,17 @@ class Random(Data):
                 named = named.add(dependency.relation, dependency.left, dependency.right)
             for place in plain.filled():
                 named = named.put(place, self.renamed(plain.queries[place], pool, named.names.values))
-            tables = {f"R{relation}": [[pool[value] for value in values] for r, values in rows if r == relation] for relation in range(len(plain.widths))}
+            tables = {
+                f"R{relation}": [[pool[value] for value in values] for r, values in rows if r == relation]
+                for relation in range(len(plain.widths))
+            }
             grouped = [(r, values) for relation in range(len(plain.widths)) for r, values in rows if r == relation]
-            for data in (named.database(tables), self.from_csv(number, tables, named), self.from_rows(tables, named), self.from_sqlite(number, tables, named)):
+            for data in (
+                named.database(tables),
+                self.from_csv(number, tables, named),
+                self.from_rows(tables, named),
+                self.from_sqlite(number, tables, named),
+            ):
                 self.assertEqual(named.test(data), plain.test(grouped))
                 seen.add(named.test(data) is None)
                 for place in plain.filled():
@@ -359,7 +423,9 @@ class Random(Data):
         return read_database([folder], record.names)
 
     def from_rows(self, tables, record):
-        return read_database([self.write("r.data", "".join(f"{format_datum(name, row)}\n" for name, rows in tables.items() for row in rows))], record.names)
+        return read_database(
+            [self.write("r.data", "".join(f"{format_datum(name, row)}\n" for name, rows in tables.items() for row in rows))], record.names
+        )
 
     def from_sqlite(self, number, tables, record):
         path = self.folder / f"random{number}.db"
@@ -367,7 +433,10 @@ class Random(Data):
         for name, rows in tables.items():
             columns = record.names.tables[int(name[1:])].columns
             connection.execute(f"CREATE TABLE {name} ({', '.join(columns)})")
-            kept = [[float(value) if isinstance(value, Decimal) else str(value) if isinstance(value, date) else value for value in row] for row in rows]
+            kept = [
+                [float(value) if isinstance(value, Decimal) else str(value) if isinstance(value, date) else value for value in row]
+                for row in rows
+            ]
             connection.executemany(f"INSERT INTO {name} VALUES ({', '.join('?' * len(columns))})", kept)
         connection.commit()
         connection.close()
@@ -389,8 +458,36 @@ class Large(Data):
         self.assertLess(time.process_time() - start, 5)
         self.assertEqual((len(database), len(database.words)), (2 * n, 7 * n))
         first = next(position for position in range(0, 2 * n, 1000) if database.stands(position).relation == 1)
-        self.assertEqual(database.stands(first + 70_001), (f"{cells}/burst.csv:{first % n + 70_003}", 1, (first % n + 70_001, Decimal(f"{(first % n + 70_001) % 977}.5"))))
+        self.assertEqual(
+            database.stands(first + 70_001),
+            (f"{cells}/burst.csv:{first % n + 70_003}", 1, (first % n + 70_001, Decimal(f"{(first % n + 70_001) % 977}.5"))),
+        )
         self.assertIsNone(self.record.test(database))
+
+    @unittest.skipUnless(os.environ.get("SPERNEVAN_TEST_LONG"), "takes a minute; SPERNEVAN_TEST_LONG=1 runs it")
+    def test_a_million_rows(self):
+        """A million rows in seconds, from each kind of file, with texts, dates and as many different keys as rows."""
+        n = 500_000
+        flights = [(f"F-{k}", f"site {k % 50}", f"2026-01-{k % 28 + 1:02d}") for k in range(n)]
+        bursts = [(f"F-{k}", k % 977 + 0.5) for k in range(n)]
+        sources = {
+            "CSV": self.csv(
+                "number,site,launch\n" + "".join(f"{a},{b},{c}\n" for a, b, c in flights),
+                "flight,height\n" + "".join(f"{a},{b}\n" for a, b in bursts),
+            ),
+            "SQLite": self.sqlite(flights=flights, bursts=bursts),
+            "rows of text": self.write(
+                "l.data",
+                "".join(f"flight('{a}', '{b}', {c})\n" for a, b, c in flights) + "".join(f"burst('{a}', {b})\n" for a, b in bursts),
+            ),
+        }
+        for kind, source in sources.items():
+            start = time.process_time()
+            database = read_database([source], self.names)
+            took = time.process_time() - start
+            print(f"\n{kind}: {len(database)} rows in {took:.1f} s", file=sys.stderr)
+            self.assertEqual(len(database), 2 * n)
+            self.assertLess(took, 30)
 
     def test_progress(self):
         class Terminal(io.StringIO):

@@ -48,7 +48,11 @@ class Writing(Lost):
         def small():
             resource.setrlimit(resource.RLIMIT_FSIZE, (0, 0))
 
-        for arguments in (["pack", self.new, self.file], ["put", self.file, "1", "ans(x) :- flight(x, y)"], ["unpack", self.file, self.old]):
+        for arguments in (
+            ["pack", self.new, self.file],
+            ["put", self.file, "1", "ans(x) :- flight(x, y)"],
+            ["unpack", self.file, self.old],
+        ):
             done = subprocess.run([*PROGRAM, *map(str, arguments)], capture_output=True, preexec_fn=small)
             self.assertEqual((done.returncode, done.stdout), (2, b""))
             self.assertEqual(done.stderr.decode(), f"spernevan: {arguments[-1] if arguments[0] != 'put' else self.file}: File too large\n")
@@ -56,7 +60,11 @@ class Writing(Lost):
 
     def test_a_full_output(self):
         with open("/dev/full", "wb") as full:
-            for arguments in (["list", FLIGHTS], ["pack", self.old, "-"], ["evaluate", FLIGHTS, "5", str(context.SAMPLES / "flights.data")]):
+            for arguments in (
+                ["list", FLIGHTS],
+                ["pack", self.old, "-"],
+                ["evaluate", FLIGHTS, "5", str(context.SAMPLES / "flights.data")],
+            ):
                 done = subprocess.run([*PROGRAM, *arguments], stdout=full, stderr=subprocess.PIPE)
                 self.assertEqual((done.returncode, done.stderr), (2, b"spernevan: output: No space left on device\n"))
 
@@ -137,13 +145,18 @@ class Parting(Lost):
 
     def test_every_change_writes_both(self):
         for arguments in (
-            ["put", self.file, 3, "ans(a, b) :- flight(a, b), flight(a, 'Lindenberg')"], ["add", self.file, "flight: number -> sonde"],
-            ["reduce", self.file, 3, 5], ["drop", self.file, 0],
+            ["put", self.file, 3, "ans(a, b) :- flight(a, b), flight(a, 'Lindenberg')"],
+            ["add", self.file, "flight: number -> sonde"],
+            ["reduce", self.file, 3, 5],
+            ["drop", self.file, 0],
         ):
             self.done(*arguments)
             record = Record.read(self.file)
             self.assertEqual(record.names.tables[0].name, "flight")
-        self.assertIn("3: ans(a, b) :- flight(a, b), flight(a, 'Lindenberg')\n5: ans(a, 'Lindenberg') :- flight(a, 'Lindenberg')\n", self.done("unpack", self.file))
+        self.assertIn(
+            "3: ans(a, b) :- flight(a, b), flight(a, 'Lindenberg')\n5: ans(a, 'Lindenberg') :- flight(a, 'Lindenberg')\n",
+            self.done("unpack", self.file),
+        )
         self.assertEqual(self.names.read_text().splitlines()[2:], ["3: a, b", "5: a", "2000000000 = 'Lindenberg'"])
 
     def test_from_python(self):
@@ -183,7 +196,12 @@ class Parting(Lost):
 
 class Processes(Lost):
     def test_errors_can_be_pickled(self):
-        for error in (NotationError("a.text", 3, 4, "a comma is missing"), Refused(11), Refused(11, "place 4 is vacant"), files.Failure("x")):
+        for error in (
+            NotationError("a.text", 3, 4, "a comma is missing"),
+            Refused(11),
+            Refused(11, "place 4 is vacant"),
+            files.Failure("x"),
+        ):
             again = pickle.loads(pickle.dumps(error))
             self.assertEqual((type(again), str(again), vars(again)), (type(error), str(error), vars(error)))
 

@@ -30,7 +30,9 @@ class Program(unittest.TestCase):
     def slow(self):
         """An evaluation that takes far longer than a test."""
         text = self.folder / "slow.text"
-        rows = ", ".join(f"edge(x{a}, x{b})" for a, b in [(0, 1), (1, 2), (2, 3), (3, 4), (4, 5), (5, 6), (6, 7), (0, 3), (1, 5), (2, 6), (4, 7), (0, 7)])
+        rows = ", ".join(
+            f"edge(x{a}, x{b})" for a, b in [(0, 1), (1, 2), (2, 3), (3, 4), (4, 5), (5, 6), (6, 7), (0, 3), (1, 5), (2, 6), (4, 7), (0, 7)]
+        )
         text.write_text(f"edge(a, b)\n0: ans(x0, x1, x2, x3, x4, x5, x6, x7) :- {rows}\n")
         data = self.folder / "slow.data"
         data.write_text("".join(f"edge({a}, {b})\n" for a in range(120) for b in range(120)))
@@ -50,7 +52,12 @@ class Program(unittest.TestCase):
 
         data = self.folder / "many.data"
         data.write_text("".join(f"burst({n}, {n})\n" for n in range(20000)))
-        for arguments in (["evaluate", FLIGHTS, "5", DATA], ["evaluate", FLIGHTS, "1", str(data)], ["test", FLIGHTS, str(data)], ["list", FLIGHTS]):
+        for arguments in (
+            ["evaluate", FLIGHTS, "5", DATA],
+            ["evaluate", FLIGHTS, "1", str(data)],
+            ["test", FLIGHTS, str(data)],
+            ["list", FLIGHTS],
+        ):
             done = subprocess.run([*PROGRAM, *arguments], capture_output=True, preexec_fn=small)
             self.assertEqual((done.returncode, done.stderr), (0, b""))
 
@@ -59,7 +66,9 @@ class Program(unittest.TestCase):
         found = []
         before = threading.stack_size(256 * 1024)
         try:
-            threads = [threading.Thread(target=lambda: found.append(record.evaluate(1, [(4, (n, n)) for n in range(9000)]))) for _ in range(3)]
+            threads = [
+                threading.Thread(target=lambda: found.append(record.evaluate(1, [(4, (n, n)) for n in range(9000)]))) for _ in range(3)
+            ]
             for thread in threads:
                 thread.start()
         finally:
@@ -110,8 +119,10 @@ class Program(unittest.TestCase):
         cells = self.folder / "burst.csv"
         cells.write_text("flight,height\n" + "".join(f"{n},{n}\n" for n in range(120_000)))
         ours, theirs = pty.openpty()
-        code = f"import sys; sys.path.insert(0, {str(context.HERE.parent)!r}); import spernevan.data as d; real = d.time.monotonic; " \
+        code = (
+            f"import sys; sys.path.insert(0, {str(context.HERE.parent)!r}); import spernevan.data as d; real = d.time.monotonic; "
             "d.time.monotonic = lambda: real() * 1000; from spernevan.command import main; sys.exit(main(sys.argv[1:]))"
+        )
         text = self.folder / "a.text"
         text.write_text("burst(flight, height)\n")
         arguments = [sys.executable, "-c", code, "test", str(text), str(cells)]
@@ -149,7 +160,9 @@ class Install(unittest.TestCase):
         done = subprocess.run([program, "evaluate", "flights.file", "5", "flights.data"], capture_output=True, cwd=self.folder, env=bare)
         self.assertEqual((done.returncode, done.stdout, done.stderr), (0, b"ans(101, 31200)\nans(102, 29850)\n# 2 answers\n", b""))
         code = "import spernevan; print(spernevan.__file__, spernevan.__version__)"
-        done = subprocess.run([self.folder / "venv" / "bin" / "python", "-c", code], capture_output=True, text=True, cwd=self.folder, env=bare, check=True)
+        done = subprocess.run(
+            [self.folder / "venv" / "bin" / "python", "-c", code], capture_output=True, text=True, cwd=self.folder, env=bare, check=True
+        )
         return done.stdout
 
     def test_the_wheel(self):
@@ -169,7 +182,10 @@ class Types(unittest.TestCase):
     def test_strict(self):
         with tempfile.TemporaryDirectory() as cache:
             done = subprocess.run(
-                ["mypy", "--strict", "--cache-dir", cache, "spernevan", "backend.py"], cwd=context.HERE.parent, capture_output=True, text=True
+                ["mypy", "--strict", "--cache-dir", cache, "spernevan", "backend.py"],
+                cwd=context.HERE.parent,
+                capture_output=True,
+                text=True,
             )
         self.assertEqual((done.returncode, done.stderr), (0, ""), done.stdout)
 

@@ -26,8 +26,22 @@ class Codes(unittest.TestCase):
 
     def test_every_value_comes_back(self):
         values = Values()
-        given = ["Lindenberg", "", "7", "007", "a'b\n\"", Decimal("12.50"), Decimal("-0.001"), -1, 2**31, 10**30, date(2026, 1, 14),
-                 datetime(2026, 1, 14, 11, 45), 2_000_000_005, 2**31 - 1]
+        given = [
+            "Lindenberg",
+            "",
+            "7",
+            "007",
+            "a'b\n\"",
+            Decimal("12.50"),
+            Decimal("-0.001"),
+            -1,
+            2**31,
+            10**30,
+            date(2026, 1, 14),
+            datetime(2026, 1, 14, 11, 45),
+            2_000_000_005,
+            2**31 - 1,
+        ]
         codes = [values.encode(value) for value in given]
         self.assertEqual([values.decode(code) for code in codes], given)
         self.assertEqual(len(set(codes)), len(codes))
@@ -85,17 +99,50 @@ class Codes(unittest.TestCase):
 class Written(unittest.TestCase):
     def test_cells(self):
         for cell, value in [
-            ("7", 7), ("0", 0), ("-3", -3), ("007", "007"), ("06610", "06610"), ("+7", "+7"), ("1_000", "1_000"), ("12.5", Decimal("12.5")),
-            ("-0.25", Decimal("-0.25")), ("13.00", 13), ("1e-05", Decimal("1e-05")), ("52E10", "52E10"), ("1.5E3", 1500), (" 7 ", 7),
-            ("2026-01-14", date(2026, 1, 14)), ("2026-02-30", "2026-02-30"), ("Lindenberg", "Lindenberg"), (" x ", " x "), (".5", ".5"),
-            ("\u0663", "\u0663"), ("-", "-"), ("1.", "1."), ("9" * 2000, "9" * 2000), ("2026-01-14 11:45", "2026-01-14 11:45"),
+            ("7", 7),
+            ("0", 0),
+            ("-3", -3),
+            ("007", "007"),
+            ("06610", "06610"),
+            ("+7", "+7"),
+            ("1_000", "1_000"),
+            ("12.5", Decimal("12.5")),
+            ("-0.25", Decimal("-0.25")),
+            ("13.00", 13),
+            ("1e-05", Decimal("1e-05")),
+            ("52E10", "52E10"),
+            ("1.5E3", 1500),
+            (" 7 ", 7),
+            ("2026-01-14", date(2026, 1, 14)),
+            ("2026-02-30", "2026-02-30"),
+            ("Lindenberg", "Lindenberg"),
+            (" x ", " x "),
+            (".5", ".5"),
+            ("\u0663", "\u0663"),
+            ("-", "-"),
+            ("1.", "1."),
+            ("9" * 2000, "9" * 2000),
+            ("2026-01-14 11:45", "2026-01-14 11:45"),
         ]:
             with self.subTest(cell=cell[:20]):
                 self.assertEqual(read_cell(cell), value)
                 self.assertIs(type(read_cell(cell)), type(value))
 
     def test_literals(self):
-        for value in ["Lindenberg", "", "it's", 'a "b"', "line\nbreak", "\u00e5", "\x7f", Decimal("12.50"), Decimal("1e-30"), -5, 10**40, date(2026, 1, 14)]:
+        for value in [
+            "Lindenberg",
+            "",
+            "it's",
+            'a "b"',
+            "line\nbreak",
+            "\u00e5",
+            "\x7f",
+            Decimal("12.50"),
+            Decimal("1e-30"),
+            -5,
+            10**40,
+            date(2026, 1, 14),
+        ]:
             self.assertEqual(read_literal(format_value(value)), value)
             query = parse_query(f"ans(x) :- flight(x, {format_value(value)})", Names(NAMES))
             self.assertEqual(len(query.rows), 1)
