@@ -10,7 +10,7 @@ from typing import Callable, Dict, List, Optional, Sequence, Tuple, Union
 
 from .data import Database
 from .engine import Refused
-from .files import FILE_BYTES, Failure, is_text, names_path, read_bytes, read_names_beside, shown, standard_input, text_of, write_files
+from .files import FILE_BYTES, Failure, is_text, names_path, read_bytes, read_names_beside, read_while, shown, standard_input, text_of, write_files
 from .layout import answer_columns, comparison_json, reduction_json, set_mapping, set_reduction, set_tables, write_answers
 from .model import FROZEN, PLACES
 from .notation import Names, NotationError, Reader, constants, count, format_columns, format_datum, format_dependency, format_query, parse_rule
@@ -29,12 +29,11 @@ Options = argparse.Namespace
 
 def load_record(file: str, names: Optional[str] = None, plain: bool = False) -> Tuple[Record, bool]:
     """The record of an archive file or of a text, and whether it was a text."""
-    data = read_bytes(file, FILE_BYTES) if file != "-" else standard_input().read(FILE_BYTES)
-    if is_text(data):
-        whole = data + standard_input().read() if file == "-" else read_bytes(file)
+    data, text = read_while(file, FILE_BYTES, is_text)
+    if text:
         if names is not None:
             raise Failure(f"{shown(file)} is a text, which has its names in it; --names is for archive files")
-        record, _ = pack(text_of(whole, file), shown(file))
+        record, _ = pack(text_of(data, file), shown(file))
         return (Record(record.file) if plain else record), True
     if not data:
         raise Failure(f"{shown(file)} is empty: neither an archive file nor the text of one")

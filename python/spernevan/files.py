@@ -9,8 +9,8 @@ import shutil
 import signal
 import stat
 import sys
-from contextlib import contextmanager
-from typing import BinaryIO, Iterator, List, Optional, Sequence, Tuple, Union
+from contextlib import contextmanager, nullcontext
+from typing import BinaryIO, Callable, ContextManager, Iterator, List, Optional, Sequence, Tuple, Union
 
 from .notation import NamesFile, read_names_file
 
@@ -41,12 +41,25 @@ def standard_input() -> BinaryIO:
     return sys.stdin.buffer
 
 
+def _opened(path: Path) -> ContextManager[BinaryIO]:
+    """A file to read, or standard input for `-`, which stays open."""
+    if path == "-":
+        return nullcontext(standard_input())
+    return open(path, "rb")
+
+
 def read_bytes(path: Path, most: int = -1) -> bytes:
     """The bytes of a file, or of standard input for `-`."""
-    if path == "-":
-        return standard_input().read(most)
-    with open(path, "rb") as file:
+    with _opened(path) as file:
         return file.read(most)
+
+
+def read_while(path: Path, size: int, wanted: Callable[[bytes], bool]) -> Tuple[bytes, bool]:
+    """The first bytes of a file, and whether they are wanted; if so, the whole file. It is read once, so that a pipe will do."""
+    with _opened(path) as file:
+        data = file.read(size)
+        good = wanted(data)
+        return (data + file.read() if good else data), good
 
 
 def text_of(data: bytes, path: Path) -> str:

@@ -19,7 +19,7 @@ from urllib.request import pathname2url
 
 from .data import CHUNK, Cells, Database, DataError, Progress, Where, matched, positions
 from .engine import Words
-from .files import Path, read_bytes, shown, text_of
+from .files import Path, read_bytes, read_while, shown, text_of
 from .notation import Names, Reader, Table, count, format_row
 from .values import Null, Value, format_value
 
@@ -75,8 +75,8 @@ def _read(path: Path, database: Database, kept: AbstractSet[Tuple[int, int]]) ->
             raise DataError(f"{name}: the archive has no table of that name; a CSV file is called {known}")
         read_csv(name, relation, database, kept)
         return
-    data = read_bytes(path)
-    if data.startswith(b"SQLite format 3\0"):
+    data, other = read_while(path, 16, lambda start: start != b"SQLite format 3\0")
+    if not other:
         if name == "-":
             raise DataError("an SQLite file cannot be read from standard input; give its name")
         read_sqlite(name, database)

@@ -158,6 +158,12 @@ class Rules(Command):
         self.failed(f"{text} is a text, which has its names in it; --names is for archive files", "list", "--names", "x", text)
         self.failed(f"{DATA}:2:8: the name of a column was expected, not '101'", "list", DATA)
 
+    def test_pipes_as_files(self):
+        """A file that can be read only once."""
+        script = '"$1" "$2" evaluate <(cat "$3") 5 <(cat "$4")'
+        done = subprocess.run(["bash", "-c", script, "bash", *PROGRAM, context.SAMPLES / "flights.text", DATA], capture_output=True)
+        self.assertEqual((done.returncode, done.stdout, done.stderr), (0, b"ans(101, 31200)\nans(102, 29850)\n# 2 answers\n", b""))
+
     def test_keys_and_short_forms(self):
         record, _ = pack("layer(flight*, level*, height, temperature)\nburst(flight*, height)\nburst: height -> flight, height\n")
         self.assertEqual(
