@@ -325,9 +325,8 @@ def pack_command(options: Options) -> int:
         say("spernevan: standard output has the archive without the names")
         return YES
     path = names_path(options.file)
-    real = [os.path.realpath(name) for name in (options.text, options.file, path)]
-    if len(set(real)) < 3:
-        raise Failure(f"{options.text}, {options.file} and {path} must be three files")
+    if os.path.realpath(path) == os.path.realpath(options.text):
+        raise Failure(f"{options.text} is where the names of {options.file} go: give the archive file another name")
     record.write(options.file)
     print(f"{options.file}: {len(record.file)} bytes; names in {path}")
     return YES
@@ -339,8 +338,8 @@ def unpack_command(options: Options) -> int:
     if options.text == "-":
         print(text, end="")
         return YES
-    if os.path.realpath(options.text) in [os.path.realpath(name) for name in (options.file, names_path(options.file))]:
-        raise Failure(f"{options.text} must be another file than the archive and its names")
+    if os.path.isfile(options.text):
+        raise Failure(f"{options.text} is there already, and may have comments that would be lost: write elsewhere, or remove it first")
     write_files([(options.text, text.encode())])
     print(f"{options.text}: {count(len(text.splitlines()), 'line')}")
     return YES

@@ -150,11 +150,14 @@ class Record:
     def write(self, path: Path) -> None:
         """Writes the archive file, and the names file beside it if there are names: both, or neither.
 
-        A names file that is there already is replaced; a record that has no names of its own then raises ValueError.
+        Those that are there already are replaced. ValueError if the file to be replaced is a text, or if
+        there is a names file and this record has no names of its own.
         """
         beside = names_path(path)
         if os.path.realpath(beside) == os.path.realpath(path):
             raise ValueError(f"{path} is a name for a names file; an archive file has another ending, such as .file")
+        if os.path.isfile(path) and is_text(read_bytes(path, FILE_BYTES)):
+            raise ValueError(f"{path} is a text, which an archive file does not replace: write elsewhere, or remove it first")
         files = [(path, engine.write(self.file))]
         names = self.own_names()
         if self._named or not names.is_default():

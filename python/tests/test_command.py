@@ -229,8 +229,8 @@ class Messages(Command):
         self.failed("nowhere.text: No such file", "pack", "nowhere.text", out)
         good = self.write("good.text", "\ufeffflight(a)\n")
         self.failed(f"{self.folder}/none/x.file: No such file", "pack", good, self.folder / "none" / "x.file")
-        for file in (good, self.folder / "x.names"):
-            self.failed(f"{good}, {file} and ", "pack", good, file)
+        self.failed(f"{good} is a text, which an archive file does not replace", "pack", good, good)
+        self.failed(f"{self.folder}/x.names is a name for a names file", "pack", good, self.folder / "x.names")
         self.assertEqual(Path(good).read_text(), "\ufeffflight(a)\n")
         self.done("pack", good, out)
 

@@ -51,7 +51,7 @@ class Writing(Lost):
         for arguments in (
             ["pack", self.new, self.file],
             ["put", self.file, "1", "ans(x) :- flight(x, y)"],
-            ["unpack", self.file, self.old],
+            ["unpack", self.file, self.folder / "fresh.text"],
         ):
             done = subprocess.run([*PROGRAM, *map(str, arguments)], capture_output=True, preexec_fn=small)
             self.assertEqual((done.returncode, done.stdout), (2, b""))
@@ -99,6 +99,20 @@ class Writing(Lost):
                 self.assertEqual(status, 2)
                 self.assertIn("Input/output error", err)
                 self.unchanged()
+
+    def test_a_text_is_not_replaced(self):
+        kept = "which an archive file does not replace: write elsewhere, or remove it first"
+        for arguments in (["pack", self.old, self.new], ["pack", self.old, self.old], ["drop", self.file, 0, "-o", self.old]):
+            self.failed(f"{arguments[-1]} is a text, {kept}", *arguments)
+        self.failed(f"{self.old} is there already, and may have comments that would be lost", "unpack", self.file, self.old)
+        self.failed(f"{self.file} is there already", "unpack", self.file, self.file)
+        self.unchanged()
+        self.failed(f"{self.folder}/n.names is where the names of {self.folder}/n.file go", "pack", self.write("n.names", OLD), self.folder / "n.file")
+        with self.assertRaisesRegex(ValueError, kept):
+            Record.read(self.file).write(self.new)
+        fresh = self.folder / "fresh.text"
+        self.done("unpack", self.file, fresh)
+        self.assertEqual(pack(fresh.read_text())[0].file, self.file.read_bytes())
 
     def test_rights_and_links_stay(self):
         self.file.chmod(0o640)
