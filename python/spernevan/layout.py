@@ -4,7 +4,6 @@ from __future__ import annotations
 
 import csv
 import json
-import textwrap
 from datetime import date
 from decimal import Decimal
 from typing import Any, Dict, List, Optional, Sequence, TextIO, Tuple
@@ -93,8 +92,13 @@ def set_rule(query: Query, names: Names, variables: Variables) -> str:
 
 def set_mapping(mapping: Mapping, source: Variables, target: Variables, values: Values) -> str:
     """A mapping in lines that fit a page."""
-    held = format_mapping(mapping, source, target, values).replace(" -> ", "\xa0->\xa0") or "no variables"
-    return textwrap.fill(held, 76, initial_indent="    ", subsequent_indent="    ").replace("\xa0", " ")
+    pieces = [format_mapping({number: entry}, source, target, values) + "," for number, entry in sorted(mapping.items())] or ["no variables,"]
+    lines = ["   "]
+    for piece in pieces:
+        if len(lines[-1]) > 3 and len(f"{lines[-1]} {piece}") > 76:
+            lines.append("   ")
+        lines[-1] += f" {piece}"
+    return "\n".join(lines)[:-1]
 
 
 def set_tables(rows: Sequence[Tuple[int, Tuple[int, ...]]], names: Names) -> List[str]:

@@ -7,7 +7,8 @@ from datetime import date, datetime
 from decimal import Decimal
 
 import context  # noqa: F401
-from spernevan import Names, Table, Values, format_query, pack, parse_query, unpack
+from spernevan import Constant, Names, Table, Values, Variable, format_query, pack, parse_query, unpack
+from spernevan.layout import set_mapping
 from spernevan.values import FIRST_CODE, Null, format_value, read_cell, read_literal
 
 NAMES = (Table("flight", ("number", "site")),)
@@ -146,6 +147,15 @@ class Written(unittest.TestCase):
             self.assertEqual(read_literal(format_value(value)), value)
             query = parse_query(f"ans(x) :- flight(x, {format_value(value)})", Names(NAMES))
             self.assertEqual(len(query.rows), 1)
+
+
+class InMappings(unittest.TestCase):
+    def test_a_text_is_not_broken(self):
+        long = "a text, with  spaces -> and signs " * 4
+        mapping = {0: Variable(0), 1: Constant(Values().encode("x")), 2: Variable(1)}
+        values = Values([(FIRST_CODE, long)])
+        self.assertEqual(set_mapping(mapping, {}, {}, values), f"    v0 -> v0,\n    v1 -> '{long}',\n    v2 -> v1")
+        self.assertEqual(set_mapping({}, {}, {}, values), "    no variables")
 
 
 @context.with_engine
