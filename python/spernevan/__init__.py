@@ -1,27 +1,35 @@
 """Spernevan: shortens saved conjunctive queries with the dependencies that their tables obey.
 
-    from spernevan import Record, Names, parse_query, format_query
+    from spernevan import Record, Table
 
-    record = Record.open([2]).add(0, [0], 1)
-    names = Names.default(record.widths)
-    record = record.put(0, parse_query("ans(x, y, z) :- R0(x, y), R0(x, z)", names))
-    short = record.reduce(0, 1)
-    print(format_query(short.result, names))        # ans(v0, v1, v1) :- R0(v0, v1)
+    record = Record.open([Table("burst", ("flight", "height"))]).add("burst: flight -> height")
+    record = record.put(0, "ans(f, low, high) :- burst(f, low), burst(f, high)")
+    print(record.reduce(0, 1).record)               # .. 1: ans(f, low, low) :- burst(f, low)
+    print(record.evaluate(0, {"burst": [("F-101", 31200)]}))  # [('F-101', 31200, 31200)]
 """
 
+__version__ = "1.0.0"
+
+from .data import Database, DataError
 from .engine import EngineMissing, Refused
+from .files import Failure
 from .model import Constant, Dependency, Entry, Mapping, Query, Row, Variable
 from .notation import Names, NotationError, Table, format_mapping, format_query, parse_query, read_names
 from .record import Broken, Comparison, Record, Reduction
+from .sources import read_database
 from .text import pack, unpack
+from .values import Value, Values
 
 __all__ = [
     "Broken",
     "Comparison",
     "Constant",
+    "DataError",
+    "Database",
     "Dependency",
     "EngineMissing",
     "Entry",
+    "Failure",
     "Mapping",
     "Names",
     "NotationError",
@@ -31,11 +39,14 @@ __all__ = [
     "Refused",
     "Row",
     "Table",
+    "Value",
+    "Values",
     "Variable",
     "format_mapping",
     "format_query",
     "pack",
     "parse_query",
+    "read_database",
     "read_names",
     "unpack",
 ]

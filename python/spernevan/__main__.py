@@ -1,7 +1,5 @@
 """`python3 -m spernevan`."""
 
-import sys
+from .command import run
 
-from .command import main
-
-sys.exit(main())
+run()

@@ -1,16 +1,26 @@
 """The engine's C functions, called on bytes (include/spernevan.h).
 
 Each function here lends its own buffers, raises Refused for a number other than 0, and gives back
-what the call wrote. Numbers are checked before they are passed, since ctypes would cut them.
+what the call wrote. Numbers are checked before they are passed, since ctypes would cut them. The calls
+are made on threads with a large stack of their own, whatever stack the caller has.
 """
 
 from __future__ import annotations
 
 import ctypes
+import os
+import signal
+import threading
 from array import array
 from functools import lru_cache
 from pathlib import Path
-from typing import List, Optional, Tuple
+from queue import SimpleQueue
+from typing import TYPE_CHECKING, Any, Callable, List, Optional, Tuple, Type, Union
+
+if TYPE_CHECKING:
+    Words = array[int]
+else:
+    Words = array
 
 from .model import BYTE, VARIABLES, whole
 
@@ -20,17 +30,17 @@ MAPPING_WORDS = 2 * VARIABLES
 SIZE = ctypes.c_size_t(-1).value
 
 MEANINGS = {
-    1: "the file has under 2 bytes, a wrong number of parts, or no room for its pairs",
-    2: "a pair of the file breaks the offset rule",
-    3: "there must be 1 to 8 relations, each of 1 to 8 columns, and their part of the file as long as that",
-    4: "a dependency or a set of columns is unsound: its relation, its left columns (at least one) "
-    "and its right column must exist, and their part of the file be as long as that",
-    5: "the query is unsound: at most 8 head entries, 12 rows, variables to v95, constants to 2147483647, "
-    "relations that exist, its part of the file as long as that, and no vacant place at the end of the file",
+    1: "the file does not begin as an archive file does; it is cut short, or of another kind",
+    2: "the parts of the file do not follow one another to its end; it is cut short, or something was added to it",
+    3: "there must be 1 to 8 tables of 1 to 8 columns each, and in a file nothing else in their part",
+    4: "a dependency, or a set of columns, is wrong: its table and columns must exist, at least one of them on the left, "
+    "and in a file there are at most 32 and nothing else in their part",
+    5: "a query is wrong: at most 8 entries in the head, 12 rows, variables to v95, constants to 2147483647, "
+    "rows of tables that exist, and in a file nothing else in its part and no vacant place at the end",
     6: "a variable of the head is in no row",
     7: "the place is above 7",
     8: "the heads of the two queries have different lengths",
-    9: "a row of the database has an unknown relation or is cut short",
+    9: "a row of the database has an unknown table or is cut short",
     10: "the answers, or the file, are longer than the buffer lent for them",
     11: "the place is vacant",
     12: "the place to be filled is filled",
@@ -42,13 +52,16 @@ MEANINGS = {
 class Refused(Exception):
     """The engine turned a call down: `number` is the one that include/spernevan.h explains, `meaning` says it in words."""
 
-    def __init__(self, number: int) -> None:
+    def __init__(self, number: int, meaning: Optional[str] = None) -> None:
         self.number = number
-        self.meaning = MEANINGS.get(number, "this package does not know the number")
+        self.meaning: str = MEANINGS.get(number, "this package does not know the number") if meaning is None else meaning
         super().__init__(number)
 
     def __str__(self) -> str:
         return f"refused {self.number}: {self.meaning}"
+
+    def __reduce__(self) -> Tuple[Type[Refused], Tuple[int, str]]:
+        return type(self), (self.number, self.meaning)
 
 
 class EngineMissing(Exception):
@@ -86,7 +99,7 @@ _LIBRARY = Path(__file__).with_name("libspernevan.so")
 def _library() -> ctypes.CDLL:
     """The shared object beside this file, with the types of its functions set."""
     if not _LIBRARY.exists():
-        raise EngineMissing(f"{_LIBRARY} is not there; the command python/build makes it")
+        raise EngineMissing(f"the engine {_LIBRARY} is not there; the command python/build makes it")
     try:
         library = ctypes.CDLL(str(_LIBRARY))
         for name, types in _CALLS.items():
@@ -94,13 +107,77 @@ def _library() -> ctypes.CDLL:
             function.argtypes = types
             function.restype = ctypes.c_uint8
     except (OSError, AttributeError) as error:
-        raise EngineMissing(f"{_LIBRARY} cannot be used ({error}); the command python/build makes it anew") from None
+        raise EngineMissing(f"the engine {_LIBRARY} cannot be used ({error}); the command python/build makes it anew") from None
     return library
 
 
-def _call(name: str, *arguments: object) -> None:
+# The stack of a thread that calls the engine, which takes 5 MB of it at most.
+STACK_BYTES = 64 * 2**20
+
+_starting = threading.Lock()
+
+
+class _Worker:
+    """A thread that makes calls with a stack of STACK_BYTES."""
+
+    def __init__(self) -> None:
+        self._calls: SimpleQueue[Optional[Callable[[], int]]] = SimpleQueue()
+        self._numbers: SimpleQueue[Union[int, Exception]] = SimpleQueue()
+        with _starting:
+            before = threading.stack_size(STACK_BYTES)
+            try:
+                threading.Thread(target=self._run, name="spernevan", daemon=True).start()
+            except RuntimeError as error:
+                raise EngineMissing(f"there is no room for the engine's stack of {STACK_BYTES >> 20} MB ({error})") from None
+            finally:
+                threading.stack_size(before)
+
+    def _run(self) -> None:
+        signal.pthread_sigmask(signal.SIG_BLOCK, signal.valid_signals())  # Signals are for the thread that waits.
+        while True:
+            call = self._calls.get()
+            if call is None:
+                return
+            try:
+                self._numbers.put(call())
+            except Exception as error:
+                self._numbers.put(error)
+
+    def number(self, call: Callable[[], int]) -> int:
+        """What the call returns. An interrupt ends the waiting at once, and the thread when its call is done."""
+        self._calls.put(call)
+        try:
+            found = self._numbers.get()
+        except BaseException:
+            self._calls.put(None)
+            raise
+        if isinstance(found, Exception):
+            raise found
+        return found
+
+
+_idle: List[_Worker] = []
+
+
+def _after_fork() -> None:
+    """A forked process has none of the threads."""
+    global _starting
+    _starting = threading.Lock()
+    _idle.clear()
+
+
+os.register_at_fork(after_in_child=_after_fork)
+
+
+def _call(name: str, *arguments: Any) -> None:
     """Calls a C function; raises Refused for a number other than 0."""
-    number = getattr(_library(), f"spernevan_{name}")(*arguments)
+    function = getattr(_library(), f"spernevan_{name}")
+    try:
+        worker = _idle.pop()
+    except IndexError:
+        worker = _Worker()
+    number = worker.number(lambda: int(function(*arguments)))
+    _idle.append(worker)
     if number != 0:
         raise Refused(number)
 
@@ -121,7 +198,7 @@ def _place(value: int) -> int:
     return min(whole("a place", value), SIZE)
 
 
-def _words(words: array) -> Tuple[ctypes.Array, int]:
+def _words(words: Words) -> Tuple[ctypes.Array[ctypes.c_uint32], int]:
     """A lent array of 32-bit words, without a copy. No words have an address too: C may not be given null."""
     if not isinstance(words, array) or words.typecode != "I" or words.itemsize != 4:
         raise ValueError('words must be an array("I") of 32-bit numbers')
@@ -137,7 +214,7 @@ class _Room:
         self.buffer = (ctypes.c_uint8 * size)()
         self.length = ctypes.c_size_t()
 
-    def lent(self) -> Tuple[ctypes.Array, int, object]:
+    def lent(self) -> Tuple[ctypes.Array[ctypes.c_uint8], int, object]:
         return self.buffer, len(self.buffer), ctypes.byref(self.length)
 
     def bytes(self) -> bytes:
@@ -209,7 +286,7 @@ def compare(file: bytes, p: int, q: int) -> Tuple[int, List[int], bytes]:
     return verdict.value, list(mapping), room.bytes()
 
 
-def check(file: bytes, p: int, q: int, mapping: array) -> bool:
+def check(file: bytes, p: int, q: int, mapping: Words) -> bool:
     """Whether 192 words are a mapping from q's query to p's."""
     verdict = ctypes.c_uint8()
     if len(mapping) != MAPPING_WORDS:
@@ -218,7 +295,7 @@ def check(file: bytes, p: int, q: int, mapping: array) -> bool:
     return verdict.value == 1
 
 
-def test(file: bytes, words: array) -> Optional[Tuple[int, int, int]]:
+def test(file: bytes, words: Words) -> Optional[Tuple[int, int, int]]:
     """None if the database obeys; else the first broken dependency and its first pair of rows."""
     obeys = ctypes.c_uint8()
     found = [ctypes.c_size_t() for _ in range(3)]
@@ -228,7 +305,7 @@ def test(file: bytes, words: array) -> Optional[Tuple[int, int, int]]:
     return found[0].value, found[1].value, found[2].value
 
 
-def evaluate(file: bytes, place: int, words: array, room: int) -> Tuple[int, array]:
+def evaluate(file: bytes, place: int, words: Words, room: int) -> Tuple[int, Words]:
     """How many answers there are, and a buffer of `room` words that begins with them."""
     answers, count = array("I", [0]) * whole("the room for answers", room, 2**40), ctypes.c_size_t()
     _call("evaluate", *_slice(file), _place(place), *_words(words), *_words(answers), ctypes.byref(count))

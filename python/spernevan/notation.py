@@ -1,8 +1,8 @@
-"""Queries as rules, names of tables and columns, and rows of a database, as text.
+"""Queries as rules, and the names of tables, columns and variables, as text.
 
-A rule is `ans(x, 7, z) :- R0(x, 7, z), R0(x, y, w)`: the head, then the rows. A name is a variable,
-a decimal number a constant, `_` in a row a variable that occurs nowhere else. `ans()` is a head of
-length 0, and `ans(_, _) :- never` is never with a head of length 2.
+A rule is `ans(x, 7, z) :- R0(x, 7, z), R0(x, y, 'Lindenberg')`: the head, then the rows. A name is a
+variable; a number, a date or a text between quotes is a constant; `_` in a row is a variable that occurs
+nowhere else. `ans()` is a head of length 0, and `ans(_, _) :- never` is never with a head of length 2.
 
 `v0` to `v95` are the variables of those numbers. Every other name takes the lowest number that the
 rule does not use, in order of first occurrence. So a rule printed with v0, v1, .. is read back as the
@@ -16,17 +16,15 @@ from __future__ import annotations
 
 import re
 from dataclasses import dataclass, field
-from typing import Callable, Dict, Iterator, List, NamedTuple, Optional, Sequence, Tuple, TypeVar
+from typing import Dict, Iterable, List, NamedTuple, Optional, Sequence, Tuple, Union
 
 from .model import (
-    LARGEST_CONSTANT,
     MOST_COLUMNS,
     MOST_HEAD,
     MOST_RELATIONS,
     MOST_ROWS,
     PLACES,
     VARIABLES,
-    WORD,
     Constant,
     Dependency,
     Entry,
@@ -35,114 +33,10 @@ from .model import (
     Row,
     Variable,
 )
+from .scan import NotationError, Reader, Token, count
+from .values import Value, Values, format_value
 
-T = TypeVar("T")
-
-
-def count(number: int, what: str) -> str:
-    """`1 row`, `2 rows`, `2 dependencies`."""
-    if number == 1:
-        return f"1 {what}"
-    return f"{number} {what[:-1]}ies" if what.endswith("y") else f"{number} {what}s"
-
-
-class Token(NamedTuple):
-    """A word of the text: "name", "number", a sign, "newline" or "end"; lines and columns count from 1."""
-
-    kind: str
-    text: str
-    line: int
-    column: int
-
-
-class NotationError(ValueError):
-    """Text that cannot be read. It says where: source, line and column."""
-
-    def __init__(self, source: str, line: int, column: int, message: str) -> None:
-        self.source, self.line, self.column, self.message = source, line, column, message
-        super().__init__(f"{source}:{line}:{column}: {message}")
-
-
-_PATTERN = re.compile(
-    r"(?P<space>[^\S\n]+|#[^\n]*)|(?P<newline>\n)|(?P<sign>:-|->|[(),:])|(?P<number>[0-9]+)|(?P<name>[^\W\d]\w*)"
-)
-_GOES_ON = {"newline", ",", "(", ":", ":-", "->"}
 _NUMBERED = re.compile(r"v[0-9]+")
-
-
-class Reader:
-    """The tokens of a text, taken one after another; `next` and `then` are the two that come."""
-
-    def __init__(self, text: str, source: str) -> None:
-        self.source = source
-        self._tokens = self._scan(text)
-        self.next = next(self._tokens)
-        self.then = next(self._tokens, self.next)
-
-    def _scan(self, text: str) -> Iterator[Token]:
-        """The tokens; a newline is one only where a statement may end, and "end" is the last."""
-        position, line, start, last = 0, 1, 0, "newline"
-        while position < len(text):
-            found = _PATTERN.match(text, position)
-            column = position - start + 1
-            if found is None:
-                raise NotationError(self.source, line, column, f"{text[position]!r} has no meaning here")
-            kind, word = str(found.lastgroup), found.group()
-            position = found.end()
-            if kind == "sign":
-                kind = word
-            if kind != "space" and (kind != "newline" or last not in _GOES_ON):
-                yield Token(kind, word, line, column)
-                last = kind
-            if kind == "newline":
-                line, start = line + 1, position
-        yield Token("end", "", line, position - start + 1)
-
-    def error(self, token: Token, message: str) -> NotationError:
-        return NotationError(self.source, token.line, token.column, message)
-
-    def take(self, kind: str, what: Optional[str] = None) -> Token:
-        """The next token, which must be of this kind."""
-        token = self.next
-        if token.kind != kind:
-            found = {"newline": "the end of the line", "end": "the end"}.get(token.kind, repr(token.text)[:40])
-            raise self.error(token, f"{what or repr(kind)} was expected, not {found}")
-        self.next, self.then = self.then, next(self._tokens, self.then)
-        return token
-
-    def try_take(self, kind: str) -> Optional[Token]:
-        """The next token if it is of this kind."""
-        return self.take(kind) if self.next.kind == kind else None
-
-    def number(self, what: str, top: int) -> int:
-        """A decimal number up to `top`."""
-        token = self.take("number", what)
-        digits = token.text.lstrip("0") or "0"
-        if len(digits) > len(str(top)) or int(digits) > top:
-            raise self.error(token, f"{what} must be from 0 to {top}, not {digits:.24}")
-        return int(digits)
-
-    def listed(self, item: Callable[[], T]) -> List[T]:
-        """Items between parentheses, with commas between them."""
-        self.take("(")
-        if self.try_take(")"):
-            return []
-        found = [item()]
-        while self.try_take(","):
-            found.append(item())
-        self.take(")", "',' or ')'")
-        return found
-
-    def line_ends(self) -> None:
-        """The statement must end with its line."""
-        if self.next.kind != "end":
-            self.take("newline", "the end of the line")
-
-    def at_end(self) -> bool:
-        """Whether there is no further statement."""
-        while self.try_take("newline"):
-            pass
-        return self.next.kind == "end"
 
 
 # ---- names
@@ -161,10 +55,11 @@ class Table:
 
 @dataclass(frozen=True)
 class Names:
-    """The names of a record's tables, and of the variables of its places, where they are known."""
+    """The names of a record's tables, of the variables of its places, and of its constants, where they are known."""
 
     tables: Tuple[Table, ...]
     variables: Dict[int, Dict[int, str]] = field(default_factory=dict)
+    values: Values = field(default_factory=Values)
 
     @classmethod
     def default(cls, widths: Sequence[int]) -> Names:
@@ -174,6 +69,18 @@ class Names:
     @property
     def widths(self) -> Tuple[int, ...]:
         return tuple(len(table.columns) for table in self.tables)
+
+    def is_default(self) -> bool:
+        """Whether these names say nothing that `default` does not."""
+        named = any(self.variables.values()) or any(code != value for code, value in self.values)
+        return not named and self.tables == Names.default(self.widths).tables
+
+    def with_variables(self, place: int, named: Optional[Dict[int, str]]) -> Names:
+        """The names with others for the variables of a place, or with none."""
+        variables = {other: held for other, held in self.variables.items() if other != place}
+        if named is not None:
+            variables[place] = named
+        return Names(self.tables, variables, self.values)
 
     def fit(self, widths: Sequence[int]) -> None:
         """ValueError unless these are names for tables of these widths."""
@@ -201,16 +108,19 @@ class Names:
         return table.columns.index(token.text)
 
 
-def read_table(reader: Reader, tables: Sequence[Table]) -> Table:
-    """`flight(number, sonde, launch)`: a table beside those that are there."""
+def read_keyed_table(reader: Reader, tables: Sequence[Table]) -> Tuple[Table, List[int]]:
+    """`layer(flight*, level*, height)`: a table beside those that are there, and its marked columns, which are a key."""
     token = reader.take("name", "the name of a table")
     if token.text in ("ans", "never"):
         raise reader.error(token, f"{token.text} cannot be the name of a table")
     if any(table.name == token.text for table in tables):
-        raise reader.error(token, f"there is a table {token.text} already")
+        raise reader.error(
+            token, f"there is a table {token.text} already; where a rule goes on, the line before it ends with a comma"
+        )
     if len(tables) == MOST_RELATIONS:
         raise reader.error(token, f"there are {MOST_RELATIONS} tables at most")
     columns: List[str] = []
+    key: List[int] = []
 
     def column() -> None:
         found = reader.take("name", "the name of a column")
@@ -218,11 +128,22 @@ def read_table(reader: Reader, tables: Sequence[Table]) -> Table:
             raise reader.error(found, f"{token.text} has a column {found.text} already")
         if len(columns) == MOST_COLUMNS:
             raise reader.error(found, f"a table has {MOST_COLUMNS} columns at most")
+        if reader.try_take("*"):
+            key.append(len(columns))
         columns.append(found.text)
 
     if not reader.listed(column):
         raise reader.error(token, "a table has at least one column")
-    return Table(token.text, tuple(columns))
+    return Table(token.text, tuple(columns)), key
+
+
+def read_table(reader: Reader, tables: Sequence[Table]) -> Table:
+    """`flight(number, sonde, launch)`: a table beside those that are there, without a mark for a key."""
+    start = reader.next
+    table, key = read_keyed_table(reader, tables)
+    if key:
+        raise reader.error(start, f"{table.columns[key[0]]}* marks a key, which belongs in the text of an archive and not here")
+    return table
 
 
 def read_place(reader: Reader) -> int:
@@ -232,28 +153,69 @@ def read_place(reader: Reader) -> int:
     return place
 
 
-def read_names(text: str, source: str) -> Names:
+def read_entry(reader: Reader, values: Values) -> None:
+    """`2000000000 = 'Lindenberg'`: a constant of the record and the value that it stands for."""
+    token = reader.next
+    code = reader.number("a code", 2**31 - 1)
+    reader.take("=")
+    value = reader.value("a value")
+    try:
+        values.define(code, value)
+    except ValueError as error:
+        raise reader.error(token, str(error)) from None
+
+
+def format_entries(values: Values) -> List[str]:
+    """The lines that `read_entry` reads."""
+    return [f"{code} = {format_value(value)}" for code, value in values]
+
+
+class NamesFile(NamedTuple):
+    """What a names file holds: the names, and the checksum of the archive file that it was written for, if any."""
+
+    names: Names
+    checksum: Optional[str]
+
+
+def read_names_file(text: str, source: str) -> NamesFile:
     """A names file: the tables in their order, then for a place the names of its variables 0, 1, ..
 
+        archive '0f3a..'
         flight(number, sonde, launch)
         0: f, s, v2, t
+        2000000000 = 'Lindenberg'
 
-    A variable that has no name is listed as v and its number.
+    A variable that has no name is listed as v and its number. The first line is the checksum of the
+    archive file; the last says what a constant stands for.
     """
     reader = Reader(text, source)
     tables: List[Table] = []
     variables: Dict[int, Dict[int, str]] = {}
+    values = Values()
+    checksum: Optional[str] = None
     while not reader.at_end():
         start = reader.next
-        if start.kind == "number":
+        if start.kind == "number" and reader.then.kind == "=":
+            read_entry(reader, values)
+        elif start.kind == "number":
             place = read_place(reader)
             if place in variables:
                 raise reader.error(start, f"the variables of place {place} have their names already")
             variables[place] = _read_variable_names(reader)
+        elif start.text == "archive" and reader.then.kind == "text":
+            if checksum is not None:
+                raise reader.error(start, "there is a line archive already")
+            reader.take("name")
+            checksum = str(reader.value("a checksum"))
         else:
             tables.append(read_table(reader, tables))
         reader.line_ends()
-    return Names(tuple(tables), variables)
+    return NamesFile(Names(tuple(tables), variables, values), checksum)
+
+
+def read_names(text: str, source: str) -> Names:
+    """The names of a names file."""
+    return read_names_file(text, source).names
 
 
 def _read_variable_names(reader: Reader) -> Dict[int, str]:
@@ -275,45 +237,54 @@ def _read_variable_names(reader: Reader) -> Dict[int, str]:
             return names
 
 
-def format_names(names: Names) -> str:
+def format_names(names: Names, checksum: Optional[str] = None) -> str:
     """A names file."""
-    lines = [str(table) for table in names.tables]
+    lines = [] if checksum is None else [f"archive '{checksum}'"]
+    lines += [str(table) for table in names.tables]
     for place, named in sorted(names.variables.items()):
         if named:
             lines.append(f"{place}: {', '.join(named.get(n, f'v{n}') for n in range(max(named) + 1))}")
+    lines += format_entries(names.values)
     return "".join(f"{line}\n" for line in lines)
 
 
 # ---- rules
 
 
+# A term of a rule before its variables are numbered: a constant, or the token of a variable.
+_Term = Union[Constant, Token]
+
+
 def read_rule(reader: Reader, names: Names) -> Tuple[Query, Dict[int, str]]:
-    """A rule: the query, and the names of its variables that have one."""
+    """A rule: the query, and the names of its variables that have one. Its values are entered in `names.values`."""
     start = reader.take("name", "'ans'")
     if start.text != "ans":
         raise reader.error(start, f"a rule begins with ans, not {start.text}")
+    begins: List[Token] = []
 
-    def term() -> Token:
-        if reader.next.kind == "number":
-            token = reader.next
-            return token._replace(text=str(reader.number("a constant", LARGEST_CONSTANT)))
-        token = reader.take("name", "a variable or a number")
+    def term() -> _Term:
+        token = reader.next
+        begins.append(token)
+        if token.kind != "name":
+            return Constant(names.values.encode(reader.value("a variable or a value")))
+        reader.take("name")
         if _NUMBERED.fullmatch(token.text) and token.text not in {f"v{n}" for n in range(VARIABLES)}:
             raise reader.error(token, f"variables with numbers go from v0 to v{VARIABLES - 1}")
         return token
 
     head = reader.listed(term)
+    head_at = tuple(begins)
     if len(head) > MOST_HEAD:
-        raise reader.error(head[MOST_HEAD], f"a head has {MOST_HEAD} entries at most")
+        raise reader.error(head_at[MOST_HEAD], f"a head has {MOST_HEAD} entries at most")
     reader.take(":-")
     if reader.next.kind == "name" and reader.next.text == "never":
         reader.take("name")
-        for token in head:
+        for token in head_at:
             if token.text != "_":
                 raise reader.error(token, "the head of never has only _")
         return Query.never(len(head)), {}
 
-    rows: List[Tuple[int, List[Token]]] = []
+    rows: List[Tuple[int, List[_Term]]] = []
     while True:
         token = reader.next
         relation = names.relation(reader)
@@ -326,9 +297,11 @@ def read_rule(reader: Reader, names: Names) -> Tuple[Query, Dict[int, str]]:
         rows.append((relation, row))
         if not reader.try_take(","):
             break
+    if reader.next.kind == "name" and reader.then.kind == "(":
+        raise reader.error(reader.next, f"a comma is missing before {reader.next.text:.40}; ',' goes between the rows of a rule")
 
-    in_rows = {token.text for _, row in rows for token in row}
-    for token in head:
+    in_rows = {held.text for _, row in rows for held in row if isinstance(held, Token)}
+    for token in head_at:
         if token.text == "_":
             raise reader.error(token, "_ is for rows, and for the head of never")
         if token.kind == "name" and token.text not in in_rows:
@@ -339,36 +312,41 @@ def read_rule(reader: Reader, names: Names) -> Tuple[Query, Dict[int, str]]:
     numbers: Dict[str, int] = {}
     named: Dict[int, str] = {}
 
-    def entry(token: Token) -> Entry:
-        if token.kind == "number":
-            return Constant(int(token.text))
-        if token.text == "_":
+    def entry(held: _Term) -> Entry:
+        if isinstance(held, Constant):
+            return held
+        if held.text == "_":
             return Variable(next(free))
-        if _NUMBERED.fullmatch(token.text):
-            return Variable(int(token.text[1:]))
-        if token.text not in numbers:
-            numbers[token.text] = next(free)
-            named[numbers[token.text]] = token.text
-        return Variable(numbers[token.text])
+        if _NUMBERED.fullmatch(held.text):
+            return Variable(int(held.text[1:]))
+        if held.text not in numbers:
+            numbers[held.text] = next(free)
+            named[numbers[held.text]] = held.text
+        return Variable(numbers[held.text])
 
-    shown = tuple(entry(token) for token in head)
+    shown = tuple(entry(held) for held in head)
     return Query(shown, tuple(Row(relation, tuple(map(entry, row))) for relation, row in rows)), named
 
 
-def parse_query(text: str, names: Names, source: str = "rule") -> Query:
-    """The query of a rule."""
+def parse_rule(text: str, names: Names, source: str = "rule") -> Tuple[Query, Dict[int, str]]:
+    """The query of a rule, and the names of its variables that have one."""
     reader = Reader(text, source)
     reader.at_end()
-    query, _ = read_rule(reader, names)
+    found = read_rule(reader, names)
     if not reader.at_end():
         raise reader.error(reader.next, "the rule ends here; ',' goes between its rows")
-    return query
+    return found
 
 
-def format_entry(entry: Entry, variables: Optional[Dict[int, str]] = None) -> str:
-    """A constant's number; a variable's name if it has one, else v and its number."""
+def parse_query(text: str, names: Names, source: str = "rule") -> Query:
+    """The query of a rule. Its values are entered in `names.values`."""
+    return parse_rule(text, names, source)[0]
+
+
+def format_entry(entry: Entry, variables: Optional[Dict[int, str]] = None, values: Optional[Values] = None) -> str:
+    """A constant's value, or its number without a dictionary; a variable's name if it has one, else v and its number."""
     if isinstance(entry, Constant):
-        return str(entry.number)
+        return str(entry.number) if values is None else format_value(values.decode(entry.number))
     return (variables or {}).get(entry.number, str(entry))
 
 
@@ -377,40 +355,82 @@ def format_row(name: str, entries: Sequence[object]) -> str:
     return f"{name}({', '.join(map(str, entries))})"
 
 
-def format_query(query: Query, names: Names, variables: Optional[Dict[int, str]] = None, between: str = " ") -> str:
-    """A query as a rule. `between` stands after the comma between two rows."""
+def format_datum(name: str, values: Iterable[Value]) -> str:
+    """A row of a database or an answer: `flight(101, 'Lindenberg')`."""
+    return format_row(name, [format_value(value) for value in values])
+
+
+def format_parts(query: Query, names: Names, variables: Optional[Dict[int, str]] = None) -> Tuple[str, List[str]]:
+    """The head of a rule, and what stands after `:-`: its rows, or `never`."""
     if query.is_never:
-        return f"{format_row('ans', ['_'] * query.head_length)} :- never"
+        return format_row("ans", ["_"] * query.head_length), ["never"]
 
     def texts(entries: Sequence[Entry]) -> List[str]:
-        return [format_entry(entry, variables) for entry in entries]
+        return [format_entry(entry, variables, names.values) for entry in entries]
 
     rows = [format_row(names.tables[row.relation].name, texts(row.entries)) for row in query.rows]
-    return f"{format_row('ans', texts(query.head))} :- {f',{between}'.join(rows)}"
+    return format_row("ans", texts(query.head)), rows
+
+
+def format_query(query: Query, names: Names, variables: Optional[Dict[int, str]] = None, between: str = " ") -> str:
+    """A query as a rule. `between` stands after the comma between two rows."""
+    head, rows = format_parts(query, names, variables)
+    return f"{head} :- {f',{between}'.join(rows)}"
 
 
 def format_mapping(
-    mapping: Mapping, source: Optional[Dict[int, str]] = None, target: Optional[Dict[int, str]] = None
+    mapping: Mapping,
+    source: Optional[Dict[int, str]] = None,
+    target: Optional[Dict[int, str]] = None,
+    values: Optional[Values] = None,
 ) -> str:
     """`f -> f, s -> 7`, by ascending variables, under the names of the two queries."""
     return ", ".join(
-        f"{format_entry(Variable(number), source)} -> {format_entry(entry, target)}"
+        f"{format_entry(Variable(number), source)} -> {format_entry(entry, target, values)}"
         for number, entry in sorted(mapping.items())
     )
+
+
+def constants(query: Query) -> List[int]:
+    """The numbers of the constants of a query, in the order in which its rule has them."""
+    entries = [*query.head, *(entry for row in query.rows for entry in row.entries)]
+    return [entry.number for entry in entries if isinstance(entry, Constant)]
 
 
 # ---- dependencies
 
 
-def read_dependency(reader: Reader, names: Names) -> Dependency:
-    """`layer: flight, level -> height`."""
+def read_dependencies(reader: Reader, names: Names) -> List[Dependency]:
+    """`layer: flight, level -> height, temperature`: a dependency for each column on the right."""
     relation = names.relation(reader)
     reader.take(":")
     left = [names.column(relation, reader)]
     while reader.try_take(","):
         left.append(names.column(relation, reader))
+    if reader.next.kind == "name":
+        raise reader.error(reader.next, f"a comma is missing before {reader.next.text:.40}")
     reader.take("->", "',' or '->'")
-    return Dependency(relation, frozenset(left), names.column(relation, reader))
+    right = [names.column(relation, reader)]
+    while reader.try_take(","):
+        right.append(names.column(relation, reader))
+    if reader.next.kind == "name":
+        raise reader.error(reader.next, f"a comma is missing before {reader.next.text:.40}")
+    return [Dependency(relation, frozenset(left), column) for column in right]
+
+
+def parse_dependencies(text: str, names: Names, source: str = "dependency") -> List[Dependency]:
+    """The dependencies of a line such as `layer: flight, level -> height`."""
+    reader = Reader(text, source)
+    reader.at_end()
+    found = read_dependencies(reader, names)
+    if not reader.at_end():
+        raise reader.expected("the end")
+    return found
+
+
+def key_dependencies(relation: int, key: Sequence[int], width: int) -> List[Dependency]:
+    """The dependencies that say that the columns of `key` determine every other one."""
+    return [Dependency(relation, frozenset(key), column) for column in range(width) if key and column not in key]
 
 
 def format_columns(relation: int, columns: Sequence[int], names: Names) -> str:
@@ -420,33 +440,54 @@ def format_columns(relation: int, columns: Sequence[int], names: Names) -> str:
 
 def format_dependency(dependency: Dependency, names: Names) -> str:
     """A dependency under the names of its table and columns."""
-    relation = dependency.relation
-    left = format_columns(relation, sorted(dependency.left), names)
-    return f"{names.tables[relation].name}: {left} -> {format_columns(relation, [dependency.right], names)}"
+    return format_dependencies([dependency], names)[0]
 
 
-# ---- databases
+def format_dependencies(dependencies: Sequence[Dependency], names: Names) -> List[str]:
+    """Dependencies in their order, those that follow one another with the same left side in one line."""
+    lines: List[str] = []
+    before: Optional[Tuple[int, frozenset[int]]] = None
+    for dependency in dependencies:
+        table = names.tables[dependency.relation]
+        right = table.columns[dependency.right]
+        if before == (dependency.relation, dependency.left):
+            lines[-1] += f", {right}"
+        else:
+            lines.append(f"{table.name}: {format_columns(dependency.relation, sorted(dependency.left), names)} -> {right}")
+        before = dependency.relation, dependency.left
+    return lines
 
 
-class Datum(NamedTuple):
-    """A row of a database, and the line that it stands on."""
-
-    relation: int
-    values: Tuple[int, ...]
-    line: int
-
-
-def read_data(text: str, names: Names, source: str) -> List[Datum]:
-    """The rows of a database, one a line: `flight(1, 2, 3)`. Values go from 0 to 4,294,967,295."""
-    reader = Reader(text, source)
-    rows: List[Datum] = []
-    while not reader.at_end():
-        token = reader.next
-        relation = names.relation(reader)
-        values = reader.listed(lambda: reader.number("a value", WORD))
-        table = names.tables[relation]
-        if len(values) != len(table.columns):
-            raise reader.error(token, f"{table} has {count(len(table.columns), 'column')}, not {len(values)}")
-        reader.line_ends()
-        rows.append(Datum(relation, tuple(values), token.line))
-    return rows
+__all__ = [
+    "Names",
+    "NamesFile",
+    "NotationError",
+    "Reader",
+    "Table",
+    "Token",
+    "constants",
+    "count",
+    "format_columns",
+    "format_datum",
+    "format_dependencies",
+    "format_dependency",
+    "format_entries",
+    "format_entry",
+    "format_mapping",
+    "format_names",
+    "format_parts",
+    "format_query",
+    "format_row",
+    "key_dependencies",
+    "parse_dependencies",
+    "parse_query",
+    "parse_rule",
+    "read_dependencies",
+    "read_entry",
+    "read_keyed_table",
+    "read_names",
+    "read_names_file",
+    "read_place",
+    "read_rule",
+    "read_table",
+]

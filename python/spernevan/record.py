@@ -2,17 +2,21 @@
 
 from __future__ import annotations
 
+import html
+import os
 from array import array
 from dataclasses import dataclass
 from functools import cached_property
-from os import PathLike
-from pathlib import Path
-from typing import FrozenSet, Iterable, List, Optional, Sequence, Tuple, Union
+from typing import Any, Dict, FrozenSet, Iterable, List, Optional, Sequence, Tuple, Union
 
 from . import engine
+from .data import Database, of_python
+from .engine import Refused, Words
+from .files import FILE_BYTES, Path, checksum, is_text, names_path, read_bytes, read_names_beside, shown, write_files
 from .model import (
     BYTE,
     FROZEN,
+    PLACES,
     VARIABLES,
     WORD,
     Constant,
@@ -21,6 +25,7 @@ from .model import (
     Entry,
     Mapping,
     Query,
+    Row,
     Variable,
     columns_of,
     decode_file,
@@ -30,15 +35,14 @@ from .model import (
     mask_of,
     whole,
 )
-
-# As many bytes as the listing program reads; no record's file is as long.
-FILE_BYTES = 65536
+from .notation import Names, Table, constants, count, format_names, parse_dependencies, parse_rule
+from .values import Value
 
 # A row of a database: the number of its relation, and its values.
 DataRow = Tuple[int, Tuple[int, ...]]
 
-# A database: rows, or words as the engine takes them (each row a relation number and its values).
-Database = Union[Iterable[Tuple[int, Sequence[int]]], array]
+# A query: the number of its place, or the query itself, as a rule or not.
+Asked = Union[int, str, Query]
 
 
 @dataclass(frozen=True)
@@ -89,37 +93,81 @@ class Broken:
 
 
 class Record:
-    """A record, held as the bytes of its file. A call that changes it gives a new one.
+    """A record, held as the bytes of its file, and the names of its tables, variables and constants.
 
-    A call that the engine turns down raises Refused; an argument that the engine could not even be
-    given (a negative place, a row of another width than its table) raises ValueError.
+    A call that changes it gives a new one. A call that the engine turns down raises Refused; an argument
+    that the engine could not even be given (a negative place, a row of another width than its table)
+    raises ValueError. Where a place is read, a rule or a Query may be given in its stead. Two records
+    are equal when their files are.
     """
 
-    def __init__(self, file: bytes) -> None:
+    def __init__(self, file: bytes, names: Optional[Names] = None) -> None:
         engine.read(file)
         self.file = bytes(file)
+        if names is not None:
+            names.fit(self.widths)
+        self._names = names
+        self._named = names is not None
 
     @classmethod
-    def _of(cls, file: bytes) -> Record:
-        """The record of a file that the engine wrote."""
+    def _of(cls, file: bytes, names: Optional[Names], named: bool) -> Record:
+        """The record of a file that the engine wrote. Names that were not given are held for their dictionary alone."""
         record = cls.__new__(cls)
         record.file = file
+        record._names = names
+        record._named = named
         return record
 
     @classmethod
-    def open(cls, widths: Iterable[int]) -> Record:
-        """A record of relations of these widths, with no dependency and every place vacant."""
-        return cls._of(engine.open_record(bytes(whole("a width", width, BYTE) for width in items("widths", widths))))
+    def open(cls, tables: Iterable[Union[int, Table]]) -> Record:
+        """A record of tables, given by their widths or as Table, with no dependency and every place vacant."""
+        held = items("widths", tables)
+        named = [table for table in held if isinstance(table, Table)]
+        widths = bytes(len(one.columns) if isinstance(one, Table) else whole("a width", one, BYTE) for one in held)
+        names = Names(tuple(named)) if named and len(named) == len(held) else None
+        return cls._of(engine.open_record(widths), names, names is not None)
 
     @classmethod
-    def read(cls, path: Union[str, PathLike]) -> Record:
-        """The record of an archive file; of a file longer than 65,536 bytes, only those are read."""
-        with open(path, "rb") as file:
-            return cls(file.read(FILE_BYTES))
+    def read(cls, path: Path, names: Union[bool, Path] = True) -> Record:
+        """The record of an archive file, with the names file beside it, or the one given, or with False none.
 
-    def write(self, path: Union[str, PathLike]) -> None:
-        """Writes the archive file."""
-        Path(path).write_bytes(engine.write(self.file))
+        Of a file longer than 65,536 bytes, only those are read.
+        """
+        data = read_bytes(path, FILE_BYTES)
+        if is_text(data):
+            raise Refused(1, f"{shown(path)} is a text: pack it first")
+        record = cls(data)
+        if names is False:
+            return record
+        found = read_names_beside(path, data, None if names is True else names)
+        return record if found is None else record.named(found.names)
+
+    def named(self, names: Names) -> Record:
+        """The record under other names."""
+        names.fit(self.widths)
+        return self._of(self.file, names, True)
+
+    def write(self, path: Path) -> None:
+        """Writes the archive file, and the names file beside it if there are names: both, or neither.
+
+        Those that are there already are replaced. ValueError if the file to be replaced is a text, or if
+        there is a names file and this record has no names of its own.
+        """
+        beside = names_path(path)
+        if os.path.realpath(beside) == os.path.realpath(path):
+            raise ValueError(f"{path} is a name for a names file; an archive file has another ending, such as .file")
+        if os.path.isfile(path) and is_text(read_bytes(path, FILE_BYTES)):
+            raise ValueError(f"{path} is a text, which an archive file does not replace: write elsewhere, or remove it first")
+        files = [(path, engine.write(self.file))]
+        names = self.own_names()
+        if self._named or not names.is_default():
+            files.append((beside, format_names(names, checksum(self.file)).encode()))
+        elif os.path.lexists(beside):
+            raise ValueError(
+                f"{beside} has the names of an archive, and this record has none: read it with Record.read, "
+                f"give it names with Record.named, or write it elsewhere"
+            )
+        write_files(files)
 
     def __eq__(self, other: object) -> bool:
         return isinstance(other, Record) and self.file == other.file
@@ -130,9 +178,45 @@ class Record:
     def __repr__(self) -> str:
         return f"Record(bytes.fromhex({self.file.hex()!r}))"
 
+    def __str__(self) -> str:
+        from .text import unpack
+
+        return unpack(self, self.names).rstrip("\n")
+
+    def _repr_html_(self) -> str:
+        from .text import unpack_parts
+
+        tables, dependencies, rules = unpack_parts(self, self.names)
+
+        def table(heads: Sequence[str], rows: Iterable[Sequence[object]]) -> str:
+            top = "".join(f"<th style='text-align:left'>{head}</th>" for head in heads)
+            cells = [[f"<td style='text-align:left;white-space:pre'>{html.escape(str(cell))}</td>" for cell in row] for row in rows]
+            body = "".join(f"<tr>{''.join(row)}</tr>" for row in cells)
+            return f"<table><thead><tr>{top}</tr></thead><tbody>{body}</tbody></table>"
+
+        parts = [table(["Table", "Columns"], [(held.name, ", ".join(held.columns)) for held in tables])]
+        if dependencies:
+            parts.append(table(["Dependencies"], [(line,) for line in dependencies]))
+        if rules:
+            parts.append(table(["Place", "Query"], rules))
+        return "".join(parts)
+
     @cached_property
     def _contents(self) -> Contents:
         return decode_file(self.file)
+
+    @property
+    def names(self) -> Names:
+        """The names of the tables, variables and constants; R0, R1, .. where there are none."""
+        if self._names is None:
+            self._names = Names.default(self.widths)
+        self._names.values.reserve(number for query in self.queries if query is not None for number in constants(query))
+        return self._names
+
+    def own_names(self) -> Names:
+        """The names with the values that the saved queries have, and no others."""
+        used = [number for query in self.queries if query is not None for number in constants(query)]
+        return Names(self.names.tables, self.names.variables, self.names.values.only(used))
 
     @property
     def widths(self) -> Tuple[int, ...]:
@@ -149,100 +233,242 @@ class Record:
         """The eight places, None where vacant."""
         return self._contents.queries
 
-    def add(self, relation: int, left: Iterable[int], right: int) -> Record:
-        """The record with one more dependency: the left columns determine the right one."""
-        return self._of(engine.add(self.file, relation, mask_of(left), right))
+    def filled(self) -> List[int]:
+        """The places that hold a query."""
+        return [place for place, query in enumerate(self.queries) if query is not None]
 
-    def put(self, place: int, query: Query) -> Record:
-        """The record with a query in a vacant place."""
-        return self._of(engine.put(self.file, place, encode_query(query, self.widths)))
+    def vacant(self) -> List[int]:
+        """The places that hold none."""
+        return [place for place, query in enumerate(self.queries) if query is None]
+
+    def _explained(self, refused: Refused, read: Sequence[int] = (), fill: Optional[int] = None) -> Refused:
+        """A refusal in words that name the place and the cure."""
+        filled, vacant = _listed(self.filled()), _listed(self.vacant())
+        meaning = refused.meaning
+        if refused.number == 7:
+            above = [place for place in [*read, *([] if fill is None else [fill])] if place >= PLACES]
+            shown_place = str(above[0]) if above and above[0] < 10**20 else "of that number"
+            meaning = f"there is no place {shown_place}: places go from 0 to {PLACES - 1}"
+        elif refused.number == 11:
+            missing = [place for place in read if self.queries[place] is None]
+            meaning = f"place {missing[0]} is vacant; " + (f"filled: {filled}" if filled else "every place is")
+        elif refused.number == 12:
+            meaning = f"place {fill} is filled; " + (f"vacant: {vacant}" if vacant else "every place is: drop one first")
+        elif refused.number == 13:
+            meaning = "32 dependencies are held, which is as many as there may be; each column on the right counts one"
+        elif refused.number == 8:
+            lengths = [query.head_length for query in (self.queries[place] for place in read) if query is not None]
+            shows = f"the first query shows {count(lengths[0], 'column')} and the second {lengths[-1]}"
+            meaning = f"{shows}: only heads of one length can be compared"
+        return Refused(refused.number, meaning)
+
+    def add(self, relation: Union[int, str], left: Iterable[int] = (), right: int = 0) -> Record:
+        """The record with one more dependency: the left columns determine the right one.
+
+        A text such as `layer: flight, level -> height, temperature` adds one for each column on its right.
+        """
+        if isinstance(relation, str):
+            record = self
+            for one in parse_dependencies(relation, self.names):
+                record = record.add(one.relation, one.left, one.right)
+            return record
+        try:
+            return self._of(engine.add(self.file, relation, mask_of(left), right), self._names, self._named)
+        except Refused as refused:
+            raise self._explained(refused) from None
+
+    def put(self, place: int, query: Union[str, Query], variables: Optional[Dict[int, str]] = None) -> Record:
+        """The record with a query, or the query of a rule, in a vacant place. A rule brings the names of its variables."""
+        if isinstance(query, str):
+            query, found = parse_rule(query, self.names)
+            variables = found if variables is None else variables
+        try:
+            file = engine.put(self.file, place, encode_query(query, self.widths))
+        except Refused as refused:
+            raise self._explained(refused, (), place) from None
+        names = self.names if variables else self._names
+        return self._of(file, None if names is None else names.with_variables(place, variables or {}), self._named)
 
     def drop(self, place: int) -> Record:
         """The record with a filled place made vacant."""
-        return self._of(engine.drop(self.file, place))
+        try:
+            file = engine.drop(self.file, place)
+        except Refused as refused:
+            raise self._explained(refused, [place]) from None
+        return self._of(file, None if self._names is None else self._names.with_variables(place, None), self._named)
 
     def determined(self, relation: int, left: Iterable[int]) -> FrozenSet[int]:
         """The columns that the left columns determine."""
         columns, _ = engine.determined(self.file, relation, mask_of(left))
         return columns_of(columns)
 
-    def reduce(self, source: int, target: int) -> Reduction:
+    def placed(self, *asked: Asked) -> Tuple[Record, List[int]]:
+        """A record in which each of one or two queries has a place, and the places: itself, if they are its own places."""
+        places = [one for one in asked if not isinstance(one, (str, Query))]
+        if len(places) == len(asked):
+            return self, places
+        record = self
+        for place in self.filled():
+            record = record.drop(place)
+        for position, one in enumerate(asked):
+            if isinstance(one, (str, Query)):
+                record = record.put(position, one)
+                continue
+            query = self.query(one)
+            record = record.put(position, query, self.names.variables.get(one))
+        return record, list(range(len(asked)))
+
+    def query(self, place: int) -> Query:
+        """The query of a place; Refused if there is none."""
+        if whole("a place", place) >= PLACES:
+            raise self._explained(Refused(7), [place])
+        query = self.queries[place]
+        if query is None:
+            raise self._explained(Refused(11), [place])
+        return query
+
+    def reduce(self, source: Asked, target: int) -> Reduction:
         """Puts the short form of the source place into the vacant target place."""
-        file, count, words = engine.reduce(self.file, source, target)
-        after = self._of(file)
-        long, short = self.queries[source], after.queries[target]
-        assert long is not None and short is not None
-        return Reduction(after, short, count, None if short.is_never else _mapping(words, long))
+        if isinstance(source, (str, Query)):
+            short = self.shorten(source)
+            return Reduction(self.put(target, short.result, short.record.names.variables.get(1)), short.result, short.replaced, short.mapping)
+        try:
+            file, number, words = engine.reduce(self.file, source, target)
+        except Refused as refused:
+            raise self._explained(refused, [source], target) from None
+        after = self._of(file, self._names, self._named)
+        long, result = self.queries[source], after.queries[target]
+        assert long is not None and result is not None
+        if self._names is not None:
+            held = self._names.variables.get(source, {})
+            named = {variable: held[variable] for variable in result.variables() if variable in held}
+            after = self._of(file, self._names.with_variables(target, named), self._named)
+        return Reduction(after, result, number, None if result.is_never else _mapping(words, long))
 
     def alone(self, place: int) -> Record:
         """The record from which every other place is dropped."""
         record = self
-        for other, query in enumerate(self.queries):
-            if query is not None and other != place:
+        for other in self.filled():
+            if other != place:
                 record = record.drop(other)
         return record
 
-    def shorten(self, place: int) -> Reduction:
+    def shorten(self, place: Asked) -> Reduction:
         """The reduction of a place in a copy of the record from which every other place is dropped."""
+        if isinstance(place, (str, Query)):
+            record, _ = self.placed(place)
+            return record.reduce(0, 1)
+        if isinstance(place, int) and 0 <= place < PLACES:
+            self.query(place)
         return self.alone(place).reduce(place, 1 if place == 0 else 0)
 
-    def compare(self, p: int, q: int) -> Comparison:
+    def compare(self, p: Asked, q: Asked) -> Comparison:
         """Whether the query at p is contained in the one at q under the dependencies."""
-        verdict, words, part = engine.compare(self.file, p, q)
+        record, (first, second) = self.placed(p, q)
+        try:
+            verdict, words, part = engine.compare(record.file, first, second)
+        except Refused as refused:
+            raise record._explained(refused, [first, second]) from None
         if verdict == 0:
             return Comparison(False, None, decode_query(part, self.widths))
-        second = self.queries[q]
-        assert second is not None
-        return Comparison(True, _mapping(words, second) if verdict == 1 else None, None)
+        query = record.queries[second]
+        assert query is not None
+        return Comparison(True, _mapping(words, query) if verdict == 1 else None, None)
+
+    def equivalent(self, p: Asked, q: Asked) -> bool:
+        """Whether the two queries have the same answers on every database that obeys the dependencies."""
+        record, (first, second) = self.placed(p, q)
+        return record.compare(first, second).contained and record.compare(second, first).contained
 
     def check(self, p: int, q: int, mapping: Mapping) -> bool:
         """Whether `mapping` is one from the query at q to the query at p as it is stored.
 
         A variable that `mapping` leaves out goes to constant 0, as one that is not in q must.
         """
-        return engine.check(self.file, p, q, _mapping_words(mapping))
+        try:
+            return engine.check(self.file, p, q, _mapping_words(mapping))
+        except Refused as refused:
+            raise self._explained(refused, [p, q]) from None
 
-    def test(self, database: Database) -> Optional[Broken]:
-        """None if the database obeys every dependency, else the first that it breaks."""
-        found = engine.test(self.file, self._words(database))
+    def test(self, database: Any) -> Optional[Broken]:
+        """None if the database obeys every dependency, else the first that it breaks. See `database`."""
+        held = self._data(database)
+        found = engine.test(self.file, held.words if isinstance(held, Database) else held)
         return None if found is None else Broken(*found)
 
-    def evaluate(self, place: int, database: Database, room: Optional[int] = None) -> List[Tuple[int, ...]]:
-        """The answers of the query at a place, ascending, each once.
+    def evaluate(self, place: Asked, database: Any, room: Optional[int] = None) -> List[Tuple[Any, ...]]:
+        """The answers of the query at a place, ascending, each once. See `database`.
 
         `room` is how many words the answers may take; without it there is room for all of them.
         """
-        words = self._words(database)
+        record, (at,) = self.placed(place)
+        held = record._data(database)
+        if isinstance(held, Database):
+            record, at = record._translated(at, held)
+        words = held.words if isinstance(held, Database) else held
         size = max(4096, 2 * len(words)) if room is None else room
         while True:
             try:
-                count, answers = engine.evaluate(self.file, place, words, size)
+                number, answers = engine.evaluate(record.file, at, words, size)
                 break
-            except engine.Refused as refused:
+            except Refused as refused:
                 if refused.number != 10 or room is not None:
-                    raise
+                    raise record._explained(refused, [at]) from None
                 size *= 4
-        query = self.queries[place]
+        query = record.queries[at]
         assert query is not None
         length = query.head_length
-        return [tuple(answers[at * length : (at + 1) * length]) for at in range(count)]
+        if isinstance(held, Database):
+            return held.decoded(answers[: number * length], length, number)
+        return [tuple(answers[start * length : (start + 1) * length]) for start in range(number)]
 
-    def _words(self, database: Database) -> array:
+    def _translated(self, place: int, database: Database) -> Tuple[Record, int]:
+        """A record whose query at a place has the constants by the database's dictionary, which may have grown apart from this one."""
+        if place >= PLACES or self.queries[place] is None:
+            return self, place
+        query = self.query(place)
+
+        def entry(held: Entry) -> Entry:
+            return Constant(database.values.encode(self.names.values.decode(held.number))) if isinstance(held, Constant) else held
+
+        rows = [Row(row.relation, tuple(map(entry, row.entries))) for row in query.rows]
+        same = Query(tuple(map(entry, query.head)), tuple(rows), query.head_length)
+        return (self, place) if same == query else (self.alone(place).drop(place).put(0, same), 0)
+
+    def database(self, data: Any, null: Optional[Value] = None) -> Database:
+        """A database for `test` and `evaluate`.
+
+        `data` is `{'burst': rows}`, rows being lists, tuples or dicts, a pandas DataFrame or a numpy
+        array, with numbers, texts, decimals and dates; answers then come out as such. `null` is what
+        None and NaN stand for; without it they are refused. `read_database` reads files.
+
+        `test` and `evaluate` take the same without `null`, and also rows as pairs of a relation's number
+        and whole numbers, or an array of words as the engine has them.
+        """
+        return of_python(data, self.names, None, null)
+
+    def _data(self, data: Any) -> Union[Database, Words]:
         """A database as the engine takes it. A row of a known relation must have its width."""
-        if isinstance(database, array):
-            return database
+        if isinstance(data, array):
+            return data
+        if isinstance(data, Database):
+            if data.names.tables != self.names.tables:
+                raise ValueError(f"the database is of other tables: {', '.join(map(str, data.names.tables))}")
+            return data
+        if isinstance(data, dict) or hasattr(data, "dtype") or hasattr(data, "iloc"):
+            return self.database(data)
         words = array("I")
-        for position, row in enumerate(items("a database", database)):
-            pair = items(f"row {position}", row)
+        for position, row in enumerate(items("a database", data)):
+            pair: Tuple[Any, ...] = items(f"row {position}", row)
             if len(pair) != 2:
                 raise ValueError(f"row {position} must be a relation and its values, not {row!r:.40}")
             relation, values = pair[0], items(f"the values of row {position}", pair[1])
             try:
+                if not {int}.issuperset(map(type, (relation, *values))):
+                    raise TypeError
                 words.fromlist([relation, *values])
             except (TypeError, OverflowError):
-                for value in (relation, *values):
-                    whole(f"each number of row {position}", value, WORD)
-                raise
+                words.fromlist([whole(f"each number of row {position}", value, WORD) for value in (relation, *values)])
             if relation < len(self.widths) and len(values) != self.widths[relation]:
                 raise ValueError(
                     f"row {position} has {len(values)} values, "
@@ -251,14 +477,18 @@ class Record:
         return words
 
 
+def _listed(places: Sequence[int]) -> str:
+    return ", ".join(map(str, places))
+
+
 def _mapping(words: Sequence[int], query: Query) -> Mapping:
     """The images of a query's variables, from the words of a mapping."""
-    return {v: (Variable if words[2 * v] else Constant)(words[2 * v + 1]) for v in query.variables()}
+    return {v: Variable(words[2 * v + 1]) if words[2 * v] else Constant(words[2 * v + 1]) for v in query.variables()}
 
 
-def _mapping_words(mapping: Mapping) -> array:
+def _mapping_words(mapping: Mapping) -> Words:
     """The words of a mapping."""
-    words = array("I", [0]) * (2 * VARIABLES)
+    words: Words = array("I", [0]) * (2 * VARIABLES)
     if not isinstance(mapping, dict):
         raise ValueError(f"a mapping must be a dict from variables to entries, not {mapping!r:.40}")
     for variable, entry in mapping.items():

@@ -1,51 +1,71 @@
 """A whole record as text that a person writes by hand.
 
-    # tables, in their order, with their columns
-    flight(number, sonde, launch)
-    sonde(number, calibration)
+    # tables, in their order, with their columns; those marked are a key, which determines the others
+    flight(number*, sonde, site)
+    sonde(number, calibration, maker)
 
-    # dependencies, in their order
-    flight: number -> sonde
+    # further dependencies, in their order
+    sonde: number -> calibration, maker
 
     # saved queries, by place; the other places are vacant
-    0: ans(f, c) :- flight(f, s, t), sonde(s, c)
+    0: ans(f, c) :- flight(f, s, 'Lindenberg'), sonde(s, c, m)
 
 A table stands above what names it; otherwise lines come in any order. See notation.py for the rules.
+A line such as `2000000000 = 'Lindenberg'` gives a value its number beforehand.
 """
 
 from __future__ import annotations
 
-from typing import Dict, List, Tuple
+from typing import Dict, List, NamedTuple, Sequence, Tuple
 
 from .engine import Refused
-from .model import PLACES, Dependency, Query
+from .model import MOST_DEPENDENCIES, Dependency, Entry, Query
 from .notation import (
     Names,
     Reader,
     Table,
     Token,
-    format_dependency,
+    constants,
+    format_dependencies,
+    format_entries,
+    format_parts,
     format_query,
+    key_dependencies,
     parse_query,
-    read_dependency,
+    read_dependencies,
+    read_entry,
+    read_keyed_table,
     read_place,
     read_rule,
-    read_table,
 )
 from .record import Record
+from .values import FIRST_CODE, Values
 
 
 def pack(text: str, source: str = "text") -> Tuple[Record, Names]:
-    """The record that a text describes, and the names that it uses."""
+    """The record that a text describes, and the names that it uses, which the record has too."""
     reader = Reader(text, source)
     tables: List[Table] = []
-    dependencies: List[Tuple[Token, Dependency]] = []
+    dependencies: List[Dependency] = []
     queries: Dict[int, Tuple[Token, Query]] = {}
     variables: Dict[int, Dict[int, str]] = {}
+    values = Values()
+
+    def add(token: Token, found: List[Dependency]) -> None:
+        dependencies.extend(found)
+        if len(dependencies) > MOST_DEPENDENCIES:
+            raise reader.error(
+                token,
+                f"an archive has {MOST_DEPENDENCIES} dependencies at most, and these make {len(dependencies)}; "
+                f"each column on the right counts one, and so does each column beside a key",
+            )
+
     while not reader.at_end():
         start = reader.next
-        names = Names(tuple(tables))
-        if start.kind == "number":
+        names = Names(tuple(tables), {}, values)
+        if start.kind == "number" and reader.then.kind == "=":
+            read_entry(reader, values)
+        elif start.kind == "number":
             place = read_place(reader)
             if place in queries:
                 raise reader.error(start, f"place {place} is filled on line {queries[place][0].line}")
@@ -54,49 +74,85 @@ def pack(text: str, source: str = "text") -> Tuple[Record, Names]:
         elif start.text == "ans":
             raise reader.error(start, "a saved query has its place before it, as in 0: ans(..")
         elif start.kind == "name" and reader.then.kind == ":":
-            dependencies.append((start, read_dependency(reader, names)))
+            add(start, read_dependencies(reader, names))
         elif start.kind == "name" and reader.then.kind == "(":
-            tables.append(read_table(reader, tables))
+            table, key = read_keyed_table(reader, tables)
+            tables.append(table)
+            add(start, key_dependencies(len(tables) - 1, key, len(table.columns)))
         else:
-            raise reader.error(start, f"a table(, a table: or a place: was expected, not {start.text!r:.40}")
+            raise reader.expected("a table(, a table: or a place:")
         reader.line_ends()
+    if not tables:
+        raise reader.error(reader.next, "a text has at least one table, as in flight(number, sonde)")
 
-    names = Names(tuple(tables), variables)
+    names = Names(tuple(tables), variables, values)
     at = reader.next
     try:
-        record = Record.open(names.widths)
-        for at, dependency in dependencies:
+        record = Record.open(names.tables)
+        for dependency in dependencies:
             record = record.add(dependency.relation, dependency.left, dependency.right)
         for place in sorted(queries):
             at, query = queries[place]
             record = record.put(place, query)
     except Refused as refused:
-        raise reader.error(at, str(refused)) from refused
-    return record, names
+        raise reader.error(at, refused.meaning) from refused
+    return record.named(names), names
+
+
+class Parts(NamedTuple):
+    """A record for people: its tables, its dependencies as lines, and its queries as rules with their places."""
+
+    tables: Tuple[Table, ...]
+    dependencies: List[str]
+    rules: List[Tuple[int, str]]
+
+
+def unpack_parts(record: Record, names: Names) -> Parts:
+    """The parts of a record's text."""
+    names.fit(record.widths)
+    rules = [(place, _rule(record, place, names)) for place in record.filled()]
+    return Parts(names.tables, format_dependencies(record.dependencies, names), rules)
 
 
 def unpack(record: Record, names: Names) -> str:
     """The text of a record; pack gives the record back, to the byte."""
-    names.fit(record.widths)
-    lines = [str(table) for table in names.tables]
-    if record.dependencies:
-        lines += ["", *(format_dependency(dependency, names) for dependency in record.dependencies)]
-    filled = [place for place in range(PLACES) if record.queries[place] is not None]
-    if filled:
-        lines.append("")
-    for place in filled:
-        lines.append(f"{place}: {_rule(record, place, names)}")
-    return "".join(f"{line}\n" for line in lines)
+    parts = unpack_parts(record, names)
+    groups: List[Sequence[str]] = [[str(table) for table in parts.tables], parts.dependencies, _entries(record, names)]
+    groups.append([f"{place}: {rule}" for place, rule in parts.rules])
+    return "\n".join("".join(f"{line}\n" for line in group) for group in groups if group)
+
+
+def _entries(record: Record, names: Names) -> List[str]:
+    """The lines that give values their numbers; none if pack gives the same numbers without them."""
+    used = [number for place in record.filled() for number in _constants(record, place) if number >= FIRST_CODE]
+    again = Values()
+    if all(again.encode(names.values.decode(number)) == number for number in used):
+        return []
+    return format_entries(names.values.only(used))
+
+
+def _constants(record: Record, place: int) -> List[int]:
+    query = record.queries[place]
+    return [] if query is None else constants(query)
+
+
+def _entries_of(query: Query) -> List[Entry]:
+    return [*query.head, *(entry for row in query.rows for entry in row.entries)]
 
 
 def _rule(record: Record, place: int, names: Names) -> str:
-    """A saved query as a rule: under the names of its variables if it is read back with the same numbers."""
+    """A saved query as a rule: under the names of those of its variables that are read back with the same numbers."""
     query = record.queries[place]
     assert query is not None
-    variables = names.variables.get(place)
-    if parse_query(format_query(query, names, variables), names) != query:
-        variables = None
+    variables = dict(names.variables.get(place, {}))
+    while True:
+        again = parse_query(format_query(query, names, variables), names)
+        wrong = [old.number for old, new in zip(_entries_of(query), _entries_of(again)) if old != new and old.number in variables]
+        if not wrong:
+            break
+        del variables[wrong[0]]
     rule = format_query(query, names, variables)
     if len(rule) <= 96:
         return rule
-    return format_query(query, names, variables, between="\n    ").replace(":- ", ":-\n    ", 1)
+    head, rows = format_parts(query, names, variables)
+    return f"{head} :-\n    " + ",\n    ".join(rows)

@@ -227,7 +227,7 @@ class Hostile(Calls):
             (record.add, 256, [0], 1), (record.add, -1, [0], 1), (record.add, 0, [8], 1), (record.add, 0, [0], 257),
             (record.add, 0, 1, 1), (record.add, "R0", [0], 1), (record.add, 0, ["a"], 1), (record.add, 0, [0], None),
             (record.put, -1, query), (record.put, 1.0, query), (record.put, None, query), (record.put, 1, None),
-            (record.put, 1, "ans(x) :- R0(x, y)"), (record.put, 1, Query((), (Row(0, (v(0),)),))),
+            (record.put, 1, 5), (record.put, 1, Query((), (Row(0, (v(0),)),))),
             (record.put, 1, Query((), (Row(1, (v(0), v(1))),))),
             (record.drop, -1), (record.drop, "0"), (record.reduce, 0, -1), (record.reduce, -(2**64), 1),
             (record.shorten, -8), (record.shorten, "0"), (record.compare, 0, None), (record.compare, -1, 0),

@@ -12,8 +12,9 @@ from pathlib import Path
 from unittest import mock
 
 import context
-from spernevan import Names, Record, parse_query, read_names
-from spernevan.command import main, names_path
+from spernevan import Record, parse_query, read_names
+from spernevan.command import main
+from spernevan.files import names_path
 
 FLIGHTS = str(context.SAMPLES / "flights.file")
 DATA = str(context.SAMPLES / "flights.data")
@@ -43,14 +44,15 @@ class Command(unittest.TestCase):
         path.write_bytes(text if isinstance(text, bytes) else text.encode())
         return str(path)
 
-    def done(self, *arguments):
-        status, out, err = run(*arguments)
-        self.assertEqual((status, err), (0, ""))
+    def done(self, *arguments, status=0):
+        """The output of a command that has nothing to complain of: it is done, or its answer is no (status 1)."""
+        found, out, err = run(*arguments)
+        self.assertEqual((found, err), (status, ""))
         return out
 
     def failed(self, message, *arguments):
         status, out, err = run(*arguments)
-        self.assertEqual((status, out), (1, ""))
+        self.assertEqual((status, out), (2, ""), err)
         self.assertEqual(err.count("\n"), 1)
         self.assertTrue(err.startswith(f"spernevan: {message}"), err)
 
@@ -111,7 +113,7 @@ class Sample(Command):
             "    f -> f, h -> h, v2 -> s, v3 -> t\n",
         )
         self.assertEqual(
-            self.done("compare", FLIGHTS, 5, 0),
+            self.done("compare", FLIGHTS, 5, 0, status=1),
             "Not contained. This database obeys the dependencies:\n"
             "  flight\n"
             "        number       sonde  site      launch\n"
@@ -123,7 +125,7 @@ class Sample(Command):
             "A number from 2147483648 on stands for a variable of place 5.\n",
         )
         self.assertIn("The dependencies leave place 3 without an answer.", self.done("compare", FLIGHTS, 3, 3))
-        found = json.loads(self.done("compare", "--json", FLIGHTS, 5, 0))
+        found = json.loads(self.done("compare", "--json", FLIGHTS, 5, 0, status=1))
         self.assertEqual((found["contained"], found["mapping"]), (False, None))
         self.assertEqual(found["counterexample"]["answer"], [2147483648, 2147483649])
         self.assertEqual(found["counterexample"]["rows"][1], {"table": "burst", "values": [2147483648, 2147483649]})
@@ -142,10 +144,10 @@ class Sample(Command):
         self.assertEqual(self.done("test", FLIGHTS, DATA), "Obeys: 13 rows, 10 dependencies\n")
         data = self.write("bad.data", "burst(1, 3)\n\n# again\nburst(2, 3)\nburst(1, 4)\n")
         self.assertEqual(
-            self.done("test", FLIGHTS, data),
+            self.done("test", FLIGHTS, data, status=1),
             "Breaks burst: flight -> height (dependency 9):\n"
-            f"  {data}:1: burst(1, 3) (row 0)\n"
-            f"  {data}:5: burst(1, 4) (row 2)\n",
+            f"  {data}:1: burst(1, 3)\n"
+            f"  {data}:5: burst(1, 4)\n",
         )
 
     def test_determined(self):
@@ -179,17 +181,27 @@ class Messages(Command):
         self.failed("nowhere.file: No such file", "list", "nowhere.file")
         self.failed(f"{self.folder}: Is a directory", "list", self.folder)
         thirteen = Path(EXAMPLE).read_bytes().replace(b"\3\2", b"\3\15")
-        for number, data in [(1, b""), (2, b"\2\0\1\0\1\0\2\0\1\0"), (5, thirteen)]:
+        for meaning, data in [
+            ("is empty: neither an archive file nor the text of one", b""),
+            ("is no archive file, and no text: the parts of the file do not follow", b"\2\0\1\0\1\0\2\0\1\0"),
+            ("is no archive file, and no text: a query is wrong: at most 8 entries in the head, 12 rows", thirteen),
+            ("is no archive file, and no text: the file does not begin as an archive file does", b"\x89PNG\r\n\x1a\n\0\0"),
+        ]:
             bad = self.write("bad.file", data)
-            for command in (["list", bad], ["unpack", bad], ["compare", bad, 0, 0], ["test", bad, DATA]):
-                self.failed(f"{bad}: refused {number}: ", *command)
-        self.failed("/dev/zero: refused 1: ", "list", "/dev/zero")
+            for command in (["list", bad], ["unpack", bad], ["compare", bad, 0, 0], ["test", bad, DATA], ["put", bad, 0, "ans() :- never"]):
+                self.failed(f"{bad} {meaning}", *command)
+        self.failed("/dev/zero is no archive file", "list", "/dev/zero")
 
     def test_places(self):
-        self.failed(f"{FLIGHTS}: place 0 and 8: refused 7: the place is above 7", "compare", FLIGHTS, 0, 8)
-        self.failed(f"{FLIGHTS}: place 0 and 3: refused 8: ", "compare", FLIGHTS, 0, 3)
-        self.failed(f"{FLIGHTS}: place 4: refused 11: the place is vacant", "evaluate", FLIGHTS, 4, DATA)
-        self.failed(f"{FLIGHTS}: place 99999999999999999999: refused 7: ", "evaluate", FLIGHTS, "9" * 5000, DATA)
+        self.failed(f"{FLIGHTS}: there is no place 8: places go from 0 to 7", "compare", FLIGHTS, 0, 8)
+        self.failed(f"{FLIGHTS}: there is no place 9: ", "compare", FLIGHTS, 9, 0)
+        different = "the first query shows 2 columns and the second 1: only heads of one length can be compared"
+        self.failed(f"{FLIGHTS}: {different}", "compare", FLIGHTS, 0, 3)
+        self.failed(f"{FLIGHTS}: {different}", "equivalent", FLIGHTS, 0, "ans(x) :- burst(x, y)")
+        self.failed(f"{FLIGHTS}: place 4 is vacant; filled: 0, 1, 2, 3, 5, 6", "evaluate", FLIGHTS, 4, DATA)
+        for asked in ((4, 0), (0, 4), (4, 7), (4, "ans(x) :- burst(x, y)")):
+            self.failed(f"{FLIGHTS}: place 4 is vacant; filled: 0, 1, 2, 3, 5, 6", "compare", FLIGHTS, *asked)
+        self.failed(f"{FLIGHTS}: there is no place 99999999999999999999: ", "evaluate", FLIGHTS, "9" * 5000, DATA)
         self.assertEqual(run("evaluate", FLIGHTS, "0" * 5000 + "5", DATA)[0], 0)
 
     def test_texts(self):
@@ -198,8 +210,18 @@ class Messages(Command):
             ("flight(a)\n0: ans(x) :- flight(y)\n", "2:8: x is in no row"),
             (b"flight(a)\n# \xff\n", "2:3: this byte is not UTF-8 text"),
             ("flight(a)\r\n0: ans(x) :- sonde(y)\r\n", "2:14: there is no table sonde; there is flight"),
-            ("", "1:1: refused 3: "),
-            (b"\0" * 9, "1:1: '\\x00' has no meaning here"),
+            ("", "1:1: a text has at least one table"),
+            (b"flight(a)\n\0", "2:1: '\\x00' has no meaning here; is this a text at all?"),
+            ("flight(a, b)\n0: ans(x) :- flight(x, y)\n   flight(x, z)\n", "3:4: there is a table flight already; where a rule goes on, the line before it ends with a comma"),
+            ("flight(a, b)\n0: ans(x) :- flight(x, y) flight(x, z)\n", "2:27: a comma is missing before flight"),
+            ("flight(a, b)\n0: ans(x) :- flight(x y)\n", "2:23: a comma is missing before y"),
+            ("flight(a 'b')\n", "1:10: a comma is missing before 'b'"),
+            ("flight('a', b)\n", "1:8: the name of a column was expected, not the text 'a'; quotes are for values"),
+            ("flight(a)\n0.5: ans() :- never\n", "2:1: a table(, a table: or a place: was expected, not the number 0.5"),
+            ("flight(a)\n0: ans() :- flight('Lindenberg)\n", "2:20: the quote ' that begins here does not end on this line"),
+            ("flight(a)\n0: ans() :- flight(.5)\n", "2:20: '.' has no meaning here; a decimal has digits before and after its point"),
+            ("flight(a)\n0: ans() :- flight(2026-02-30)\n", "2:20: there is no day 2026-02-30"),
+            ("flight(a*, b, c, d, e, f, g, h)\n" + "flight: a -> b, c\n" * 13, "14:1: an archive has 32 dependencies at most, and these make 33; each column"),
         ]:
             path = self.write("x.text", text)
             self.failed(f"{path}:{message}", "pack", path, out)
@@ -207,16 +229,19 @@ class Messages(Command):
         self.failed("nowhere.text: No such file", "pack", "nowhere.text", out)
         good = self.write("good.text", "\ufeffflight(a)\n")
         self.failed(f"{self.folder}/none/x.file: No such file", "pack", good, self.folder / "none" / "x.file")
-        for file in (good, self.folder / "x.names"):
-            self.failed(f"{good}, {file} and ", "pack", good, file)
+        self.failed(f"{good} is a text, which an archive file does not replace", "pack", good, good)
+        self.failed(f"{self.folder}/x.names is a name for a names file", "pack", good, self.folder / "x.names")
         self.assertEqual(Path(good).read_text(), "\ufeffflight(a)\n")
         self.done("pack", good, out)
 
     def test_data(self):
         for text, message in [
             ("burst(1)\n", "1:1: burst(flight, height) has 2 columns, not 1"),
-            ("burst(1, 2)\nburst(1, -2)\n", "2:10: '-' has no meaning here"),
-            ("burst(1, 4294967296)", "1:10: a value must be from 0 to 4294967295, not 4294967296"),
+            ("burst(1, 2)\nburst(1, - 2)\n", "2:10: '-' has no meaning here"),
+            ("burst(1, high)", "1:10: a value was expected, not 'high'; a text stands between quotes"),
+            ("burst(1, 2) burst(1, 2)", "1:13: the end of the line was expected, not 'burst'"),
+            ("burst(1 2)", "1:9: a comma is missing before 2"),
+            ("\nkite(1)", "2:1: there is no table kite; there is flight, sonde"),
         ]:
             path = self.write("x.data", text)
             self.failed(f"{path}:{message}", "evaluate", FLIGHTS, 0, path)
@@ -233,10 +258,10 @@ class Messages(Command):
         self.failed(f"{self.folder}/e.names:1:13: sonde has a column b already", "unpack", path)
         self.done("unpack", "--plain", path)
         self.failed("nowhere: No such file", "list", "--names", "nowhere", FLIGHTS)
-        self.failed("arguments:1:1: there is no table kite; there is flight,", "determined", FLIGHTS, "kite", "a")
-        self.failed("arguments:1:1: burst(flight, height) has no column a", "determined", FLIGHTS, "burst", "a")
-        self.failed("arguments:1:7: one name was expected, not 'x'", "determined", FLIGHTS, "burst x", "a")
-        self.failed("arguments:1:1: the name of a column was expected", "determined", FLIGHTS, "burst", "")
+        self.failed("there is no table kite; there is flight,", "determined", FLIGHTS, "kite", "a")
+        self.failed("burst(flight, height) has no column a", "determined", FLIGHTS, "burst", "a")
+        self.failed("one name was expected, not 'x'", "determined", FLIGHTS, "burst x", "a")
+        self.failed("the name of a column was expected", "determined", FLIGHTS, "burst", "")
 
     def test_usage(self):
         for arguments in (
@@ -260,7 +285,7 @@ class Messages(Command):
             self.addCleanup(engine._library.cache_clear)
             with mock.patch.object(engine, "_LIBRARY", path):
                 status, out, err = run("list", FLIGHTS)
-            self.assertEqual((status, out), (1, ""))
+            self.assertEqual((status, out), (2, ""))
             self.assertIn(message, err)
 
     def test_as_a_program(self):

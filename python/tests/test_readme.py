@@ -4,13 +4,14 @@ import contextlib
 import io
 import os
 import re
+import shlex
 import shutil
 import tempfile
 import textwrap
 import unittest
 
 import context
-from spernevan.command import main
+from spernevan.command import main, usage
 
 README = (context.HERE.parent / "README.md").read_text()
 
@@ -25,13 +26,24 @@ class Readme(unittest.TestCase):
         shutil.copytree(context.SAMPLES, "samples")
 
     def test_commands(self):
-        for command, lines in (["list", "samples/flights.file"], 18), (["compare", "samples/flights.file", "5", "0"], 0):
+        """Each command line between backquotes that is followed by its output; of `list`, the beginning of it."""
+        shown = re.findall(r"`\./spernevan ([^`]+)`[^`\n]*:\n\n((?:    .*\n)+)", README)
+        self.assertEqual([line.split()[0] for line, _ in shown], ["list", "compare", "evaluate", "evaluate"])
+        for line, wanted in shown:
+            command = shlex.split(line)
             out = io.StringIO()
             with contextlib.redirect_stdout(out):
-                self.assertEqual(main(command), 0)
-            self.assertIn(f"`./spernevan {' '.join(command)}`", README)
-            shown = "".join(out.getvalue().splitlines(True)[: lines or None])
-            self.assertIn(textwrap.indent(shown, "    "), README)
+                self.assertEqual(main(command), int(command[0] == "compare"))
+            printed = textwrap.indent(out.getvalue(), "    ")
+            self.assertTrue(printed.startswith(wanted) if command[0] == "list" else printed == wanted, line)
+
+    def test_every_command_is_there(self):
+        commands = next(action for action in usage()._actions if action.choices).choices
+        self.assertEqual(re.findall(r"^\| `(\w+) (?:FILE|TEXT)", README, re.MULTILINE), list(commands))
+
+    def test_every_module_is_there(self):
+        modules = {path.stem for path in (context.HERE.parent / "spernevan").glob("[a-z]*.py")}
+        self.assertEqual(set(re.findall(r"^\| `(\w+)` \|", README, re.MULTILINE)), modules)
 
     def test_python(self):
         block = re.search(r"## From Python\n\n(.*?)\n\n`Record`", README, re.DOTALL).group(1)

@@ -72,12 +72,16 @@ class Text(unittest.TestCase):
     def test_errors_say_where(self):
         table = "flight(number, sonde)\n"
         cases = [
-            ("", "1:1: refused 3: "),
-            ("# nothing\n", "2:1: refused 3: "),
+            ("", "1:1: a text has at least one table"),
+            ("# nothing\n", "2:1: a text has at least one table"),
             (table + "flight: number", "2:15: ',' or '->' was expected, not the end"),
             (table + "flight: height -> sonde", "2:9: flight(number, sonde) has no column height"),
             (table + "flight: -> sonde", "2:9: the name of a column was expected, not '->'"),
-            (table + "flight: number -> sonde, number", "2:24: the end of the line was expected, not ','"),
+            (table + "flight: number -> sonde number", "2:25: a comma is missing before number"),
+            (table + "flight: number sonde -> number", "2:16: a comma is missing before sonde"),
+            (table + "flight: number -> sonde,", "2:25: the name of a column was expected, not the end"),
+            (table + "flight: 'number' -> sonde", "2:9: the name of a column was expected, not the text 'number'"),
+            (table + "7 = 'x'", "2:1: a code must be from 2000000000"),
             (table + "burst: number -> sonde", "2:1: there is no table burst; there is flight"),
             ("burst: a -> b\n" + table, "1:1: there is no table burst; there is none"),
             (table + "8: ans() :- never", "2:1: a place must be from 0 to 7, not 8"),
@@ -89,7 +93,7 @@ class Text(unittest.TestCase):
             (table + "flight -> sonde", "2:1: a table(, a table: or a place: was expected, not 'flight'"),
             (table + "-> sonde", "2:1: a table(, a table: or a place: was expected, not '->'"),
             (table + "0: flight(x, y)", "2:4: a rule begins with ans, not flight"),
-            (table + "flight: number -> sonde\n" * 33, "34:1: refused 13: "),
+            (table + "flight: number -> sonde\n" * 33, "34:1: an archive has 32 dependencies at most, and these make 33; "),
             (table + "\t\u00b5\u00a7", "2:3: '\u00a7' has no meaning here"),
         ]
         for text, message in cases:

@@ -1,0 +1,392 @@
+"""What each command does. A command takes its options and gives its status; command.py has the usage."""
+
+from __future__ import annotations
+
+import argparse
+import json
+import os
+import sys
+from typing import Callable, Dict, List, Optional, Sequence, Tuple, Union
+
+from .data import Database
+from .engine import Refused
+from .files import FILE_BYTES, Failure, is_text, names_path, read_bytes, read_names_beside, read_while, shown, standard_input, text_of, write_files
+from .layout import answer_columns, comparison_json, reduction_json, set_mapping, set_reduction, set_tables, write_answers
+from .model import FROZEN, PLACES
+from .notation import Names, NotationError, Reader, constants, count, format_columns, format_datum, format_dependency, format_query, parse_rule
+from .record import Asked, Broken, Comparison, Record
+from .sources import read_database
+from .text import pack, unpack
+from .values import FIRST_CODE, Value, read_cell, read_literal
+
+YES, NO, TROUBLE = 0, 1, 2
+
+Options = argparse.Namespace
+
+
+# ---- files
+
+
+def load_record(file: str, names: Optional[str] = None, plain: bool = False) -> Tuple[Record, bool]:
+    """The record of an archive file or of a text, and whether it was a text."""
+    data, text = read_while(file, FILE_BYTES, is_text)
+    if text:
+        if names is not None:
+            raise Failure(f"{shown(file)} is a text, which has its names in it; --names is for archive files")
+        record, _ = pack(text_of(data, file), shown(file))
+        return (Record(record.file) if plain else record), True
+    if not data:
+        raise Failure(f"{shown(file)} is empty: neither an archive file nor the text of one")
+    try:
+        record = Record(data)
+    except Refused as refused:
+        raise Failure(f"{shown(file)} is no archive file, and no text: {refused.meaning}") from None
+    if plain or (names is None and file == "-"):
+        return record, False
+    found = read_names_beside(file, data, names)
+    if found is None:
+        coded = [number for query in record.queries if query is not None for number in constants(query) if number >= FIRST_CODE]
+        if coded:
+            say(
+                f"spernevan: {shown(file)} has the constant {coded[0]} and no names file, {names_path(file)}, beside it: "
+                f"if it is a code for a text or a date, what it stands for is lost; --plain takes it for a number"
+            )
+    else:
+        try:
+            record = record.named(found.names)
+            record.names
+        except ValueError as error:
+            raise Failure(f"{names or names_path(file)}: {error} ({shown(file)})") from None
+    return record, False
+
+
+def load(options: Options) -> Tuple[Record, Names]:
+    """The record that FILE has, and its names."""
+    record, _ = load_record(options.file, options.names, options.plain)
+    return record, record.names
+
+
+def save(options: Options, record: Record, was_text: bool, said: str) -> None:
+    """Writes a changed record: to --output, else in place; to standard output in the form in which it came."""
+    out = options.output or options.file
+    if out == "-":
+        write_out(unpack(record, record.names).encode() if was_text else record.file)
+        return
+    if was_text and os.path.realpath(out) == os.path.realpath(options.file):
+        raise Failure(f"{out} is a text: pack it first, or say with --output where the archive file goes; a text is changed in an editor")
+    record.write(out)
+    print(f"{out}: {said}")
+
+
+def write_out(data: bytes) -> None:
+    """Bytes on standard output."""
+    sys.stdout.flush()
+    sys.stdout.buffer.write(data)
+    sys.stdout.buffer.flush()
+
+
+def say(text: str) -> None:
+    """A line on standard error, if it is open."""
+    if sys.stderr is not None:
+        print(text, file=sys.stderr, flush=True)
+
+
+# ---- places and rules
+
+
+def place_or_rule(text: str) -> Union[int, str]:
+    """A place or a rule on the command line; `-` is a rule on standard input. The engine turns away places above 7."""
+    word = text.strip()
+    if word.isascii() and word.isdigit():
+        return int(word.lstrip("0")[:20] or "0")
+    if word == "-" or word.startswith("ans"):
+        return word
+    raise argparse.ArgumentTypeError(f"{text!r} is neither a place, 0 to {PLACES - 1}, nor a rule, ans(..) :- ..")
+
+
+def place(text: str) -> int:
+    """A place on the command line."""
+    found = place_or_rule(text) if not text.strip().startswith(("ans", "-")) else None
+    if not isinstance(found, int):
+        raise argparse.ArgumentTypeError(f"{text!r} is not a place; places go from 0 to {PLACES - 1}")
+    return found
+
+
+def rule_of(asked: str, file: str) -> str:
+    """The text of a rule: the argument, or standard input for `-`."""
+    if asked != "-":
+        return asked
+    if file == "-":
+        raise Failure("standard input can be the archive or the rule, not both")
+    return text_of(standard_input().read(), "-")
+
+
+class Subject:
+    """A query that a command is about: what to call it, its query, and the names of its variables."""
+
+    def __init__(self, record: Record, asked: Union[int, str], file: str, title: str) -> None:
+        self.variables: Dict[int, str]
+        self.asked: Asked
+        if isinstance(asked, int):
+            self.title, self.asked, self.query = f"place {asked}", asked, record.query(asked)
+            self.variables = record.names.variables.get(asked, {})
+            self.shown: Union[int, str] = asked
+        else:
+            self.query, self.variables = parse_rule(rule_of(asked, file), record.names)
+            self.title, self.asked = title, self.query
+            self.shown = format_query(self.query, record.names, self.variables)
+
+
+# ---- the commands
+
+
+def list_command(options: Options) -> int:
+    record, names = load(options)
+    found = [Subject(record, place, options.file, "") for place in record.filled()]
+    if options.json:
+        shapes = [{"place": one.asked, **reduction_json(one.query, record.shorten(one.asked), names, one.variables)} for one in found]
+        print(json.dumps(shapes, indent=2))
+    else:
+        print("\n\n".join(_reduced(record, one) for one in found) or "Every place is vacant.")
+    return YES
+
+
+def _reduced(record: Record, one: Subject) -> str:
+    title = one.title[:1].upper() + one.title[1:]
+    return set_reduction(title, one.query, record.shorten(one.asked), record.names, one.variables)
+
+
+def show_command(options: Options) -> int:
+    record, names = load(options)
+    if not options.query:
+        print(unpack(record, names), end="")
+        return YES
+    found = [Subject(record, asked, options.file, "the rule") for asked in options.query]
+    if options.json:
+        shapes = [{"query": one.shown, **reduction_json(one.query, record.shorten(one.asked), names, one.variables)} for one in found]
+        print(json.dumps(shapes, indent=2))
+    else:
+        print("\n\n".join(_reduced(record, one) for one in found))
+    return YES
+
+
+def _compared(record: Record, p: Subject, q: Subject, compared: Comparison) -> List[str]:
+    """A comparison for people."""
+    names = record.names
+    example = compared.counterexample()
+    if example is None:
+        lines = ["Contained: on every database that obeys the dependencies,", f"each answer of {p.title} is an answer of {q.title}."]
+        if compared.mapping is None:
+            return [*lines, f"The dependencies leave {p.title} without an answer."]
+        lines.append(f"Mapping from {q.title} to the chased form of {p.title}:")
+        return [*lines, set_mapping(compared.mapping, q.variables, p.variables, names.values)]
+    answer = format_datum("ans", map(names.values.decode, example[1]))
+    lines = ["Not contained. This database obeys the dependencies:", *set_tables(example[0], names)]
+    lines.append(f"There {answer} is an answer of {p.title} and not of {q.title}.")
+    if any(value >= FROZEN for _, values in example[0] for value in values):
+        lines.append(f"A number from {FROZEN} on stands for a variable of {p.title}.")
+    return lines
+
+
+def _two(options: Options) -> Tuple[Record, Subject, Subject]:
+    record, _ = load(options)
+    rules = isinstance(options.p, str) and isinstance(options.q, str)
+    p = Subject(record, options.p, options.file, "the first rule" if rules else "the rule")
+    return record, p, Subject(record, options.q, options.file, "the second rule" if rules else "the rule")
+
+
+def compare_command(options: Options) -> int:
+    record, p, q = _two(options)
+    compared = record.compare(p.asked, q.asked)
+    if options.json:
+        print(json.dumps({"p": p.shown, "q": q.shown, **comparison_json(compared, record.names, p.variables, q.variables)}, indent=2))
+    else:
+        print("\n".join(_compared(record, p, q, compared)))
+    return YES if compared.contained else NO
+
+
+def equivalent_command(options: Options) -> int:
+    record, p, q = _two(options)
+    there, back = record.compare(p.asked, q.asked), record.compare(q.asked, p.asked)
+    same = there.contained and back.contained
+    if options.json:
+        shape = {
+            "p": p.shown,
+            "q": q.shown,
+            "equivalent": same,
+            "p_in_q": comparison_json(there, record.names, p.variables, q.variables),
+            "q_in_p": comparison_json(back, record.names, q.variables, p.variables),
+        }
+        print(json.dumps(shape, indent=2))
+    elif same:
+        print(f"Equivalent: {p.title} and {q.title} have the same answers on every database that obeys the dependencies.")
+    else:
+        print("\n".join(_compared(record, p, q, there) if not there.contained else _compared(record, q, p, back)))
+    return YES if same else NO
+
+
+def _data(options: Options, record: Record) -> Database:
+    """The database of DATA."""
+    if options.file == "-" and "-" in options.data:
+        raise Failure("standard input can be the archive or the data, not both")
+    return read_database(options.data, record.names, _null(options.null), options.text, sys.stderr)
+
+
+def _null(text: Optional[str]) -> Optional[Value]:
+    """What NULL stands for: a literal, or the text as it is."""
+    if text is None:
+        return None
+    try:
+        return read_literal(text) if text[:1] in ("'", '"') and text[-1:] == text[:1] and len(text) > 1 else read_cell(text)
+    except ValueError:
+        return text
+
+
+def _missing(database: Database, relations: Sequence[int], names: Names, why: str) -> None:
+    """Failure if a table that is needed is in none of the data."""
+    missing = [names.tables[relation].name for relation in sorted(set(relations)) if relation not in database.tables]
+    if missing:
+        raise Failure(f"the data has no table {', '.join(missing)}, which {why}; for an empty table give a CSV file with its header line alone")
+
+
+def _broken(record: Record, database: Database, broken: Broken) -> List[str]:
+    """A broken dependency for people."""
+    dependency = format_dependency(record.dependencies[broken.dependency], record.names)
+    rows = [f"  {database.say(position)}" for position in (broken.first, broken.second)]
+    return [f"Breaks {dependency} (dependency {broken.dependency}):", *rows]
+
+
+def evaluate_command(options: Options) -> int:
+    record, names = load(options)
+    asked = Subject(record, options.query, options.file, "the rule")
+    database = _data(options, record)
+    _missing(database, [row.relation for row in asked.query.rows], names, "the query asks for")
+    for note in database.notes:
+        say(f"spernevan: {note}")
+    double = database.text_and_number(constants(asked.query))
+    if double is not None:
+        say(
+            f"spernevan: the text '{double}' and the number {double} are different values, and both are here; "
+            f"a query has the text between quotes, and --text TABLE.COLUMN takes a column of CSV as text"
+        )
+    broken = record.test(database)
+    if broken is not None:
+        for line in _broken(record, database, broken):
+            say(line)
+        say("On such a database the long and the short form of a query may have different answers.")
+    answers = record.evaluate(asked.asked, database)
+    write_answers(answers, answer_columns(asked.query, names, asked.variables), options.format, sys.stdout)
+    return YES
+
+
+def test_command(options: Options) -> int:
+    record, names = load(options)
+    database = _data(options, record)
+    _missing(database, [dependency.relation for dependency in record.dependencies], names, "a dependency speaks of")
+    for note in database.notes:
+        say(f"spernevan: {note}")
+    broken = record.test(database)
+    if broken is None:
+        print(f"Obeys: {count(len(database), 'row')}, {count(len(record.dependencies), 'dependency')}")
+        return YES
+    print("\n".join(_broken(record, database, broken)))
+    return NO
+
+
+def determined_command(options: Options) -> int:
+    record, names = load(options)
+
+    def one(text: str, take: Callable[[Reader], int]) -> int:
+        try:
+            reader = Reader(text, "arguments")
+            found = take(reader)
+            reader.take("end", "one name")
+            return found
+        except NotationError as error:
+            raise Failure(error.message) from None
+
+    relation = one(options.table, names.relation)
+    left = [one(column, lambda reader: names.column(relation, reader)) for column in options.column]
+    columns = sorted(record.determined(relation, left))
+    print(
+        f"{names.tables[relation].name}: {format_columns(relation, sorted(set(left)), names)} determines "
+        f"{format_columns(relation, columns, names)} ({len(columns)} of {count(record.widths[relation], 'column')})"
+    )
+    return YES
+
+
+def pack_command(options: Options) -> int:
+    data = read_bytes(options.text)
+    if data[1:2] == b"\0":
+        raise Failure(f"{shown(options.text)} is no text; if it is an archive file, unpack makes a text of it")
+    record, _ = pack(text_of(data, options.text), shown(options.text))
+    if options.file == "-":
+        write_out(record.file)
+        say("spernevan: standard output has the archive without the names")
+        return YES
+    path = names_path(options.file)
+    if os.path.realpath(path) == os.path.realpath(options.text):
+        raise Failure(f"{options.text} is where the names of {options.file} go: give the archive file another name")
+    record.write(options.file)
+    print(f"{options.file}: {len(record.file)} bytes; names in {path}")
+    return YES
+
+
+def unpack_command(options: Options) -> int:
+    record, names = load(options)
+    text = unpack(record, names)
+    if options.text == "-":
+        print(text, end="")
+        return YES
+    if os.path.isfile(options.text):
+        raise Failure(f"{options.text} is there already, and may have comments that would be lost: write elsewhere, or remove it first")
+    write_files([(options.text, text.encode())])
+    print(f"{options.text}: {count(len(text.splitlines()), 'line')}")
+    return YES
+
+
+def put_command(options: Options) -> int:
+    record, was_text = load_record(options.file)
+    query, variables = parse_rule(rule_of(options.rule, options.file), record.names)
+    record = record.put(options.place, query, variables)
+    save(options, record, was_text, f"place {options.place} holds {format_query(query, record.names, variables)}")
+    return YES
+
+
+def drop_command(options: Options) -> int:
+    record, was_text = load_record(options.file)
+    for place in options.place:
+        record.drop(place)
+    for place in options.place:
+        record = record.drop(place)
+    save(options, record, was_text, f"vacant now: {', '.join(map(str, options.place))}")
+    return YES
+
+
+def add_command(options: Options) -> int:
+    record, was_text = load_record(options.file)
+    before = len(record.dependencies)
+    for dependency in options.dependency:
+        record = record.add(dependency)
+    held = len(record.dependencies)
+    save(options, record, was_text, f"{count(held - before, 'dependency')} added, {held} in all")
+    return YES
+
+
+def reduce_command(options: Options) -> int:
+    record, was_text = load_record(options.file)
+    asked = Subject(record, options.query, options.file, "the rule")
+    vacant = record.vacant()
+    if options.target is None and not vacant:
+        raise Failure(f"{shown(options.file)}: every place is filled: drop one first")
+    target = vacant[0] if options.target is None else options.target
+    if isinstance(asked.asked, int):
+        short = record.reduce(asked.asked, target)
+        record = short.record
+    else:
+        short = record.shorten(asked.asked)
+        held = {number: asked.variables[number] for number in short.result.variables() if number in asked.variables}
+        record = record.put(target, short.result, held)
+    rule = format_query(short.result, record.names, asked.variables)
+    save(options, record, was_text, f"place {target} holds the short form of {asked.title}, {count(len(short.result.rows), 'row')}: {rule}")
+    return YES

@@ -1,0 +1,382 @@
+"""Databases: rows of values, coded to the words that the engine takes.
+
+A Database is filled a chunk of columns at a time, so that a cell costs no Python object where that can
+be had, and remembers where each row came from. `of_python` makes one from lists, pandas or numpy;
+sources.py reads files.
+"""
+
+from __future__ import annotations
+
+import re
+import time
+from array import array
+from bisect import bisect_right
+from decimal import Decimal
+from typing import Any, Callable, Dict, Iterable, Iterator, List, Mapping, NamedTuple, Optional, Sequence, TextIO, Tuple
+
+from .engine import Words
+from .notation import Names, Table, count, format_datum
+from .values import FIRST_CODE, Null, Value, Values, order, plain, read_cell, read_literal
+
+CHUNK = 50_000
+
+# Where row n of a block stands, for a message.
+Where = Callable[[int], str]
+
+
+class DataError(ValueError):
+    """A database that cannot be read; the message says where."""
+
+
+class Block(NamedTuple):
+    """Rows of one table from one place: the position of the first row, its first word, and where each stands."""
+
+    first: int
+    word: int
+    relation: int
+    where: Where
+
+
+class Stands(NamedTuple):
+    """A row of a database, and where it stands."""
+
+    where: str
+    relation: int
+    values: Tuple[Value, ...]
+
+
+class Database:
+    """Rows of the tables of `names`, as words; `values` is the dictionary of their codes, which grows with them."""
+
+    def __init__(self, names: Names, values: Optional[Values] = None, null: Optional[Value] = None, progress: Optional[Progress] = None) -> None:
+        self.names = names
+        self.values = names.values.copy() if values is None else values
+        self.words: Words = array("I")
+        self.tables: Dict[int, int] = {}
+        self.progress = progress or Progress(None)
+        self.notes: List[str] = []
+        self._null = None if null is None else self.values.encode(null)
+        self._blocks: List[Block] = []
+        self._firsts: List[int] = []
+        self._rows = 0
+
+    def __len__(self) -> int:
+        """How many rows there are."""
+        return self._rows
+
+    def has(self, relation: int) -> None:
+        """Notes that a table has been read, also one without rows."""
+        self.tables.setdefault(relation, 0)
+
+    def add(self, relation: int, columns: Sequence[Words], where: Where) -> None:
+        """Adds rows of a table, given as its columns in words. `where` says where row n of these stands."""
+        rows = len(columns[0])
+        width = len(columns) + 1
+        chunk = array("I", bytes(4 * rows * width))
+        chunk[0::width] = array("I", [relation]) * rows
+        for number, column in enumerate(columns):
+            chunk[number + 1 :: width] = column
+        self._blocks.append(Block(self._rows, len(self.words), relation, where))
+        self._firsts.append(self._rows)
+        self.words.extend(chunk)
+        self._rows += rows
+        self.tables[relation] = self.tables.get(relation, 0) + rows
+        self.progress.at(self.names.tables[relation].name, self.tables[relation])
+
+    def cells(self, text: bool = False) -> Cells:
+        """A reader of one column's cells that have no type, as in CSV; `text` leaves them as they are."""
+        return Cells(self.values, self._null, str) if text else Cells(self.values, self._null, read_cell)
+
+    def literals(self) -> Cells:
+        """A reader of one column's values as rows of text have them."""
+        return Cells(self.values, None, read_literal)
+
+    def typed(self) -> Cells:
+        """A reader of one column's values that have a type."""
+        return Cells(self.values, self._null, plain)
+
+    def stands(self, position: int) -> Stands:
+        """The row at a position, from 0 over all rows."""
+        block = self._blocks[bisect_right(self._firsts, position) - 1]
+        width = len(self.names.tables[block.relation].columns) + 1
+        inside = position - block.first
+        at = block.word + inside * width
+        values = tuple(self.values.decode(word) for word in self.words[at + 1 : at + width])
+        return Stands(block.where(inside), block.relation, values)
+
+    def say(self, position: int) -> str:
+        """A row and where it stands, for a message."""
+        found = self.stands(position)
+        return f"{found.where}: {format_datum(self.names.tables[found.relation].name, found.values)}"
+
+    def text_and_number(self, others: Iterable[int] = ()) -> Optional[str]:
+        """A text that looks like a number which is there too, in the rows or among `others`; such a pair is never equal."""
+        numbers = self.values.numbers_as_text()
+        found = {number for number in numbers if self.values.known(number)}.union(set(numbers).intersection(others))
+        if not numbers:
+            return None
+        for start, end, relation in self._spans():
+            width = len(self.names.tables[relation].columns) + 1
+            for column in range(1, width):
+                found |= set(numbers).intersection(self.words[start + column : end : width])
+        return numbers[min(found)] if found else None
+
+    def _spans(self) -> Iterator[Tuple[int, int, int]]:
+        """The words of each block, from one to before the other, and its relation."""
+        ends = [block.word for block in self._blocks[1:]] + [len(self.words)]
+        for block, end in zip(self._blocks, ends):
+            yield block.word, end, block.relation
+
+    def decoded(self, answers: Words, length: int, number: int) -> List[Tuple[Value, ...]]:
+        """Answers of the engine as values: numbers ascending, then dates, then texts."""
+        decode = self.values.decode
+        if not len(self.values) or not len(answers) or max(answers) < FIRST_CODE:
+            return [tuple(answers[at * length : (at + 1) * length]) for at in range(number)]
+        words = [tuple(answers[at * length : (at + 1) * length]) for at in range(number)]
+        rank = _Rank(self.values)
+        words.sort(key=lambda row: tuple(map(rank.__getitem__, row)))
+        return [tuple(map(decode, row)) for row in words]
+
+
+class _Rank(Dict[int, Tuple[int, Any, str]]):
+    """The place of a word in the order of values."""
+
+    def __init__(self, values: Values) -> None:
+        super().__init__()
+        self._values = values
+
+    def __missing__(self, word: int) -> Tuple[int, Any, str]:
+        found = self[word] = order(self._values.decode(word))
+        return found
+
+
+class Cells(Dict[Any, int]):
+    """The words of a column's cells, by the cells that have been met."""
+
+    def __init__(self, values: Values, null: Optional[int], read: Callable[[Any], Value]) -> None:
+        super().__init__()
+        self._values, self._null, self._read = values, null, read
+        self._written: Dict[int, str] = {}
+        self.same: Optional[Tuple[str, str]] = None
+
+    def column(self, cells: Sequence[Any]) -> Words:
+        """Cells in words. A cell that is no value raises ValueError, or Null; `fault` then says which."""
+        if self._read is plain:
+            try:
+                if {int}.issuperset(map(type, cells)):
+                    words = array("I", cells)
+                    if not words or max(words) < FIRST_CODE:
+                        return words
+            except OverflowError:
+                pass
+        elif self._read is not str:
+            found = _whole_numbers(cells)
+            if found is not None:
+                return found
+        try:
+            return array("I", map(self.__getitem__, cells))
+        except TypeError:
+            return array("I", map(self.__missing__, cells))
+
+    def fault(self, cells: Sequence[Any]) -> Tuple[int, ValueError]:
+        """The position of the first cell that `column` did not take, and why."""
+        for position, cell in enumerate(cells):
+            try:
+                self.__missing__(cell)
+            except ValueError as error:
+                return position, error
+        raise AssertionError("every cell is sound")
+
+    def __missing__(self, cell: Any) -> int:
+        try:
+            if self._read is not plain and cell == "":
+                raise Null()
+            value = self._read(cell)
+            word = self._values.encode(value)
+        except Null:
+            if self._null is None:
+                raise
+            return self._null
+        if self._read is read_cell and isinstance(value, (int, Decimal)):
+            written = self._written.setdefault(word, cell.strip())
+            if written != cell.strip() and self.same is None:
+                self.same = written, cell.strip()
+        try:
+            self[cell] = word
+        except TypeError:
+            pass
+        return word
+
+
+_NO_NUMBER = re.compile(r"[^0-9\n]|\n\n|\n0[0-9]")
+
+
+def _whole_numbers(cells: Sequence[str]) -> Optional[Words]:
+    """A column of cells that are all plain whole numbers, in words; else None."""
+    text = "\n" + "\n".join(cells) + "\n"
+    if _NO_NUMBER.search(text):
+        return None
+    try:
+        words = array("I", map(int, cells))
+    except (OverflowError, ValueError):
+        return None
+    return words if not words or max(words) < FIRST_CODE else None
+
+
+class Progress:
+    """A line on a terminal that says how far a work is, once it takes longer than a second."""
+
+    def __init__(self, stream: Optional[TextIO]) -> None:
+        self._stream = stream if stream is not None and stream.isatty() else None
+        self._next = time.monotonic() + 1
+        self._shown = False
+
+    def at(self, what: str, rows: int) -> None:
+        """Says how many rows of a table there are so far."""
+        if self._stream is not None and time.monotonic() > self._next:
+            self.say(f"{what}: {rows:,} rows")
+            self._next = time.monotonic() + 0.2
+
+    def say(self, text: str) -> None:
+        if self._stream is not None:
+            self._stream.write(f"\r{text}\033[K")
+            self._stream.flush()
+            self._shown = True
+
+    def done(self) -> None:
+        """Takes the line away."""
+        if self._stream is not None and self._shown:
+            self._stream.write("\r\033[K")
+            self._stream.flush()
+            self._shown = False
+
+
+# ---- from Python
+
+
+def fold(name: str) -> str:
+    """A name without the differences that do not count: case, and what cannot stand in a name."""
+    return re.sub(r"\W+", "_", name.strip()).casefold()
+
+
+def matched(name: str, among: Sequence[str], where: str) -> Optional[int]:
+    """The position of a name, as it is written or else as `fold` has it; None if it is not there."""
+    for folded in (False, True):
+        found = [position for position, other in enumerate(among) if other == name or folded and fold(other) == fold(name)]
+        if len(found) > 1:
+            raise DataError(f"{where}: {name} is there {count(len(found), 'time')}")
+        if found:
+            return found[0]
+    return None
+
+
+def relation_of(table: object, names: Names) -> int:
+    """The number of a table that is named."""
+    found = matched(table, [held.name for held in names.tables], "the tables") if isinstance(table, str) else None
+    if found is None:
+        raise DataError(f"there is no table {table!r:.40}; there is {', '.join(held.name for held in names.tables)}")
+    return found
+
+
+def of_python(data: object, names: Names, values: Optional[Values] = None, null: Optional[Value] = None) -> Database:
+    """A database from `{'burst': rows}`: rows as lists, tuples or dicts, a pandas DataFrame, or a numpy array.
+
+    A DataFrame, dicts and a structured array are matched by the names of columns, the others by position.
+    A single DataFrame or array is the one table of a record that has only one.
+    """
+    database = Database(names, values, null)
+    if not isinstance(data, Mapping):
+        if len(names.tables) != 1:
+            raise DataError(f"say which table these rows are of, as in {{{names.tables[0].name!r}: rows}}")
+        data = {names.tables[0].name: data}
+    for table, rows in data.items():
+        relation = relation_of(table, names)
+        held = names.tables[relation]
+        database.has(relation)
+        columns = _columns_of(rows, held)
+        readers = [database.typed() for _ in columns]
+        for start in range(0, len(columns[0]), CHUNK):
+            words = [
+                _python_column(reader, column[start : start + CHUNK], start, f"{held.name}: column {label}")
+                for reader, column, label in zip(readers, columns, held.columns)
+            ]
+            database.add(relation, words, _row_of(held.name, start))
+    return database
+
+
+def _row_of(name: str, start: int) -> Where:
+    return lambda row: f"row {row + start} of {name}"
+
+
+def _python_column(reader: Cells, cells: Any, start: int, where: str) -> Words:
+    """A stretch of a column in words."""
+    kind = getattr(getattr(cells, "dtype", None), "kind", "")
+    if kind and kind in "iub" and len(cells) and cells.min() >= 0 and cells.max() < FIRST_CODE:
+        words: Words = array("I")
+        words.frombytes(cells.astype("uint32").tobytes())
+        return words
+    held = cells.tolist() if hasattr(cells, "tolist") else cells
+    try:
+        return reader.column(held)
+    except ValueError:
+        position, error = reader.fault(held)
+        raise DataError(f"{where}, row {start + position}: {error}") from None
+
+
+def _columns_of(rows: Any, table: Table) -> List[Any]:
+    """The columns of a table, in its order and of one length: numpy arrays, or lists."""
+    width = len(table.columns)
+    if hasattr(rows, "iloc") and hasattr(rows, "columns"):
+        labels = [str(label) for label in rows.columns]
+        return [_frame_column(rows.iloc[:, number]) for number in positions(table.columns, labels, table.name)]
+    if hasattr(rows, "dtype") and hasattr(rows, "shape"):
+        if rows.dtype.names:
+            labels = list(rows.dtype.names)
+            return [rows[labels[number]] for number in positions(table.columns, labels, table.name)]
+        if len(rows.shape) == 1 and width == 1:
+            return [rows]
+        if len(rows.shape) != 2 or rows.shape[1] != width:
+            raise DataError(f"{table} has {count(width, 'column')}; the array has the shape {tuple(rows.shape)}")
+        return [rows[:, number] for number in range(width)]
+    try:
+        held = list(rows)
+    except TypeError:
+        raise DataError(f"{table.name}: rows must be a list, not {rows!r:.40}") from None
+    shaped = [_shaped(row, table, position) for position, row in enumerate(held)]
+    return [list(column) for column in zip(*shaped)] if shaped else [[] for _ in range(width)]
+
+
+def _shaped(row: Any, table: Table, position: int) -> Sequence[object]:
+    """A row of a table in the order of its columns."""
+    if isinstance(row, Mapping):
+        labels = list(row)
+        return [row[labels[number]] for number in positions(table.columns, list(map(str, labels)), f"{table.name}, row {position}")]
+    if isinstance(row, (str, bytes)) or not isinstance(row, (tuple, list)) and not (hasattr(row, "__len__") and hasattr(row, "__getitem__")):
+        raise DataError(f"{table.name}, row {position}: a row must be a list or a tuple, not {row!r:.40}")
+    if len(row) != len(table.columns):
+        raise DataError(f"{table.name}, row {position}: {table} has {count(len(table.columns), 'column')}, not {len(row)}")
+    found: Sequence[object] = row
+    return found
+
+
+def _frame_column(series: Any) -> Any:
+    """A column of a DataFrame: its numpy array; dates, where every time of day is midnight."""
+    found = series.to_numpy()
+    if getattr(found.dtype, "kind", "") == "M":
+        times = series.dt.tz_localize(None) if series.dt.tz is not None else series
+        midnight = series.dt.tz is None and bool((times.isna() | (times == times.dt.normalize())).all())
+        return [None if one != one else one.date() if midnight else one.to_pydatetime() for one in series]
+    if found.dtype.kind == "O":
+        return list(series)
+    return found
+
+
+def positions(wanted: Sequence[str], labels: Sequence[str], where: str) -> List[int]:
+    """Where each wanted column is among the labels of the data."""
+    found = []
+    for column in wanted:
+        position = matched(column, labels, where)
+        if position is None:
+            raise DataError(f"{where}: there is no column {column}; there is {', '.join(labels) or 'none'}")
+        found.append(position)
+    return found

@@ -1,0 +1,229 @@
+"""Files: texts in UTF-8, archive files with the names beside them, and writing that leaves the old file when it fails."""
+
+from __future__ import annotations
+
+import hashlib
+import os
+import secrets
+import shutil
+import signal
+import stat
+import sys
+from contextlib import contextmanager, nullcontext
+from typing import BinaryIO, Callable, ContextManager, Iterator, List, Optional, Sequence, Tuple, Union
+
+from .notation import NamesFile, read_names_file
+
+# As many bytes as the listing program reads; no record's file is as long.
+FILE_BYTES = 65536
+
+Path = Union[str, "os.PathLike[str]"]
+
+
+class Failure(Exception):
+    """A message for the person at the terminal."""
+
+
+def names_path(file: Path) -> str:
+    """The names file that belongs to an archive file."""
+    return os.path.splitext(os.fspath(file))[0] + ".names"
+
+
+def checksum(file: bytes) -> str:
+    """What a names file keeps of its archive file."""
+    return hashlib.sha256(file).hexdigest()
+
+
+def standard_input() -> BinaryIO:
+    """Standard input, in bytes."""
+    if sys.stdin is None:
+        raise Failure("standard input is closed")
+    return sys.stdin.buffer
+
+
+def _opened(path: Path) -> ContextManager[BinaryIO]:
+    """A file to read, or standard input for `-`, which stays open."""
+    if path == "-":
+        return nullcontext(standard_input())
+    return open(path, "rb")
+
+
+def read_bytes(path: Path, most: int = -1) -> bytes:
+    """The bytes of a file, or of standard input for `-`."""
+    with _opened(path) as file:
+        return file.read(most)
+
+
+def read_while(path: Path, size: int, wanted: Callable[[bytes], bool]) -> Tuple[bytes, bool]:
+    """The first bytes of a file, and whether they are wanted; if so, the whole file. It is read once, so that a pipe will do."""
+    with _opened(path) as file:
+        data = file.read(size)
+        good = wanted(data)
+        return (data + file.read() if good else data), good
+
+
+def text_of(data: bytes, path: Path) -> str:
+    """Bytes in UTF-8 as text."""
+    try:
+        return data.decode("utf-8-sig").replace("\r\n", "\n")
+    except UnicodeDecodeError as error:
+        line = data.count(b"\n", 0, error.start) + 1
+        column = error.start - (data.rfind(b"\n", 0, error.start) + 1) + 1
+        raise Failure(f"{shown(path)}:{line}:{column}: this byte is not UTF-8 text; save the file in UTF-8") from None
+
+
+def read_text(path: Path) -> str:
+    """A text file, in UTF-8."""
+    return text_of(read_bytes(path), path)
+
+
+def shown(path: Path) -> str:
+    """A path in a message."""
+    return "standard input" if path == "-" else os.fspath(path)
+
+
+def is_text(data: bytes) -> bool:
+    """Whether bytes are a text. An archive file has the byte 0 in second place, as no text has."""
+    if not data or b"\0" in data[:64]:
+        return False
+    try:
+        data.decode("utf-8-sig")
+    except UnicodeDecodeError as error:
+        return error.start > FILE_BYTES - 4
+    return True
+
+
+def read_names_beside(file: Path, data: bytes, given: Optional[Path] = None) -> Optional[NamesFile]:
+    """The names file beside an archive file, or the one that is given; None if there is none.
+
+    Failure if it was written for an archive file of other bytes.
+    """
+    path = names_path(file) if given is None else os.fspath(given)
+    if given is None and not os.path.exists(path):
+        return None
+    found = read_names_file(read_text(path), path)
+    if found.checksum is not None and found.checksum != checksum(data):
+        raise Failure(
+            f"{path}: these names were written for another state of {shown(file)}: its checksum is not the one in the line archive. "
+            f"Put back the file that goes with them, or pack its text again; --plain goes without names"
+        )
+    return found
+
+
+def _beside(path: str) -> str:
+    """A name in the folder of a file that no file has."""
+    return f"{path}.{secrets.token_hex(4)}.new"
+
+
+def _keep(path: str) -> Optional[str]:
+    """Another name for the file of a path, if there is one, under which it can be put back."""
+    if not os.path.exists(path):
+        return None
+    old = f"{path}.{secrets.token_hex(4)}.old"
+    try:
+        os.link(path, old)
+    except OSError:
+        shutil.copy2(path, old)
+    return old
+
+
+def _is_plain(path: str) -> bool:
+    """Whether a path is a plain file or nothing yet; a device or a pipe is written to as it is."""
+    try:
+        return stat.S_ISREG(os.stat(path).st_mode)
+    except FileNotFoundError:
+        return True
+
+
+@contextmanager
+def _uninterrupted() -> Iterator[None]:
+    """Keeps an interrupt back until the work is done."""
+    before = signal.pthread_sigmask(signal.SIG_BLOCK, {signal.SIGINT, signal.SIGTERM, signal.SIGHUP})
+    try:
+        yield
+    finally:
+        signal.pthread_sigmask(signal.SIG_SETMASK, before)
+
+
+def write_files(files: Sequence[Tuple[Path, bytes]]) -> None:
+    """Writes files: all of them are new afterwards, or, on a failure, all as they were.
+
+    Each is written beside its place, to the disk, and then renamed. A symbolic link stays one.
+    """
+    with _uninterrupted():
+        _write_files(files)
+
+
+def _write_files(files: Sequence[Tuple[Path, bytes]]) -> None:
+    made: List[Tuple[str, str, str]] = []
+    done: List[Tuple[str, Optional[str]]] = []
+    try:
+        for given, data in files:
+            if not _is_plain(os.fspath(given)):
+                if os.path.isdir(given):
+                    raise IsADirectoryError(21, os.strerror(21), os.fspath(given))
+                with open(given, "wb") as device:
+                    device.write(data)
+                continue
+            path = os.path.realpath(given)
+            if os.path.exists(path) and not os.access(path, os.W_OK):
+                raise PermissionError(13, os.strerror(13), os.fspath(given))
+            new = _beside(path)
+            made.append((new, path, os.fspath(given)))
+            _write_through(new, path, data, os.fspath(given))
+        for new, path, _ in made:
+            done.append((path, _keep(path)))
+            os.replace(new, path)
+    except BaseException:
+        for path, old in done:
+            if old is not None:
+                os.replace(old, path)
+            elif not any(new for new, made_path, _ in made if made_path == path and os.path.exists(new)):
+                os.unlink(path)
+        raise
+    finally:
+        for new, _, _ in made:
+            _remove(new)
+        for _, old in done:
+            if old is not None:
+                _remove(old)
+    for folder in {os.path.dirname(path) for _, path, _ in made}:
+        _sync_folder(folder)
+
+
+def _write_through(new: str, path: str, data: bytes, given: str) -> None:
+    """Writes a new file to the disk, with the rights of the one that it will replace."""
+    try:
+        descriptor = os.open(new, os.O_WRONLY | os.O_CREAT | os.O_EXCL, 0o666)
+    except OSError as error:
+        raise OSError(error.errno, error.strerror, given) from None
+    try:
+        with open(descriptor, "wb") as file:
+            if os.path.exists(path):
+                os.fchmod(descriptor, stat.S_IMODE(os.stat(path).st_mode))
+            file.write(data)
+            file.flush()
+            os.fsync(descriptor)
+    except OSError as error:
+        raise OSError(error.errno, error.strerror, given) from None
+
+
+def _remove(path: str) -> None:
+    try:
+        os.unlink(path)
+    except OSError:
+        pass
+
+
+def _sync_folder(folder: str) -> None:
+    """Makes renames last; a folder that cannot be opened is left to the system."""
+    try:
+        descriptor = os.open(folder, os.O_RDONLY)
+    except OSError:
+        return
+    try:
+        os.fsync(descriptor)
+    except OSError:
+        pass
+    finally:
+        os.close(descriptor)

@@ -1,0 +1,176 @@
+"""What the commands print: rules, mappings, databases and answers, for people and for programs."""
+
+from __future__ import annotations
+
+import csv
+import json
+from datetime import date
+from decimal import Decimal
+from typing import Any, Dict, List, Optional, Sequence, TextIO, Tuple
+
+from .model import Constant, Entry, Mapping, Query, Variable
+from .notation import Names, count, format_datum, format_entry, format_mapping, format_parts, format_query
+from .record import Comparison, Reduction
+from .values import Value, Values, bare, format_value
+
+Json = Dict[str, Any]
+Variables = Dict[int, str]
+
+
+# ---- for programs
+
+
+def value_json(value: Value) -> Any:
+    """A value as JSON has it: a whole number as a number, all else as its characters."""
+    return value if isinstance(value, int) else bare(value)
+
+
+def entry_json(entry: Entry, variables: Variables, values: Values) -> Any:
+    """A variable as its name; a constant as a number, or between quotes as a rule has it."""
+    if isinstance(entry, Variable):
+        return format_entry(entry, variables)
+    value = values.decode(entry.number)
+    return value if isinstance(value, int) else format_value(value)
+
+
+def query_json(query: Query, names: Names, variables: Variables) -> Json:
+    """A query for programs: the rule in one line, and its parts."""
+    return {
+        "rule": format_query(query, names, variables),
+        "never": query.is_never,
+        "head_length": query.head_length,
+        "head": [entry_json(entry, variables, names.values) for entry in query.head],
+        "rows": [
+            {"table": names.tables[row.relation].name, "entries": [entry_json(entry, variables, names.values) for entry in row.entries]}
+            for row in query.rows
+        ],
+    }
+
+
+def mapping_json(mapping: Optional[Mapping], source: Variables, target: Variables, values: Values) -> Optional[Json]:
+    if mapping is None:
+        return None
+    return {format_entry(Variable(v), source): entry_json(entry, target, values) for v, entry in sorted(mapping.items())}
+
+
+def reduction_json(query: Query, short: Reduction, names: Names, variables: Variables) -> Json:
+    """A query and its reduction."""
+    return {
+        "long": query_json(query, names, variables),
+        "short": query_json(short.result, names, variables),
+        "mapping": mapping_json(short.mapping, variables, variables, names.values),
+        "replaced": short.replaced,
+    }
+
+
+def comparison_json(compared: Comparison, names: Names, of_p: Variables, of_q: Variables) -> Json:
+    """A comparison."""
+    example = compared.counterexample()
+    return {
+        "contained": compared.contained,
+        "mapping": mapping_json(compared.mapping, of_q, of_p, names.values),
+        "counterexample": example
+        and {
+            "rows": [
+                {"table": names.tables[relation].name, "values": [value_json(names.values.decode(value)) for value in values]}
+                for relation, values in example[0]
+            ],
+            "answer": [value_json(names.values.decode(value)) for value in example[1]],
+        },
+    }
+
+
+# ---- for people
+
+
+def set_rule(query: Query, names: Names, variables: Variables) -> str:
+    """A rule with a row to a line, the rows below each other."""
+    head, rows = format_parts(query, names, variables)
+    between = ",\n    " + " " * len(f"{head} :- ")
+    return f"    {head} :- {between.join(rows)}"
+
+
+def set_mapping(mapping: Mapping, source: Variables, target: Variables, values: Values) -> str:
+    """A mapping in lines that fit a page."""
+    pieces = [format_mapping({number: entry}, source, target, values) + "," for number, entry in sorted(mapping.items())] or ["no variables,"]
+    lines = ["   "]
+    for piece in pieces:
+        if len(lines[-1]) > 3 and len(f"{lines[-1]} {piece}") > 76:
+            lines.append("   ")
+        lines[-1] += f" {piece}"
+    return "\n".join(lines)[:-1]
+
+
+def set_tables(rows: Sequence[Tuple[int, Tuple[int, ...]]], names: Names) -> List[str]:
+    """The rows of a database as a small table for each relation that has some."""
+    lines: List[str] = []
+    for relation, table in enumerate(names.tables):
+        held = [tuple(format_value(names.values.decode(value)) for value in values) for number, values in rows if number == relation]
+        if not held:
+            continue
+        widths = [max(map(len, column)) for column in zip(table.columns, *held)]
+        lines.append(f"  {table.name}")
+        for line in [table.columns, *held]:
+            lines.append("    " + "  ".join(word.rjust(width) for word, width in zip(line, widths)))
+    return lines
+
+
+def set_reduction(title: str, query: Query, short: Reduction, names: Names, variables: Variables) -> str:
+    """A query and its reduction."""
+    lines = [
+        title,
+        f"  Long form, {count(len(query.rows), 'row')}:",
+        set_rule(query, names, variables),
+        f"  Short form, {count(len(short.result.rows), 'row')}:",
+        set_rule(short.result, names, variables),
+    ]
+    if short.mapping is not None:
+        lines.append("  Mapping from the long form to the short:")
+        lines.append(set_mapping(short.mapping, variables, variables, names.values))
+    lines.append(f"  Replaced by the dependencies: {count(short.replaced, 'variable')}")
+    return "\n".join(lines)
+
+
+# ---- answers
+
+
+def answer_columns(query: Query, names: Names, variables: Variables) -> List[str]:
+    """A name for each column of the answers: its variable's, or that of the first column in which the variable stands."""
+    first: Dict[int, str] = {}
+    for row in query.rows:
+        for entry, column in zip(row.entries, names.tables[row.relation].columns):
+            if isinstance(entry, Variable):
+                first.setdefault(entry.number, column)
+    found: List[str] = []
+    for position, entry in enumerate(query.head):
+        name = f"constant{position}" if isinstance(entry, Constant) else variables.get(entry.number) or first[entry.number]
+        number, unique = 1, name
+        while unique in found:
+            number += 1
+            unique = f"{name}_{number}"
+        found.append(unique)
+    return found or [f"column{position}" for position in range(query.head_length)]
+
+
+def write_answers(answers: Sequence[Tuple[Value, ...]], columns: Sequence[str], kind: str, out: TextIO) -> None:
+    """Writes answers as rows of text, CSV or JSON. In CSV an empty head gives one column, `answer`, with yes or no row."""
+    if kind == "csv":
+        writer = csv.writer(out, lineterminator="\n")
+        writer.writerow(columns or ["answer"])
+        writer.writerows(([bare(value) for value in answer] for answer in answers) if columns else (["yes"] for _ in answers))
+    elif kind == "json":
+        out.write("[")
+        for position, answer in enumerate(answers):
+            cells = ", ".join(f"{json.dumps(name)}: {_json_text(value)}" for name, value in zip(columns, answer))
+            out.write(f"{',' if position else ''}\n  {{{cells}}}")
+        out.write("\n]\n" if answers else "]\n")
+    else:
+        out.writelines(f"{format_datum('ans', answer)}\n" for answer in answers)
+        out.write(f"# {count(len(answers), 'answer')}\n")
+
+
+def _json_text(value: Value) -> str:
+    """A value in JSON: numbers with all their digits, dates and texts as strings."""
+    if isinstance(value, (int, Decimal)) and not isinstance(value, date):
+        return bare(value)
+    return json.dumps(bare(value))

@@ -1,0 +1,367 @@
+"""Databases from files: rows of text, CSV files, SQLite.
+
+The tables and columns of a CSV folder or an SQLite file are matched by name: as it is written, or else
+without regard to case and to signs that cannot stand in a name. Further tables and columns are left
+aside.
+"""
+
+from __future__ import annotations
+
+import csv
+import gc
+import os
+import re
+import sqlite3
+from array import array
+from itertools import islice
+from typing import AbstractSet, Dict, Iterable, List, NoReturn, Optional, Sequence, TextIO, Tuple
+from urllib.request import pathname2url
+
+from .data import CHUNK, Cells, Database, DataError, Progress, Where, matched, positions
+from .engine import Words
+from .files import Path, read_bytes, read_while, shown, text_of
+from .notation import Names, Reader, Table, count, format_row
+from .values import Null, Value, format_value
+
+CURE = "say what it stands for with --null VALUE"
+
+
+def read_database(
+    paths: Sequence[Path],
+    names: Names,
+    null: Optional[Value] = None,
+    text: Iterable[str] = (),
+    progress: Optional[TextIO] = None,
+) -> Database:
+    """The database of some files: rows of text, CSV files or folders of them, SQLite files.
+
+    `null` is what an absent value stands for; without it, one is refused. `text` has columns of CSV
+    files, as `sonde.version`, whose cells stay texts also where they look like numbers. `progress` is
+    a stream for a line that says how far it is, if it is a terminal.
+    """
+    database = Database(names, None, null, Progress(progress))
+    kept = {_column(name, names) for name in text}
+    collecting = gc.isenabled()
+    gc.disable()  # Rows make no cycles, and looking for them doubles the time.
+    try:
+        for path in paths:
+            _read(path, database, kept)
+    finally:
+        if collecting:
+            gc.enable()
+        database.progress.done()
+    return database
+
+
+def _column(name: str, names: Names) -> Tuple[int, int]:
+    """The table and the column of `sonde.version`."""
+    table, _, column = name.partition(".")
+    relation = matched(table, [held.name for held in names.tables], name)
+    found = None if relation is None else matched(column, names.tables[relation].columns, name)
+    if relation is None or found is None:
+        raise DataError(f"{name} is no TABLE.COLUMN of the archive")
+    return relation, found
+
+
+def _read(path: Path, database: Database, kept: AbstractSet[Tuple[int, int]]) -> None:
+    name = os.fspath(path)
+    if name != "-" and os.path.isdir(name):
+        _read_folder(name, database, kept)
+        return
+    if name.lower().endswith(".csv"):
+        relation = _relation(name, database.names)
+        if relation is None:
+            known = ", ".join(f"{table.name}.csv" for table in database.names.tables)
+            raise DataError(f"{name}: the archive has no table of that name; a CSV file is called {known}")
+        read_csv(name, relation, database, kept)
+        return
+    data, other = read_while(path, 16, lambda start: start != b"SQLite format 3\0")
+    if not other:
+        if name == "-":
+            raise DataError("an SQLite file cannot be read from standard input; give its name")
+        read_sqlite(name, database)
+        return
+    read_rows(text_of(data, path), shown(path), database)
+
+
+# ---- rows of text
+
+_ITEM = r"""(?:'(?:[^'\n]|'')*'|"(?:[^"\\\n]|\\[^\n])*"|-?[0-9][0-9.eE+-]*)"""
+_EACH = re.compile(_ITEM)
+# A row that stands in one line, or a line without one.
+_ROW = re.compile(
+    rf"[ \t]*([^\W\d]\w*)[ \t]*\(([ \t]*{_ITEM}[ \t]*(?:,[ \t]*{_ITEM}[ \t]*)*)\)[ \t]*(?:\#[^\n]*)?(?:\n|\Z)|[ \t]*(?:\#[^\n]*)?\n"
+)
+
+
+def read_rows(text: str, source: str, database: Database) -> None:
+    """Rows, one a line: `flight(101, 'Lindenberg', 2026-01-14)`."""
+    for relation in range(len(database.names.tables)):
+        database.has(relation)
+    if not _read_simple_rows(text, source, database):
+        _read_any_rows(text, source, database)
+
+
+def _read_simple_rows(text: str, source: str, database: Database) -> bool:
+    """The rows of a text in which each stands in one line; False, and none is added, if it is another text."""
+    tables = database.names.tables
+    numbers = {table.name: relation for relation, table in enumerate(tables)}
+    bodies: List[List[str]] = [[] for _ in tables]
+    lines: List[Words] = [array("I") for _ in tables]
+    at, line, match = 0, 1, _ROW.match
+    while at < len(text):
+        found = match(text, at)
+        if found is None:
+            return False
+        if found.lastindex:
+            relation = numbers.get(found.group(1))
+            if relation is None:
+                return False
+            bodies[relation].append(found.group(2))
+            lines[relation].append(line)
+        at, line = found.end(), line + 1
+    read: List[Tuple[int, List[Words], Where]] = []
+    for relation, table in enumerate(tables):
+        width = len(table.columns)
+        readers = [database.literals() for _ in range(width)]
+        for start in range(0, len(bodies[relation]), CHUNK):
+            cells = _literals(bodies[relation][start : start + CHUNK], width)
+            try:
+                words = [reader.column(cells[column::width]) for column, reader in enumerate(readers)]
+            except ValueError:
+                return False
+            read.append((relation, words, _line_of(source, lines[relation][start : start + CHUNK])))
+            database.progress.at(table.name, start)
+    for relation, words, where in read:
+        database.add(relation, words, where)
+    return True
+
+
+def _literals(bodies: Sequence[str], width: int) -> List[str]:
+    """The values of rows, one after another; none at all if a row has another number of them."""
+    text = ",".join(bodies)
+    if "'" not in text and '"' not in text:
+        if any(body.count(",") != width - 1 for body in bodies):
+            return [""]
+        return text.replace(" ", "").replace("\t", "").split(",")
+    cells: List[str] = []
+    for body in bodies:
+        found = _EACH.findall(body)
+        if len(found) != width:
+            return [""]
+        cells += found
+    return cells
+
+
+def _line_of(source: str, lines: Words) -> Where:
+    return lambda row: f"{source}:{lines[row]}"
+
+
+def _read_any_rows(text: str, source: str, database: Database) -> None:
+    """The rows of any text, one after another, with an error that says where."""
+    reader = Reader(text, source)
+    names = database.names
+    while not reader.at_end():
+        token = reader.next
+        relation = names.relation(reader)
+        values = reader.listed(lambda: reader.value("a value"))
+        table = names.tables[relation]
+        if len(values) != len(table.columns):
+            raise reader.error(token, f"{table} has {count(len(table.columns), 'column')}, not {len(values)}")
+        reader.line_ends()
+        words = [array("I", [database.values.encode(value)]) for value in values]
+        database.add(relation, words, _line_of(source, array("I", [token.line])))
+
+
+# ---- CSV
+
+
+def _relation(path: str, names: Names) -> Optional[int]:
+    """The table that a CSV file is called after."""
+    stem = os.path.splitext(os.path.basename(path))[0]
+    return matched(stem, [table.name for table in names.tables], path)
+
+
+def _read_folder(folder: str, database: Database, kept: AbstractSet[Tuple[int, int]]) -> None:
+    """The CSV files of a folder, a table each."""
+    found: Dict[int, str] = {}
+    for name in sorted(os.listdir(folder)):
+        if not name.lower().endswith(".csv"):
+            continue
+        relation = _relation(name, database.names)
+        if relation is None:
+            continue
+        if relation in found:
+            raise DataError(f"{folder}: {found[relation]} and {name} are both for the table {database.names.tables[relation].name}")
+        found[relation] = name
+    if not found:
+        known = ", ".join(f"{table.name}.csv" for table in database.names.tables)
+        raise DataError(f"{folder}: there is no CSV file of a table of the archive here; it may have {known}")
+    for relation, name in sorted(found.items()):
+        read_csv(os.path.join(folder, name), relation, database, kept)
+
+
+def read_csv(path: str, relation: int, database: Database, kept: AbstractSet[Tuple[int, int]] = frozenset()) -> None:
+    """A CSV file with a header line, as rows of a table. Cells go by , or ; or a tabulator, as the header does."""
+    table = database.names.tables[relation]
+    database.has(relation)
+    sign, readers = ",", [database.cells((relation, column) in kept) for column in range(len(table.columns))]
+    try:
+        with open(path, encoding="utf-8-sig", newline="") as file:
+            first = file.readline()
+            sign = _delimiter(first, table, path)
+            header: List[str] = next(csv.reader([first], delimiter=sign, skipinitialspace=True), [])
+            if not header:
+                raise DataError(f"{path}:1: a header line with the names of the columns was expected, not an empty line")
+            at = positions(table.columns, header, f"{path}:1")
+            reader = csv.reader(file, delimiter=sign, skipinitialspace=True)
+            start = 0
+            while True:
+                rows = list(islice(reader, CHUNK))
+                if not rows:
+                    break
+                if set(map(len, rows)) != {len(header)}:
+                    rows = _sound_rows(rows, len(header), path, sign, start)
+                columns = list(zip(*rows)) if rows else [()] * len(header)
+                words = []
+                for column, (number, cells) in enumerate(zip(at, readers)):
+                    try:
+                        words.append(cells.column(columns[number]))
+                    except ValueError:
+                        position, error = cells.fault(columns[number])
+                        line = _csv_line(path, sign, start + position)
+                        _refuse(f"{path}:{line}: column {table.columns[column]}", error, "the cell is empty (NULL)")
+                if rows:
+                    database.add(relation, words, _csv_where(path, sign, start))
+                start += len(rows)
+    except UnicodeDecodeError:
+        text_of(read_bytes(path), path)
+        raise
+    except csv.Error as error:
+        raise DataError(f"{path}:{_csv_error_line(path, sign)}: {error}") from None
+    for column, cells in enumerate(readers):
+        if cells.same is not None:
+            name = f"{table.name}.{table.columns[column]}"
+            one, other = cells.same
+            database.notes.append(f"{path}: {one} and {other} are one number in {name}; if they are no numbers, say --text {name}")
+
+
+def _delimiter(header: str, table: Table, path: str) -> str:
+    """The sign between cells: the one by which the header has the table's columns, else a comma."""
+    for sign in ",;\t":
+        labels: List[str] = next(csv.reader([header], delimiter=sign, skipinitialspace=True), [])
+        if all(matched(column, labels, f"{path}:1") is not None for column in table.columns):
+            return sign
+    return ";" if ";" in header and "," not in header else ","
+
+
+def _rows_of(path: str, sign: str) -> Iterable[Tuple[int, List[str]]]:
+    """The rows of a CSV file after its header that are not empty, each with the line on which it begins."""
+    with open(path, encoding="utf-8-sig", newline="") as file:
+        file.readline()
+        reader = csv.reader(file, delimiter=sign, skipinitialspace=True)
+        line = 2
+        for row in reader:
+            if row:
+                yield line, row
+            line = reader.line_num + 2
+
+
+def _csv_line(path: str, sign: str, row: int) -> int:
+    """The line on which row n begins."""
+    return next(islice(_rows_of(path, sign), row, None))[0]
+
+
+def _csv_where(path: str, sign: str, start: int) -> Where:
+    return lambda row: f"{path}:{_csv_line(path, sign, start + row)}"
+
+
+def _csv_error_line(path: str, sign: str) -> int:
+    line = 1
+    try:
+        for line, _ in _rows_of(path, sign):
+            pass
+    except csv.Error:
+        pass
+    return line + 1
+
+
+def _sound_rows(rows: List[List[str]], width: int, path: str, sign: str, start: int) -> List[List[str]]:
+    """The rows that are not empty; an error if one has another number of cells than the header."""
+    held = [row for row in rows if row]
+    for position, row in enumerate(held):
+        if len(row) != width:
+            line = _csv_line(path, sign, start + position)
+            raise DataError(f"{path}:{line}: the row has {count(len(row), 'cell')}, the header {width}")
+    return held
+
+
+def _refuse(where: str, error: ValueError, absent: str) -> NoReturn:
+    """Raises the error of a value, with its place and the cure."""
+    if isinstance(error, Null):
+        raise DataError(f"{where}: {absent}; {CURE}") from None
+    raise DataError(f"{where}: {error}") from None
+
+
+# ---- SQLite
+
+
+def _quoted(name: str) -> str:
+    return '"' + name.replace('"', '""') + '"'
+
+
+def read_sqlite(path: str, database: Database) -> None:
+    """The tables of an SQLite file that the archive has. Nothing is written to it."""
+    try:
+        connection = sqlite3.connect(f"file:{pathname2url(os.path.abspath(path))}?mode=ro", uri=True)
+        try:
+            _read_connection(connection, path, database)
+        finally:
+            connection.close()
+    except sqlite3.Error as error:
+        raise DataError(f"{path}: SQLite says: {error}") from None
+
+
+def _read_connection(connection: sqlite3.Connection, path: str, database: Database) -> None:
+    there = [row[0] for row in connection.execute("SELECT name FROM sqlite_master WHERE type IN ('table', 'view') ORDER BY name")]
+    found = [(relation, matched(table.name, there, path)) for relation, table in enumerate(database.names.tables)]
+    if all(number is None for _, number in found):
+        raise DataError(f"{path}: no table of the archive is here; there is {', '.join(there) or 'none'}")
+    for relation, number in found:
+        if number is not None:
+            _read_sqlite_table(connection, path, there[number], relation, database)
+
+
+def _read_sqlite_table(connection: sqlite3.Connection, path: str, name: str, relation: int, database: Database) -> None:
+    table = database.names.tables[relation]
+    labels = [row[1] for row in connection.execute(f"PRAGMA table_info({_quoted(name)})")]
+    wanted = [labels[number] for number in positions(table.columns, labels, f"{path}: table {name}")]
+    database.has(relation)
+    readers: List[Cells] = [database.typed() for _ in wanted]
+    cursor = connection.execute(f"SELECT {', '.join(map(_quoted, wanted))} FROM {_quoted(name)}")
+    start = 0
+    while True:
+        rows = cursor.fetchmany(CHUNK)
+        if not rows:
+            return
+        words = []
+        for column, (cells, reader) in enumerate(zip(zip(*rows), readers)):
+            try:
+                words.append(reader.column(cells))
+            except ValueError:
+                position, error = reader.fault(cells)
+                row = format_row(name, [_said(value) for value in rows[position]])
+                _refuse(f"{path}: row {start + position + 1} of {name}, column {wanted[column]}", error, f"NULL in {row}")
+        database.add(relation, words, _sqlite_where(path, name, start))
+        start += len(rows)
+
+
+def _sqlite_where(path: str, name: str, start: int) -> Where:
+    return lambda row: f"{path}: row {start + row + 1} of {name}"
+
+
+def _said(value: object) -> str:
+    """A value of SQLite in a message."""
+    if value is None:
+        return "NULL"
+    return format_value(value) if isinstance(value, (int, str)) else f"{value!r:.20}"

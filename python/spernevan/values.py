@@ -1,0 +1,273 @@
+"""The numbers that stand for the values of a database: text, decimals, dates and numbers that do not fit.
+
+The engine knows whole numbers, and a constant of a query goes from 0 to 2,147,483,647. A whole number
+below 2,000,000,000 stands for itself. Every other value has a code from there on, and each code stands
+for one value only, which is written down when it is given out. So no code is ever a plain number too:
+the plain numbers end where the codes begin, and a number that lies among the codes is entered like a
+text (as itself, where it is still free).
+
+Numbers are one value when they are equal, however they are written (13, 13.0; 12.5, 12.50). A date and
+the text of the same characters are one value. The text '13' is not the number 13.
+"""
+
+from __future__ import annotations
+
+import json
+import operator
+import re
+from datetime import date, datetime
+from decimal import Decimal, InvalidOperation
+from typing import Dict, Iterable, Iterator, Optional, Tuple, Union
+
+from .model import LARGEST_CONSTANT
+
+FIRST_CODE = 2_000_000_000
+
+# What a value of a database may be.
+Value = Union[int, str, Decimal, date]
+
+# The most digits of a number: far more than any measurement has, and few enough to compute with.
+MOST_DIGITS = 1000
+
+
+class Null(ValueError):
+    """A value that is not there: None, NaN, NaT, or an empty cell."""
+
+    def __init__(self, message: str = "there is no value here (NULL)") -> None:
+        super().__init__(message)
+
+
+def _number(value: Decimal) -> Union[int, Decimal]:
+    """A decimal, as a whole number where it is one."""
+    if not value.is_finite():
+        raise Null() if value.is_nan() else ValueError("an infinite number is no value")
+    if value and (value.adjusted() > MOST_DIGITS or value.adjusted() < -MOST_DIGITS):
+        raise ValueError(f"a number has at most {MOST_DIGITS} digits")
+    whole = int(value)
+    return whole if whole == value else value
+
+
+def plain(value: object) -> Value:
+    """A value as one of the four kinds: numbers of other types, such as float or numpy's, are converted."""
+    if isinstance(value, str):
+        return str(value)
+    if isinstance(value, int):
+        if value.bit_length() > 3 * MOST_DIGITS:
+            raise ValueError(f"a number has at most {MOST_DIGITS} digits")
+        return int(value)
+    if value is None:
+        raise Null()
+    if isinstance(value, datetime):
+        if value != value:
+            raise Null()
+        if getattr(value, "nanosecond", 0):
+            return str(value)
+        return datetime.combine(value.date(), value.timetz())
+    if isinstance(value, date):
+        return value
+    if isinstance(value, Decimal):
+        return _number(value)
+    if isinstance(value, float):
+        return _number(Decimal(repr(float(value))))
+    try:
+        return operator.index(value)  # type: ignore[arg-type]
+    except TypeError:
+        pass
+    item = getattr(value, "item", None)
+    if callable(item):
+        inner = item()
+        if type(inner) is not type(value):
+            return plain(inner)
+    if value != value:
+        raise Null()
+    raise ValueError(f"a value must be a number, a text or a date, not {value!r:.40}")
+
+
+def _key(value: Value) -> Union[int, Decimal, str]:
+    """What two equal values share."""
+    if isinstance(value, datetime):
+        return value.isoformat(" ")
+    return value.isoformat() if isinstance(value, date) else value
+
+
+class Values:
+    """A dictionary of codes; it only grows. `encode` gives a value's number, `decode` the value of a number."""
+
+    def __init__(self, entries: Iterable[Tuple[int, Value]] = ()) -> None:
+        self._codes: Dict[Union[int, Decimal, str], int] = {}
+        self._values: Dict[int, Value] = {}
+        self._next = FIRST_CODE
+        for code, value in entries:
+            self.define(code, value)
+
+    def __len__(self) -> int:
+        return len(self._values)
+
+    def __iter__(self) -> Iterator[Tuple[int, Value]]:
+        """The codes and their values, ascending."""
+        return iter(sorted(self._values.items()))
+
+    def __eq__(self, other: object) -> bool:
+        return isinstance(other, Values) and self._codes == other._codes
+
+    __hash__ = None  # type: ignore[assignment]
+
+    def __repr__(self) -> str:
+        return f"Values({list(self)!r})"
+
+    def copy(self) -> Values:
+        """A dictionary with the same entries, to be added to without changing this one."""
+        made = Values()
+        made._codes, made._values, made._next = dict(self._codes), dict(self._values), self._next
+        return made
+
+    def only(self, codes: Iterable[int]) -> Values:
+        """The entries of some codes."""
+        return Values((code, self._values[code]) for code in sorted(set(codes)) if code in self._values)
+
+    def encode(self, value: object) -> int:
+        """The number that stands for a value; it gets a code if it needs one and has none. Null and ValueError if it is no value."""
+        if type(value) is int and 0 <= value < FIRST_CODE:
+            return value
+        held = value if type(value) is str else plain(value)
+        if isinstance(held, int) and 0 <= held < FIRST_CODE:
+            return held
+        key = held if type(held) is str else _key(held)
+        code = self._codes.get(key)
+        if code is None:
+            code = held if isinstance(held, int) and self._free(held) else self._new()
+            self._codes[key] = code
+            self._values[code] = held
+        elif isinstance(held, date) and isinstance(self._values[code], str):
+            self._values[code] = held
+        return code
+
+    def decode(self, code: int) -> Value:
+        """The value that a number stands for: itself, if it is no code of this dictionary."""
+        return self._values.get(code, code)
+
+    def known(self, value: Value) -> bool:
+        """Whether a value has a code."""
+        return _key(value) in self._codes
+
+    def define(self, code: int, value: Value) -> None:
+        """Enters a code that is given. ValueError if the code or the value is in the dictionary, or no code goes with it."""
+        held = plain(value)
+        key = _key(held)
+        if not FIRST_CODE <= code <= LARGEST_CONSTANT:
+            raise ValueError(f"a code must be from {FIRST_CODE} to {LARGEST_CONSTANT}, not {code}")
+        if isinstance(held, int) and 0 <= held < FIRST_CODE:
+            raise ValueError(f"{held} stands for itself and has no code")
+        if code in self._values:
+            raise ValueError(f"{code} stands for {format_value(self._values[code])} already")
+        if key in self._codes:
+            raise ValueError(f"{format_value(held)} has the code {self._codes[key]} already")
+        self._codes[key] = code
+        self._values[code] = held
+
+    def reserve(self, numbers: Iterable[int]) -> None:
+        """Enters numbers that a record holds: one among the codes that has no entry stands for itself."""
+        for number in numbers:
+            if self._free(number):
+                self.define(number, number)
+
+    def numbers_as_text(self) -> Dict[int, str]:
+        """The texts that look like whole numbers, by those numbers."""
+        texts = (value for value in self._values.values() if isinstance(value, str))
+        return {int(text): text for text in texts if _WHOLE.fullmatch(text) and len(text) < 20}
+
+    def _free(self, number: int) -> bool:
+        return FIRST_CODE <= number <= LARGEST_CONSTANT and number not in self._values
+
+    def _new(self) -> int:
+        while self._next in self._values:
+            self._next += 1
+        if self._next > LARGEST_CONSTANT:
+            raise ValueError(f"there are more than {LARGEST_CONSTANT - FIRST_CODE + 1} different values")
+        return self._next
+
+
+# ---- values as they are written
+
+_WHOLE = re.compile(r"0|-?[1-9][0-9]*")
+_DECIMAL = re.compile(r"-?(?:0|[1-9][0-9]*)(?:\.[0-9]+(?:[eE][+-]?[0-9]+)?|e[+-][0-9]{2,})")
+_DATE = re.compile(r"[0-9]{4}-[0-9]{2}-[0-9]{2}")
+
+
+def read_cell(cell: str) -> Value:
+    """The value of a cell that has no type, as in CSV: a number or a date if it is written like one, else the text itself.
+
+    A number with zeros before it, as 007, is a text.
+    """
+    if cell[:1] > "9":
+        return cell
+    word = cell.strip()
+    if _WHOLE.fullmatch(word) and len(word) <= MOST_DIGITS:
+        return int(word)
+    if _DECIMAL.fullmatch(word):
+        try:
+            return _number(Decimal(word))
+        except (InvalidOperation, ValueError):
+            return cell
+    if _DATE.fullmatch(word):
+        found = read_date(word)
+        return cell if found is None else found
+    return cell
+
+
+def read_date(word: str) -> Optional[date]:
+    """The date of a text such as 2026-01-14, if the calendar has it."""
+    try:
+        return date(*map(int, word.split("-")))
+    except ValueError:
+        return None
+
+
+def format_value(value: Value) -> str:
+    """A value as a rule or a row of a database has it: text between quotes."""
+    if isinstance(value, datetime) or isinstance(value, str):
+        text = value if isinstance(value, str) else value.isoformat(" ")
+        return "'" + text.replace("'", "''") + "'" if text.isprintable() else json.dumps(text)
+    return bare(value)
+
+
+def bare(value: Value) -> str:
+    """A value as its characters, without quotes."""
+    if isinstance(value, datetime):
+        return value.isoformat(" ")
+    if isinstance(value, date):
+        return value.isoformat()
+    if isinstance(value, Decimal):
+        text = format(value, "f")
+        return text if len(text) <= 40 else str(value)
+    return str(value)
+
+
+def order(value: Value) -> Tuple[int, Union[int, Decimal], str]:
+    """A key to sort values by: numbers, then dates, then texts."""
+    if isinstance(value, (int, Decimal)):
+        return 0, value, ""
+    return 1 if isinstance(value, date) else 2, 0, bare(value)
+
+
+def read_literal(word: str) -> Value:
+    """The value of a literal, as a rule or a row of text has it: a number, a date, '..' with '' for a quote, or ".." as in JSON.
+
+    ValueError, with a sentence, if it is none.
+    """
+    if word.startswith("'"):
+        return word[1:-1].replace("''", "'")
+    if word.startswith('"'):
+        try:
+            return str(json.loads(word))
+        except ValueError:
+            raise ValueError('what follows \\ in a text between " is as in JSON') from None
+    if _DATE.fullmatch(word):
+        found = read_date(word)
+        if found is None:
+            raise ValueError(f"there is no day {word}")
+        return found
+    try:
+        return plain(Decimal(word))
+    except (ValueError, ArithmeticError):
+        raise ValueError(f"{word:.24} is no number, or one of more than {MOST_DIGITS} digits") from None

@@ -1,0 +1,509 @@
+"""Databases from rows of text, CSV, SQLite and Python objects: what comes in comes out, and what is wrong is said with its place."""
+
+import csv
+import importlib.util
+import io
+import json
+import os
+import random
+import sqlite3
+import subprocess
+import sys
+import time
+import unittest
+from datetime import date, datetime
+from decimal import Decimal
+from pathlib import Path
+
+import context
+from spernevan import Broken, Constant, DataError, Query, Record, Row, Table, pack, read_database
+from spernevan.data import Progress
+from spernevan.notation import format_datum
+from test_command import Command, run
+
+TEXT = """
+flight(number*, site, launch)
+burst(flight*, height)
+0: ans(f, h, t) :- flight(f, 'De Bilt', t), burst(f, h)
+1: ans(p) :- flight(f, p, t)
+2: ans(f) :- flight(f, p, 2026-01-14), burst(f, 31200.5)
+"""
+FLIGHTS = [("F-1", "De Bilt", "2026-01-14"), ("F-2", "Lindenberg, D", "2026-01-15"), ("F-3", "De Bilt", "2026-01-14")]
+BURSTS = [("F-1", 31200.5), ("F-2", 29000), ("F-3", 30000.25)]
+
+
+def installed(name):
+    return importlib.util.find_spec(name) is not None
+
+
+class Data(Command):
+    def setUp(self):
+        super().setUp()
+        self.text = self.write("a.text", TEXT)
+        self.record, self.names = pack(TEXT)
+
+    def folder_of(self, **tables):
+        folder = self.folder / f"csv{len(list(self.folder.iterdir()))}"
+        folder.mkdir()
+        for name, text in tables.items():
+            (folder / f"{name}.csv").write_bytes(text if isinstance(text, bytes) else text.encode())
+        return folder
+
+    def csv(self, flight="number,site,launch\n", burst="flight,height\n"):
+        return self.folder_of(flight=flight, burst=burst)
+
+    def sqlite(self, *statements, flights=FLIGHTS, bursts=BURSTS):
+        path = self.folder / f"{len(list(self.folder.iterdir()))}.db"
+        connection = sqlite3.connect(path)
+        connection.execute("CREATE TABLE flight (number TEXT, operator TEXT, site TEXT, launch TEXT)")
+        connection.execute('CREATE TABLE "Burst" (height REAL, flight TEXT)')
+        connection.executemany("INSERT INTO flight VALUES (?1, 'x', ?2, ?3)", flights)
+        connection.executemany('INSERT INTO "Burst" VALUES (?2, ?1)', bursts)
+        for statement in statements:
+            connection.execute(statement)
+        connection.commit()
+        connection.close()
+        return path
+
+    def all_sources(self):
+        """The same database from every kind of file."""
+        rows = "".join(f"flight('{n}', '{s}', {t})\n" for n, s, t in FLIGHTS) + "".join(f"burst('{f}', {h})\n" for f, h in BURSTS)
+        cells = "".join(f'{t},{n},"{s}",extra\n' for n, s, t in FLIGHTS)
+        heights = "".join(f"{f};{h}\n" for f, h in BURSTS)
+        return [
+            self.write("a.data", rows),
+            self.write("b.data", rows.replace("(", "(\n  ")),
+            self.csv("launch,number,site,further\n" + cells, "Flight; HEIGHT \n" + heights),
+            self.csv(
+                "\ufefflaunch,number,site,further\r\n\r\n" + cells.replace("\n", "\r\n"), "flight\theight\n" + heights.replace(";", "\t")
+            ),
+            self.sqlite(),
+        ]
+
+
+class Files(Data):
+    def test_the_same_answers_from_every_kind_of_file(self):
+        for source in self.all_sources():
+            with self.subTest(source=str(source)):
+                self.assertEqual(self.done("test", self.text, source), "Obeys: 6 rows, 3 dependencies\n")
+                self.assertEqual(
+                    self.done("evaluate", self.text, 0, source),
+                    "ans('F-1', 31200.5, 2026-01-14)\nans('F-3', 30000.25, 2026-01-14)\n# 2 answers\n",
+                )
+                self.assertEqual(self.done("evaluate", self.text, 1, source, "--format", "csv"), 'p\nDe Bilt\n"Lindenberg, D"\n')
+                self.assertEqual(self.done("evaluate", self.text, 2, source), "ans('F-1')\n# 1 answer\n")
+                found = json.loads(self.done("evaluate", self.text, 0, source, "--format", "json"), parse_float=Decimal)
+                self.assertEqual(found[1], {"f": "F-3", "h": Decimal("30000.25"), "t": "2026-01-14"})
+
+    def test_several_sources_make_one_database(self):
+        one = self.folder_of(flight="number,site,launch\nF-1,De Bilt,2026-01-14\n")
+        other = self.write("b.data", "burst('F-1', 31200.5)\n")
+        self.assertEqual(self.done("evaluate", self.text, 2, one, other), "ans('F-1')\n# 1 answer\n")
+        self.assertEqual(self.done("evaluate", self.text, 2, one / "flight.csv", other), "ans('F-1')\n# 1 answer\n")
+
+    def test_rows_in_any_writing(self):
+        """Rows that stand in one line are read apart from the others; both ways give the same."""
+        rng = random.Random(13)
+        cells = ["7", "007", "0", "-3", "12.50", "'a, b'", "'it''s'", '"x\\ny"', "2026-01-14", "4294967295", "1e3", "2147483647"]
+        for _ in range(60):
+            lines = []
+            for _ in range(rng.randint(0, 12)):
+                table, width = rng.choice([("flight", 3), ("burst", 2)])
+                lines.append(f"{table}({', '.join(rng.choice(cells) for _ in range(width))})" + rng.choice(["", " # c", "  ", "\n"]))
+            text = "\n".join(lines)
+            plain, broken = (read_database([self.write("x.data", form)], self.names) for form in (text, text.replace("(", "(\n")))
+            rows = [sorted(str(held.stands(n)[1:]) for n in range(len(held))) for held in (plain, broken)]
+            self.assertEqual(rows[0], rows[1])
+            self.assertEqual(len(plain), len(lines))
+            for position in range(len(plain)):
+                where, relation, values = plain.stands(position)
+                self.assertTrue(text.splitlines()[int(where.rsplit(":", 1)[1]) - 1].startswith(self.names.tables[relation].name))
+
+    def test_standard_input(self):
+        program = [sys.executable, str(context.HERE.parent / "program")]
+        done = subprocess.run(
+            [*program, "evaluate", self.text, "2", "-"],
+            input=b"burst('F-1', 31200.5)\nflight('F-1', 'x', 2026-01-14)\n",
+            capture_output=True,
+        )
+        self.assertEqual((done.returncode, done.stdout, done.stderr), (0, b"ans('F-1')\n# 1 answer\n", b""))
+        done = subprocess.run([*program, "unpack", "-"], input=Path(self.text).read_bytes(), capture_output=True)
+        self.assertEqual(pack(done.stdout.decode())[0], self.record)
+        done = subprocess.run([*program, "test", "-", "-"], input=Path(self.text).read_bytes(), capture_output=True)
+        self.assertEqual((done.returncode, done.stderr), (2, b"spernevan: standard input can be the archive or the data, not both\n"))
+
+    def test_the_samples(self):
+        text, folder = context.SAMPLES / "soundings.text", context.SAMPLES / "soundings"
+        self.assertEqual(self.done("test", text, folder), "Obeys: 9 rows, 6 dependencies\n")
+        self.assertEqual(
+            self.done("evaluate", text, 0, folder), "ans('F-101', 31200.5, 'Graw')\nans('F-103', 30410.25, 'Vaisala')\n# 2 answers\n"
+        )
+
+    def test_nulls(self):
+        cells = self.csv("number,site,launch\nF-1,De Bilt,2026-01-14\n\nF-2,,2026-01-14\n")
+        self.failed(
+            f"{cells}/flight.csv:4: column site: the cell is empty (NULL); say what it stands for with --null VALUE",
+            "test",
+            self.text,
+            cells,
+        )
+        base = self.sqlite(flights=[*FLIGHTS, ("F-4", None, "2026-01-16")])
+        self.failed(
+            f"{base}: row 4 of flight, column site: NULL in flight('F-4', NULL, '2026-01-16'); say what it stands for with --null VALUE",
+            "evaluate",
+            self.text,
+            1,
+            base,
+        )
+        for null, shown in [("unknown", "'unknown'"), ("''", "''"), ("0", "0"), ("-1.5", "-1.5"), ("2026-01-01", "2026-01-01")]:
+            self.assertIn(f"ans({shown})\n", self.done("evaluate", self.text, 1, cells, f"--null={null}"))
+            self.assertIn(f"ans({shown})\n", self.done("evaluate", self.text, 1, base, f"--null={null}"))
+
+    def test_a_broken_dependency_is_said_before_the_answers(self):
+        cells = self.csv(burst="flight,height\nF-1,1\nF-1,2\n", flight='number,site,launch\n"F\n1",De Bilt,1\nF-1,De Bilt,2\n')
+        status, out, err = run("evaluate", self.text, 0, cells)
+        self.assertEqual((status, out), (0, "ans('F-1', 1, 2)\nans('F-1', 2, 2)\n# 2 answers\n"))
+        self.assertEqual(
+            err,
+            f"Breaks burst: flight -> height (dependency 2):\n  {cells}/burst.csv:2: burst('F-1', 1)\n  {cells}/burst.csv:3: burst('F-1', 2)\n"
+            "On such a database the long and the short form of a query may have different answers.\n",
+        )
+        self.assertEqual(self.done("test", self.text, cells, status=1).splitlines()[0], "Breaks burst: flight -> height (dependency 2):")
+        base = self.sqlite(bursts=[*BURSTS, ("F-2", 1)])
+        self.assertIn(
+            f"  {base}: row 2 of Burst: burst('F-2', 29000)\n  {base}: row 4 of Burst: burst('F-2', 1)\n",
+            self.done("test", self.text, base, status=1),
+        )
+
+    def test_lines_of_rows_with_line_breaks(self):
+        cells = self.csv(flight='number,site,launch\n"a\nb",x,1\n\n\nc,x,1\nc,x,2\n')
+        self.assertIn(
+            f"  {cells}/flight.csv:6: flight('c', 'x', 1)\n  {cells}/flight.csv:7: flight('c', 'x', 2)\n",
+            self.done("test", self.text, cells, status=1),
+        )
+
+    def test_what_cannot_be_read(self):
+        header = "number,site,launch\n"
+        for flight, message in [
+            ("", "flight.csv:1: a header line with the names of the columns was expected, not an empty line"),
+            ("number,site\n", "flight.csv:1: there is no column launch; there is number, site"),
+            ("number,site,launch,site\n", "flight.csv:1: site is there 2 times"),
+            ("Number,number ,site,launch\n", "flight.csv:1: number is there 2 times"),
+            (header + "1,2\n", "flight.csv:2: the row has 2 cells, the header 3"),
+            (header + "1,2,3\n\n1,2,3,4\n", "flight.csv:4: the row has 4 cells, the header 3"),
+            (header.encode() + b"1,2,3\n1,\xff,3\n", "flight.csv:3:3: this byte is not UTF-8 text"),
+            (header + '1,2,"' + "x" * 200000 + '"\n', "flight.csv:2: field larger than field limit"),
+        ]:
+            cells = self.csv(flight)
+            self.failed(f"{cells}/{message}", "test", self.text, cells)
+        empty = self.folder_of()
+        self.failed(
+            f"{empty}: there is no CSV file of a table of the archive here; it may have flight.csv, burst.csv", "test", self.text, empty
+        )
+        self.failed("the data has no table burst, which a dependency speaks of; ", "test", self.text, self.folder_of(flight=header))
+        self.failed("the data has no table burst, which the query asks for; ", "evaluate", self.text, 0, self.folder_of(flight=header))
+        self.assertEqual(self.done("evaluate", self.text, 1, self.folder_of(flight=header)), "# 0 answers\n")
+        self.failed(
+            f"{self.folder}/kite.csv: the archive has no table of that name; a CSV file is called flight.csv, burst.csv",
+            "test",
+            self.text,
+            self.folder / "kite.csv",
+        )
+        both = self.csv()
+        (both / "FLIGHT.csv").write_text(header)
+        self.failed(f"{both}: FLIGHT.csv and flight.csv are both for the table flight", "test", self.text, both)
+        self.failed("sonde.version is no TABLE.COLUMN of the archive", "test", self.text, self.csv(), "--text", "sonde.version")
+        self.failed(f"{self.folder}/none: No such file", "test", self.text, self.folder / "none")
+
+    def test_sqlite_that_cannot_be_read(self):
+        self.failed("", "test", self.text, self.write("x.db", b"SQLite format 3\0 and no more"))
+        other = self.folder / "other.db"
+        connection = sqlite3.connect(other)
+        connection.execute("CREATE TABLE kite (a)")
+        connection.commit()
+        self.failed(f"{other}: no table of the archive is here; there is kite", "test", self.text, other)
+        connection.execute("CREATE TABLE flight (number, site)")
+        connection.commit()
+        connection.close()
+        self.failed(f"{other}: table flight: there is no column launch; there is number, site", "test", self.text, other)
+        blob = self.sqlite("UPDATE flight SET site = x'00ff' WHERE number = 'F-2'")
+        self.failed(
+            f"{blob}: row 2 of flight, column site: a value must be a number, a text or a date, not b'\\x00\\xff'", "test", self.text, blob
+        )
+        wrong = self.sqlite("UPDATE flight SET site = CAST(x'ff' AS TEXT) WHERE number = 'F-2'")
+        self.failed(f"{wrong}: SQLite says: Could not decode to UTF-8", "test", self.text, wrong)
+
+    def test_nothing_is_written_to_sqlite(self):
+        base = self.sqlite()
+        before = base.read_bytes()
+        base.chmod(0o444)
+        self.done("test", self.text, base)
+        self.assertEqual(base.read_bytes(), before)
+        self.assertEqual([path.name for path in self.folder.iterdir() if path.name.startswith(base.name)], [base.name])
+
+    def test_text_that_looks_like_a_number(self):
+        base = self.sqlite(flights=[("101", "De Bilt", "x")], bursts=[("101", 7)])
+        status, out, err = run("evaluate", self.text, "ans(h) :- burst(101, h)", base)
+        self.assertEqual((status, out), (0, "# 0 answers\n"))
+        self.assertIn("the text '101' and the number 101 are different values, and both are here", err)
+        self.assertEqual(self.done("evaluate", self.text, "ans(h) :- burst('101', h)", base), "ans(7)\n# 1 answer\n")
+        more = self.folder_of(burst="flight,height\n101,8\n")
+        status, out, err = run("evaluate", self.text, "ans(h) :- flight(f, p, t), burst(f, h)", base, more)
+        self.assertIn("the text '101' and the number 101 are different values", err)
+        found = run("evaluate", self.text, "ans(h) :- flight(f, p, t), burst(f, h)", base, more, "--text", "burst.flight")
+        self.assertEqual((found[1], "different values" in found[2]), ("ans(7)\nans(8)\n# 2 answers\n", False))
+
+    def test_numbers_that_may_be_versions(self):
+        cells = self.csv(flight="number,site,launch\n1,1.1,x\n2,1.10,x\n3,007,x\n")
+        status, out, err = run("evaluate", self.text, 1, cells)
+        self.assertEqual((status, out), (0, "ans(1.1)\nans('007')\n# 2 answers\n"))
+        self.assertIn("flight.csv: 1.1 and 1.10 are one number in flight.site; if they are no numbers, say --text flight.site", err)
+        self.assertEqual(
+            self.done("evaluate", self.text, 1, cells, "--text", "flight.site"), "ans('007')\nans('1.1')\nans('1.10')\n# 3 answers\n"
+        )
+
+    def test_formats(self):
+        data = self.write("x.data", "flight(1, 'a\"b,c', 2026-01-14)\nflight(2, '', 3)\n")
+        rule = "ans(p, p, 'k', f, v9) :- flight(f, p, v9)"
+        self.assertEqual(
+            self.done("evaluate", self.text, rule, data, "--format", "csv"),
+            'p,p_2,constant2,f,launch\n,,k,2,3\n"a""b,c","a""b,c",k,1,2026-01-14\n',
+        )
+        found = json.loads(self.done("evaluate", self.text, rule, data, "--format", "json"))
+        self.assertEqual(found[1], {"p": 'a"b,c', "p_2": 'a"b,c', "constant2": "k", "f": 1, "launch": "2026-01-14"})
+        for kind, yes, no in [
+            ("csv", "answer\nyes\n", "answer\n"),
+            ("json", "[\n  {}\n]\n", "[]\n"),
+            ("rows", "ans()\n# 1 answer\n", "# 0 answers\n"),
+        ]:
+            self.assertEqual(self.done("evaluate", self.text, "ans() :- flight(1, p, t)", data, "--format", kind), yes)
+            self.assertEqual(self.done("evaluate", self.text, "ans() :- flight(9, p, t)", data, "--format", kind), no)
+        self.assertEqual(self.done("evaluate", self.text, "ans(_, _) :- never", data, "--format", "csv"), "column0,column1\n")
+
+
+class FromPython(Data):
+    def setUp(self):
+        super().setUp()
+        self.data = {
+            "flight": [("F-1", "De Bilt", date(2026, 1, 14)), ("F-2", "x", None)],
+            "burst": [{"height": Decimal("31200.5"), "flight": "F-1"}],
+        }
+
+    def test_rows(self):
+        with self.assertRaisesRegex(DataError, "flight: column launch, row 1: there is no value here"):
+            self.record.test(self.data)
+        data = self.record.database(self.data, null="none")
+        self.assertIsNone(self.record.test(data))
+        self.assertEqual(self.record.evaluate(0, data), [("F-1", Decimal("31200.5"), date(2026, 1, 14))])
+        self.assertEqual(self.record.evaluate("ans(t) :- flight(f, p, t)", data), [(date(2026, 1, 14),), ("none",)])
+        self.assertEqual(self.record.test({"burst": [(1, 2), (1, 3)]}), Broken(2, 0, 1))
+        self.assertEqual(self.record.evaluate(1, {"flight": []}), [])
+        self.assertEqual(
+            self.record.evaluate(1, {"flight": [(1, 3.0, 1), (1, 2.5, 1), (1, -4, 1), (1, "a", 1), (1, 2**40, 1)]}),
+            [(-4,), (2.5,), (3,), (2**40,), ("a",)],
+        )
+        self.assertEqual(len(self.record.names.values), len(pack(TEXT)[1].values))
+
+    def test_a_single_table(self):
+        record = Record.open([Table("burst", ("flight", "height"))])
+        with self.assertRaisesRegex(DataError, "say which table these rows are of, as in {'flight': rows}"):
+            self.record.database([(1, 2)])
+        self.assertEqual(record.evaluate("ans(h) :- burst('x', h)", record.database([("x", 2)])), [(2,)])
+
+    def test_a_dictionary_that_grew_apart(self):
+        """A database stays good for queries with values that it was not read with."""
+        data = self.record.database({"flight": [("a", "b", "c"), ("d", "e", "f")]})
+        after = self.record.put(3, "ans(f, 'g') :- flight(f, 'e', t)")
+        self.assertEqual(after.evaluate(3, data), [("d", "g")])
+        self.assertEqual(after.evaluate("ans(f, 'h') :- flight(f, 'b', t)", data), [("a", "h")])
+        again = pack(TEXT)[0].put(4, "ans(f) :- flight(f, p, 'f')")
+        self.assertEqual(again.evaluate(4, data), [("d",)])
+        self.assertEqual(Record(again.file, again.own_names()).evaluate(4, data), [("d",)])
+        with self.assertRaisesRegex(ValueError, r"the database is of other tables: flight\(number, site, launch\), burst"):
+            Record.open([3, 2]).test(data)
+
+    def test_wrong_rows(self):
+        for data, message in [
+            ({"kite": []}, "there is no table 'kite'; there is flight, burst"),
+            ({1: []}, "there is no table 1"),
+            ({"burst": 5}, "burst: rows must be a list, not 5"),
+            ({"burst": [5]}, "burst, row 0: a row must be a list or a tuple, not 5"),
+            ({"burst": ["ab"]}, "burst, row 0: a row must be"),
+            ({"burst": [(1, 2), (1,)]}, r"burst, row 1: burst\(flight, height\) has 2 columns, not 1"),
+            ({"burst": [{"flight": 1}]}, "burst, row 0: there is no column height; there is flight"),
+            ({"burst": [(1, b"x")]}, "column height, row 0: a value must be"),
+            ({"burst": [(1, [2])]}, "column height, row 0: a value must be"),
+            ({"burst": [(1, float("nan"))]}, "column height, row 0: there is no value"),
+        ]:
+            with self.subTest(data=repr(data)), self.assertRaisesRegex(DataError, message):
+                self.record.test(data)
+
+    @unittest.skipUnless(installed("numpy"), "numpy is not installed")
+    def test_numpy(self):
+        import numpy
+
+        self.assertEqual(self.record.evaluate("ans(f, h) :- burst(f, h)", {"burst": numpy.array([[1, 2], [3, 4]])}), [(1, 2), (3, 4)])
+        self.assertEqual(
+            self.record.evaluate("ans(h) :- burst(f, h)", {"burst": numpy.array([[1, -2], [3, 2**40]])}), [(-2,), (2**40,)]
+        )
+        self.assertEqual(self.record.evaluate("ans(h) :- burst(f, h)", {"burst": numpy.array([[1, 2.5], [3, 4]])}), [(2.5,), (4,)])
+        named = numpy.array([(1.5, "x")], dtype=[("height", "f4"), ("flight", "U5")])
+        self.assertEqual(self.record.evaluate("ans(f, h) :- burst(f, h)", {"burst": named}), [("x", 1.5)])
+        with self.assertRaisesRegex(DataError, r"the array has the shape \(3,\)"):
+            self.record.test({"burst": numpy.array([1, 2, 3])})
+        self.assertEqual(self.record.test({"burst": numpy.array([[1, 2], [1, 4]], dtype="uint8")}), Broken(2, 0, 1))
+
+    @unittest.skipUnless(installed("pandas"), "pandas is not installed")
+    def test_pandas(self):
+        import pandas
+
+        frame = pandas.DataFrame(
+            {"launch": pandas.to_datetime(["2026-01-14", "2026-01-15"]), "number": ["F-1", "F-2"], "Site": ["De Bilt", "x"], "n": [1, 2]}
+        )
+        burst = pandas.DataFrame({"flight": ["F-1", "F-2"], "height": [31200.5, 7]})
+        self.assertEqual(self.record.evaluate(0, {"flight": frame, "burst": burst}), [("F-1", Decimal("31200.5"), date(2026, 1, 14))])
+        times = frame.assign(launch=pandas.to_datetime(["2026-01-14 11:45", None]))
+        with self.assertRaisesRegex(DataError, "flight: column launch, row 1: there is no value"):
+            self.record.test({"flight": times})
+        data = self.record.database({"flight": times}, null=0)
+        self.assertEqual(self.record.evaluate("ans(t) :- flight(f, p, t)", data), [(0,), (datetime(2026, 1, 14, 11, 45),)])
+        many = pandas.DataFrame({"flight": range(70_000), "height": range(70_000)})
+        self.assertEqual(len(self.record.evaluate("ans(f) :- burst(f, f)", {"burst": many})), 70_000)
+
+
+class Random(Data):
+    def test_values_instead_of_numbers(self):
+        """Under other names for its values a database has the same answers and the same broken dependency, from every source."""
+        rng = random.Random(14)
+        pool = ["Lindenberg", 'it\'s, "so"', Decimal("12.5"), date(2026, 1, 14), 7, -1, 2**31, "007", 2_000_000_000, "a\nb"]
+        seen = set()
+        for number in range(40):
+            plain = context.random_record(rng, 3, 2, 2, most_rows=3, most_head=3, constants=len(pool))
+            rows = context.random_data(rng, plain.widths, values=len(pool), most_rows=25)
+            named = Record.open(plain.widths)
+            for dependency in plain.dependencies:
+                named = named.add(dependency.relation, dependency.left, dependency.right)
+            for place in plain.filled():
+                named = named.put(place, self.renamed(plain.queries[place], pool, named.names.values))
+            tables = {
+                f"R{relation}": [[pool[value] for value in values] for r, values in rows if r == relation]
+                for relation in range(len(plain.widths))
+            }
+            grouped = [(r, values) for relation in range(len(plain.widths)) for r, values in rows if r == relation]
+            for data in (
+                named.database(tables),
+                self.from_csv(number, tables, named),
+                self.from_rows(tables, named),
+                self.from_sqlite(number, tables, named),
+            ):
+                self.assertEqual(named.test(data), plain.test(grouped))
+                seen.add(named.test(data) is None)
+                for place in plain.filled():
+                    wanted = {tuple(pool[value] for value in answer) for answer in plain.evaluate(place, rows)}
+                    answers = named.evaluate(place, data)
+                    self.assertEqual((set(answers), len(answers)), (wanted, len(wanted)))
+        self.assertEqual(seen, {True, False})
+
+    @staticmethod
+    def renamed(query, pool, values):
+        def entry(held):
+            return Constant(values.encode(pool[held.number])) if isinstance(held, Constant) else held
+
+        rows = tuple(Row(row.relation, tuple(map(entry, row.entries))) for row in query.rows)
+        return Query(tuple(map(entry, query.head)), rows, query.head_length)
+
+    def from_csv(self, number, tables, record):
+        folder = self.folder / f"random{number}"
+        folder.mkdir()
+        for name, rows in tables.items():
+            with open(folder / f"{name}.csv", "w", newline="", encoding="utf-8") as file:
+                writer = csv.writer(file)
+                writer.writerow(record.names.tables[int(name[1:])].columns)
+                writer.writerows(rows)
+        return read_database([folder], record.names)
+
+    def from_rows(self, tables, record):
+        return read_database(
+            [self.write("r.data", "".join(f"{format_datum(name, row)}\n" for name, rows in tables.items() for row in rows))], record.names
+        )
+
+    def from_sqlite(self, number, tables, record):
+        path = self.folder / f"random{number}.db"
+        connection = sqlite3.connect(path)
+        for name, rows in tables.items():
+            columns = record.names.tables[int(name[1:])].columns
+            connection.execute(f"CREATE TABLE {name} ({', '.join(columns)})")
+            kept = [
+                [float(value) if isinstance(value, Decimal) else str(value) if isinstance(value, date) else value for value in row]
+                for row in rows
+            ]
+            connection.executemany(f"INSERT INTO {name} VALUES ({', '.join('?' * len(columns))})", kept)
+        connection.commit()
+        connection.close()
+        found = read_database([path], record.names)
+        found.values.encode(date(2026, 1, 14))
+        return found
+
+
+class Large(Data):
+    def test_many_rows(self):
+        """Well under a second on an idle machine: a tenth of a million rows, with texts."""
+        n = 100_000
+        cells = self.csv(
+            "number,site,launch\n" + "".join(f"{k},site {k % 50},2026-01-{k % 28 + 1:02d}\n" for k in range(n)),
+            "flight,height\n" + "".join(f"{k},{k % 977}.5\n" for k in range(n)),
+        )
+        start = time.process_time()
+        database = read_database([cells], self.names)
+        self.assertLess(time.process_time() - start, 5)
+        self.assertEqual((len(database), len(database.words)), (2 * n, 7 * n))
+        first = next(position for position in range(0, 2 * n, 1000) if database.stands(position).relation == 1)
+        self.assertEqual(
+            database.stands(first + 70_001),
+            (f"{cells}/burst.csv:{first % n + 70_003}", 1, (first % n + 70_001, Decimal(f"{(first % n + 70_001) % 977}.5"))),
+        )
+        self.assertIsNone(self.record.test(database))
+
+    @unittest.skipUnless(os.environ.get("SPERNEVAN_TEST_LONG"), "takes a minute; SPERNEVAN_TEST_LONG=1 runs it")
+    def test_a_million_rows(self):
+        """A million rows in seconds, from each kind of file, with texts, dates and as many different keys as rows."""
+        n = 500_000
+        flights = [(f"F-{k}", f"site {k % 50}", f"2026-01-{k % 28 + 1:02d}") for k in range(n)]
+        bursts = [(f"F-{k}", k % 977 + 0.5) for k in range(n)]
+        sources = {
+            "CSV": self.csv(
+                "number,site,launch\n" + "".join(f"{a},{b},{c}\n" for a, b, c in flights),
+                "flight,height\n" + "".join(f"{a},{b}\n" for a, b in bursts),
+            ),
+            "SQLite": self.sqlite(flights=flights, bursts=bursts),
+            "rows of text": self.write(
+                "l.data",
+                "".join(f"flight('{a}', '{b}', {c})\n" for a, b, c in flights) + "".join(f"burst('{a}', {b})\n" for a, b in bursts),
+            ),
+        }
+        for kind, source in sources.items():
+            start = time.process_time()
+            database = read_database([source], self.names)
+            took = time.process_time() - start
+            print(f"\n{kind}: {len(database)} rows in {took:.1f} s", file=sys.stderr)
+            self.assertEqual(len(database), 2 * n)
+            self.assertLess(took, 30)
+
+    def test_progress(self):
+        class Terminal(io.StringIO):
+            def isatty(self):
+                return True
+
+        for stream, shown in ((Terminal(), True), (io.StringIO(), False)):
+            progress = Progress(stream)
+            progress.at("flight", 10)
+            self.assertEqual(stream.getvalue(), "")
+            progress._next = 0
+            progress.at("flight", 1_200_000)
+            self.assertEqual("flight: 1,200,000 rows" in stream.getvalue(), shown)
+            progress.done()
+            self.assertEqual(stream.getvalue().endswith("\r\033[K"), shown)
+
+
+if __name__ == "__main__":
+    unittest.main()

@@ -1,0 +1,245 @@
+"""Nothing is lost: files are whole or as they were, and an archive and its names never part without a word."""
+
+import concurrent.futures
+import multiprocessing
+import os
+import pickle
+import resource
+import stat
+import subprocess
+import sys
+import unittest
+from unittest import mock
+
+import context
+from spernevan import NotationError, Record, Refused, files, pack, parse_query
+from test_command import FLIGHTS, Command, run
+
+PROGRAM = [sys.executable, str(context.HERE.parent / "program")]
+OLD = "flight(number, sonde)\n0: ans(old) :- flight(old, s)\n"
+NEW = "sounding(a, b)\nburst(c, d)\n0: ans(new) :- sounding(new, s)\n1: ans(x) :- burst(x, 'y')\n"
+
+
+def refuse(number):
+    raise Refused(number)
+
+
+def misread(text):
+    return pack(text)
+
+
+class Lost(Command):
+    def setUp(self):
+        super().setUp()
+        self.file, self.names = self.folder / "a.file", self.folder / "a.names"
+        self.old, self.new = self.write("old.text", OLD), self.write("new.text", NEW)
+        self.done("pack", self.old, self.file)
+        self.before = self.state()
+
+    def state(self):
+        return {path.name: path.read_bytes() for path in self.folder.iterdir() if path.is_file()}
+
+    def unchanged(self):
+        self.assertEqual(self.state(), self.before)
+
+
+class Writing(Lost):
+    def test_a_full_disk(self):
+        def small():
+            resource.setrlimit(resource.RLIMIT_FSIZE, (0, 0))
+
+        for arguments in (
+            ["pack", self.new, self.file],
+            ["put", self.file, "1", "ans(x) :- flight(x, y)"],
+            ["unpack", self.file, self.folder / "fresh.text"],
+        ):
+            done = subprocess.run([*PROGRAM, *map(str, arguments)], capture_output=True, preexec_fn=small)
+            self.assertEqual((done.returncode, done.stdout), (2, b""))
+            self.assertEqual(done.stderr.decode(), f"spernevan: {arguments[-1] if arguments[0] != 'put' else self.file}: File too large\n")
+            self.unchanged()
+
+    def test_a_full_output(self):
+        with open("/dev/full", "wb") as full:
+            for arguments in (
+                ["list", FLIGHTS],
+                ["pack", self.old, "-"],
+                ["evaluate", FLIGHTS, "5", str(context.SAMPLES / "flights.data")],
+            ):
+                done = subprocess.run([*PROGRAM, *arguments], stdout=full, stderr=subprocess.PIPE)
+                self.assertEqual((done.returncode, done.stderr), (2, b"spernevan: output: No space left on device\n"))
+
+    def test_a_names_file_that_cannot_be_written(self):
+        self.names.unlink()
+        self.names.mkdir()
+        before = self.file.read_bytes()
+        self.failed(f"{self.names}: Is a directory", "pack", self.new, self.file)
+        self.assertEqual(self.file.read_bytes(), before)
+        self.assertEqual(sorted(path.name for path in self.folder.iterdir()), ["a.file", "a.names", "new.text", "old.text"])
+
+    def test_a_file_that_may_not_be_written(self):
+        with mock.patch.object(os, "access", lambda path, mode: not str(path).endswith("a.names")):
+            self.failed(f"{self.names}: Permission denied", "pack", self.new, self.file)
+        self.unchanged()
+
+    def test_a_failure_between_the_two(self):
+        real = os.replace
+        for fails in (0, 1):
+            calls = []
+
+            def replace(old, new):
+                calls.append(new)
+                if len(calls) == fails + 1:
+                    raise OSError(5, "Input/output error", new)
+                real(old, new)
+
+            for target in (self.file, self.folder / "fresh.file"):
+                calls.clear()
+                with mock.patch.object(files.os, "replace", replace):
+                    status, _, err = run("pack", self.new, target)
+                self.assertEqual(status, 2)
+                self.assertIn("Input/output error", err)
+                self.unchanged()
+
+    def test_a_text_is_not_replaced(self):
+        kept = "which an archive file does not replace: write elsewhere, or remove it first"
+        for arguments in (["pack", self.old, self.new], ["pack", self.old, self.old], ["drop", self.file, 0, "-o", self.old]):
+            self.failed(f"{arguments[-1]} is a text, {kept}", *arguments)
+        self.failed(f"{self.old} is there already, and may have comments that would be lost", "unpack", self.file, self.old)
+        self.failed(f"{self.file} is there already", "unpack", self.file, self.file)
+        self.unchanged()
+        self.failed(f"{self.folder}/n.names is where the names of {self.folder}/n.file go", "pack", self.write("n.names", OLD), self.folder / "n.file")
+        with self.assertRaisesRegex(ValueError, kept):
+            Record.read(self.file).write(self.new)
+        fresh = self.folder / "fresh.text"
+        self.done("unpack", self.file, fresh)
+        self.assertEqual(pack(fresh.read_text())[0].file, self.file.read_bytes())
+
+    def test_rights_and_links_stay(self):
+        self.file.chmod(0o640)
+        link = self.folder / "link.file"
+        link.symlink_to("a.file")
+        self.done("drop", self.file, 0)
+        self.assertEqual(stat.S_IMODE(self.file.stat().st_mode), 0o640)
+        self.done("pack", self.new, link)
+        self.assertTrue(link.is_symlink())
+        self.assertEqual(self.file.read_bytes(), pack(NEW)[0].file)
+        out = self.folder / "new.file"
+        before = os.umask(0o027)
+        self.addCleanup(os.umask, before)
+        self.done("pack", self.old, out)
+        self.assertEqual(stat.S_IMODE(out.stat().st_mode), 0o640)
+
+    def test_devices_are_written_as_they_are(self):
+        done = subprocess.run([*PROGRAM, "unpack", str(self.file), "/dev/stdout"], capture_output=True)
+        self.assertEqual((done.returncode, done.stderr), (0, b""))
+        self.assertIn(b"ans(old)", done.stdout)
+        self.assertTrue(stat.S_ISCHR(os.stat("/dev/null").st_mode))
+
+
+class Parting(Lost):
+    def test_an_archive_under_the_names_of_another(self):
+        self.file.write_bytes(pack("kite(a, b)\n0: ans(x) :- kite(x, y)\n1: ans(x) :- kite(x, x)\n")[0].file)
+        for arguments in (["list", self.file], ["put", self.file, 3, "ans(x) :- flight(x, y)"], ["unpack", self.file]):
+            self.failed(f"{self.names}: these names were written for another state of {self.file}: ", *arguments)
+        with self.assertRaisesRegex(files.Failure, "written for another state"):
+            Record.read(self.file)
+        self.done("list", "--plain", self.file)
+        self.assertEqual(len(Record.read(self.file, names=False).filled()), 2)
+        # A names file that a person wrote has no checksum, and is taken at its word.
+        self.names.write_text("kite(a, b)\n")
+        self.assertIn("kite(v0, v0)", self.done("list", self.file))
+
+    def test_an_archive_whose_names_are_gone(self):
+        self.done("put", self.file, 3, "ans(a) :- flight(a, 'Lindenberg')")
+        self.names.unlink()
+        status, out, err = run("show", self.file, 3)
+        self.assertEqual((status, out.count("2000000000"), err.count("\n")), (0, 2, 1))
+        self.assertIn(f"{self.file} has the constant 2000000000 and no names file, {self.names}, beside it", err)
+        self.done("list", "--plain", self.file)
+
+    def test_every_change_writes_both(self):
+        for arguments in (
+            ["put", self.file, 3, "ans(a, b) :- flight(a, b), flight(a, 'Lindenberg')"],
+            ["add", self.file, "flight: number -> sonde"],
+            ["reduce", self.file, 3, 5],
+            ["drop", self.file, 0],
+        ):
+            self.done(*arguments)
+            record = Record.read(self.file)
+            self.assertEqual(record.names.tables[0].name, "flight")
+        self.assertIn(
+            "3: ans(a, b) :- flight(a, b), flight(a, 'Lindenberg')\n5: ans(a, 'Lindenberg') :- flight(a, 'Lindenberg')\n",
+            self.done("unpack", self.file),
+        )
+        self.assertEqual(self.names.read_text().splitlines()[2:], ["3: a, b", "5: a", "2000000000 = 'Lindenberg'"])
+
+    def test_from_python(self):
+        record = Record.read(FLIGHTS)
+        query = parse_query("ans(x) :- burst(x, y)", record.names)
+        record = record.drop(1).put(1, query)
+        record.write(self.file)
+        self.assertIn("Place 1\n  Long form, 1 row:\n    ans(v0) :- burst(v0, v1)\n", self.done("list", self.file))
+        Record.read(self.file).drop(1).put(1, "ans(flight) :- burst(flight, 'x')").write(self.file)
+        self.assertIn("1: ans(flight) :- burst(flight, 'x')\n", self.done("unpack", self.file))
+        self.assertIn("0: ans(f, h) :-\n    flight(f, s, 7, t)", self.done("unpack", self.file))
+        short = Record.read(self.file).reduce(0, 4).record
+        short.write(self.file)
+        self.assertIn("calibration(c, l, 2),\n                 burst(f, h)\n", self.done("show", self.file, 4))
+
+    def test_a_text_is_no_archive_file(self):
+        with self.assertRaisesRegex(Refused, "old.text is a text: pack it first"):
+            Record.read(self.old)
+
+    def test_a_dictionary_without_names(self):
+        record = Record.open([2])
+        record = record.put(0, parse_query("ans(x) :- R0(x, 'Lindenberg')", record.names)).drop(0)
+        record = record.put(1, parse_query("ans(x) :- R0(x, 'Lindenberg')", record.names))
+        self.assertIn("'Lindenberg'", str(record))
+
+    def test_a_record_without_names_does_not_take_them_away(self):
+        before = self.state()
+        with self.assertRaisesRegex(ValueError, "a.names has the names of an archive, and this record has none: read it with Record.read"):
+            Record(self.file.read_bytes()).drop(0).write(self.file)
+        self.assertEqual(self.state(), before)
+        fresh = self.folder / "fresh.file"
+        Record(self.file.read_bytes()).write(fresh)
+        self.assertFalse(fresh.with_suffix(".names").exists())
+        Record.open([2]).put(0, "ans(x) :- R0(x, 'y')").write(fresh)
+        self.assertIn("'y'", str(Record.read(fresh)))
+
+
+class Processes(Lost):
+    def test_errors_can_be_pickled(self):
+        for error in (
+            NotationError("a.text", 3, 4, "a comma is missing"),
+            Refused(11),
+            Refused(11, "place 4 is vacant"),
+            files.Failure("x"),
+        ):
+            again = pickle.loads(pickle.dumps(error))
+            self.assertEqual((type(again), str(again), vars(again)), (type(error), str(error), vars(error)))
+
+    def test_a_process_pool(self):
+        for method in ("fork", "spawn"):
+            with concurrent.futures.ProcessPoolExecutor(1, multiprocessing.get_context(method)) as pool:
+                with self.assertRaises(NotationError) as caught:
+                    pool.submit(misread, "flight(a\n").result(timeout=60)
+                self.assertEqual(caught.exception.line, 1)
+                self.assertRaises(Refused, pool.submit(refuse, 7).result, timeout=60)
+                self.assertEqual(pool.submit(misread, OLD).result(timeout=60), pack(OLD))
+
+    def test_records(self):
+        record = Record.read(self.file)
+        again = pickle.loads(pickle.dumps(record))
+        self.assertEqual((again, again.names), (record, record.names))
+        self.assertEqual(hash(again), hash(record))
+        self.assertNotEqual(record, record.drop(0))
+        self.assertNotEqual(record, record.file)
+        self.assertEqual(str(record), OLD.replace("\n0", "\n\n0").rstrip())
+        page = Record.open([2]).put(0, "ans(x) :- R0(x, '<b>')")._repr_html_()
+        self.assertIn("ans(x) :- R0(x, &#x27;&lt;b&gt;&#x27;)", page)
+        self.assertEqual(page.count("<table>"), 2)
+
+
+if __name__ == "__main__":
+    unittest.main()

@@ -1,0 +1,194 @@
+"""The command as a program: started through a link, on a small stack, interrupted, with closed streams."""
+
+import os
+import pty
+import resource
+import shutil
+import signal
+import subprocess
+import sys
+import tempfile
+import threading
+import time
+import unittest
+from pathlib import Path
+
+import context
+from spernevan import Record
+from test_command import DATA, FLIGHTS
+
+PROGRAM = [sys.executable, str(context.HERE.parent / "program")]
+
+
+@context.with_engine
+class Program(unittest.TestCase):
+    def setUp(self):
+        folder = tempfile.TemporaryDirectory()
+        self.addCleanup(folder.cleanup)
+        self.folder = Path(folder.name)
+
+    def slow(self):
+        """An evaluation that takes far longer than a test."""
+        text = self.folder / "slow.text"
+        rows = ", ".join(
+            f"edge(x{a}, x{b})" for a, b in [(0, 1), (1, 2), (2, 3), (3, 4), (4, 5), (5, 6), (6, 7), (0, 3), (1, 5), (2, 6), (4, 7), (0, 7)]
+        )
+        text.write_text(f"edge(a, b)\n0: ans(x0, x1, x2, x3, x4, x5, x6, x7) :- {rows}\n")
+        data = self.folder / "slow.data"
+        data.write_text("".join(f"edge({a}, {b})\n" for a in range(120) for b in range(120)))
+        return [str(text), "0", str(data)]
+
+    def test_through_a_link(self):
+        link = self.folder / "linked"
+        link.symlink_to(context.ROOT / "spernevan")
+        for program in (link, context.ROOT / "spernevan"):
+            done = subprocess.run([str(program), "list", FLIGHTS], capture_output=True, cwd=self.folder)
+            self.assertEqual((done.returncode, done.stderr), (0, b""))
+            self.assertIn(b"Place 0", done.stdout)
+
+    def test_a_small_stack(self):
+        def small():
+            resource.setrlimit(resource.RLIMIT_STACK, (512 * 1024, 512 * 1024))
+
+        data = self.folder / "many.data"
+        data.write_text("".join(f"burst({n}, {n})\n" for n in range(20000)))
+        for arguments in (
+            ["evaluate", FLIGHTS, "5", DATA],
+            ["evaluate", FLIGHTS, "1", str(data)],
+            ["test", FLIGHTS, str(data)],
+            ["list", FLIGHTS],
+        ):
+            done = subprocess.run([*PROGRAM, *arguments], capture_output=True, preexec_fn=small)
+            self.assertEqual((done.returncode, done.stderr), (0, b""))
+
+    def test_a_thread_with_a_small_stack(self):
+        record = Record.read(FLIGHTS)
+        found = []
+        before = threading.stack_size(256 * 1024)
+        try:
+            threads = [
+                threading.Thread(target=lambda: found.append(record.evaluate(1, [(4, (n, n)) for n in range(9000)]))) for _ in range(3)
+            ]
+            for thread in threads:
+                thread.start()
+        finally:
+            threading.stack_size(before)
+        for thread in threads:
+            thread.join()
+        self.assertEqual([len(answers) for answers in found], [9000] * 3)
+
+    def test_an_interrupt_ends_the_command_at_once(self):
+        running = subprocess.Popen([*PROGRAM, "evaluate", *self.slow()], stdout=subprocess.PIPE, stderr=subprocess.PIPE)
+        time.sleep(1.5)
+        self.assertIsNone(running.poll())
+        running.send_signal(signal.SIGINT)
+        out, err = running.communicate(timeout=20)
+        self.assertEqual((running.returncode, out, err), (-signal.SIGINT, b"", b""))
+
+    def test_an_interrupt_in_python(self):
+        """Waiting for the engine ends with KeyboardInterrupt, and the next call works."""
+        code = (
+            "import os, signal, sys, threading, time\n"
+            f"sys.path.insert(0, {str(context.HERE.parent)!r})\n"
+            "from spernevan import pack, read_database\n"
+            "record, names = pack(open(sys.argv[1]).read())\n"
+            "data = read_database([sys.argv[3]], names)\n"
+            "threading.Timer(1, os.kill, (os.getpid(), signal.SIGINT)).start()\n"
+            "start = time.monotonic()\n"
+            "try:\n    record.evaluate(0, data)\n"
+            "except KeyboardInterrupt:\n    print(time.monotonic() - start < 15, len(record.filled()), record.test(data))\n"
+        )
+        done = subprocess.run([sys.executable, "-c", code, *self.slow()], capture_output=True, timeout=60)
+        self.assertEqual((done.stdout, done.stderr), (b"True 1 None\n", b""))
+
+    def test_closed_streams(self):
+        for closing, status in (("<&-", 0), (">&-", 2), ("2>&-", 0), (">&- 2>&-", 2)):
+            done = subprocess.run(["sh", "-c", f'"$@" {closing}', "sh", *PROGRAM, "list", FLIGHTS], capture_output=True)
+            self.assertEqual((done.returncode, b"Traceback" in done.stderr), (status, False), closing)
+        done = subprocess.run(["sh", "-c", '"$@" <&-', "sh", *PROGRAM, "list", "-"], capture_output=True)
+        self.assertEqual((done.returncode, done.stderr), (2, b"spernevan: standard input is closed\n"))
+
+    def test_a_reader_that_leaves(self):
+        running = subprocess.Popen([*PROGRAM, "list", FLIGHTS], stdout=subprocess.PIPE, stderr=subprocess.PIPE)
+        running.stdout.close()
+        self.assertEqual((running.stderr.read(), running.wait()), (b"", 128 + signal.SIGPIPE))
+        running.stderr.close()
+
+    def test_progress_on_a_terminal(self):
+        """It is shown on a terminal once the work takes long, and never elsewhere."""
+        cells = self.folder / "burst.csv"
+        cells.write_text("flight,height\n" + "".join(f"{n},{n}\n" for n in range(120_000)))
+        ours, theirs = pty.openpty()
+        code = (
+            f"import sys; sys.path.insert(0, {str(context.HERE.parent)!r}); import spernevan.data as d; real = d.time.monotonic; "
+            "d.time.monotonic = lambda: real() * 1000; from spernevan.command import main; sys.exit(main(sys.argv[1:]))"
+        )
+        text = self.folder / "a.text"
+        text.write_text("burst(flight, height)\n")
+        arguments = [sys.executable, "-c", code, "test", str(text), str(cells)]
+        done = subprocess.run(arguments, stdout=subprocess.PIPE, stderr=theirs)
+        os.close(theirs)
+        shown = os.read(ours, 65536)
+        os.close(ours)
+        self.assertEqual((done.returncode, done.stdout), (0, b"Obeys: 120000 rows, 0 dependencies\n"))
+        self.assertIn(b"000 rows\x1b[K", shown)
+        self.assertTrue(shown.endswith(b"\r\x1b[K"))
+        self.assertEqual(subprocess.run(arguments, capture_output=True).stderr, b"")
+
+
+@context.with_engine
+class Install(unittest.TestCase):
+    """The wheel, in a fresh environment without this folder."""
+
+    def setUp(self):
+        folder = tempfile.TemporaryDirectory()
+        self.addCleanup(folder.cleanup)
+        self.folder = Path(folder.name)
+        pip = subprocess.run([sys.executable, "-m", "pip", "--python", sys.executable, "--version"], capture_output=True)
+        if pip.returncode != 0:
+            self.skipTest("pip is not here, or does not know --python")
+        subprocess.run([sys.executable, "-m", "venv", "--without-pip", str(self.folder / "venv")], check=True)
+
+    def tried(self, what):
+        pip = [sys.executable, "-m", "pip", "--python", str(self.folder / "venv" / "bin" / "python")]
+        quiet = {**os.environ, "PIP_DISABLE_PIP_VERSION_CHECK": "1", "PIP_ROOT_USER_ACTION": "ignore"}
+        subprocess.run([*pip, "install", "--quiet", "--no-index", str(what)], check=True, env=quiet)
+        program = self.folder / "venv" / "bin" / "spernevan"
+        bare = {"PATH": "/nowhere"}
+        for name in ("flights.file", "flights.names", "flights.data"):
+            shutil.copy(context.SAMPLES / name, self.folder)
+        done = subprocess.run([program, "evaluate", "flights.file", "5", "flights.data"], capture_output=True, cwd=self.folder, env=bare)
+        self.assertEqual((done.returncode, done.stdout, done.stderr), (0, b"ans(101, 31200)\nans(102, 29850)\n# 2 answers\n", b""))
+        code = "import spernevan; print(spernevan.__file__, spernevan.__version__)"
+        done = subprocess.run(
+            [self.folder / "venv" / "bin" / "python", "-c", code], capture_output=True, text=True, cwd=self.folder, env=bare, check=True
+        )
+        return done.stdout
+
+    def test_the_wheel(self):
+        made = subprocess.run([str(context.HERE.parent / "wheel"), str(self.folder / "dist")], check=True, capture_output=True, text=True)
+        path = made.stdout.strip()
+        self.assertTrue(path.endswith("-py3-none-linux_x86_64.whl"))
+        self.assertTrue(self.tried(path).startswith(str(self.folder / "venv")))
+
+    def test_from_the_folder(self):
+        copy = self.folder / "python"
+        shutil.copytree(context.HERE.parent, copy, ignore=shutil.ignore_patterns("__pycache__", "tests", "dist"))
+        self.assertTrue(self.tried(copy).startswith(str(self.folder / "venv")))
+
+
+class Types(unittest.TestCase):
+    @unittest.skipUnless(shutil.which("mypy"), "mypy is not installed")
+    def test_strict(self):
+        with tempfile.TemporaryDirectory() as cache:
+            done = subprocess.run(
+                ["mypy", "--strict", "--cache-dir", cache, "spernevan", "backend.py"],
+                cwd=context.HERE.parent,
+                capture_output=True,
+                text=True,
+            )
+        self.assertEqual((done.returncode, done.stderr), (0, ""), done.stdout)
+
+
+if __name__ == "__main__":
+    unittest.main()
