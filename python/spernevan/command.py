@@ -14,6 +14,7 @@ import sys
 import textwrap
 from typing import Callable, Dict, List, Optional, Sequence, Tuple
 
+from . import publish
 from .engine import EngineMissing, Refused
 from .model import FROZEN, Entry, Query, Variable
 from .notation import (
@@ -310,6 +311,7 @@ def usage() -> argparse.ArgumentParser:
     made.add_argument("text", metavar="TEXT")
     made.add_argument("file", metavar="FILE")
     on_file("unpack", unpack_command, "print an archive file as a text")
+    publish.add_commands(commands, lambda options: (*load(options), publish.itself))
     return parser
 
 

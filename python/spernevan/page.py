@@ -1,0 +1,511 @@
+"""An archive as one HTML page that needs nothing else: no script, no font, no network.
+
+It has the matrix of which places are contained in which, and for each place the long and the short form beside each
+other with the mapping drawn between their rows, and a counterexample where it is not contained in another place.
+Where the page is too narrow for both forms, and on such paper, they stand below each other; what the lines show is
+always written in words as well.
+"""
+
+from __future__ import annotations
+
+import unicodedata
+from html import escape
+from typing import Callable, Dict, Iterable, List, Optional, Sequence, Tuple
+
+from .definition import Decode, Definition, Writer, define_all, itself, value_text, variable_text
+from .engine import Refused
+from .model import FROZEN, Entry, Query, Variable
+from .notation import Names, count, format_dependency
+from .record import Comparison, DataRow, Record
+
+# Sizes in rem: a row of a form, its caption and header together, and the lines between two forms.
+ROW = 3.0
+ABOVE = 4.0
+BETWEEN = 7.0
+COLOURS = 6
+
+STYLE = """
+:root {
+  color-scheme: light dark;
+  --back: #ffffff; --panel: #f5f6f8; --text: #1b1f24; --dim: #57606a; --line: #cfd6dd;
+  --yes: #17693a; --no: #a8253f;
+  --k0: #0b5cad; --k1: #a3400a; --k2: #17693a; --k3: #86308c; --k4: #7d5600; --k5: #a8253f;
+}
+@media (prefers-color-scheme: dark) {
+  :root {
+    --back: #14171a; --panel: #1d2125; --text: #e7e9ec; --dim: #a2acb6; --line: #3b434b;
+    --yes: #6bcb8f; --no: #f48ba5;
+    --k0: #74b6f5; --k1: #f3a26c; --k2: #6bcb8f; --k3: #d8a0de; --k4: #dfba55; --k5: #f48ba5;
+  }
+}
+* { box-sizing: border-box; }
+body {
+  margin: 0 auto; padding: 1.5rem; max-width: 108rem; background: var(--back); color: var(--text);
+  font: 1rem/1.45 system-ui, "Segoe UI", "Helvetica Neue", Arial, sans-serif;
+}
+h1 { font-size: 1.7rem; margin: 0 0 .3rem; overflow-wrap: anywhere; }
+h2 { font-size: 1.3rem; margin: 2.6rem 0 .6rem; padding-top: .6rem; border-top: 2px solid var(--line); }
+h3 { font-size: 1.02rem; margin: 1.4rem 0 .4rem; }
+p { max-width: 50rem; margin: .4rem 0; }
+a { color: var(--k0); }
+a:focus-visible, summary:focus-visible { outline: 2px solid var(--k0); outline-offset: 2px; }
+table { border-collapse: collapse; }
+caption { text-align: left; font-weight: 600; }
+th { font-weight: 600; text-align: left; }
+th, td { padding: .3rem .6rem; vertical-align: middle; }
+.scroll { overflow-x: auto; }
+.plain th, .plain td { border: 1px solid var(--line); }
+.plain thead th { background: var(--panel); }
+.plain td.number { text-align: right; font-variant-numeric: tabular-nums; }
+.matrix td { text-align: center; min-width: 4.2rem; }
+.yes { color: var(--yes); } .no, .no a { color: var(--no); } .none { color: var(--dim); }
+.same { background: var(--panel); }
+var, .var { font-style: italic; }
+.dim, .any { color: var(--dim); }
+code, pre { font: .9rem/1.5 ui-monospace, "SFMono-Regular", Menlo, Consolas, monospace; }
+pre { overflow-x: auto; background: var(--panel); padding: .7rem .9rem; margin: .3rem 0; }
+details { margin: .8rem 0; } summary { cursor: pointer; color: var(--dim); }
+dl { margin: .8rem 0; } dt { font-weight: 600; margin-top: .5rem; } dd { margin: 0; overflow-wrap: anywhere; }
+section { container: forms / inline-size; }
+.form { border: 1px solid var(--line); margin: .6rem 0; }
+.form caption { height: 2rem; line-height: 2rem; }
+.form thead tr { height: 2rem; background: var(--panel); }
+.form thead th { padding-top: 0; padding-bottom: 0; font-size: .75rem; color: var(--dim); font-weight: 500; }
+.form tbody tr { height: 3rem; border-top: 1px solid var(--line); }
+.form tbody th, .form tbody td { padding: .15rem .6rem; line-height: 1.25; overflow-wrap: anywhere; }
+.form .name { display: block; font-size: .7rem; font-weight: 400; color: var(--dim); line-height: 1.1; }
+.form .head { background: var(--panel); }
+.form .dropped td, .form .dropped th { color: var(--dim); }
+.form .dropped td.entry > span:last-child { text-decoration: line-through; text-decoration-thickness: 1px; }
+.form .dropped th:first-child { border-left: .25rem dashed var(--line); }
+.form .kept th:first-child { border-left: .25rem solid currentColor; }
+.lines { display: none; }
+.k0 { color: var(--k0); } .k1 { color: var(--k1); } .k2 { color: var(--k2); }
+.k3 { color: var(--k3); } .k4 { color: var(--k4); } .k5 { color: var(--k5); }
+.lines path { fill: none; stroke: currentColor; stroke-width: 2; }
+.lines .end { fill: currentColor; stroke: none; }
+.lines .loose { stroke-dasharray: 5 4; }
+.tables { display: flex; flex-wrap: wrap; gap: .8rem 1.6rem; align-items: flex-start; }
+.tables th, .tables td { border: 1px solid var(--line); padding: .2rem .6rem; }
+.tables thead th { background: var(--panel); font-weight: 500; font-size: .85rem; }
+@media print {
+  :root {
+    color-scheme: light; font-size: 11px;
+    --back: #ffffff; --panel: #f2f3f5; --text: #000000; --dim: #444b52; --line: #aab2ba;
+    --yes: #17693a; --no: #a8253f;
+    --k0: #0b5cad; --k1: #a3400a; --k2: #17693a; --k3: #86308c; --k4: #7d5600; --k5: #a8253f;
+  }
+  body { padding: 0; max-width: none; }
+  a { color: inherit; text-decoration: none; }
+  h2, h3 { break-after: avoid; }
+  .forms, .form, .plain, .tables table, tr, dd { break-inside: avoid; }
+  .scroll { overflow: visible; }
+  details, nav { display: none; }
+  * { print-color-adjust: exact; -webkit-print-color-adjust: exact; }
+}
+"""
+
+# The two forms beside each other, where the section is as wide as they are.
+BESIDE = """@container forms (min-width: {width:.1f}rem) {{
+  #{at} .forms {{ display: grid; grid-template-columns: max-content {between}rem max-content; align-items: start; }}
+  #{at} .form tbody th, #{at} .form tbody td {{ white-space: nowrap; }}
+  #{at} .form {{ margin: 0; }}
+  #{at} .lines {{ display: block; width: {between}rem; height: {height}rem; margin-top: {above}rem; }}
+}}
+"""
+
+
+def page(record: Record, names: Names, title: str = "Archive", decode: Decode = itself) -> str:
+    """The page of an archive, as text."""
+    definitions = define_all(record, names, decode)
+    verdicts = _compared(record, [one.place for one in definitions if one.place is not None])
+    style = STYLE + "".join(_beside(one) for one in definitions)
+    tables, held = len(record.widths), len(record.dependencies)
+    counts = f"{count(tables, 'table')}, {_counted(held, 'dependency', 'dependencies')}"
+    saved = _counted(len(definitions), "saved query", "saved queries")
+    body = [f"<header><h1>{escape(title)}</h1>", f"<p>{counts}, {saved}.</p></header>", "<main>"]
+    if definitions:
+        body += [_overview(definitions), _matrix(definitions, verdicts)]
+        body += [_place(one, definitions, verdicts) for one in definitions]
+    else:
+        body.append("<p>Every place is vacant.</p>")
+    body += [_schema(record, names), "</main>"]
+    policy = "default-src 'none'; style-src 'unsafe-inline'"
+    return "\n".join(
+        [
+            "<!DOCTYPE html>",
+            '<html lang="en">',
+            "<head>",
+            '<meta charset="utf-8">',
+            '<meta name="viewport" content="width=device-width, initial-scale=1">',
+            f'<meta http-equiv="Content-Security-Policy" content="{policy}">',
+            f"<title>{escape(title)}: saved queries and their short forms</title>",
+            f"<style>{style}</style>",
+            "</head>",
+            "<body>",
+            *body,
+            "</body>",
+            "</html>",
+            "",
+        ]
+    )
+
+
+# The comparison of two places; None where their heads differ in length.
+Verdicts = Dict[Tuple[int, int], Optional[Comparison]]
+
+
+def _compared(record: Record, places: Sequence[int]) -> Verdicts:
+    """Every place compared with every one."""
+    found: Verdicts = {}
+    for p in places:
+        for q in places:
+            try:
+                found[p, q] = record.compare(p, q)
+            except Refused as refused:
+                if refused.number != 8:
+                    raise
+                found[p, q] = None
+    return found
+
+
+def _counted(number: int, one: str, many: str) -> str:
+    return f"{number} {one if number == 1 else many}"
+
+
+# ---- the whole archive
+
+
+def _overview(definitions: Sequence[Definition]) -> str:
+    """A line for each place."""
+    rows = []
+    for one in definitions:
+        head = escape(Writer(one.long, one.variables, one.decode).rule(one.names).split(" :- ")[0])
+        cells = [str(len(one.long.rows)), "never" if one.short.is_never else str(len(one.short.rows)), str(one.replaced)]
+        numbers = "".join(f'<td class="number">{cell}</td>' for cell in cells)
+        rows.append(f'<tr><th scope="row">{_link(one)}</th><td><code>{head}</code></td>{numbers}</tr>')
+    titles = ["Query", "Head", "Rows of the long form", "Rows of the short form", "Variables replaced"]
+    header = "".join(f'<th scope="col">{title}</th>' for title in titles)
+    table = f'<table class="plain"><thead><tr>{header}</tr></thead><tbody>{"".join(rows)}</tbody></table>'
+    return (
+        '<h2 id="queries">Saved queries</h2>'
+        "<p>On every database that obeys the dependencies the short form has the answers of the long one, and no query "
+        f'with those answers has fewer rows.</p><div class="scroll">{table}</div>'
+    )
+
+
+def _matrix(definitions: Sequence[Definition], verdicts: Verdicts) -> str:
+    """Which places are contained in which."""
+    places = [one.place for one in definitions if one.place is not None]
+    header = "".join(f'<th scope="col">in {q}</th>' for q in places)
+    rows = []
+    for p in places:
+        cells = "".join(_verdict(p, q, verdicts) for q in places)
+        rows.append(f'<tr><th scope="row"><a href="#place-{p}">Place {p}</a></th>{cells}</tr>')
+    table = (
+        '<table class="plain matrix"><caption class="dim">Is each answer of the place on the left an answer of the place '
+        f'above?</caption><thead><tr><td></td>{header}</tr></thead><tbody>{"".join(rows)}</tbody></table>'
+    )
+    return (
+        '<h2 id="containment">Which is contained in which</h2>'
+        "<p>A yes holds on every database that obeys the dependencies. A no leads to such a database with an answer that "
+        "is missing. A dash stands where the heads differ in length.</p>"
+        f'<div class="scroll">{table}</div>'
+    )
+
+
+def _verdict(p: int, q: int, verdicts: Verdicts) -> str:
+    """A cell of the matrix."""
+    found = verdicts[p, q]
+    same = " same" if p == q else ""
+    if found is None:
+        return f'<td class="none{same}">\u2013</td>'
+    if found.contained:
+        return f'<td class="yes{same}">\u2713 yes</td>'
+    return f'<td class="no{same}"><a href="#place-{p}-not" title="Place {p} is not contained in place {q}">\u2717 no</a></td>'
+
+
+def _schema(record: Record, names: Names) -> str:
+    """The tables and what they obey."""
+    tables = "".join(f"<li><code>{escape(str(table))}</code></li>" for table in names.tables)
+    held = [f"<li><code>{escape(_arrow(format_dependency(one, names)))}</code></li>" for one in record.dependencies]
+    dependencies = f"<ul>{''.join(held)}</ul>" if held else "<p>None.</p>"
+    return f'<h2 id="tables">Tables</h2><ul>{tables}</ul><h2 id="dependencies">Dependencies</h2>{dependencies}'
+
+
+def _arrow(text: str) -> str:
+    return text.replace(" -> ", " \u2192 ")
+
+
+def _link(one: Definition) -> str:
+    return f'<a href="#{_at(one)}">{one.title}</a>'
+
+
+def _at(one: Definition) -> str:
+    return f"place-{one.place}"
+
+
+# ---- one place
+
+
+def _place(one: Definition, definitions: Sequence[Definition], verdicts: Verdicts) -> str:
+    """A saved query: its two forms, what links them, and how it compares with the others."""
+    long = _form(one, one.long, "Long form", _long_row(one))
+    short = _form(one, one.short, "Short form", _short_row(one))
+    rules = "\n".join(
+        escape(f"{what}: {Writer(query, one.variables, one.decode).rule(one.names)}")
+        for what, query in (("long", one.long), ("short", one.short))
+    )
+    return (
+        f'<section id="{_at(one)}" aria-labelledby="{_at(one)}-title"><h2 id="{_at(one)}-title">{one.title}</h2>'
+        f'<div class="scroll"><div class="forms">{long}{_lines(one)}{short}</div></div>'
+        f"{_facts(one)}<details><summary>Both forms as rules</summary><pre>{rules}</pre></details>"
+        f"{_others(one, definitions, verdicts)}</section>"
+    )
+
+
+# The class of a row, what stands in its first cell, and what stands in its last.
+RowMarks = Callable[[int], Tuple[str, str, str]]
+
+
+def _long_row(one: Definition) -> RowMarks:
+    """A row of the long form: kept or dropped, and where the mapping takes it."""
+    images, kept = one.images(), one.kept()
+
+    def marks(position: int) -> Tuple[str, str, str]:
+        state = "dropped" if kept[position] is None else "kept"
+        if not images:
+            return state, str(position + 1), f'<span class="name">{state}</span>\u00a0'
+        target = images[position]
+        colour = _colour(target)
+        goes = f'<span class="name">{state}</span><span class="{colour}">\u2192\u00a0row\u00a0{target + 1}</span>'
+        return f"{state} {'' if kept[position] is None else colour}".strip(), str(position + 1), goes
+
+    return marks
+
+
+def _short_row(one: Definition) -> RowMarks:
+    """A row of the short form, and the row of the long form that it was."""
+    origin = {target: position for position, target in enumerate(one.kept()) if target is not None}
+
+    def marks(position: int) -> Tuple[str, str, str]:
+        came = f'<span class="name">was {origin[position] + 1}</span>' if position in origin else ""
+        return f"kept {_colour(position)}", f'{came}<span class="{_colour(position)}">{position + 1}</span>', ""
+
+    return marks
+
+
+def _colour(target: int) -> str:
+    return f"k{target % COLOURS}"
+
+
+def _form(one: Definition, query: Query, title: str, marks: RowMarks) -> str:
+    """A form as a table: the head, then a line for each row, with the columns' names above the entries."""
+    writer = Writer(query, one.variables, one.decode)
+    rows = count(len(query.rows), "row")
+    if query.is_never:
+        caption = f"{title}: never"
+        dashes = "".join('<td class="entry"><span class="any">_</span></td>' for _ in range(query.head_length))
+        empty = "" if dashes else "<td></td>"
+        body = f'<tr class="head"><th scope="row"></th><th scope="row">ans</th>{dashes}{empty}</tr>'
+        wide = max(query.head_length, 1)
+        body += f'<tr><td></td><td colspan="{wide + 1}">No answer on any database{_why(one)}.</td></tr>'
+        return _table(caption, wide, body, False)
+    wide = max(len(query.head), *(len(row.entries) for row in query.rows))
+    last = marks(0)[2] != ""
+    head = "".join(_entry(writer, entry, "") for entry in query.head) + _blank(wide - len(query.head))
+    end = "<td></td>" if last else ""
+    body = f'<tr class="head"><th scope="row"></th><th scope="row">ans</th>{head}{end}</tr>'
+    for position, row in enumerate(query.rows):
+        state, first, goes = marks(position)
+        table = one.names.tables[row.relation]
+        cells = "".join(_entry(writer, entry, name) for entry, name in zip(row.entries, table.columns))
+        cells += _blank(wide - len(row.entries)) + (f"<td>{goes}</td>" if last else "")
+        body += (
+            f'<tr class="{state}"><th scope="row">{first}</th>'
+            f'<th scope="row" class="table">{escape(table.name)}</th>{cells}</tr>'
+        )
+    return _table(f"{title}, {rows}", wide, body, last)
+
+
+def _why(one: Definition) -> str:
+    return "" if one.long.is_never else " that obeys the dependencies"
+
+
+def _blank(cells: int) -> str:
+    return f'<td colspan="{cells}"></td>' if cells > 0 else ""
+
+
+def _table(caption: str, wide: int, body: str, last: bool) -> str:
+    goes = '<th scope="col">Mapped to</th>' if last else ""
+    header = f'<th scope="col">Row</th><th scope="col">Table</th><th scope="colgroup" colspan="{wide}">Entries</th>{goes}'
+    return (
+        f'<table class="form"><caption>{caption}</caption><thead><tr>{header}</tr></thead>'
+        f"<tbody>{body}</tbody></table>"
+    )
+
+
+def _entry(writer: Writer, entry: Entry, column: str) -> str:
+    """An entry under the name of its column."""
+    text = writer.entry(entry)
+    kind = "constant"
+    if isinstance(entry, Variable):
+        kind = "any" if text == "_" else "var"
+    name = f'<span class="name">{escape(column)}</span>' if column else ""
+    return f'<td class="entry">{name}<span class="{kind}">{escape(text)}</span></td>'
+
+
+def _lines(one: Definition) -> str:
+    """The mapping drawn from the rows of the long form to those of the short one."""
+    images, kept = one.images(), one.kept()
+    if not images:
+        return '<span class="lines"></span>'
+    unit = 16.0
+    width, high = BETWEEN * unit, _height(one) * unit
+
+    def middle(row: int) -> float:
+        return (row + 0.5) * ROW * unit
+
+    drawn = [_line(width, middle(0), middle(0), "dim", False)]
+    for source, target in enumerate(images):
+        drawn.append(_line(width, middle(source + 1), middle(target + 1), _colour(target), kept[source] is None))
+    words = "; ".join(f"row {source + 1} to row {target + 1}" for source, target in enumerate(images))
+    return (
+        f'<svg class="lines" viewBox="0 0 {width:g} {high:g}" role="img" '
+        f'aria-label="The mapping takes {words} of the short form.">{"".join(drawn)}</svg>'
+    )
+
+
+def _line(width: float, start: float, end: float, colour: str, loose: bool) -> str:
+    tip, bend = width - 9, width / 2
+    dashes = ' class="loose"' if loose else ""
+    return (
+        f'<g class="{colour}"><path{dashes} d="M 3 {start:g} C {bend:g} {start:g} {bend:g} {end:g} {tip:g} {end:g}"/>'
+        f'<path class="end" d="M {tip:g} {end - 4.5:g} L {width - 1:g} {end:g} L {tip:g} {end + 4.5:g} Z"/></g>'
+    )
+
+
+def _height(one: Definition) -> float:
+    """How high the rows of the higher form are, the head among them."""
+    return ROW * (1 + max(len(one.long.rows), len(one.short.rows)))
+
+
+def _beside(one: Definition) -> str:
+    """The style that sets the two forms beside each other where there is room."""
+    width = _width(one, one.long, True) + BETWEEN + _width(one, one.short, False) + 1
+    return BESIDE.format(width=width, at=_at(one), between=f"{BETWEEN:g}", height=f"{_height(one):g}", above=f"{ABOVE:g}")
+
+
+def _width(one: Definition, query: Query, last: bool) -> float:
+    """About how wide a form is without breaks in its lines, rather too much than too little."""
+    if query.is_never:
+        return max(27.0, 9.0 + 2.0 * query.head_length)
+    writer = Writer(query, one.variables, one.decode)
+    columns = [0.0] * 8
+    for position, entry in enumerate(query.head):
+        columns[position] = _ems(writer.entry(entry)) * 0.6
+    for row in query.rows:
+        names = one.names.tables[row.relation].columns
+        for position, entry in enumerate(row.entries):
+            wide = max(_ems(writer.entry(entry)) * 0.6, _ems(names[position]) * 0.43)
+            columns[position] = max(columns[position], wide)
+    table = max(_ems(one.names.tables[row.relation].name) for row in query.rows) * 0.62
+    return 4.0 + max(table, 2.5) + 1.2 + sum(wide + 1.3 for wide in columns if wide) + (6.0 if last else 0.0)
+
+
+def _ems(text: str) -> int:
+    """The length of a text, wide characters twice."""
+    return sum(2 if unicodedata.east_asian_width(one) in "WF" else 1 for one in text)
+
+
+def _facts(one: Definition) -> str:
+    """The mapping of the variables, the dependencies that are needed, and the count."""
+    facts: List[Tuple[str, str]] = []
+    if one.mapping is not None:
+        short = Writer(one.short, one.variables, one.decode)
+        images = [
+            f"<var>{escape(variable_text(number, one.variables))}</var>\u00a0\u21a6\u00a0{escape(short.entry(entry))}"
+            for number, entry in one.named().items()
+        ]
+        note = ' <span class="dim">(a variable that stands once is written _)</span>'
+        facts.append(("Mapping of the variables", (", ".join(images) or "no variable stands twice") + note))
+    needed = [_arrow(format_dependency(one.dependencies[number], one.names)) for number in one.used]
+    without = "none: the two forms have the same answers on every database"
+    facts.append(("Dependencies needed", "; ".join(f"<code>{escape(text)}</code>" for text in needed) or without))
+    facts.append(("Replaced by the dependencies", count(one.replaced, "variable")))
+    return "<dl>" + "".join(f"<dt>{name}</dt><dd>{text}</dd>" for name, text in facts) + "</dl>"
+
+
+def _others(one: Definition, definitions: Sequence[Definition], verdicts: Verdicts) -> str:
+    """How the place compares with the others, with a counterexample where it is not contained."""
+    assert one.place is not None
+    p = one.place
+    others = [other.place for other in definitions if other.place is not None and other.place != p]
+    inside = [q for q in others if _holds(verdicts[p, q])]
+    same = [q for q in inside if _holds(verdicts[q, p])]
+    lines = []
+    if same:
+        lines.append(f"<p>It has the same answers as {_places(same)}.</p>")
+    larger = [q for q in inside if q not in same]
+    if larger:
+        lines.append(f"<p>Each of its answers is an answer of {_places(larger)}.</p>")
+    # The engine shows the same database for every place that an answer is missing from.
+    examples: Dict[Tuple[Tuple[DataRow, ...], Tuple[int, ...]], List[int]] = {}
+    for q in others:
+        found = verdicts[p, q]
+        example = None if found is None else found.counterexample()
+        if example is not None:
+            examples.setdefault((tuple(example[0]), example[1]), []).append(q)
+    for number, ((rows, answer), missing) in enumerate(examples.items()):
+        at = f' id="{_at(one)}-not"' if number == 0 else ""
+        shown = escape(f"ans({', '.join(text for text, _ in map(_value(one), answer))})")
+        lines.append(
+            f"<h3{at}>Not contained in {_places(missing)}</h3>"
+            f"<p>This database obeys the dependencies. There <code>{shown}</code> is an answer of place {p} "
+            f"and not of {_places(missing)}. A name stands for a value of its own, "
+            "unlike every other value here and in the archive.</p>"
+            f"{_database(one, rows)}"
+        )
+    return "".join(lines)
+
+
+def _holds(found: Optional[Comparison]) -> bool:
+    return found is not None and found.contained
+
+
+def _places(places: Sequence[int]) -> str:
+    """`place 1`, `places 1 and 2`, `places 1, 2 and 3`."""
+    texts = [f'<a href="#place-{place}">{place}</a>' for place in places]
+    if len(texts) == 1:
+        return f"place {texts[0]}"
+    return f"places {', '.join(texts[:-1])} and {texts[-1]}"
+
+
+def _value(one: Definition) -> Callable[[int], Tuple[str, str]]:
+    """A value of a counterexample and its kind: a variable's name, or what a constant stands for."""
+
+    def text(number: int) -> Tuple[str, str]:
+        if number >= FROZEN:
+            return variable_text(number - FROZEN, one.variables), "var"
+        return value_text(one.decode(number)), "constant"
+
+    return text
+
+
+def _database(one: Definition, rows: Iterable[DataRow]) -> str:
+    """The rows of a database, a table for each relation that has some."""
+    held = list(rows)
+    tables = []
+    for relation, table in enumerate(one.names.tables):
+        body = "".join(
+            "<tr>" + "".join(f'<td class="{kind}">{escape(text)}</td>' for text, kind in map(_value(one), values)) + "</tr>"
+            for number, values in held
+            if number == relation
+        )
+        if body:
+            header = "".join(f'<th scope="col">{escape(column)}</th>' for column in table.columns)
+            tables.append(
+                f"<table><caption>{escape(table.name)}</caption>"
+                f"<thead><tr>{header}</tr></thead><tbody>{body}</tbody></table>"
+            )
+    return f'<div class="scroll"><div class="tables">{"".join(tables)}</div></div>'
