@@ -70,9 +70,13 @@ class Definition:
         return tuple(at.pop(row, None) for row in self.chased.rows) or (None,) * len(self.long.rows)
 
     def named(self) -> Dict[int, Entry]:
-        """The mapping's images of the variables that stand more than once in the long form."""
-        alone = lone(self.long)
-        return {number: entry for number, entry in sorted((self.mapping or {}).items()) if number not in alone}
+        """The mapping's images where neither side is written `_`; the images of the rows tell the others."""
+        before, after = lone(self.long), lone(self.short)
+        return {
+            number: entry
+            for number, entry in sorted((self.mapping or {}).items())
+            if number not in before and (isinstance(entry, Constant) or entry.number not in after)
+        }
 
 
 def _moved(row: Row, mapping: Mapping) -> Row:

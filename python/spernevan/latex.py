@@ -168,7 +168,7 @@ def dependency(one: Dependency, names: Names) -> str:
     """A dependency under the names of its table and columns."""
     table = names.tables[one.relation]
     left = ", ".join(column_name(table.columns[column]) for column in sorted(one.left))
-    return rf"{table_name(table.name)}: {left} $\to$ {column_name(table.columns[one.right])}"
+    return rf"{table_name(table.name)}: {left}~$\to$~{column_name(table.columns[one.right])}"
 
 
 def form(query: Query, definition: Definition) -> str:
@@ -186,17 +186,17 @@ def form(query: Query, definition: Definition) -> str:
 
 
 def mapping(definition: Definition) -> str:
-    """Where the mapping takes each row, and each variable that stands more than once."""
+    """Where the mapping takes each row, and each variable unless it or its image is written `_`."""
     to: Dict[int, List[str]] = {}
     for source, target in enumerate(definition.images(), 1):
         to.setdefault(target + 1, []).append(str(source))
     rows = "; ".join(
-        rf"{'row' if len(sources) == 1 else 'rows'} {', '.join(sources)} $\mapsto$ row {target}"
+        rf"{'row' if len(sources) == 1 else 'rows'} {', '.join(sources)}~$\mapsto$~row~{target}"
         for target, sources in sorted(to.items())
     )
     short = _Form(definition.short, definition)
     images = ", ".join(
-        rf"{variable_name(number, definition.variables)} $\mapsto$ {short.entry(entry)}"
+        rf"{variable_name(number, definition.variables)}~$\mapsto$~{short.entry(entry)}"
         for number, entry in definition.named().items()
     )
     return f"{images}; {rows}." if images else f"{rows}."
@@ -204,13 +204,13 @@ def mapping(definition: Definition) -> str:
 
 def _lines(lines: Iterable[str]) -> str:
     """Lines below each other, each wrapped with an indent where it is too long."""
-    return "\n".join(rf"\par\noindent\hangindent=2em {line}" for line in lines)
+    return "\n".join(rf"\par\nobreak\noindent\hangindent=2em {line}" for line in lines)
 
 
 def _rows(rows: Sequence[Tuple[str, str]]) -> str:
     """Numbered lines, each wrapped where it is too long."""
     body = "\n".join(rf"{number} & \raggedright {text}\tabularnewline" for number, text in rows)
-    return f"\\par\\noindent\\begin{{tabular}}{{@{{}}r@{{\\quad}}p{{0.86\\linewidth}}@{{}}}}\n{body}\n\\end{{tabular}}"
+    return f"\\par\\nobreak\\noindent\\begin{{tabular}}{{@{{}}r@{{\\quad}}p{{0.86\\linewidth}}@{{}}}}\n{body}\n\\end{{tabular}}"
 
 
 def _titled(title: str, body: str) -> str:

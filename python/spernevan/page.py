@@ -57,6 +57,7 @@ th, td { padding: .3rem .6rem; vertical-align: middle; }
 .plain th, .plain td { border: 1px solid var(--line); }
 .plain thead th { background: var(--panel); }
 .plain td.number { text-align: right; font-variant-numeric: tabular-nums; }
+.matrix caption { white-space: nowrap; font-weight: 400; padding: .2rem 0; }
 .matrix td { text-align: center; min-width: 4.2rem; }
 .yes { color: var(--yes); } .no, .no a { color: var(--no); } .none { color: var(--dim); }
 .same { background: var(--panel); }
@@ -72,19 +73,23 @@ section { container: forms / inline-size; }
 .form thead tr { height: 2rem; background: var(--panel); }
 .form thead th { padding-top: 0; padding-bottom: 0; font-size: .75rem; color: var(--dim); font-weight: 500; }
 .form tbody tr { height: 3rem; border-top: 1px solid var(--line); }
-.form tbody th, .form tbody td { padding: .15rem .6rem; line-height: 1.25; overflow-wrap: anywhere; }
+.form tbody th, .form tbody td { padding: .15rem .6rem; line-height: 1.25; }
 .form .name { display: block; font-size: .7rem; font-weight: 400; color: var(--dim); line-height: 1.1; }
+.form .goes, .form tbody th:first-child, .plain tbody th { white-space: nowrap; }
 .form .head { background: var(--panel); }
 .form .dropped td, .form .dropped th { color: var(--dim); }
-.form .dropped td.entry > span:last-child { text-decoration: line-through; text-decoration-thickness: 1px; }
+.form .dropped .var, .form .dropped .constant { text-decoration: line-through; text-decoration-thickness: 1px; }
+.form .kept td.entry { color: var(--text); }
 .form .dropped th:first-child { border-left: .25rem dashed var(--line); }
 .form .kept th:first-child { border-left: .25rem solid currentColor; }
 .lines { display: none; }
+.short-lines { display: block; max-width: 100%; margin: .4rem 0; }
+.short-lines text { font-size: 13px; fill: currentColor; }
 .k0 { color: var(--k0); } .k1 { color: var(--k1); } .k2 { color: var(--k2); }
 .k3 { color: var(--k3); } .k4 { color: var(--k4); } .k5 { color: var(--k5); }
-.lines path { fill: none; stroke: currentColor; stroke-width: 2; }
-.lines .end { fill: currentColor; stroke: none; }
-.lines .loose { stroke-dasharray: 5 4; }
+svg path { fill: none; stroke: currentColor; stroke-width: 2; }
+svg .end { fill: currentColor; stroke: none; }
+svg .loose { stroke-dasharray: 5 4; }
 .tables { display: flex; flex-wrap: wrap; gap: .8rem 1.6rem; align-items: flex-start; }
 .tables th, .tables td { border: 1px solid var(--line); padding: .2rem .6rem; }
 .tables thead th { background: var(--panel); font-weight: 500; font-size: .85rem; }
@@ -98,8 +103,10 @@ section { container: forms / inline-size; }
   body { padding: 0; max-width: none; }
   a { color: inherit; text-decoration: none; }
   h2, h3 { break-after: avoid; }
-  .forms, .form, .plain, .tables table, tr, dd { break-inside: avoid; }
+  .form, .plain, .tables table, .example, svg, tr, dt, dd { break-inside: avoid; }
+  dt { break-after: avoid; }
   .scroll { overflow: visible; }
+  .form tbody th, .form tbody td.entry { overflow-wrap: anywhere; }
   details, nav { display: none; }
   * { print-color-adjust: exact; -webkit-print-color-adjust: exact; }
 }
@@ -110,6 +117,7 @@ BESIDE = """@container forms (min-width: {width:.1f}rem) {{
   #{at} .forms {{ display: grid; grid-template-columns: max-content {between}rem max-content; align-items: start; }}
   #{at} .form tbody th, #{at} .form tbody td {{ white-space: nowrap; }}
   #{at} .form {{ margin: 0; }}
+  #{at} .short-lines {{ display: none; }}
   #{at} .lines {{ display: block; width: {between}rem; height: {height}rem; margin-top: {above}rem; }}
 }}
 """
@@ -307,7 +315,7 @@ def _form(one: Definition, query: Query, title: str, marks: RowMarks) -> str:
         caption = f"{title}: never"
         dashes = "".join('<td class="entry"><span class="any">_</span></td>' for _ in range(query.head_length))
         empty = "" if dashes else "<td></td>"
-        body = f'<tr class="head"><th scope="row"></th><th scope="row">ans</th>{dashes}{empty}</tr>'
+        body = f'<tr class="head"><td></td><th scope="row">ans</th>{dashes}{empty}</tr>'
         wide = max(query.head_length, 1)
         body += f'<tr><td></td><td colspan="{wide + 1}">No answer on any database{_why(one)}.</td></tr>'
         return _table(caption, wide, body, False)
@@ -315,15 +323,15 @@ def _form(one: Definition, query: Query, title: str, marks: RowMarks) -> str:
     last = marks(0)[2] != ""
     head = "".join(_entry(writer, entry, "") for entry in query.head) + _blank(wide - len(query.head))
     end = "<td></td>" if last else ""
-    body = f'<tr class="head"><th scope="row"></th><th scope="row">ans</th>{head}{end}</tr>'
+    body = f'<tr class="head"><td></td><th scope="row">ans</th>{head}{end}</tr>'
     for position, row in enumerate(query.rows):
         state, first, goes = marks(position)
         table = one.names.tables[row.relation]
         cells = "".join(_entry(writer, entry, name) for entry, name in zip(row.entries, table.columns))
-        cells += _blank(wide - len(row.entries)) + (f"<td>{goes}</td>" if last else "")
+        cells += _blank(wide - len(row.entries)) + (f'<td class="goes">{goes}</td>' if last else "")
         body += (
             f'<tr class="{state}"><th scope="row">{first}</th>'
-            f'<th scope="row" class="table">{escape(table.name)}</th>{cells}</tr>'
+            f'<th scope="row" class="table">{_breakable(table.name)}</th>{cells}</tr>'
         )
     return _table(f"{title}, {rows}", wide, body, last)
 
@@ -351,37 +359,61 @@ def _entry(writer: Writer, entry: Entry, column: str) -> str:
     kind = "constant"
     if isinstance(entry, Variable):
         kind = "any" if text == "_" else "var"
-    name = f'<span class="name">{escape(column)}</span>' if column else ""
+    name = f'<span class="name">{_breakable(column)}</span>' if column else ""
     return f'<td class="entry">{name}<span class="{kind}">{escape(text)}</span></td>'
 
 
+def _breakable(name: str) -> str:
+    """A name that may be broken after an underscore."""
+    return escape(name).replace("_", "_<wbr>")
+
+
 def _lines(one: Definition) -> str:
-    """The mapping drawn from the rows of the long form to those of the short one."""
-    images, kept = one.images(), one.kept()
-    if not images:
+    """The mapping drawn twice: from table to table where they stand beside each other, else from name to name."""
+    if not one.images():
         return '<span class="lines"></span>'
+    words = "; ".join(f"row {source + 1} to row {target + 1}" for source, target in enumerate(one.images()))
+    label = f'role="img" aria-label="The mapping takes {words} of the short form."'
     unit = 16.0
-    width, high = BETWEEN * unit, _height(one) * unit
+    width, high, step = BETWEEN * unit, _height(one) * unit, ROW * unit
+    drawn = [_line(0, width, step / 2, step / 2, "dim", False), *_drawn(one, 0, width, step, 1.5 * step)]
+    wide = f'<svg class="lines" viewBox="0 0 {width:g} {high:g}" {label}>{"".join(drawn)}</svg>'
 
-    def middle(row: int) -> float:
-        return (row + 0.5) * ROW * unit
-
-    drawn = [_line(width, middle(0), middle(0), "dim", False)]
-    for source, target in enumerate(images):
-        drawn.append(_line(width, middle(source + 1), middle(target + 1), _colour(target), kept[source] is None))
-    words = "; ".join(f"row {source + 1} to row {target + 1}" for source, target in enumerate(images))
+    side, step = 190.0, 24.0
+    names = [_name(one, one.long, row, side - 8, step, "end") for row in range(len(one.long.rows))]
+    names += [_name(one, one.short, row, side + width + 8, step, "start") for row in range(len(one.short.rows))]
+    width, high = 2 * side + width, step * len(one.long.rows)
+    drawn = [*names, *_drawn(one, side, width - side, step, step / 2)]
     return (
-        f'<svg class="lines" viewBox="0 0 {width:g} {high:g}" role="img" '
-        f'aria-label="The mapping takes {words} of the short form.">{"".join(drawn)}</svg>'
+        f'{wide}<svg class="short-lines" width="{width / unit:g}rem" height="{high / unit:g}rem" viewBox="0 0 {width:g} {high:g}" {label}>'
+        f'{"".join(drawn)}</svg>'
     )
 
 
-def _line(width: float, start: float, end: float, colour: str, loose: bool) -> str:
-    tip, bend = width - 9, width / 2
+def _drawn(one: Definition, left: float, right: float, step: float, first: float) -> List[str]:
+    """A line for each row of the long form; those of dropped rows are dashed."""
+    kept = one.kept()
+    return [
+        _line(left, right, first + source * step, first + target * step, _colour(target), kept[source] is None)
+        for source, target in enumerate(one.images())
+    ]
+
+
+def _name(one: Definition, query: Query, row: int, at: float, step: float, anchor: str) -> str:
+    """The number and the table of a row, as a label of a drawing."""
+    name = one.names.tables[query.rows[row].relation].name
+    name = name if _ems(name) <= 22 else name[:20] + "\u2026"
+    text = f"{name} {row + 1}" if anchor == "end" else f"{row + 1} {name}"
+    return f'<text x="{at:g}" y="{(row + 0.5) * step + 4.5:g}" text-anchor="{anchor}">{escape(text)}</text>'
+
+
+def _line(left: float, right: float, start: float, end: float, colour: str, loose: bool) -> str:
+    """A line with an arrow's head."""
+    tip, bend = right - 9, (left + right) / 2
     dashes = ' class="loose"' if loose else ""
     return (
-        f'<g class="{colour}"><path{dashes} d="M 3 {start:g} C {bend:g} {start:g} {bend:g} {end:g} {tip:g} {end:g}"/>'
-        f'<path class="end" d="M {tip:g} {end - 4.5:g} L {width - 1:g} {end:g} L {tip:g} {end + 4.5:g} Z"/></g>'
+        f'<g class="{colour}"><path{dashes} d="M {left + 3:g} {start:g} C {bend:g} {start:g} {bend:g} {end:g} {tip:g} {end:g}"/>'
+        f'<path class="end" d="M {tip:g} {end - 4.5:g} L {right - 1:g} {end:g} L {tip:g} {end + 4.5:g} Z"/></g>'
     )
 
 
@@ -423,12 +455,17 @@ def _facts(one: Definition) -> str:
     facts: List[Tuple[str, str]] = []
     if one.mapping is not None:
         short = Writer(one.short, one.variables, one.decode)
+
+        def image(entry: Entry) -> str:
+            text = escape(short.entry(entry))
+            return f"<var>{text}</var>" if isinstance(entry, Variable) else text
+
         images = [
-            f"<var>{escape(variable_text(number, one.variables))}</var>\u00a0\u21a6\u00a0{escape(short.entry(entry))}"
+            f"<var>{escape(variable_text(number, one.variables))}</var>\u00a0\u21a6\u00a0{image(entry)}"
             for number, entry in one.named().items()
         ]
         note = ' <span class="dim">(a variable that stands once is written _)</span>'
-        facts.append(("Mapping of the variables", (", ".join(images) or "no variable stands twice") + note))
+        facts.append(("Mapping of the variables", ", ".join(images) + note if images else "as its rows"))
     needed = [_arrow(format_dependency(one.dependencies[number], one.names)) for number in one.used]
     without = "none: the two forms have the same answers on every database"
     facts.append(("Dependencies needed", "; ".join(f"<code>{escape(text)}</code>" for text in needed) or without))
@@ -460,11 +497,12 @@ def _others(one: Definition, definitions: Sequence[Definition], verdicts: Verdic
         at = f' id="{_at(one)}-not"' if number == 0 else ""
         shown = escape(f"ans({', '.join(text for text, _ in map(_value(one), answer))})")
         lines.append(
+            f'<div class="example">'
             f"<h3{at}>Not contained in {_places(missing)}</h3>"
             f"<p>This database obeys the dependencies. There <code>{shown}</code> is an answer of place {p} "
             f"and not of {_places(missing)}. A name stands for a value of its own, "
             "unlike every other value here and in the archive.</p>"
-            f"{_database(one, rows)}"
+            f"{_database(one, rows)}</div>"
         )
     return "".join(lines)
 

@@ -60,7 +60,7 @@ def definition_text(definition: Definition) -> str:
 
 
 def _mapping_text(definition: Definition) -> List[str]:
-    """The images of the variables that stand more than once, and those of the rows."""
+    """The images of the variables that are written by a name, and those of the rows."""
     short = Writer(definition.short, definition.variables, definition.decode)
     images = [
         f"{variable_text(number, definition.variables)} -> {short.entry(entry)}"

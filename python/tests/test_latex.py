@@ -74,8 +74,8 @@ class Documents(unittest.TestCase):
             "Long form, 7 rows.",
             "Short form, 4 rows.",
             r"1 & \raggedright \textsf{flight}(\textit{f}, \textit{s}, 7, \_),\tabularnewline",
-            r"\textit{r} $\mapsto$ \textit{s}",
-            r"rows 1, 3 $\mapsto$ row 1",
+            r"\textit{r}~$\mapsto$~\textit{s}",
+            r"rows 1, 3~$\mapsto$~row~1",
             "On every finite database the two forms have the same answers, and every query with these answers has at least 4 rows.",
         ):
             self.assertIn(part, text)
@@ -83,8 +83,8 @@ class Documents(unittest.TestCase):
         self.assertNotIn(r"\textsf{layer}", text)
         self.assertNotIn("documentclass", text)
         text = latex.fragment(define(self.record, self.names, 2))
-        self.assertIn(r"\textsf{flight}: \textit{number} $\to$ \textit{sonde}", text)
-        self.assertNotIn(r"$\to$ \textit{site}", text)
+        self.assertIn(r"\textsf{flight}: \textit{number}~$\to$~\textit{sonde}", text)
+        self.assertNotIn(r"$\to$~\textit{site}", text)
         self.assertIn("On every finite database that obeys these dependencies the two forms", text)
 
     def test_never(self):

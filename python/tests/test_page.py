@@ -10,7 +10,7 @@ from spernevan import Names, Query, Record, Table, parse_query, read_names
 from spernevan.definition import define_all
 from spernevan.page import page
 
-VOID = {"meta", "br", "path"}
+VOID = {"meta", "wbr"}
 
 
 class Tree(HTMLParser):
@@ -85,11 +85,11 @@ class Page(unittest.TestCase):
         self.assertEqual(sorted(parts), places)
         for one in found:
             part = parts[one.place]
-            # A line for the head and for each row, with the dropped ones dashed.
+            # In two drawings a line for each row, with the dropped ones dashed; in one a line for the head.
             lines = part.count('<path class="end"')
-            self.assertEqual(lines, 0 if one.short.is_never else 1 + len(one.long.rows))
+            self.assertEqual(lines, 0 if one.short.is_never else 1 + 2 * len(one.long.rows))
             dropped = len(one.long.rows) - len(one.short.rows)
-            self.assertEqual(part.count('<path class="loose"'), 0 if one.short.is_never else dropped)
+            self.assertEqual(part.count('<path class="loose"'), 0 if one.short.is_never else 2 * dropped)
             self.assertEqual(part.count('<tr class="dropped'), dropped)
             self.assertEqual(part.count('<tr class="kept'), 2 * len(one.short.rows))
             goes = [int(n) - 1 for n in re.findall("\u2192\u00a0row\u00a0(\\d+)", part)]
