@@ -311,7 +311,7 @@ def usage() -> argparse.ArgumentParser:
     made.add_argument("text", metavar="TEXT")
     made.add_argument("file", metavar="FILE")
     on_file("unpack", unpack_command, "print an archive file as a text")
-    publish.add_commands(commands, lambda options: (*load(options), publish.itself))
+    publish.add_commands(commands, load)
     return parser
 
 

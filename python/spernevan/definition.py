@@ -6,9 +6,10 @@ variables stand once, and which dependencies are left when all that the engine f
 
 from __future__ import annotations
 
+import json
 from collections import Counter
 from dataclasses import dataclass, field, replace
-from datetime import date
+from datetime import date, datetime
 from decimal import Decimal
 from typing import Callable, Dict, FrozenSet, List, Optional, Sequence, Tuple
 
@@ -174,9 +175,13 @@ def variable_text(number: int, variables: Dict[int, str]) -> str:
 
 
 def value_text(value: object) -> str:
-    """A value as a rule has it: numbers and dates as they are, text between single quotes."""
+    """A value as a rule has it: text between quotes, single ones unless it has characters that are not printed."""
+    if isinstance(value, datetime):
+        value = value.isoformat(" ")
     if isinstance(value, str):
-        return "'" + value.replace("'", "''") + "'"
+        return "'" + value.replace("'", "''") + "'" if value.isprintable() else json.dumps(value)
+    if isinstance(value, Decimal):
+        return format(value, "f")
     return value.isoformat() if isinstance(value, date) else str(value)
 
 
@@ -204,19 +209,3 @@ class Writer:
             return f"ans({', '.join('_' * self.query.head_length)}) :- never"
         rows = [self.atom(names.tables[row.relation].name, row.entries) for row in self.query.rows]
         return f"{self.atom('ans', self.query.head)} :- {f',{between}'.join(rows)}"
-
-
-def value_json(value: object) -> object:
-    """A value for programs: a number as it is, else an object that says what it is, since names are strings."""
-    if isinstance(value, bool) or value is None:
-        raise ValueError(f"a constant cannot stand for {value!r}")
-    if isinstance(value, int):
-        return value
-    if isinstance(value, str):
-        return {"text": value}
-    if isinstance(value, Decimal):
-        return {"decimal": str(value)}
-    if isinstance(value, date):
-        return {"date": value.isoformat()}
-    raise ValueError(f"a constant cannot stand for {value!r:.40}")
-

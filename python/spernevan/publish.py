@@ -14,8 +14,7 @@ import textwrap
 from typing import Any, Callable, Dict, List, Optional, Sequence, Tuple
 
 from . import latex, sql
-from .definition import Decode, Definition, Writer, define, define_all, define_query, itself, value_json, variable_text
-from .engine import Refused
+from .definition import Decode, Definition, Writer, define, define_all, define_query, itself, value_text, variable_text
 from .model import Constant, Dependency, Entry, Query
 from .notation import Names, Reader, count, format_dependency, read_rule
 from .page import page
@@ -23,11 +22,11 @@ from .record import Record
 
 FORMATS = ("text", "latex", "sql", "json")
 
-# A function that gives the record of a command's FILE, its names, and what its constants stand for.
-Load = Callable[[argparse.Namespace], Tuple[Record, Names, Decode]]
+# A function that gives the record of a command's FILE and its names.
+Load = Callable[[argparse.Namespace], Tuple[Record, Names]]
 
-# A function that reads a rule: the query, and the names of its variables.
-Parse = Callable[[str, Names], Tuple[Query, Dict[int, str]]]
+# A function that gives what the constants of a record stand for under its names.
+Decoder = Callable[[Names], Decode]
 
 
 # ---- a definition as text
@@ -86,9 +85,10 @@ def _filled(items: Sequence[str], width: int) -> List[str]:
 
 
 def entry_json(entry: Entry, definition: Definition) -> object:
-    """A variable's name, or what a constant stands for."""
+    """A variable's name; a constant as a number, or as a rule has it, which no name is."""
     if isinstance(entry, Constant):
-        return value_json(definition.decode(entry.number))
+        value = definition.decode(entry.number)
+        return value if isinstance(value, int) else value_text(value)
     return variable_text(entry.number, definition.variables)
 
 
@@ -249,14 +249,16 @@ def write_out(text: str, path: Optional[str]) -> None:
         raise
 
 
-def add_commands(subparsers: Any, load: Load, parse: Parse = parse_rule) -> None:
-    """Adds `define` and `page` to the command's parsers.
+def numbers(names: Names) -> Decode:
+    """A decoder for archives whose constants are plain numbers."""
+    return itself
 
-    `load` reads the archive that a command's options name; `parse` reads a rule on the command line.
-    """
 
-    def command(name: str, run: Callable[[argparse.Namespace], None], text: str) -> argparse.ArgumentParser:
-        made: argparse.ArgumentParser = subparsers.add_parser(name, help=text, description=text)
+def add_commands(subparsers: Any, load: Load, decoder: Decoder = numbers) -> None:
+    """Adds `define` and `page` to the command's parsers. `load` reads the archive that a command's options name."""
+
+    def command(name: str, run: Callable[[argparse.Namespace], int], text: str) -> argparse.ArgumentParser:
+        made: argparse.ArgumentParser = subparsers.add_parser(name, help=text, description=text[:1].upper() + text[1:] + ".")
         made.set_defaults(run=run)
         made.add_argument("file", metavar="FILE", help="an archive file")
         made.add_argument("--names", metavar="NAMES", help="a names file other than the one beside FILE")
@@ -264,27 +266,21 @@ def add_commands(subparsers: Any, load: Load, parse: Parse = parse_rule) -> None
         made.add_argument("-o", "--output", metavar="OUT", help="a file to write; without it, or with -, it is printed")
         return made
 
-    def define_command(options: argparse.Namespace) -> None:
-        record, names, decode = load(options)
-        write_out(
-            render_one(
-                _defined(options, record, names, decode, parse),
-                options.format,
-                options.form,
-                options.dialect,
-                options.fragment,
-                options.without_null,
-            ),
-            options.output,
-        )
+    def define_command(options: argparse.Namespace) -> int:
+        record, names = load(options)
+        definition = _defined(options.query, record, names, decoder(names))
+        shape = options.format, options.form, options.dialect, options.fragment, options.without_null
+        write_out(render_one(definition, *shape), options.output)
+        return 0
 
-    def page_command(options: argparse.Namespace) -> None:
-        record, names, decode = load(options)
-        title = options.title or os.path.basename(options.file)
-        write_out(page(record, names, title, decode), options.output)
+    def page_command(options: argparse.Namespace) -> int:
+        record, names = load(options)
+        title = options.title or ("Archive" if options.file == "-" else os.path.basename(options.file))
+        write_out(page(record, names, title, decoder(names)), options.output)
+        return 0
 
     made = command("define", define_command, "print a query's definition: tables, dependencies, both forms, mapping")
-    made.add_argument("query", metavar="PLACE|RULE", help="a place, 0 to 7, or a rule such as 'ans(x) :- burst(x, _)'")
+    made.add_argument("query", metavar="PLACE|RULE", help="a place, 0 to 7, or a rule, 'ans(x) :- ..', or - for a rule on standard input")
     made.add_argument("--format", choices=FORMATS, default="text", help="what to print (text if not given)")
     made.add_argument("--form", choices=sql.FORMS, help="only this form; SQL is of the short form if not given")
     made.add_argument("--dialect", choices=sql.DIALECTS, default="sqlite", help="of SQL (sqlite if not given)")
@@ -294,17 +290,13 @@ def add_commands(subparsers: Any, load: Load, parse: Parse = parse_rule) -> None
     made.add_argument("--title", metavar="TITLE", help="the page's title (the name of FILE if not given)")
 
 
-def _defined(options: argparse.Namespace, record: Record, names: Names, decode: Decode, parse: Parse) -> Definition:
-    """The definition that the command line asks for."""
-    asked: str = options.query.strip()
-    place = asked.isascii() and asked.isdigit()
-    try:
-        if place:
-            return define(record, names, int(asked[-20:]) if len(asked.lstrip("0")) <= 20 else 2**64 - 1, decode)
-        query, variables = parse(asked, names)
-        return define_query(record, names, query, variables, decode)
-    except Refused as refused:
-        raise ValueError(f"{options.file}: {f'place {asked:.20}' if place else 'the rule'}: {refused}") from None
+def _defined(asked: str, record: Record, names: Names, decode: Decode) -> Definition:
+    """The definition of a place or of a rule, as the command line has it. The engine turns away places above 7."""
+    word = asked.strip()
+    if word.isascii() and word.isdigit():
+        return define(record, names, int(word.lstrip("0")[:20] or "0"), decode)
+    query, variables = parse_rule(sys.stdin.read() if word == "-" else word, names)
+    return define_query(record, names, query, variables, decode)
 
 
 __all__ = [

@@ -39,10 +39,9 @@ def literal(value: object, dialect: str) -> str:
         return str(value)
     if isinstance(value, Decimal) and value.is_finite():
         return format(value, "f")
-    if isinstance(value, datetime):
-        return f"{_only(dialect, 'TIMESTAMP ')}'{value.isoformat(' ')}'"
     if isinstance(value, date):
-        return f"{_only(dialect, 'DATE ')}'{value.isoformat()}'"
+        # Between quotes alone, so that it goes with a column of dates and with one of text.
+        return f"'{value.isoformat(' ') if isinstance(value, datetime) else value.isoformat()}'"
     if isinstance(value, str) and "\0" not in value:
         text = value.replace("'", "''")
         if dialect == "postgresql" and "\\" in text:
@@ -52,25 +51,31 @@ def literal(value: object, dialect: str) -> str:
     raise ValueError(f"{value!r:.40} cannot be written as a constant in SQL")
 
 
-def _only(dialect: str, word: str) -> str:
-    """The word that goes before a literal in PostgreSQL. SQLite keeps dates as text."""
-    return word if dialect == "postgresql" else ""
-
-
 def _known(dialect: str) -> None:
     if dialect not in DIALECTS:
         raise ValueError(f"the dialect must be {' or '.join(DIALECTS)}, not {dialect!r:.40}")
 
 
-def labels(head: Sequence[Entry], length: int, variables: Optional[Dict[int, str]] = None) -> Tuple[str, ...]:
-    """A name for each column of the answers: its variable's, else c and its position; no two alike."""
-    taken: Set[str] = set()
+def labels(query: Query, names: Names, variables: Optional[Dict[int, str]] = None) -> Tuple[str, ...]:
+    """A name for each column of the answers, no two alike, capitals aside.
+
+    It is the variable's, or that of the first column in which the variable stands; `constant0` for a constant and
+    `column0` for never, by position.
+    """
+    first: Dict[int, str] = {}
+    for row in query.rows:
+        for entry, column in zip(row.entries, names.tables[row.relation].columns):
+            if isinstance(entry, Variable):
+                first.setdefault(entry.number, column)
     found: List[str] = []
-    for position in range(length):
-        entry = head[position] if position < len(head) else None
-        wanted = f"c{position + 1}"
-        if isinstance(entry, Variable):
-            wanted = (variables or {}).get(entry.number, str(entry))
+    taken: Set[str] = set()
+    for position in range(query.head_length):
+        wanted = f"column{position}"
+        if query.head:
+            entry = query.head[position]
+            wanted = f"constant{position}"
+            if isinstance(entry, Variable):
+                wanted = (variables or {}).get(entry.number) or first[entry.number]
         label, times = wanted, 1
         while label.lower() in taken:
             times += 1
@@ -91,11 +96,11 @@ def statement(
 ) -> str:
     """The statement of a query, without a semicolon.
 
-    `columns` are the names of the columns of the answers; without it they are the head's variables. `without_null`
+    `columns` are the names of the columns of the answers; without it they are those of `labels`. `without_null`
     leaves out each row of a table that has a NULL in some column, so that long and short form agree on such tables.
     """
     _known(dialect)
-    shown = labels(query.head, query.head_length, variables) if columns is None else tuple(columns)
+    shown = labels(query, names, variables) if columns is None else tuple(columns)
     if len(shown) != query.head_length:
         raise ValueError(f"there are {len(shown)} names for {query.head_length} columns")
     if query.is_never:
@@ -140,9 +145,8 @@ def definition_sql(
     """The statement of a definition's short or long form; both have the same columns."""
     if form not in FORMS:
         raise ValueError(f"the form must be {' or '.join(FORMS)}, not {form!r:.40}")
-    long = definition.long
-    columns = labels(long.head, long.head_length, definition.variables)
-    query = definition.short if form == "short" else long
+    columns = labels(definition.long, definition.names, definition.variables)
+    query = definition.short if form == "short" else definition.long
     return statement(
         query, definition.names, definition.variables, dialect, definition.decode, columns, without_null
     )

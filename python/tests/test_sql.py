@@ -1,4 +1,7 @@
-"""SQL statements: run by SQLite and PostgreSQL on random archives, they give the engine's answers."""
+"""SQL statements: run by SQLite and PostgreSQL on random archives, they give the engine's answers.
+
+SPERNEVAN_TEST_MANY=30 tries thirty times as many archives.
+"""
 
 import csv
 import glob
@@ -18,6 +21,8 @@ from pathlib import Path
 import context
 from spernevan import Names, Query, Record, Table, parse_query, read_names, sql
 from spernevan.definition import define, itself
+
+MANY = int(os.environ.get("SPERNEVAN_TEST_MANY", "1"))
 
 TEXTS = ["Lindenberg", "O'Brien \\ \"q\" \\'", "", "two\nlines", "höhe — ☃", "7", "-- ;", "%s :x $1 {}"]
 
@@ -83,8 +88,8 @@ class Parts(unittest.TestCase):
             ("a\\'b", "'a\\''b'", "E'a\\\\''b'"),
             (Decimal("12.50"), "12.50", "12.50"),
             (Decimal("1E+3"), "1000", "1000"),
-            (date(2026, 1, 14), "'2026-01-14'", "DATE '2026-01-14'"),
-            (moment, "'2026-01-14 12:30:00'", "TIMESTAMP '2026-01-14 12:30:00'"),
+            (date(2026, 1, 14), "'2026-01-14'", "'2026-01-14'"),
+            (moment, "'2026-01-14 12:30:00'", "'2026-01-14 12:30:00'"),
         ]:
             self.assertEqual(sql.literal(value, "sqlite"), sqlite)
             self.assertEqual(sql.literal(value, "postgresql"), postgresql)
@@ -95,15 +100,14 @@ class Parts(unittest.TestCase):
             sql.literal(1, "mysql")
 
     def test_labels(self):
-        names = Names.default([2])
-        query = parse_query("ans(x, 5, x, Y, y, X_2) :- R0(x, y), R0(Y, X_2)", names)
-        variables = {0: "x", 1: "y", 2: "Y", 3: "X_2"}
+        names = Names((Table("burst", ("flight", "height")),))
+        query = parse_query("ans(v0, 5, v0, v1, v2, v3) :- burst(v0, v1), burst(v2, v3)", names)
         self.assertEqual(
-            sql.labels([query.head[0], *query.head[1:3]], 3, {query.head[0].number: "x"}), ("x", "c2", "x_2")
+            sql.labels(query, names, {0: "f", 1: "Height", 2: "F"}), ("f", "constant1", "f_2", "Height", "F_3", "height_2")
         )
-        found = sql.labels(query.head, 6, variables)
-        self.assertEqual(len({label.lower() for label in found}), 6)
-        self.assertEqual(sql.labels((), 2), ("c1", "c2"))
+        self.assertEqual(sql.labels(query, names)[:4], ("flight", "constant1", "flight_2", "height"))
+        self.assertEqual(sql.labels(Query.never(2), names), ("column0", "column1"))
+        self.assertEqual(sql.labels(Query.never(0), names), ())
 
     def test_statement(self):
         names = Names((Table("flight", ("number", "site")), Table("burst", ("flight", "height"))))
@@ -111,12 +115,12 @@ class Parts(unittest.TestCase):
         text = sql.statement(query, names, {0: "f"}, decode=lambda number: f"site {number}")
         self.assertEqual(
             text,
-            'SELECT DISTINCT t1."number" AS "f", t2."height" AS "v1", \'site 7\' AS "c3"\n'
+            'SELECT DISTINCT t1."number" AS "f", t2."height" AS "height", \'site 7\' AS "constant2"\n'
             'FROM "flight" AS t1, "burst" AS t2\n'
             "WHERE t1.\"site\" = 'site 7'\n"
             '  AND t2."flight" = t1."number"',
         )
-        self.assertEqual(sql.statement(Query.never(2), names), 'SELECT NULL AS "c1", NULL AS "c2"\nWHERE 1 = 0')
+        self.assertEqual(sql.statement(Query.never(2), names), 'SELECT NULL AS "column0", NULL AS "column1"\nWHERE 1 = 0')
         with self.assertRaisesRegex(ValueError, "1 names for 3 columns"):
             sql.statement(query, names, columns=["a"])
         with self.assertRaisesRegex(ValueError, "dialect"):
@@ -130,7 +134,7 @@ class SQLite(unittest.TestCase):
         columns = [column[0] for column in found.description]
         rows = found.fetchall()
         self.assertEqual(len(rows), len(set(rows)))
-        self.assertEqual(columns, list(sql.labels(definition.long.head, definition.long.head_length, {})) or ["ans"])
+        self.assertEqual(columns, list(sql.labels(definition.long, definition.names)) or ["ans"])
         if isinstance(definition.decode(0), Decimal) and definition.long.head_length:
             rows = [tuple(map(Decimal, row)) for row in rows]
         if isinstance(definition.decode(0), date) and definition.long.head_length:
@@ -139,7 +143,7 @@ class SQLite(unittest.TestCase):
 
     def test_random_archives(self):
         answered = 0
-        for record, names, kind, rows, asked in cases(1, 80, 6):
+        for record, names, kind, rows, asked in cases(1, 40 * MANY, 6):
             decode, word, _ = KINDS[kind]
             base = sqlite3.connect(":memory:")
             for table in names.tables:
@@ -154,7 +158,7 @@ class SQLite(unittest.TestCase):
                 self.run_on(base, definition, form, answers, without_null=True)
                 answered += bool(answers)
             base.close()
-        self.assertGreater(answered, 50)
+        self.assertGreater(answered, 30)
 
     def test_sample(self):
         record = Record.read(context.SAMPLES / "flights.file")
@@ -235,7 +239,7 @@ class PostgreSQL(unittest.TestCase):
             os.chown(folder.name, pwd.getpwnam(cls.user).pw_uid, -1)
         data = str(Path(folder.name) / "data")
         cls.call(PROGRAMS["initdb"], "-D", data, "-U", "tester", "-A", "trust", "-N", "-E", "UTF8", "--locale=C")
-        settings = f"-k {folder.name} -c listen_addresses='' -c fsync=off -c shared_buffers=16MB -c max_connections=4"
+        settings = f"-k {folder.name} -c listen_addresses='' -c fsync=off -c jit=off -c max_connections=4"
         server = [PROGRAMS["pg_ctl"], "-D", data, "-s", "-w", "-l", f"{folder.name}/log"]
         cls.call(*server, "-o", settings, "start")
         cls.addClassCleanup(cls.call, *server, "-m", "immediate", "stop")
@@ -265,7 +269,7 @@ class PostgreSQL(unittest.TestCase):
 
     def test_random_archives(self):
         script, expected = [], {}
-        for turn, (record, names, kind, rows, asked) in enumerate(cases(2, 32, 5)):
+        for turn, (record, names, kind, rows, asked) in enumerate(cases(2, 16 * MANY, 5)):
             decode, _, word = KINDS[kind]
             script.append(f"CREATE SCHEMA s{turn}; SET search_path = s{turn};")
             for table in names.tables:
@@ -283,12 +287,12 @@ class PostgreSQL(unittest.TestCase):
         self.assertEqual(set(found), set(expected))
         for name, (definition, answers, text) in expected.items():
             columns, rows = found[name]
-            labels = sql.labels(definition.long.head, definition.long.head_length, {}) or ("ans",)
+            labels = sql.labels(definition.long, definition.names) or ("ans",)
             self.assertEqual(columns, labels)
             self.assertEqual(len(rows), len(set(rows)))
             shown = {tuple(map(str, row)) for row in wanted(definition, answers)}
             self.assertEqual(set(rows), shown, text)
-        self.assertGreater(sum(bool(answers) for _, answers, _ in expected.values()), 50)
+        self.assertGreater(sum(bool(answers) for _, answers, _ in expected.values()), 12)
 
     def test_largest_query(self):
         """12 rows of 8 columns, with a backslash in a text whatever the server takes it for."""
