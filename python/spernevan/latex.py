@@ -214,7 +214,7 @@ def _rows(rows: Sequence[Tuple[str, str]]) -> str:
 
 
 def _titled(title: str, body: str) -> str:
-    return f"\\par\\medskip\\noindent\\textbf{{{title}}} {body}"
+    return f"\\par\\medskip\\noindent\\textbf{{{title}}} {body}".replace(" \n", "\n", 1).rstrip()
 
 
 def claim(definition: Definition) -> str:

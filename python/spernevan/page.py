@@ -21,7 +21,7 @@ from .record import Comparison, DataRow, Record
 # Sizes in rem: a row of a form, its caption and header together, and the lines between two forms.
 ROW = 3.0
 ABOVE = 4.0
-BETWEEN = 7.0
+BETWEEN = 5.5
 COLOURS = 6
 
 STYLE = """
@@ -40,7 +40,7 @@ STYLE = """
 }
 * { box-sizing: border-box; }
 body {
-  margin: 0 auto; padding: 1.5rem; max-width: 108rem; background: var(--back); color: var(--text);
+  margin: 0 auto; padding: 1.5rem; max-width: 160rem; background: var(--back); color: var(--text);
   font: 1rem/1.45 system-ui, "Segoe UI", "Helvetica Neue", Arial, sans-serif;
 }
 h1 { font-size: 1.7rem; margin: 0 0 .3rem; overflow-wrap: anywhere; }
@@ -402,7 +402,8 @@ def _drawn(one: Definition, left: float, right: float, step: float, first: float
 def _name(one: Definition, query: Query, row: int, at: float, step: float, anchor: str) -> str:
     """The number and the table of a row, as a label of a drawing."""
     name = one.names.tables[query.rows[row].relation].name
-    name = name if _ems(name) <= 22 else name[:20] + "\u2026"
+    while _ems(name) > 12.5:
+        name = name.rstrip("\u2026")[:-1] + "\u2026"
     text = f"{name} {row + 1}" if anchor == "end" else f"{row + 1} {name}"
     return f'<text x="{at:g}" y="{(row + 0.5) * step + 4.5:g}" text-anchor="{anchor}">{escape(text)}</text>'
 
@@ -424,30 +425,37 @@ def _height(one: Definition) -> float:
 
 def _beside(one: Definition) -> str:
     """The style that sets the two forms beside each other where there is room."""
-    width = _width(one, one.long, True) + BETWEEN + _width(one, one.short, False) + 1
+    width = _width(one, one.long, True) + BETWEEN + _width(one, one.short, False)
     return BESIDE.format(width=width, at=_at(one), between=f"{BETWEEN:g}", height=f"{_height(one):g}", above=f"{ABOVE:g}")
 
 
 def _width(one: Definition, query: Query, last: bool) -> float:
-    """About how wide a form is without breaks in its lines, rather too much than too little."""
+    """About how wide a form is without breaks in its lines, in rem; rather too much than too little."""
     if query.is_never:
-        return max(27.0, 9.0 + 2.0 * query.head_length)
+        return max(19.0 if one.long.is_never else 34.0, 8.0 + 2.0 * query.head_length)
     writer = Writer(query, one.variables, one.decode)
     columns = [0.0] * 8
     for position, entry in enumerate(query.head):
-        columns[position] = _ems(writer.entry(entry)) * 0.6
+        columns[position] = _ems(writer.entry(entry))
     for row in query.rows:
         names = one.names.tables[row.relation].columns
         for position, entry in enumerate(row.entries):
-            wide = max(_ems(writer.entry(entry)) * 0.6, _ems(names[position]) * 0.43)
-            columns[position] = max(columns[position], wide)
-    table = max(_ems(one.names.tables[row.relation].name) for row in query.rows) * 0.62
-    return 4.0 + max(table, 2.5) + 1.2 + sum(wide + 1.3 for wide in columns if wide) + (6.0 if last else 0.0)
+            columns[position] = max(columns[position], _ems(writer.entry(entry)), _ems(names[position]) * 0.7)
+    table = max(_ems(one.names.tables[row.relation].name) for row in query.rows) * 1.13
+    return 3.5 + max(table, 2.3) + 1.2 + sum(wide + 1.2 for wide in columns if wide) + (5.1 if last else 0.0)
 
 
-def _ems(text: str) -> int:
-    """The length of a text, wide characters twice."""
-    return sum(2 if unicodedata.east_asian_width(one) in "WF" else 1 for one in text)
+def _ems(text: str) -> float:
+    """About how wide a text is in a wide font, in em."""
+    found = 0.0
+    for one in text:
+        if unicodedata.east_asian_width(one) in "WF":
+            found += 1.05
+        elif one in "mwMW%@&":
+            found += 0.95
+        else:
+            found += 0.38 if one in "fijlrt.,:;'|!()[] " else 0.63
+    return found
 
 
 def _facts(one: Definition) -> str:
