@@ -239,7 +239,7 @@ class PostgreSQL(unittest.TestCase):
             os.chown(folder.name, pwd.getpwnam(cls.user).pw_uid, -1)
         data = str(Path(folder.name) / "data")
         cls.call(PROGRAMS["initdb"], "-D", data, "-U", "tester", "-A", "trust", "-N", "-E", "UTF8", "--locale=C")
-        settings = f"-k {folder.name} -c listen_addresses='' -c fsync=off -c jit=off -c max_connections=4"
+        settings = f"-k {folder.name} -c listen_addresses='' -c fsync=off -c jit=off -c statement_timeout=20s -c max_connections=4"
         server = [PROGRAMS["pg_ctl"], "-D", data, "-s", "-w", "-l", f"{folder.name}/log"]
         cls.call(*server, "-o", settings, "start")
         cls.addClassCleanup(cls.call, *server, "-m", "immediate", "stop")
