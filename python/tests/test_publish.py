@@ -143,7 +143,7 @@ class Commands(unittest.TestCase):
         )
         asked = "ans(x) :- burst(x, h), burst(x, k)"
         text = self.done("define", FLIGHTS, asked)
-        with mock.patch("sys.stdin", io.StringIO(f"{asked}\n")):
+        with mock.patch("sys.stdin", io.TextIOWrapper(io.BytesIO(f"{asked}\n".encode()))):
             self.assertEqual(self.done("define", FLIGHTS, "-"), text)
         self.assertTrue(text.startswith("Query\n"))
         self.assertIn("none", self.done("define", FLIGHTS, "ans(x) :- burst(x, h), burst(x, h)"))

@@ -230,7 +230,8 @@ WHY = "PostgreSQL is not installed: " + ", ".join(name for name, path in PROGRAM
 class PostgreSQL(unittest.TestCase):
     @classmethod
     def setUpClass(cls):
-        folder = tempfile.TemporaryDirectory(prefix="pg")
+        # In /tmp, which every user can reach; the path of a socket is short.
+        folder = tempfile.TemporaryDirectory(prefix="pg", dir="/tmp")
         cls.addClassCleanup(folder.cleanup)
         cls.folder = folder.name
         cls.user = server_user()
