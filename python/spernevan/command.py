@@ -13,7 +13,7 @@ import signal
 import sys
 from typing import Callable, NoReturn, Optional, Sequence
 
-from . import __version__
+from . import __version__, publish
 from .commands import (
     TROUBLE,
     Options,
@@ -128,6 +128,7 @@ def usage() -> argparse.ArgumentParser:
     made.add_argument("file", metavar="FILE", help="the archive file to write, or - for standard output, which has no names then")
     made = on_file("unpack", unpack_command, "print an archive file as a text; packed again it is the same file, to the byte")
     made.add_argument("text", metavar="TEXT", nargs="?", default="-", help="a file to write the text to; without it, or with -, it is printed")
+    publish.add_commands(commands, load)
     return parser
 
 
