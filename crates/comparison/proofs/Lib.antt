@@ -2,3 +2,4 @@
 pub mod Pairs
 pub mod Verdicts
 pub mod Answers
+pub mod Checks

@@ -27,6 +27,7 @@ use Rattle.format.specs.File.{Result, ok, refused, _>>=_, placeWith, putPlace, 
 use Rattle.lists.proofs.Over.{over-nil}
 use Rattle.writer.specs.declared.Written.the-variants as written
 use Rattle.mapping.specs.Mapped.{imagesOf}
+use Rattle.comparison.proofs.Checks.{checked-refused, checked-decided}
 use Rattle.comparison.specs.declared.Checked.{Checked}
 use Rattle.comparison.specs.declared.Checked.the-variants as checked
 use Rattle.comparison.specs.declared.Comparison.{Comparison}
@@ -194,25 +195,25 @@ module _ (r : Record) (p q : ℕ) (words : List ℕ) (m : Mapped) (e : m ≡ map
     check-refused n k = go (pairRefusal r p q) refl
       where
         go : (x : Option ℕ) → pairRefusal r p q ≡ x → CheckGiven x r p q words said n said
-        go (option.some l) a = let w : c ≡ checked.Refused l = is .refused l a in (cc, refl)
+        go (option.some l) a = let w : c ≡ checked.Refused l = checked-refused r p q (m .images) c is l a in (cc, refl)
         go option.none a =
             ⊎-elim (λ h. let k′ = h .0 in let z : _≡_ {A = ℕ} 0 1 = cc in absurd (omega arith))
-            (λ h. let k′ = h .0 in let z : _≡_ {A = ℕ} 0 1 = cc in absurd (omega arith)) (is .decided a)
+            (λ h. let k′ = h .0 in let z : _≡_ {A = ℕ} 0 1 = cc in absurd (omega arith)) (checked-decided r p q (m .images) c is a)
 
     pub check-yes : c ≡ checked.Yes → m .found ≡ true → CheckGiven (pairRefusal r p q) r p q words said 0 1
     check-yes k g = go (pairRefusal r p q) refl
       where
         go : (x : Option ℕ) → pairRefusal r p q ≡ x → CheckGiven x r p q words said 0 1
-        go (option.some l) a = let w : c ≡ checked.Refused l = is .refused l a in let z : _≡_ {A = ℕ} 0 1 = cc in absurd (omega arith)
+        go (option.some l) a = let w : c ≡ checked.Refused l = checked-refused r p q (m .images) c is l a in let z : _≡_ {A = ℕ} 0 1 = cc in absurd (omega arith)
         go option.none a =
             ⊎-elim (λ h. (refl, inl (refl, (m .images, read-yes (imagesIn words) m e g, h .1))))
-            (λ h. let k′ = h .0 in let z : _≡_ {A = ℕ} 0 1 = cc in absurd (omega arith)) (is .decided a)
+            (λ h. let k′ = h .0 in let z : _≡_ {A = ℕ} 0 1 = cc in absurd (omega arith)) (checked-decided r p q (m .images) c is a)
 
     pub check-bad : c ≡ checked.Yes → m .found ≡ false → CheckGiven (pairRefusal r p q) r p q words said 0 0
     check-bad k g = go (pairRefusal r p q) refl
       where
         go : (x : Option ℕ) → pairRefusal r p q ≡ x → CheckGiven x r p q words said 0 0
-        go (option.some l) a = let w : c ≡ checked.Refused l = is .refused l a in let z : _≡_ {A = ℕ} 0 1 = cc in absurd (omega arith)
+        go (option.some l) a = let w : c ≡ checked.Refused l = checked-refused r p q (m .images) c is l a in let z : _≡_ {A = ℕ} 0 1 = cc in absurd (omega arith)
         go option.none a =
             (refl, inr (refl, λ w. let t = mapped-words (w .0) (w .1) .0 in let z : _≡_ {A = ℕ} 0 1 = cc in omega arith))
 
@@ -220,12 +221,12 @@ module _ (r : Record) (p q : ℕ) (words : List ℕ) (m : Mapped) (e : m ≡ map
     check-no k = go (pairRefusal r p q) refl
       where
         go : (x : Option ℕ) → pairRefusal r p q ≡ x → CheckGiven x r p q words said 0 0
-        go (option.some l) a = let w : c ≡ checked.Refused l = is .refused l a in let z : _≡_ {A = ℕ} 0 1 = cc in absurd (omega arith)
+        go (option.some l) a = let w : c ≡ checked.Refused l = checked-refused r p q (m .images) c is l a in let z : _≡_ {A = ℕ} 0 1 = cc in absurd (omega arith)
         go option.none a =
             ⊎-elim (λ h. let k′ = h .0 in let z : _≡_ {A = ℕ} 0 1 = cc in absurd (omega arith))
             (λ h.
             (refl, inr (refl, λ w. h .1 (subst (λ (images : List Cell). answer.IsMapping (queryAt r q) (queryAt r p) (imagesOf images)) (sym (mapped-words (w .0) (w .1) .1)) (w .2)))))
-            (is .decided a)
+            (checked-decided r p q (m .images) c is a)
 
 -- ---- the exported calls
 
