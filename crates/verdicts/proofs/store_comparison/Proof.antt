@@ -67,7 +67,7 @@ returns-4 : tie.Need-returns-4
 returns-4 c =
     let a = c .before .before .before .before .before .before .args in
     comparison-none (a .compared .images) (a .verdict .now) (a .mapping .now) (a .part .now) (a .size .now)
-    (comparison-refused (length (a .mapping .now)) (length (a .part .now)) (take (a .count) (a .widths)) (a .compared) _ (c .before .told .given .1))
+    (comparison-refused (length (a .mapping .now)) (length (a .part .now)) (take (a .count) (a .widths)) (a .compared) _ (c .before .found .given .1))
 
 pub store-comparison-spec : {M : Type 1} → statement M
 store-comparison-spec =
