@@ -1,12 +1,12 @@
 -- The demands from the calls' own contracts. Assumes nothing.
 use mathlib.Core.Path.{_≡_, refl, sym, ap, _∙_}
-use mathlib.Core.Logic.{_↔_}
+use mathlib.Core.Logic.{⊎-elim}
 use mathlib.Core.Bool.{Bool, true, false, not}
 use mathlib.Core.List.{List, [], _∷_}
 use mathlib.Core.Option.{Option, none, some}
-use Prim.Native.Nat.{ℕ, _<_}
+use Prim.Native.Nat.{ℕ, _≤_, _<_}
 use lib.Dec.{ltb}
-use lib.ListN.{length}
+use lib.ListN.{length, List·getD-eq-default}
 use borrow.Author.Tests.{ltb-true, not-false}
 use native.Mathlib.Omega.{arith}
 use Rattle.refusals.specs.Refusals.{order, follows}
@@ -23,7 +23,9 @@ use Rattle.reduction.specs.Reduced.{reductionRefusal, IsReduced}
 use Rattle.theory.specs.Query as theory
 use Rattle.refusals.specs.Refusals.{badRecord, noSuchPlace, placeVacant}
 use Rattle.refusals.proofs.Refusals.{none-holds}
-use Rattle.record.specs.Rule.{goodRecord}
+use Rattle.record.specs.declared.Place.{Place}
+use Rattle.record.specs.Rule.{goodRecord, noPlace}
+use Rattle.lists.proofs.Tests.{below-or-past}
 use Rattle.evaluation.specs.Evaluated.{answerWords}
 use Rattle.database.specs.declared.Answered.{Answered}
 use Rattle.database.specs.Calls.{unspelled, tooLong, evaluationRefused, placeAnswers, countUnless, wordsUnless, evaluated, bufferThen}
@@ -90,6 +92,9 @@ module _ (r : Record) (p q : ℕ) (c : Comparison) (compared : Compared r p q c)
         shown = λ accepted not. compared .apart (apart-else (c .verdict) (not-refused accepted) not);
       }
 
+true-false : true ≡ false → ⊥
+true-false e = let z : _≡_ {A = ℕ} 0 1 = cc in omega arith
+
 -- What an evaluation that is not refused stands on
 accepted-place : (r : Record) (place : ℕ) (words : List ℕ) (room : ℕ) → evaluationRefused r place words room ≡ none
     → (goodRecord r ≡ true) × (place < 8) × (isFilled r place ≡ true)
@@ -101,10 +106,19 @@ accepted-place r place words room e =
     let c = none-holds (not (isFilled r place)) placeVacant later (b .1) in
     (not-false (goodRecord r) (a .0), ltb-true place 8 (not-false (ltb place 8) (b .0)), not-false (isFilled r place) (c .0))
 
-pub evaluates : (r : Record) (place : ℕ) (words before after : List ℕ) (a : Answered) → length (r .places) ≡ 8
+-- A filled place is one of the places
+filled-inside : (r : Record) (place : ℕ) → isFilled r place ≡ true → place < length (r .places)
+filled-inside r place e = ⊎-elim (λ h. h) past (below-or-past place (length (r .places)))
+  where
+    past : length (r .places) ≤ place → place < length (r .places)
+    past h =
+        let blank : isFilled r place ≡ false = ap (λ (p : Place). p .filled) (List·getD-eq-default (r .places) noPlace {n = place} h) in
+        absurd (true-false (sym e ∙ blank))
+
+pub evaluates : (r : Record) (place : ℕ) (words before after : List ℕ) (a : Answered)
     → a ≡ evaluated r place words (length before) → after ≡ bufferThen r place words before → Evaluates r place words before after a
 unfolding evaluated bufferThen
-evaluates r place words before after a long is-a is-after =
+evaluates r place words before after a is-a is-after =
     let n = length (placeAnswers r place words) in
     let found = answerWords (placeAnswers r place words) in
     record {
@@ -114,7 +128,7 @@ evaluates r place words before after a long is-a is-after =
       ascends = place-ascending r place words;
       exactly = λ e.
           let k = accepted-place r place words (length before) e in
-          place-answers r place words (k .0) (omega (arith, k .1, long)) (k .2);
+          place-answers r place words (k .0) (filled-inside r place (k .2)) (k .2);
     }
 
 pub undoes : Undoes

@@ -1,8 +1,5 @@
 -- `demands::evaluate` meets its contract: demand 2 on answers follows from what the evaluation promises. Assumes nothing.
-use mathlib.Core.Path.{_≡_}
 use borrow.Author.Needs.{needs}
-use lib.ListN.{length}
-use Rattle.lists.proofs.Loops.{mapped-length}
 use Rattle.demands.proofs.Demands.{evaluates}
 use Rattle.demands.proofs.evaluate.Statement.{statement}
 use Rattle.demands.proofs.evaluate.Tie as tie
@@ -17,8 +14,7 @@ returns : tie.Need-returns
 returns c =
     let k = c .before .before in
     let a = k .before .before .before .before .args in
-    let long : length (a .given .places) ≡ 8 = search (mapped-length, needs) in
-    evaluates (a .given) (a .place) (a .words .now) (a .buffer .now) _ (k .evaluate .result) long (k .evaluate .ensures .0) (k .evaluate .ensures .1)
+    evaluates (a .given) (a .place) (a .words .now) (a .buffer .now) _ (k .evaluate .result) (k .evaluate .ensures .0) (k .evaluate .ensures .1)
 
 pub evaluate-spec : {M : Type 1} → statement M
 evaluate-spec = tie.close (tie.spec evaluate-requires same-length returns)
