@@ -1,2 +1,3 @@
 -- Tests on numbers and lists.
 pub mod Tests
+pub mod Over

@@ -83,11 +83,11 @@ row-parts schema relation cells e =
     (ltb-true relation (length schema) (and-left a b e), and-right a b e)
 
 -- Of good rows the first is good, and so are the others
-rows-first : (schema : List ℕ) (k : ℕ) (rs : List ℕ) (cells : List Cell) → goodRows schema (k ∷ rs) cells ≡ true → goodRow schema k (take 8 cells) ≡ true
+pub rows-first : (schema : List ℕ) (k : ℕ) (rs : List ℕ) (cells : List Cell) → goodRows schema (k ∷ rs) cells ≡ true → goodRow schema k (take 8 cells) ≡ true
 unfolding goodRows
 rows-first schema k rs cells e = and-left (goodRow schema k (take 8 cells)) (goodRows schema rs (drop 8 cells)) e
 
-rows-rest : (schema : List ℕ) (k : ℕ) (rs : List ℕ) (cells : List Cell) → goodRows schema (k ∷ rs) cells ≡ true → goodRows schema rs (drop 8 cells) ≡ true
+pub rows-rest : (schema : List ℕ) (k : ℕ) (rs : List ℕ) (cells : List Cell) → goodRows schema (k ∷ rs) cells ≡ true → goodRows schema rs (drop 8 cells) ≡ true
 unfolding goodRows
 rows-rest schema k rs cells e = and-right (goodRow schema k (take 8 cells)) (goodRows schema rs (drop 8 cells)) e
 

@@ -1,8 +1,8 @@
--- `text::put_byte` meets its contract: one byte is stored. Assumes nothing.
+-- `printing::put_byte` meets its contract: one byte is stored. Assumes nothing.
 use borrow.Author.Needs.{needs}
-use Rattle.text.proofs.Writing.{wrote-byte}
-use Rattle.text.proofs.put_byte.Statement.{statement}
-use Rattle.text.proofs.put_byte.Tie as tie
+use Rattle.printing.proofs.Writing.{wrote-byte}
+use Rattle.printing.proofs.put_byte.Statement.{statement}
+use Rattle.printing.proofs.put_byte.Tie as tie
 
 slice-write-buffer : tie.Need-slice-write-buffer
 slice-write-buffer c = search needs

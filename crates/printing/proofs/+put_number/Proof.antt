@@ -1,24 +1,24 @@
--- `text::put_number` meets its contract: the last digit after those of a tenth of the number. The measure is the number. Assumes nothing.
+-- `printing::put_number` meets its contract: the last digit after those of a tenth of the number. The measure is the number. Assumes nothing.
 use borrow.Author.Needs.{needs}
 use mathlib.Core.List.{List, [], _∷_}
 use Prim.Native.Nat.{ℕ, _+_, _/_, _%_, _<_, _≤_}
 use native.Mathlib.Omega.{arith}
-use Rattle.text.specs.Text.{decimal}
-use Rattle.text.specs.Writing.{Fits, Written}
-use Rattle.text.proofs.Numbers.{decimal-one, decimal-more}
-use Rattle.text.proofs.Writing.{Progress, started, part-fits, rest-fits, wrote, wrote-rest, seen-as}
+use Rattle.printing.specs.Decimal.{decimal}
+use Rattle.printing.specs.internal.Writing.{Fits, Written}
+use Rattle.printing.proofs.Decimal.{decimal-one, decimal-more}
+use Rattle.printing.proofs.Writing.{Progress, started, part-fits, rest-fits, wrote, wrote-rest, left-as}
 use borrow.Fn.Kinds.{In}
 use borrow.Fn.PlainCycle.{Measures, is, falls, and}
-use Rattle.text.proofs.put_number.Reads as put-number
-use Rattle.text.proofs.put_number.Kinds as put-number-kinds
-use Rattle.text.proofs.+put_number.Lts-put_number as put-number-lts
-use Rattle.text.proofs.put_byte.Reads as put-byte-reads
-use Rattle.text.proofs.+put_number.{statement}
-use Rattle.text.proofs.+put_number.Tie.{close}
+use Rattle.printing.proofs.put_number.Reads as put-number
+use Rattle.printing.proofs.put_number.Kinds as put-number-kinds
+use Rattle.printing.proofs.+put_number.Lts-put_number as put-number-lts
+use Rattle.printing.proofs.put_byte.Reads as put-byte-reads
+use Rattle.printing.proofs.+put_number.{statement}
+use Rattle.printing.proofs.+put_number.Tie.{close}
 
 -- below ten the digit is all
 one-left : {buffer : List ℕ} {at n : ℕ} → Fits buffer at (decimal n) → n < 10 → Progress buffer at (decimal n) ((48 + n) ∷ []) buffer at
-one-left {n = n} f h = seen-as (started f) (decimal-one n h)
+one-left {n = n} f h = left-as (started f) (decimal-one n h)
 
 -- when the digits before the last are written, the last is left
 last-left : {buffer buffer′ : List ℕ} {at next n : ℕ} → Fits buffer at (decimal n) → 10 ≤ n → Written buffer at (decimal (n / 10)) buffer′ next
@@ -74,7 +74,8 @@ put-number-returns : (t : ℕ) → put-number-lts.Need-returns (
   put-number-below t,
   put-number.Post,
 ) (put-number-at t) put-number.Post
-put-number-returns t c = wrote-rest (one-left (c .before .before .before .before .before .before .pre .1) (c .before .before .before .before .if1 .taken)) (c .before .before .put-byte .ensures)
+put-number-returns t c =
+    wrote-rest (one-left (c .before .before .before .before .before .before .pre .1) (c .before .before .before .before .if1 .taken)) (c .before .before .put-byte .ensures)
 
 put-number-put-number-requires : (t : ℕ) → put-number-lts.Need-put-number-requires (
   put-byte-reads.Asked,
@@ -82,7 +83,8 @@ put-number-put-number-requires : (t : ℕ) → put-number-lts.Need-put-number-re
   put-number-below t,
   put-number.Post,
 ) (put-number-at t) put-number.Post
-put-number-put-number-requires t c κs = (omega arith, part-fits (started (c .before .before .before .pre .1)) _ _ (decimal-more (c .before .before .before .args .n) (c .before .if1 .left)))
+put-number-put-number-requires t c κs =
+    (omega arith, part-fits (started (c .before .before .before .pre .1)) _ _ (decimal-more (c .before .before .before .args .n) (c .before .if1 .left)))
 
 put-number-cast-put-byte-2 : (t : ℕ) → put-number-lts.Need-cast-put-byte-2 (
   put-byte-reads.Asked,
@@ -106,7 +108,9 @@ put-number-put-byte-requires-2 : (t : ℕ) → put-number-lts.Need-put-byte-requ
   put-number-below t,
   put-number.Post,
 ) (put-number-at t) put-number.Post
-put-number-put-byte-requires-2 t c κs = rest-fits (last-left (c .before .before .before .before .before .before .before .pre .1) (c .before .before .before .before .before .if1 .left) (c .before .before .before .put-number .ensures))
+put-number-put-byte-requires-2 t c κs =
+    rest-fits (last-left (c .before .before .before .before .before .before .before .pre .1) (c .before .before .before .before .before .if1 .left)
+    (c .before .before .before .put-number .ensures))
 
 put-number-same-length-2 : (t : ℕ) → put-number-lts.Need-same-length-2 (
   put-byte-reads.Asked,
@@ -122,7 +126,10 @@ put-number-returns-2 : (t : ℕ) → put-number-lts.Need-returns-2 (
   put-number-below t,
   put-number.Post,
 ) (put-number-at t) put-number.Post
-put-number-returns-2 t c = wrote-rest (last-left (c .before .before .before .before .before .before .before .before .before .before .pre .1) (c .before .before .before .before .before .before .before .before .if1 .left) (c .before .before .before .before .before .before .put-number .ensures)) (c .before .before .put-byte2 .ensures)
+put-number-returns-2 t c =
+    wrote-rest (last-left (c .before .before .before .before .before .before .before .before .before .before .pre .1)
+    (c .before .before .before .before .before .before .before .before .if1 .left) (c .before .before .before .before .before .before .put-number .ensures))
+    (c .before .before .put-byte2 .ensures)
 
 pub +put-number-spec : {M : Type 1} → statement M
 +put-number-spec = close μ-put-number λ t. put-number-lts.spec (

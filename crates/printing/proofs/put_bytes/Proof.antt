@@ -1,4 +1,4 @@
--- `text::put` meets its contract. Invariant: the bytes from i on are left to be written. Assumes nothing.
+-- `printing::put_bytes` meets its contract. Invariant: the bytes from i on are left to be written. Assumes nothing.
 use borrow.Author.Needs.{needs}
 use mathlib.Core.Path.{_≡_}
 use mathlib.Core.List.{List, [], _∷_, _++_}
@@ -7,9 +7,9 @@ use native.Mathlib.Numerals.{add-one}
 use native.Mathlib.Omega.{arith}
 use lib.ListN.{length, drop, set, getD, drop-of-length-le}
 use lib.Seq.{drop-cons}
-use Rattle.text.proofs.Writing.{Progress, started, part-fits, wrote, finished, seen-as, same-size, wrote-byte}
-use Rattle.text.proofs.put.Statement.{statement}
-use Rattle.text.proofs.put.Tie as tie
+use Rattle.printing.proofs.Writing.{Progress, started, part-fits, wrote, finished, left-as, same-size, wrote-byte}
+use Rattle.printing.proofs.put_bytes.Statement.{statement}
+use Rattle.printing.proofs.put_bytes.Tie as tie
 
 -- a turn stores the next byte
 turn : {given : List ℕ} {first : ℕ} {bytes buffer : List ℕ} {next i : ℕ} → Progress given first bytes (drop i bytes) buffer next → i < length bytes
@@ -50,10 +50,10 @@ same-length : tie.Need-same-length Inv-loop μ-loop
 same-length c = same-size (c .before .loop .inv .2)
 
 returns : tie.Need-returns Inv-loop μ-loop
-returns c = finished (seen-as (c .before .loop .inv .2) (drop-of-length-le (c .before .before .args .bytes .now) (c .loop-test .left)))
+returns c = finished (left-as (c .before .loop .inv .2) (drop-of-length-le (c .before .before .args .bytes .now) (c .loop-test .left)))
 
-pub put-spec : {M : Type 1} → statement M
-put-spec =
+pub put-bytes-spec : {M : Type 1} → statement M
+put-bytes-spec =
     tie.close
     (tie.spec
     Inv-loop

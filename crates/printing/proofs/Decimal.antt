@@ -8,7 +8,7 @@ use native.Mathlib.Omega.{arith}
 use lib.Dec.{ltb}
 use lib.ListN.{length, getD, length-append, List·getD-append}
 use borrow.Author.Tests.{lt-ltb, le-ltb, ltb-true, ltb-false}
-use Rattle.text.specs.Text.{digits, decimal, valueAfter}
+use Rattle.printing.specs.Decimal.{digits, decimal, valueAfter}
 
 -- ---- how the digits end
 
