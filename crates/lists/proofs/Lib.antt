@@ -1,5 +1,4 @@
--- What a test that holds tells (Tests), and how a loop makes it (Loops).
+-- What a test that holds tells (Tests), how a loop makes it (Loops), and one list written over another (Over).
 pub mod Tests
 pub mod Loops
--- A list written over another.
 pub mod Over

@@ -4,7 +4,7 @@ use mathlib.Core.Path.{_≡_, refl, sym, ap, _∙_}
 use mathlib.Core.Bool.{Bool, true, false, cond, not, _&&_}
 use mathlib.Core.List.{List, [], _∷_, _++_, map}
 use Prim.Native.Nat.{ℕ, zero, suc, _+_, _-_, _≤_, _<_}
-use native.Mathlib.Nat.{le-of-lt, le-of-suc-le-suc, not-suc-le-zero}
+use native.Mathlib.Nat.{le-of-lt, le-of-suc-le-suc, not-suc-le-zero, sub-zero, suc-sub-suc, zero-sub}
 use native.Mathlib.Numerals.{add-one}
 use native.Mathlib.Omega.{arith}
 use lib.Dec.{ltb}
@@ -156,3 +156,11 @@ module _ {A : Type 0} (good blank : A → Bool) where
   -- A loop that tests an array of which n elements are in use starts so
   pub used-start : (n : ℕ) (xs : List A) → Remains (usedTest n good blank) xs (inUse n good blank xs) 0
   used-start n xs = record { rest = used-from n 0 n xs (omega arith) }
+
+-- ---- repeated values
+
+-- One value repeated, without the first n
+pub replicate-drop : {A : Type 0} (n m : ℕ) (a : A) → drop n (replicate m a) ≡ replicate (m - n) a
+replicate-drop zero m a = rw sub-zero
+replicate-drop (suc n) zero a = rw zero-sub
+replicate-drop (suc n) (suc m) a = replicate-drop n m a ∙ rw suc-sub-suc

@@ -1,11 +1,12 @@
--- Laws of a list written over another. For any elements.
+-- Laws of one list written over another: nothing, a store, adjacent runs, a run copied element by element.
 use mathlib.Core.Path.{_≡_, sym, ap, _∙_}
 use mathlib.Core.List.{List, [], _∷_, _++_, append-assoc, append-nil}
-use Prim.Native.Nat.{ℕ, suc, _+_, _≤_, _<_}
+use Prim.Native.Nat.{ℕ, suc, _+_, _≤_, _<_, min}
 use native.Mathlib.Nat.{add-zero}
+use native.Mathlib.Numerals.{add-one}
 use native.Mathlib.Omega.{arith}
-use lib.ListN.{length, take, drop, set, length-append, length-take, length-drop, take-append-drop}
-use lib.Seq.{take-at, drop-at, drop-drop, take-suc-set, drop-set-lt}
+use lib.ListN.{length, getD, take, drop, set, length-append, length-take, length-drop, take-append-drop}
+use lib.Seq.{take-at, drop-at, take-suc-set, drop-set-lt, drop-drop, drop-cons}
 use Rattle.lists.specs.Over.{over}
 
 module _ {A : Type 0} where
@@ -13,13 +14,9 @@ module _ {A : Type 0} where
   pub over-nil : (xs : List A) (i : ℕ) → over xs i [] ≡ xs
   over-nil xs i = rw (append-nil, add-zero) (take-append-drop i xs)
 
-  -- It keeps its length
+  -- A list is as long as before
   pub over-length : (xs ys : List A) (i : ℕ) → i + length ys ≤ length xs → length (over xs i ys) ≡ length xs
   over-length xs ys i h = simp (length-append, length-take, length-drop) (omega arith)
-
-  -- What is written over a list is no longer than what comes of it
-  pub over-longer : (xs ys : List A) (i : ℕ) → length ys ≤ length (over xs i ys)
-  over-longer xs ys i = simp length-append (omega arith)
 
   -- A store at i, and the rest over it from i + 1 on
   pub over-set : (xs : List A) (i : ℕ) (x : A) (ys : List A) → i < length xs → over (set xs i x) (suc i) ys ≡ over xs i (x ∷ ys)
@@ -41,3 +38,10 @@ module _ {A : Type 0} where
       ∙ drop-drop (length zs) (i + length ys) xs
       ∙ ap (λ (n : ℕ). drop n xs) n in
       rw (t, d, append-assoc (take i xs) ys zs)
+
+  -- One element more of a run that is copied
+  pub over-copies : (d : A) (xs run : List A) (start i : ℕ) → i < length run → start + i < length xs
+      → over xs (start + i) (drop i run) ≡ over (set xs (start + i) (getD run i d)) (start + (i + 1)) (drop (i + 1) run)
+  over-copies d xs run start i h l =
+      let k : start + (i + 1) ≡ suc (start + i) = omega arith in
+      rw (drop-cons run i d h, k, add-one i) (sym (over-set xs (start + i) (getD run i d) (drop (suc i) run) l))

@@ -1,7 +1,7 @@
 -- What a test that holds tells: of a conjunction, of every element of a list, of an array that is partly in use.
 -- For any elements, any number of them and any test. The lengths of arrays are the types', so a law that needs one asks it.
 use mathlib.Core.Path.{_≡_, refl, sym, ap, ap₂, subst, _∙_}
-use mathlib.Core.Logic.{_⊎_, inl, inr}
+use mathlib.Core.Logic.{_⊎_, inl, inr, _↔_}
 use mathlib.Core.Bool.{Bool, true, false, _&&_}
 use mathlib.Core.List.{List, [], _∷_, _++_, List·Memᴰ, List·Memᴰ·head, List·Memᴰ·tail}
 use Prim.Native.Nat.{ℕ, zero, suc, _+_, _*_, _-_, _%_, _^_, _≤_, _<_}
@@ -155,3 +155,32 @@ module _ {A : Type 0} (n : ℕ) (good blank : A → Bool) (xs : List A) where
 -- A one shifted by less than the number of bits
 pub shifted-one : (k w : ℕ) → w < k → 1 * 2 ^ w % 2 ^ k ≡ 2 ^ w
 shifted-one k w h = ap (λ (n : ℕ). n % 2 ^ k) (one-mul (2 ^ w)) ∙ mod-eq-of-lt (pow-lt h)
+
+-- ---- more on conjunctions and every element
+
+-- A conjunction holds exactly when both of its sides do
+pub and-iff : (a b : Bool) → (a && b ≡ true) ↔ ((a ≡ true) × (b ≡ true))
+and-iff a b = (λ h. (and-left a b h, and-right a b h), λ h. and-both a b (h .0) (h .1))
+
+-- A test of two lists together is a test of both
+pub every-append-is : {A : Type 0} (test : A → Bool) (xs ys : List A) → every test (xs ++ ys) ≡ every test xs && every test ys
+unfolding every
+every-append-is test [] ys = refl
+every-append-is test (x ∷ xs) ys = go (test x) (every-append-is test xs ys)
+  where
+    go : (t : Bool) → every test (xs ++ ys) ≡ every test xs && every test ys → t && every test (xs ++ ys) ≡ t && every test xs && every test ys
+    go true e = e
+    go false e = refl
+
+-- Where it holds before a position and from there on, it holds of every element
+pub every-join : {A : Type 0} (test : A → Bool) (n : ℕ) (xs : List A) → every test (take n xs) ≡ true → every test (drop n xs) ≡ true → every test xs ≡ true
+every-join test n xs p q = sym (ap (every test) (take-append-drop n xs)) ∙ every-append test (take n xs) (drop n xs) p q
+
+-- Two tests of every element as one
+pub every-both : {A : Type 0} (s t : A → Bool) (xs : List A) → every s xs ≡ true → every t xs ≡ true → every (λ x. s x && t x) xs ≡ true
+unfolding every
+every-both s t [] p q = refl
+every-both s t (x ∷ xs) p q =
+    let here : s x && t x ≡ true = and-both (s x) (t x) (and-left (s x) (every s xs) p) (and-left (t x) (every t xs) q) in
+    and-both (s x && t x) (every (λ y. s y && t y) xs) here
+    (every-both s t xs (and-right (s x) (every s xs) p) (and-right (t x) (every t xs) q))

@@ -1,3 +1,3 @@
--- Tests on numbers and lists.
+-- Tests on numbers and lists, and one list written over another.
 pub mod Tests
 pub mod Over

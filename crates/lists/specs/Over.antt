@@ -1,4 +1,4 @@
--- A list written over another.
+-- One list written over another.
 use mathlib.Core.List.{List, _++_}
 use Prim.Native.Nat.{ℕ, _+_}
 use lib.ListN.{length, take, drop}

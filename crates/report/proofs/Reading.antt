@@ -1,42 +1,40 @@
--- What reading a file told: an accepted file's record is good, and what is written of it is its listing. Assumes nothing.
+-- What reading a file answers: an accepted file's record is good, and what is written of it is its listing. Assumes nothing.
 use mathlib.Core.Path.{_≡_, refl, sym, ap, _∙_, subst}
 use mathlib.Core.Bool.{true}
-use mathlib.Core.List.{List, [], _∷_}
-use Prim.Native.Nat.{ℕ, suc, _+_, _≤_, _<_}
+use mathlib.Core.List.{List}
+use Prim.Native.Nat.{ℕ, _≤_, _<_}
 use native.Mathlib.Omega.{arith}
 use lib.ListN.{length, getD, length-append}
-use borrow.Author.Tests.{lt-ltb}
 use Rattle.record.specs.declared.Record.{Record}
 use Rattle.record.specs.declared.Answer.the-variants.{Done, Refused}
 use Rattle.record.specs.declared.Outcome.{Outcome}
-use Rattle.lists.specs.Tests.{every}
 use Rattle.record.specs.Rule.{goodRecord}
-use Rattle.lists.proofs.Tests.{and-both}
-use Rattle.format.specs.Bytes.{Bytes}
 use Rattle.format.specs.File.{Result, ok, refused, readFile, outcomeOf}
 use Rattle.format.proofs.RoundTrip.{file-written-back}
 use Rattle.format.proofs.Arrays.{bytes-known}
 use Rattle.file.proofs.RoundTrip.{accepted}
 use Rattle.text.specs.Text.{refusedText}
-use Rattle.text.specs.Writing.{over, Written}
-use Rattle.report.specs.Report.{ListingOf, IsReport, ListingWritten}
+use Rattle.lists.specs.Over.{over}
+use Rattle.printing.specs.internal.Writing.{Written}
+use Rattle.report.specs.Report.{ListingOf, IsReport}
+use Rattle.report.specs.internal.Places.{ListingWritten}
 
 turned-down : (x : Result Record) (o : Outcome) (n : ℕ) → o ≡ outcomeOf x → o .answer ≡ Refused n → x ≡ refused n
 turned-down (ok r) o n e a = let z : _≡_ {A = ℕ} 0 1 = cc in absurd (omega arith)
 turned-down (refused m) o n e a = cc
 
--- What is written over a buffer is no longer than the buffer after it
-over-fits : (d s : List ℕ) → length s ≤ length (over d 0 s)
-over-fits d s = simp length-append (omega arith)
+-- What is written over the start of a buffer is no longer than the buffer after it
+over-fits : (buffer text : List ℕ) → length text ≤ length (over buffer 0 text)
+over-fits buffer text = simp length-append (omega arith)
 
 module _ (file : List ℕ) (o : Outcome) (e : o ≡ outcomeOf (readFile file)) where
   -- The record of an accepted file is good
-  pub told-good : ((i : ℕ) → getD file i 0 < 256) → o .answer ≡ Done → goodRecord (o .«record») ≡ true
-  told-good bytes a = file-written-back file (o .«record») (bytes-known file bytes) (accepted (readFile file) o e a) .0
+  pub read-good : ((i : ℕ) → getD file i 0 < 256) → o .answer ≡ Done → goodRecord (o .«record») ≡ true
+  read-good bytes a = file-written-back file (o .«record») (bytes-known file bytes) (accepted (readFile file) o e a) .0
 
   -- The lines of its filled places are a listing
-  pub told-lines : o .answer ≡ Done → (before after : List ℕ) (end : ℕ) → ListingWritten (o .«record») before after end → IsReport file before after end
-  told-lines a before after end w =
+  pub read-listing : o .answer ≡ Done → (before after : List ℕ) (end : ℕ) → ListingWritten (o .«record») before after end → IsReport file before after end
+  read-listing a before after end w =
       record {
         text = w .text;
         listing = subst (λ (x : Result Record). ListingOf x (w .text)) (sym (accepted (readFile file) o e a)) (w .lines);
@@ -46,8 +44,8 @@ module _ (file : List ℕ) (o : Outcome) (e : o ≡ outcomeOf (readFile file)) w
       }
 
   -- The line of a refused file is one
-  pub told-refused : (n : ℕ) → o .answer ≡ Refused n → (before after : List ℕ) (end : ℕ) → Written before 0 (refusedText n) after end → IsReport file before after end
-  told-refused n a before after end w =
+  pub read-refused : (n : ℕ) → o .answer ≡ Refused n → (before after : List ℕ) (end : ℕ) → Written before 0 (refusedText n) after end → IsReport file before after end
+  read-refused n a before after end w =
       record {
         text = refusedText n;
         listing = subst (λ (x : Result Record). ListingOf x (refusedText n)) (sym (turned-down (readFile file) o n e a)) refl;
