@@ -2,7 +2,6 @@
 use query::Cell;
 use query::Entry;
 use query::Query;
-use query::rule;
 use record::Answer;
 use record::Place;
 use record::calls;
@@ -234,7 +233,7 @@ fn read_query(part: &[u8], count: u8, widths: [u8; 8]) -> QueryRead
     let ByteRead::Byte(size) = read_byte(part, 1, 0, 12) else {
         return no_query_read();
     };
-    let used = rule::head_in_use(arity, size);
+    let used = limits::head_in_use(arity, size);
     let front = read_entries(part, 2, used);
     if !front.good {
         return no_query_read();
@@ -301,7 +300,7 @@ pub fn read_place(part: &[u8], last: bool, count: u8, widths: [u8; 8]) -> PlaceR
         return no_place_read(refusals::BAD_QUERY); // before the head is judged
     }
     let query = read.query;
-    if rule::head_safe(count, widths, query) {
+    if limits::head_safe(count, widths, query) {
         return PlaceRead {
             answer: Answer::Done,
             place: Place {

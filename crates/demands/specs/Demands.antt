@@ -22,7 +22,7 @@ use Rattle.comparison.specs.declared.Verdict.the-variants as verdict
 use Rattle.comparison.specs.Comparison.{pairConditions, pairRefusal, SaysContained, base}
 use Rattle.reduction.specs.declared.Reduced.{Reduced}
 use Rattle.reduction.specs.Reduced.{reductionConditions, reductionRefusal, refusal}
-use Rattle.rows.specs.Words.{rowsOf}
+use Rattle.words.specs.Words.{rowsOf}
 use Rattle.answers.specs.Ascending.{Ascending}
 use Rattle.evaluation.specs.Evaluated.{answerWords}
 use Rattle.database.specs.declared.Answered.{Answered}

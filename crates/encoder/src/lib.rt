@@ -2,7 +2,6 @@
 use query::Cell;
 use query::Entry;
 use query::Query;
-use query::rule;
 use record::Place;
 ghost use mathlib.Core.Path.{_≡_};
 ghost use mathlib.Core.Bool.{true};
@@ -91,7 +90,7 @@ fn width_of(count: u8, widths: [u8; 8], relation: u8) -> usize
     requires { ⌜ goodRelations count widths ≡ true ⌝ }
     ensures { λ r. ⌜ (r ≡ getD (take count widths) relation 0) × (r ≤ 8) ⌝ }
 {
-    rule::width_of(count, widths, relation) as usize
+    limits::width_of(count, widths, relation) as usize
 }
 
 // A row at a position: the relation byte and one entry a column. Returns the position after it.
@@ -144,7 +143,7 @@ fn put_query(buffer: &mut [u8], at: usize, q: Query, count: u8, widths: [u8; 8])
     let size = q.size;
     buffer[at] = arity;
     buffer[at + 1] = size;
-    let used = rule::head_in_use(arity, size);
+    let used = limits::head_in_use(arity, size);
     let head = q.head;
     put_entries(buffer, at + 2, head, used);
     let named = q.relations;
@@ -203,7 +202,7 @@ pub fn place_length(place: Place, count: u8, widths: [u8; 8]) -> usize
         let arity = q.arity;
         let size = q.size;
         let named = q.relations;
-        let used = rule::head_in_use(arity, size);
+        let used = limits::head_in_use(arity, size);
         let rows = rows_length(size as usize, named, count, widths);
         return 2 + 5 * used + rows;
     }

@@ -7,6 +7,3 @@ pub mod Shape
 pub mod Meaning
 -- The code of an entry.
 pub mod Codes
--- Laws of the loops over rows (Rows) and head variables (Variables).
-pub mod Rows
-pub mod Variables

@@ -58,3 +58,7 @@ dependencyOf d = record { relation = d .relation; left = columnsOf (d .left); ri
 -- The dependencies that the first `held` of an array stand for
 abbrev pub heldOf : List Dependency → ℕ → List database.Dependency
 heldOf dependencies held = map dependencyOf (take held dependencies)
+
+-- The assignment that an array of images gives: variable v goes to the entry at v, to constant 0 past the end
+abbrev pub imagesOf : List Cell → ℕ → theory.Entry
+imagesOf images v = entryOf (getD images v (record { entry = Constant 0 }) .entry)

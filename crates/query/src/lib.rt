@@ -1,6 +1,5 @@
 // A stored query and a stored functional dependency: their types, and the rule that each keeps.
 pub mod code; // code.rt: the code of an entry
-pub mod rule; // rule.rt: whether relations, a dependency and a query keep the limits
 
 ghost use mathlib.Core.Path.{_≡_};
 ghost use Rattle.theory.specs.Query as theory;

@@ -4,7 +4,6 @@ use decoder::read_byte;
 use decoder::read_place;
 use decoder::word16;
 use query::Dependency;
-use query::rule;
 use record::Answer;
 use record::Outcome;
 use record::Record;
@@ -89,7 +88,7 @@ fn read_dependency(part: &[u8], at: usize, count: u8, widths: [u8; 8]) -> Depend
         left: part[at + 1],
         right: part[at + 2],
     };
-    if rule::dependency_good(count, widths, d) {
+    if limits::dependency_good(count, widths, d) {
         return DependencyRead::Found(d);
     }
     DependencyRead::NoDependency

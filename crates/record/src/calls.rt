@@ -125,7 +125,7 @@ impl Record {
         }
         let relations = widths.len() as u8;
         let padded = padded_widths(widths);
-        if !query::rule::relations_good(relations, padded) {
+        if !limits::relations_good(relations, padded) {
             return refused(refusals::BAD_RELATIONS, blank_record());
         }
         done(opened(relations, padded))
@@ -192,10 +192,10 @@ impl Record {
         let Lookup::At(_) = found else {
             return refused(number(found), self);
         };
-        if !query::rule::query_good(relations, widths, q) {
+        if !limits::query_good(relations, widths, q) {
             return refused(refusals::BAD_QUERY, self);
         }
-        if !query::rule::head_safe(relations, widths, q) {
+        if !limits::head_safe(relations, widths, q) {
             return refused(refusals::UNSAFE_HEAD, self);
         }
         let found = self.vacant_place(place);
@@ -220,7 +220,7 @@ impl Record {
         if !self.is_good() {
             return refused(refusals::BAD_RECORD, self);
         }
-        if !query::rule::dependency_good(relations, widths, d) {
+        if !limits::dependency_good(relations, widths, d) {
             return refused(refusals::BAD_DEPENDENCY, self);
         }
         if held == 32 {
@@ -243,7 +243,7 @@ impl Record {
         if !self.is_good() {
             return Columns::Refused(refusals::BAD_RECORD);
         }
-        if !query::rule::set_good(relations, widths, relation, left) {
+        if !limits::set_good(relations, widths, relation, left) {
             return Columns::Refused(refusals::BAD_DEPENDENCY);
         }
         let mask = closure::closed_columns(held as usize, dependencies, relation, left);

@@ -15,12 +15,12 @@ pub fn place_good(relations: u8, widths: [u8; 8], p: Place) -> bool
 {
     let q = p.query;
     if p.filled {
-        if !query::rule::query_good(relations, widths, q) {
+        if !limits::query_good(relations, widths, q) {
             return false;
         }
-        query::rule::head_safe(relations, widths, q)
+        limits::head_safe(relations, widths, q)
     } else {
-        query::rule::query_blank(q)
+        limits::query_blank(q)
     }
 }
 
@@ -47,10 +47,10 @@ impl Record {
         let held = self.held;
         let dependencies = self.dependencies;
         let places = self.places;
-        if !query::rule::relations_good(relations, widths) {
+        if !limits::relations_good(relations, widths) {
             return false;
         }
-        if !query::rule::dependencies_good(relations, widths, held, dependencies) {
+        if !limits::dependencies_good(relations, widths, held, dependencies) {
             return false;
         }
         places_good(relations, widths, places)

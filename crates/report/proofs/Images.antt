@@ -17,12 +17,11 @@ use Rattle.query.specs.declared.Entry.{Entry}
 use Rattle.query.specs.declared.Entry.the-variants.{Constant, Variable}
 use Rattle.query.specs.declared.Cell.{Cell}
 use Rattle.query.specs.declared.Query.{Query}
-use Rattle.query.specs.View.{entryOf, queryOf}
+use Rattle.query.specs.View.{entryOf, queryOf, imagesOf}
 use Rattle.lists.specs.Tests.{every}
 use Rattle.query.specs.Rule.{goodEntry, goodCell, goodQuery, noCell}
 use Rattle.lists.proofs.Tests.{every-made, every-replicate}
 use Rattle.query.proofs.Stored.{Within, head-within, entries-within}
-use Rattle.text.specs.Stored.{imageOf}
 
 -- An entry within the limits is good
 within-good : (e : Entry) → Within (entryOf e) → goodEntry e ≡ true
@@ -60,12 +59,12 @@ empty-or-not (x ∷ xs) = inr (λ e. let z : _≡_ {A = ℕ} 0 1 = cc in omega a
 
 -- The images are good, whether they are a mapping or there is none
 pub images-good : (schema : List ℕ) → ((i : ℕ) → getD schema i 0 ≤ 8) → (q : Query) → goodQuery schema q ≡ true → (S : theory.Query) (images : List Cell)
-    → (queryOf schema q .rows ≢ [] → IsMapping S (queryOf schema q) (imageOf images)) → (queryOf schema q .rows ≡ [] → images ≡ replicate 96 noCell)
+    → (queryOf schema q .rows ≢ [] → IsMapping S (queryOf schema q) (imagesOf images)) → (queryOf schema q .rows ≡ [] → images ≡ replicate 96 noCell)
     → every goodCell images ≡ true
 images-good schema narrow q good S images mapping blank =
     ⊎-elim
     (λ none. subst (λ (cells : List Cell). every goodCell cells ≡ true) (sym (blank none)) (every-replicate goodCell 96 noCell refl))
     (λ some.
     every-made goodCell images noCell
-    (λ i h. within-good (getD images i noCell .entry) (image-within schema narrow q good S (imageOf images) (mapping some) i)))
+    (λ i h. within-good (getD images i noCell .entry) (image-within schema narrow q good S (imagesOf images) (mapping some) i)))
     (empty-or-not (queryOf schema q .rows))

@@ -8,11 +8,12 @@ use native.Mathlib.Omega.{arith}
 use lib.ListN.{length, length-append}
 use Rattle.record.specs.declared.Record.{Record}
 use Rattle.record.specs.Calls.{isFilled}
-use Rattle.text.specs.Text.{passing}
-use Rattle.text.specs.Stored.{placeRoom}
-use Rattle.text.specs.Writing.{over, Written}
-use Rattle.text.proofs.Writing.{over-nil, over-length, over-over}
-use Rattle.report.specs.Report.{Lines, AllLines, nil, cons, LinesWritten, PartWritten}
+use Rattle.text.specs.Text.{passing, placeRoom}
+use Rattle.lists.specs.Over.{over}
+use Rattle.printing.specs.internal.Writing.{Written}
+use Rattle.lists.proofs.Over.{over-nil, over-length, over-over}
+use Rattle.report.specs.Report.{Lines, AllLines, nil, cons}
+use Rattle.report.specs.internal.Places.{LinesWritten, PartWritten}
 
 -- ---- places
 
@@ -93,7 +94,7 @@ part-vacant r place d i vacant =
 module _ (r : Record) (k : ℕ) (d e : List ℕ) (n : ℕ) (w : PartWritten r 0 k d 0 e n) (large : 8 * placeRoom ≤ length d) where
   -- The buffer keeps its length
   pub part-size : k ≤ 8 → length e ≡ length d
-  part-size h = ap (λ (l : List ℕ). length l) (w .written .buffer) ∙ over-length d 0 (w .text) (omega (arith, w .short))
+  part-size h = ap (λ (l : List ℕ). length l) (w .written .buffer) ∙ over-length d (w .text) 0 (omega (arith, w .short))
 
   -- There is room for one more place
   pub part-room : k < 8 → n + placeRoom ≤ length e

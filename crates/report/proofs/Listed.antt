@@ -12,9 +12,9 @@ use Rattle.query.specs.declared.Query.{Query}
 use Rattle.record.specs.declared.Place.{Place}
 use Rattle.record.specs.declared.Record.{Record}
 use Rattle.record.specs.View.{schemaOf, dependenciesOf}
-use Rattle.query.specs.View.{queryOf}
+use Rattle.query.specs.View.{queryOf, imagesOf}
 use Rattle.lists.specs.Tests.{every}
-use Rattle.query.specs.Rule.{goodCell, goodQuery}
+use Rattle.query.specs.Rule.{goodCell, goodQuery, headSafe}
 use Rattle.record.specs.Rule.{goodPlace, goodRecord, noPlace}
 use Rattle.record.specs.Calls.{isFilled, storedAt, queryAt}
 use Rattle.query.proofs.Good.{good-query}
@@ -22,13 +22,13 @@ use Rattle.record.proofs.Good.{good-record}
 use Rattle.record.proofs.Stored as stored
 use Rattle.reduction.specs.declared.Reduced.{Reduced}
 use Rattle.reduction.specs.Reduced.{reductionRefusal, Reduces, IsReduced}
-use Rattle.text.specs.Text.{placeText}
-use Rattle.text.specs.Stored.{imageOf, placeRoom, Listable}
-use Rattle.text.specs.Writing.{Written}
-use Rattle.text.proofs.Schema.{widths-narrow, query-same, query-good}
+use Rattle.text.specs.Text.{placeText, placeRoom}
+use Rattle.text.specs.internal.Listable.{Listable}
+use Rattle.printing.specs.internal.Writing.{Written}
 use Rattle.text.proofs.Bound.{place-short}
 use Rattle.theory.specs.Query as theory
-use Rattle.report.specs.Report.{Lines, LinesWritten, aloneIn, otherPlace}
+use Rattle.report.specs.Report.{Lines}
+use Rattle.report.specs.internal.Places.{LinesWritten, aloneIn, otherPlace}
 use Rattle.report.proofs.Images.{images-good}
 use Rattle.report.proofs.OnePlace.{other-low, alone-query, alone-accepted}
 
@@ -73,20 +73,24 @@ module _ (r : Record) (place : ℕ) (low : place < 8) (good : goodRecord r ≡ t
       (stored.filled-parts (schemaOf (o .«record»)) (getD (o .«record» .places) (otherPlace place) noPlace)
       (stored.place-good (o .«record») (alone-reduced .good accepted) (otherPlace place) noPlace (rw places-long (other-low place))) result-filled .0)
 
+  source-kept : (goodQuery (schemaOf r) (storedAt r place) ≡ true) × (headSafe (schemaOf r) (storedAt r place) ≡ true)
+  source-kept = stored.filled-parts (schemaOf r) (getD (r .places) place noPlace) (stored.place-good r good place noPlace (rw long low)) held
+
   source-good : goodQuery (schemaOf r) source ≡ true
-  source-good =
-      ap (λ (q : Query). goodQuery (schemaOf r) q) source-is
-      ∙ stored.filled-parts (schemaOf r) (getD (r .places) place noPlace) (stored.place-good r good place noPlace (rw long low)) held .0
+  source-good = ap (λ (q : Query). goodQuery (schemaOf r) q) source-is ∙ source-kept .0
+
+  source-safe : headSafe (schemaOf r) source ≡ true
+  source-safe = ap (λ (q : Query). headSafe (schemaOf r) q) source-is ∙ source-kept .1
 
   -- The query at the target is the result
   target-is : queryAt (o .«record») (otherPlace place) ≡ queryOf (schemaOf r) result
   target-is =
       ap (λ (s : List ℕ). queryOf s (storedAt (o .«record») (otherPlace place))) same-schema ∙ ap (λ (q : Query). queryOf (schemaOf r) q) (sym result-stored)
 
-  reduces : Reduces (schemaOf r) (dependenciesOf r) (queryAt r place) (queryOf (schemaOf r) result) (o .count) (imageOf (o .images))
+  reduces : Reduces (schemaOf r) (dependenciesOf r) (queryAt r place) (queryOf (schemaOf r) result) (o .count) (imagesOf (o .images))
   reduces =
-      subst (λ (T : theory.Query). Reduces (schemaOf r) (dependenciesOf r) (queryAt r place) T (o .count) (imageOf (o .images))) target-is
-      (subst (λ (S : theory.Query). Reduces (schemaOf r) (dependenciesOf r) S (queryAt (o .«record») (otherPlace place)) (o .count) (imageOf (o .images)))
+      subst (λ (T : theory.Query). Reduces (schemaOf r) (dependenciesOf r) (queryAt r place) T (o .count) (imagesOf (o .images))) target-is
+      (subst (λ (S : theory.Query). Reduces (schemaOf r) (dependenciesOf r) S (queryAt (o .«record») (otherPlace place)) (o .count) (imagesOf (o .images)))
       (alone-query r place low) (alone-reduced .reduces accepted))
 
   good-images : every goodCell (o .images) ≡ true
@@ -97,41 +101,38 @@ module _ (r : Record) (place : ℕ) (low : place < 8) (good : goodRecord r ≡ t
   -- ---- the lines
 
   -- What is given may be listed
-  pub listable : (buffer : List ℕ) (at : ℕ) → at + placeRoom ≤ length buffer → Listable buffer at place (r .widths) source result (o .images)
+  pub listable : (buffer : List ℕ) (at : ℕ) → at + placeRoom ≤ length buffer
+      → Listable buffer at place (r .relations) (r .widths) source result (o .images)
   listable buffer at room =
-      let g = good-record r good .relations in
       record {
         room = room;
         place-known = low;
-        widths-narrow = widths-narrow (r .relations) (r .widths) g;
-        source-good = query-good (r .relations) (r .widths) g source source-good;
-        result-good = query-good (r .relations) (r .widths) g result result-good;
+        relations-good = good-record r good .relations;
+        source-good = source-good;
+        source-safe = source-safe;
+        result-good = result-good;
         images-good = good-images;
       }
 
   -- What is written are the lines of the place
-  pub lines-written : length (r .widths) ≡ 8 → length (source .relations) ≡ 12 → length (result .relations) ≡ 12 → o .count < 256
+  pub lines-written : length (source .relations) ≡ 12 → length (result .relations) ≡ 12 → o .count < 256
       → (before : List ℕ) (at : ℕ) (after : List ℕ) (next : ℕ)
-      → Written before at (placeText place (queryOf (r .widths) source) (queryOf (r .widths) result) (o .count) (imageOf (o .images))) after next
+      → Written before at (placeText place (queryOf (schemaOf r) source) (queryOf (schemaOf r) result) (o .count) (imagesOf (o .images))) after next
       → LinesWritten r place before at after next
-  lines-written eight source-long result-long small before at after next w =
-      let g = good-record r good .relations in
+  lines-written source-long result-long small before at after next w =
       record {
-        text = placeText place (queryOf (r .widths) source) (queryOf (r .widths) result) (o .count) (imageOf (o .images));
+        text = placeText place (queryOf (schemaOf r) source) (queryOf (schemaOf r) result) (o .count) (imagesOf (o .images));
         lines =
             record {
               result = queryOf (schemaOf r) result;
               count = o .count;
-              images = imageOf (o .images);
+              images = imagesOf (o .images);
               reduces = reduces;
               text =
-                  ap (λ (S : theory.Query). placeText place S (queryOf (r .widths) result) (o .count) (imageOf (o .images)))
-                  (sym (query-same (r .relations) (r .widths) g source) ∙ ap (λ (q : Query). queryOf (schemaOf r) q) source-is)
-                  ∙ ap (λ (T : theory.Query). placeText place (queryAt r place) T (o .count) (imageOf (o .images))) (sym (query-same (r .relations) (r .widths) g result));
+                  ap (λ (q : Query). placeText place (queryOf (schemaOf r) q) (queryOf (schemaOf r) result) (o .count) (imagesOf (o .images))) source-is;
             };
         short =
-            place-short (r .widths) eight (widths-narrow (r .relations) (r .widths) g) place source result (o .count) (o .images) low
-            (query-good (r .relations) (r .widths) g source source-good) (query-good (r .relations) (r .widths) g result result-good)
+            place-short (r .relations) (r .widths) (good-record r good .relations) place source result (o .count) (o .images) low source-good result-good
             (omega (arith, good-query (schemaOf r) source source-good .size)) (omega (arith, good-query (schemaOf r) result result-good .size)) small good-images;
         written = w;
       }

@@ -15,7 +15,7 @@ use Rattle.record.specs.declared.Record.{Record}
 use Rattle.record.specs.View.{schemaOf}
 use Rattle.query.specs.View.{queryOf}
 use Rattle.record.specs.Rule.{goodPlace, goodRecord, noPlace}
-use Rattle.refusals.specs.Refusals.{firstHolding}
+use Rattle.refusals.specs.Refusals.{firstHolding, badRecord, noSuchPlace, placeVacant, placeFilled}
 use Rattle.record.specs.Calls.{broken, above, vacant, filled, isFilled, queryAt}
 use Rattle.lists.proofs.Tests.{every-set, every-replicate}
 use Rattle.record.proofs.Good.{good-record, make-record}
@@ -24,7 +24,7 @@ use Rattle.record.proofs.Kept.{empty-place}
 use Rattle.refusals.proofs.Refusals.{first-goes}
 use Rattle.reduction.specs.Reduced.{reductionRefusal}
 use Rattle.theory.specs.Query as theory
-use Rattle.report.specs.Report.{aloneIn, otherPlace}
+use Rattle.report.specs.internal.Places.{aloneIn, otherPlace}
 
 pub other-low : (place : ℕ) → otherPlace place < 8
 other-low place = go (eqb place 0)
@@ -78,11 +78,11 @@ module _ (r : Record) (place : ℕ) (low : place < 8) where
     alone-accepted held =
         let a : Record = aloneIn r place in
         let t : ℕ = otherPlace place in
-        first-goes (not (goodRecord a)) 14 (above place ∷ above t ∷ vacant a place ∷ filled a t ∷ []) (ap not alone-good)
-        ∙ first-goes (not (ltb place 8)) 7 (above t ∷ vacant a place ∷ filled a t ∷ []) (ap not (lt-ltb place 8 low))
-        ∙ first-goes (not (ltb t 8)) 7 (vacant a place ∷ filled a t ∷ []) (ap not (lt-ltb t 8 (other-low place)))
-        ∙ first-goes (not (isFilled a place)) 11 (filled a t ∷ []) (ap not (ap (λ (p : Place). p .filled) alone-place ∙ held))
-        ∙ first-goes (isFilled a t) 12 [] (ap (λ (p : Place). p .filled) alone-other)
+        first-goes (not (goodRecord a)) badRecord (above place ∷ above t ∷ vacant a place ∷ filled a t ∷ []) (ap not alone-good)
+        ∙ first-goes (not (ltb place 8)) noSuchPlace (above t ∷ vacant a place ∷ filled a t ∷ []) (ap not (lt-ltb place 8 low))
+        ∙ first-goes (not (ltb t 8)) noSuchPlace (vacant a place ∷ filled a t ∷ []) (ap not (lt-ltb t 8 (other-low place)))
+        ∙ first-goes (not (isFilled a place)) placeVacant (filled a t ∷ []) (ap not (ap (λ (p : Place). p .filled) alone-place ∙ held))
+        ∙ first-goes (isFilled a t) placeFilled [] (ap (λ (p : Place). p .filled) alone-other)
         ∙ firstHolding-none
 
 -- What the code makes is that record

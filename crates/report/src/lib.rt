@@ -8,8 +8,9 @@ ghost use Prim.Native.Nat.{_*_, _≤_, _<_};
 ghost use lib.ListN.{length};
 ghost use Rattle.record.specs.Rule.{goodRecord};
 ghost use Rattle.record.specs.Calls.{isFilled};
-ghost use Rattle.text.specs.Stored.{placeRoom};
-ghost use Rattle.report.specs.Report.{aloneIn, otherPlace, LinesWritten, PlaceWritten, ListingWritten, IsReport, Room};
+ghost use Rattle.text.specs.Text.{placeRoom};
+ghost use Rattle.report.specs.Report.{IsReport};
+ghost use Rattle.report.specs.internal.Places.{aloneIn, otherPlace, LinesWritten, PlaceWritten, ListingWritten, Room};
 
 // The record with every place but one dropped.
 fn alone(given: Record, place: usize) -> Record
@@ -67,6 +68,7 @@ fn write_lines(buffer: &mut [u8], at: usize, given: Record, place: usize) -> usi
         buffer,
         at,
         place,
+        given.relations,
         widths,
         source,
         result,

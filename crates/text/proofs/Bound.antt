@@ -1,25 +1,31 @@
--- How long the text of a place can be: entries first, then the lines, then the whole. Assumes nothing.
-use mathlib.Core.Path.{_≡_, refl, sym, ap, _∙_}
+-- How long the text of a place can be: entries first, then the lines, then the text. Assumes nothing.
+use mathlib.Core.Path.{_≡_, refl, sym, subst}
 use mathlib.Core.Bool.{Bool, true, false, cond}
 use mathlib.Core.List.{List, [], _∷_, _++_, flatMap}
 use Prim.Native.Nat.{ℕ, zero, suc, _+_, _*_, _^_, _≤_, _<_}
 use native.Mathlib.Omega.{arith}
-use lib.Dec.{eqb, ltb}
+use lib.Dec.{eqb}
 use lib.ListN.{length, take, drop, getD, length-append, length-take}
-use lib.Seq.{length-take-le}
-use borrow.Author.Tests.{leb-true, ltb-true}
+use lib.Seq.{length-take-le, take-take}
+use borrow.Author.Tests.{leb-true}
+use Rattle.lists.specs.Tests.{every}
+use Rattle.lists.proofs.Tests.{and-left, and-right, every-take, used-good}
 use Rattle.query.specs.declared.Cell.{Cell}
 use Rattle.query.specs.declared.Entry.{Entry}
 use Rattle.query.specs.declared.Entry.the-variants.{Constant, Variable}
 use Rattle.query.specs.declared.Query.{Query}
-use Rattle.query.specs.View.{entryOf, entriesOf, rowsOf, queryOf}
-use Rattle.lists.specs.Tests.{every}
-use Rattle.query.specs.Rule.{goodEntry, goodCell, goodRow, goodRows, goodQuery}
+use Rattle.query.specs.View.{entryOf, entriesOf, rowsOf, queryOf, imagesOf}
+use Rattle.query.specs.Rule.{goodEntry, goodCell, blankCell, goodRows, goodQuery, goodRelations}
+use Rattle.query.proofs.Good.{good-query}
+use Rattle.query.proofs.Relations.{relations-bounds, width-le}
+use Rattle.query.proofs.Shape.{row-count}
+use Rattle.query.proofs.Stored.{row-parts, rows-first, rows-rest, head-cells, variables-below}
 use Rattle.theory.specs.Query as theory
-use Rattle.text.specs.Text.{field, entryText, entriesText, newline, placeWord, rowsWord, keptWord, replacedWord, placeLine, neverLine, headLine, rowWord, rowLine, rowsText, nextWord, equals, imageText, imagesText, mapLine, passing, above, occurring, placeText}
-use Rattle.text.specs.Stored.{imageOf, narrow, placeRoom}
-use Rattle.text.proofs.Numbers.{decimal-length}
-use Rattle.text.proofs.Good.{and-left, and-right, and-both, every-take, every-drop, arity-small, size-small, head-good, cells-good, rows-known, width-narrow, variables-below}
+use Rattle.printing.specs.Decimal.{field}
+use Rattle.printing.proofs.Decimal.{decimal-length}
+use Rattle.text.specs.Text.{entryText, entriesText, newline, placeWord, rowsWord, keptWord, replacedWord, placeLine, neverLine, headLine, rowWord, rowLine, rowsText}
+use Rattle.text.specs.Text.{nextWord, equals, imageText, imagesText, mapLine, passing, leastAbove, occurring, placeText, placeRoom}
+use Rattle.text.proofs.Occurring.{variables-bound}
 
 -- ---- entries
 
@@ -67,16 +73,22 @@ head-line-short : (n : ℕ) (cells : List Cell) → every goodCell cells ≡ tru
 unfolding headLine
 head-line-short n cells g h = rw (length-append (entriesText (entriesOf (take n cells)))) (omega (arith, first-short n cells g h))
 
-rows-short : (widths rs : List ℕ) (cells : List Cell) → narrow widths ≡ true → every (λ r. ltb r 8) rs ≡ true → every goodCell cells ≡ true
-    → length (rowsText (rowsOf widths rs cells)) ≤ 94 * length rs
-unfolding rowsText rowsOf flatMap every rowLine
-rows-short widths [] cells w known g = omega arith
-rows-short widths (r ∷ rs) cells w known g =
-    let relation : r < 8 = ltb-true r 8 (and-left (ltb r 8) (every (λ r. ltb r 8) rs) known) in
-    let a : length (field rowWord r) ≤ 5 = field-length rowWord r 0 (omega arith) in
-    let b : length (entriesText (entriesOf (take (getD widths r 0) cells))) ≤ 88 = first-short (getD widths r 0) cells g (width-narrow widths r w) in
-    let rest : length (rowsText (rowsOf widths rs (drop 8 cells))) ≤ 94 * length rs = rows-short widths rs (drop 8 cells) w (and-right (ltb r 8) (every (λ r. ltb r 8) rs) known) (every-drop goodCell 8 cells g) in
-    rw (length-append (field rowWord r ++ (entriesText (entriesOf (take (getD widths r 0) cells)) ++ newline)), length-append (field rowWord r), length-append (entriesText (entriesOf (take (getD widths r 0) cells)))) (omega arith)
+module _ (schema : List ℕ) (few : length schema ≤ 8) (narrow : (i : ℕ) → getD schema i 0 ≤ 8) where
+  -- of good rows
+  rows-short : (rs : List ℕ) (cells : List Cell) → goodRows schema rs cells ≡ true → length (rowsText (rowsOf schema rs cells)) ≤ 94 * length rs
+  unfolding rowsText rowsOf flatMap rowLine
+  rows-short [] cells good = omega arith
+  rows-short (r ∷ rs) cells good =
+      let w : ℕ = getD schema r 0 in
+      let parts = row-parts schema r (take 8 cells) (rows-first schema r rs cells good) in
+      let used : every goodCell (take w (take 8 cells)) ≡ true = used-good w goodCell blankCell (take 8 cells) (parts .1) in
+      let cut : take w (take 8 cells) ≡ take w cells = take-take w 8 cells (narrow r) in
+      let a : length (field rowWord r) ≤ 5 = field-length rowWord r 0 (omega (arith, parts .0)) in
+      let b : length (entriesText (entriesOf (take w cells))) ≤ 11 * length (take w cells) =
+      entries-short (take w cells) (subst (λ (cs : List Cell). every goodCell cs ≡ true) cut used) in
+      let rest : length (rowsText (rowsOf schema rs (drop 8 cells))) ≤ 94 * length rs = rows-short rs (drop 8 cells) (rows-rest schema r rs cells good) in
+      let line : List ℕ = field rowWord r ++ (entriesText (entriesOf (take w cells)) ++ newline) in
+      rw (length-append line, length-append (field rowWord r), length-append (entriesText (entriesOf (take w cells)))) (omega (arith, length-take w cells, narrow r))
 
 images-short : (image : ℕ → theory.Entry) (test : ℕ → Bool) (start n : ℕ) → start + n ≤ 96 → ((v : ℕ) → length (entryText (image v)) ≤ 10)
     → length (imagesText image (passing test start n)) ≤ 15 * n
@@ -92,79 +104,67 @@ images-short image test start (suc n) h short = go (test start) (images-short im
     go true rest = rw (length-append (field nextWord start ++ (equals ++ entryText (image start))), length-append (field nextWord start)) (omega (arith, a, short start))
     go false rest = omega arith
 
-image-short : (images : List Cell) → every goodCell images ≡ true → (v : ℕ) → length (entryText (imageOf images v)) ≤ 10
+image-short : (images : List Cell) → every goodCell images ≡ true → (v : ℕ) → length (entryText (imagesOf images v)) ≤ 10
 unfolding every
 image-short [] g v = entry-short (Constant 0) refl
 image-short (c ∷ cs) g zero = entry-short (c .entry) (and-left (goodCell c) (every goodCell cs) g)
 image-short (c ∷ cs) g (suc v) = image-short cs (and-right (goodCell c) (every goodCell cs) g) v
 
--- ---- the whole
+-- ---- the text of a place
 
--- the relations of a good query are below 8
-relations-below : (widths rs : List ℕ) (cells : List Cell) → length widths ≡ 8 → goodRows widths rs cells ≡ true → every (λ r. ltb r 8) rs ≡ true
-unfolding goodRows every
-relations-below widths [] cells eight g = refl
-relations-below widths (r ∷ rs) cells eight g =
-    and-both (ltb r 8) (every (λ r. ltb r 8) rs)
-    (ap (ltb r) (sym eight) ∙ and-left (ltb r (length widths)) _ (and-left (goodRow widths r (take 8 cells)) (goodRows widths rs (drop 8 cells)) g))
-    (relations-below widths rs (drop 8 cells) eight (and-right (goodRow widths r (take 8 cells)) (goodRows widths rs (drop 8 cells)) g))
+module _ (relations : ℕ) (widths : List ℕ) (known : goodRelations relations widths ≡ true) where
+  abbrev schema : List ℕ
+  schema = take relations widths
 
-rows-count : (widths rs : List ℕ) (cells : List Cell) → length (rowsOf widths rs cells) ≡ length rs
-unfolding rowsOf
-rows-count widths [] cells = refl
-rows-count widths (r ∷ rs) cells = ap suc (rows-count widths rs (drop 8 cells))
-
--- A query has as many rows as it says
-pub query-rows : (widths : List ℕ) (q : Query) → q .size ≤ length (q .relations) → length (queryOf widths q .rows) ≡ q .size
-query-rows widths q h = rows-count widths (take (q .size) (q .relations)) (q .cells) ∙ length-take-le (q .size) (q .relations) h
-
-module _ (widths : List ℕ) (eight : length widths ≡ 8) (w : narrow widths ≡ true) where
-  result-rows-short : (q : Query) → goodQuery widths q ≡ true → q .size ≤ length (q .relations) → length (rowsText (queryOf widths q .rows)) ≤ 94 * q .size
-  result-rows-short q g long =
+  result-rows-short : (q : Query) → goodQuery schema q ≡ true → q .size ≤ length (q .relations) → length (rowsText (queryOf schema q .rows)) ≤ 94 * q .size
+  result-rows-short q good long =
       let rs : List ℕ = take (q .size) (q .relations) in
-      let l : length (rowsText (queryOf widths q .rows)) ≤ 94 * length rs = rows-short widths rs (q .cells) w (relations-below widths rs (q .cells) eight (rows-known widths q g)) (cells-good widths q g long) in
+      let few : length schema ≤ 8 = omega (arith, length-take relations widths, relations-bounds relations widths known) in
+      let l : length (rowsText (queryOf schema q .rows)) ≤ 94 * length rs =
+      rows-short schema few (width-le relations widths known) rs (q .cells) (good-query schema q good .rows) in
       omega (arith, length-take-le (q .size) (q .relations) long)
 
-  map-short : (q : Query) (images : List Cell) → goodQuery widths q ≡ true → q .size ≤ length (q .relations) → every goodCell images ≡ true
-      → length (mapLine (imageOf images) (occurring (queryOf widths q))) ≤ 1444
+  map-short : (q : Query) (images : List Cell) → goodQuery schema q ≡ true → every goodCell images ≡ true
+      → length (mapLine (imagesOf images) (occurring (queryOf schema q))) ≤ 1444
   unfolding mapLine occurring
-  map-short q images g long i =
-      let vs : List ℕ = theory.variables (queryOf widths q) in
-      let b : above vs ≤ 96 = variables-below widths q g long w in
-      let l : length (imagesText (imageOf images) (passing (λ v. theory.member v vs) 0 (above vs))) ≤ 15 * above vs = images-short (imageOf images) (λ v. theory.member v vs) 0 (above vs) (omega arith) (image-short images i) in
-      rw (length-append (imagesText (imageOf images) (passing (λ v. theory.member v vs) 0 (above vs)))) (omega arith)
+  map-short q images good images-good =
+      let vs : List ℕ = theory.variables (queryOf schema q) in
+      let test : ℕ → Bool = λ v. theory.member v vs in
+      let b : leastAbove vs ≤ 96 = variables-bound (queryOf schema q) (variables-below schema (width-le relations widths known) q good) in
+      let l : length (imagesText (imagesOf images) (passing test 0 (leastAbove vs))) ≤ 15 * leastAbove vs =
+      images-short (imagesOf images) test 0 (leastAbove vs) (omega arith) (image-short images images-good) in
+      rw (length-append (imagesText (imagesOf images) (passing test 0 (leastAbove vs)))) (omega arith)
 
-  -- The text of a place is at most as long as its room
-  pub place-short : (place : ℕ) (source result : Query) (count : ℕ) (images : List Cell) → place < 8 → goodQuery widths source ≡ true → goodQuery widths result ≡ true
-      → source .size ≤ length (source .relations) → result .size ≤ length (result .relations) → count < 256 → every goodCell images ≡ true
-      → length (placeText place (queryOf widths source) (queryOf widths result) count (imageOf images)) ≤ placeRoom
-  unfolding placeText
-  place-short place source result count images p s r ls lr c i =
-      let m : length (queryOf widths source .rows) ≤ 12 = rw (query-rows widths source ls) (size-small widths source s) in
-      let k : length (queryOf widths result .rows) ≤ 12 = rw (query-rows widths result lr) (size-small widths result r) in
-      let line = place-line-short place (length (queryOf widths source .rows)) (length (queryOf widths result .rows)) count p m k c in
-      let never = never-line-short place (length (queryOf widths source .rows)) count p m c in
-      let head = head-line-short (result .arity) (result .head) (head-good widths result r) (arity-small widths result r) in
-      let rows = result-rows-short result r lr in
-      let map = map-short source images s ls i in
-      go (eqb (length (queryOf widths result .rows)) 0) m k line never head rows map
-    where
-      go : (t : Bool) → length (queryOf widths source .rows) ≤ 12 → length (queryOf widths result .rows) ≤ 12
-          → length (placeLine place (length (queryOf widths source .rows)) (length (queryOf widths result .rows)) count) ≤ 37
-          → length (neverLine place (length (queryOf widths source .rows)) count) ≤ 35
-          → length (headLine (queryOf widths result .head)) ≤ 93
-          → length (rowsText (queryOf widths result .rows)) ≤ 94 * result .size
-          → length (mapLine (imageOf images) (occurring (queryOf widths source))) ≤ 1444
-          → length
-          (cond t (neverLine place (length (queryOf widths source .rows)) count)
-          (placeLine place (length (queryOf widths source .rows)) (length (queryOf widths result .rows)) count
-          ++ (headLine (queryOf widths result .head) ++ (rowsText (queryOf widths result .rows) ++ mapLine (imageOf images) (occurring (queryOf widths source))))))
-          ≤ placeRoom
-      go true m k line never head rows map = omega arith
-      go false m k line never head rows map =
-          rw (
-            length-append (placeLine place (length (queryOf widths source .rows)) (length (queryOf widths result .rows)) count),
-            length-append (headLine (queryOf widths result .head)),
-            length-append (rowsText (queryOf widths result .rows)),
-          )
-          (omega (arith, size-small widths result r))
+  module _ (place : ℕ) (source result : Query) (count : ℕ) (images : List Cell) where
+    abbrev rows : ℕ
+    rows = length (queryOf schema source .rows)
+
+    abbrev kept : ℕ
+    kept = length (queryOf schema result .rows)
+
+    -- by the cases of a result: the bounds of its lines give that of the text
+    lines-short : (t : Bool) → result .size ≤ 12 → length (placeLine place rows kept count) ≤ 37 → length (neverLine place rows count) ≤ 35
+        → length (headLine (queryOf schema result .head)) ≤ 93 → length (rowsText (queryOf schema result .rows)) ≤ 94 * result .size
+        → length (mapLine (imagesOf images) (occurring (queryOf schema source))) ≤ 1444
+        → length
+        (cond t (neverLine place rows count)
+        (placeLine place rows kept count
+        ++ (headLine (queryOf schema result .head) ++ (rowsText (queryOf schema result .rows) ++ mapLine (imagesOf images) (occurring (queryOf schema source))))))
+        ≤ placeRoom
+    lines-short true size line never head below map = omega arith
+    lines-short false size line never head below map =
+        rw (length-append (placeLine place rows kept count), length-append (headLine (queryOf schema result .head)), length-append (rowsText (queryOf schema result .rows)))
+        (omega arith)
+
+    -- The text of a place is at most as long as its room
+    pub place-short : place < 8 → goodQuery schema source ≡ true → goodQuery schema result ≡ true → source .size ≤ length (source .relations)
+        → result .size ≤ length (result .relations) → count < 256 → every goodCell images ≡ true
+        → length (placeText place (queryOf schema source) (queryOf schema result) count (imagesOf images)) ≤ placeRoom
+    unfolding placeText
+    place-short low source-good result-good source-long result-long small images-good =
+        let good = good-query schema result result-good in
+        let m : rows ≤ 12 = rw (row-count schema source source-long) (good-query schema source source-good .size) in
+        let k : kept ≤ 12 = rw (row-count schema result result-long) (good .size) in
+        lines-short (eqb kept 0) (good .size) (place-line-short place rows kept count low m k small) (never-line-short place rows count low m small)
+        (head-line-short (result .arity) (result .head) (head-cells schema result result-good) (good .arity))
+        (result-rows-short result result-good result-long) (map-short source images source-good images-good)

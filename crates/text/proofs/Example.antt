@@ -1,10 +1,11 @@
--- Document 01's example of the listing, as facts of the definitions: its four lines, and the lines that it describes beside them. The bytes are ASCII.
+-- Examples of the listing (SPECIFICATION, The listing program) as facts of the definitions: the four lines of a place, and one of each other kind. In ASCII.
 use mathlib.Core.Path.{_≡_, refl}
 use mathlib.Core.List.{[], _∷_, _++_, flatMap}
 use Prim.Native.Nat.{ℕ, zero, suc}
 use Rattle.theory.specs.Query as theory
 use Rattle.theory.specs.Query.{constant, variable, variablesOf, rowEntries, member}
-use Rattle.text.specs.Text.{digits, decimal, entryText, entriesText, placeLine, neverLine, headLine, rowLine, rowsText, imageText, imagesText, mapLine, passing, above, occurring, placeText, refusedText}
+use Rattle.text.specs.Text.{entryText, entriesText, placeLine, neverLine, headLine, rowLine, rowsText, imageText, imagesText, mapLine, passing, leastAbove, occurring, placeText, refusedText}
+use Rattle.printing.specs.Decimal.{digits, decimal}
 
 -- The stored query: head v0 v1 v2, rows v0 v1 v2 and v0 7 v3
 abbrev source : theory.Query
@@ -38,13 +39,13 @@ example : placeText 0 source result 1 image
     ++ (104 ∷ 101 ∷ 97 ∷ 100 ∷ 32 ∷ 118 ∷ 48 ∷ 32 ∷ 55 ∷ 32 ∷ 118 ∷ 50 ∷ 10 ∷ [])
     ++ (114 ∷ 111 ∷ 119 ∷ 32 ∷ 48 ∷ 32 ∷ 118 ∷ 48 ∷ 32 ∷ 55 ∷ 32 ∷ 118 ∷ 50 ∷ 10 ∷ [])
     ++ (109 ∷ 97 ∷ 112 ∷ 32 ∷ 118 ∷ 48 ∷ 61 ∷ 118 ∷ 48 ∷ 32 ∷ 118 ∷ 49 ∷ 61 ∷ 55 ∷ 32 ∷ 118 ∷ 50 ∷ 61 ∷ 118 ∷ 50 ∷ 32 ∷ 118 ∷ 51 ∷ 61 ∷ 118 ∷ 50 ∷ 10 ∷ [])
-unfolding digits decimal entryText entriesText placeLine neverLine headLine rowLine rowsText imageText imagesText mapLine passing above occurring placeText refusedText variablesOf rowEntries member flatMap
+unfolding digits decimal entryText entriesText placeLine neverLine headLine rowLine rowsText imageText imagesText mapLine passing leastAbove occurring placeText refusedText variablesOf rowEntries member flatMap
 example = refl
 
 -- `place 3 rows 2 never replaced 0`
 never : placeText 3 source (theory.never 1) 0 image
     ≡ 112 ∷ 108 ∷ 97 ∷ 99 ∷ 101 ∷ 32 ∷ 51 ∷ 32 ∷ 114 ∷ 111 ∷ 119 ∷ 115 ∷ 32 ∷ 50 ∷ 32 ∷ 110 ∷ 101 ∷ 118 ∷ 101 ∷ 114 ∷ 32 ∷ 114 ∷ 101 ∷ 112 ∷ 108 ∷ 97 ∷ 99 ∷ 101 ∷ 100 ∷ 32 ∷ 48 ∷ 10 ∷ []
-unfolding digits decimal entryText entriesText placeLine neverLine headLine rowLine rowsText imageText imagesText mapLine passing above occurring placeText refusedText variablesOf rowEntries member flatMap
+unfolding digits decimal entryText entriesText placeLine neverLine headLine rowLine rowsText imageText imagesText mapLine passing leastAbove occurring placeText refusedText variablesOf rowEntries member flatMap
 never = refl
 
 -- An empty head: `head`

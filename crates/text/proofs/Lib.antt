@@ -1,9 +1,6 @@
--- Laws that the proofs of the functions share.
-pub mod Writing
-pub mod Numbers
-pub mod Stored
-pub mod Marks
-pub mod Good
+-- Laws that the proofs of the functions share: what a turn of a loop writes (Turns), which variables occur (Occurring), how long the text is (Bound).
+pub mod Turns
+pub mod Occurring
 pub mod Bound
-pub mod Schema
+-- Examples of the text.
 pub mod Example

@@ -1,4 +1,4 @@
--- The text of the listing, and what it is to have written some of it into a buffer.
+-- The text of the listing.
 pub mod Text
-pub mod Writing
-pub mod Stored
+-- What contracts of the functions cite.
+pub mod internal

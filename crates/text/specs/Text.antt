@@ -1,31 +1,14 @@
--- Document 01's "The listing program": the lines of a place and of a refused file, as bytes.
--- First numbers and entries, then the lines, then the whole text. For every width, row count, variable and constant: document 01's limits are the record's.
+-- The lines of a place and of a refused file, as bytes (SPECIFICATION, The listing program).
+-- First entries, then the lines, then the text of a place. For every width, row count, variable and constant: the limits are the record's.
 use mathlib.Core.Bool.{Bool, cond}
 use mathlib.Core.List.{List, [], _∷_, _++_, flatMap}
-use Prim.Native.Nat.{ℕ, zero, suc, _+_, _*_, _-_, _/_, _%_, max}
-use lib.Dec.{eqb, ltb}
+use Prim.Native.Nat.{ℕ, zero, suc, max}
+use lib.Dec.{eqb}
 use lib.ListN.{length}
+use Rattle.printing.specs.Decimal.{decimal, field}
 use Rattle.theory.specs.Query as theory
 
--- ---- numbers and entries
-
--- The decimal digits of a number as bytes, 48 being the digit 0, at most as many as the first argument says
-unfoldable pub digits : ℕ → ℕ → List ℕ
-digits zero n = []
-digits (suc most) n = cond (ltb n 10) ((48 + n) ∷ []) (digits most (n / 10) ++ ((48 + n % 10) ∷ []))
-
--- A number in decimal, without leading zeros. A number n has at most n + 1 digits
-unfoldable pub decimal : ℕ → List ℕ
-decimal n = digits (suc n) n
-
--- The number that some digits stand for, after digits that stand for another: what `decimal` is to be read back by
-unfoldable pub valueAfter : ℕ → List ℕ → ℕ
-valueAfter before [] = before
-valueAfter before (digit ∷ rest) = valueAfter (10 * before + (digit - 48)) rest
-
--- A word and a number right after it
-abbrev pub field : List ℕ → ℕ → List ℕ
-field word n = word ++ decimal n
+-- ---- entries
 
 -- "v"
 abbrev pub vWord : List ℕ
@@ -133,15 +116,15 @@ passing test start zero = []
 passing test start (suc n) = cond (test start) (start ∷ passing test (suc start) n) (passing test (suc start) n)
 
 -- The least number above each of a list
-unfoldable pub above : List ℕ → ℕ
-above [] = 0
-above (n ∷ ns) = max (suc n) (above ns)
+unfoldable pub leastAbove : List ℕ → ℕ
+leastAbove [] = 0
+leastAbove (n ∷ ns) = max (suc n) (leastAbove ns)
 
 -- The variables that occur in a query, ascending, each once
 unfoldable pub occurring : theory.Query → List ℕ
-occurring q = passing (λ v. theory.member v (theory.variables q)) 0 (above (theory.variables q))
+occurring q = passing (λ v. theory.member v (theory.variables q)) 0 (leastAbove (theory.variables q))
 
--- ---- the whole text
+-- ---- the text of a place and of a refused file
 
 -- The lines of a place: of its number, the source query, the result of its reduction, the count and the mapping. A result without rows is never
 unfoldable pub placeText : ℕ → theory.Query → theory.Query → ℕ → (ℕ → theory.Entry) → List ℕ
@@ -149,6 +132,10 @@ placeText place source result count image =
     cond (eqb (length (result .rows)) 0) (neverLine place (length (source .rows)) count)
     (placeLine place (length (source .rows)) (length (result .rows)) count
     ++ (headLine (result .head) ++ (rowsText (result .rows) ++ mapLine image (occurring source))))
+
+-- Room for the text of any place: a line of at most 37 bytes, a head of at most 93, 12 rows of at most 94 each and a mapping of at most 1444
+abbrev pub placeRoom : ℕ
+placeRoom = 2702
 
 -- "refused "
 abbrev pub refusedWord : List ℕ

@@ -1,5 +1,5 @@
--- `report::report` meets its contract: what reading told decides what is written. Assumes nothing.
-use Rattle.report.proofs.Told.{told-good, told-lines, told-refused}
+-- `report::report` meets its contract: what reading answers decides what is written. Assumes nothing.
+use Rattle.report.proofs.Reading.{read-good, read-listing, read-refused}
 use borrow.Author.Needs.{needs}
 use Rattle.report.proofs.report.Statement.{statement}
 use Rattle.report.proofs.report.Tie as tie
@@ -12,8 +12,11 @@ enum-told c = search needs
 
 write-places-requires : tie.Need-write-places-requires
 write-places-requires c κs =
-    let s = c .before .before .before .before .before .before in
-    (s .pre, told-good (s .args .file .now) (c .before .before .before .read .result) (c .before .before .before .read .ensures) (λ i. c .before .before .before .before .before .shared-slice-known .given i .fits) (c .before .enum-told .given .1))
+    let s = c .before .before .before .before .before .before in (
+      s .pre,
+      read-good (s .args .file .now) (c .before .before .before .read .result) (c .before .before .before .read .ensures)
+          (λ i. c .before .before .before .before .before .shared-slice-known .given i .fits) (c .before .enum-told .given .1),
+    )
 
 enum-known-answer : tie.Need-enum-known-answer
 enum-known-answer c = search needs
@@ -27,7 +30,8 @@ same-length c = search needs
 returns : tie.Need-returns
 returns c =
     let s = c .before .before .before .before .before .before .before .before .before in
-    told-lines (s .args .file .now) (c .before .before .before .before .before .before .read .result) (c .before .before .before .before .before .before .read .ensures) (c .before .before .before .before .enum-told .given .1) (s .args .buffer .now) _ _
+    read-listing (s .args .file .now) (c .before .before .before .before .before .before .read .result) (c .before .before .before .before .before .before .read .ensures)
+    (c .before .before .before .before .enum-told .given .1) (s .args .buffer .now) _ _
     (c .before .before .write-places .ensures)
 
 same-length-2 : tie.Need-same-length-2
@@ -36,7 +40,8 @@ same-length-2 c = search needs
 returns-2 : tie.Need-returns-2
 returns-2 c =
     let s = c .before .before .before .before .before .before .before .before .before .before in
-    told-refused (s .args .file .now) (c .before .before .before .before .before .before .before .read .result) (c .before .before .before .before .before .before .before .read .ensures) (c .before .before .before .before .before .answer .given .0 .0) (c .before .before .before .before .before .answer .given .1)
+    read-refused (s .args .file .now) (c .before .before .before .before .before .before .before .read .result) (c .before .before .before .before .before .before .before .read .ensures)
+    (c .before .before .before .before .before .answer .given .0 .0) (c .before .before .before .before .before .answer .given .1)
     (s .args .buffer .now) _ _ (c .before .before .write-refused .ensures)
 
 pub report-spec : {M : Type 1} → statement M

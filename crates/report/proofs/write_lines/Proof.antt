@@ -22,9 +22,6 @@ result-long c = let long : length (c .stored2 .result .relations) ≡ 12 = searc
 count-small : (c : tie.After-reduce) → c .reduce .result .count < 256
 count-small c = let small : c .reduce .result .count < 256 = search needs in small
 
-widths-long : (c : tie.Start) → length (c .args .given .widths) ≡ 8
-widths-long c = let long : length (c .args .given .widths) ≡ 8 = search (mapped-length, needs) in long
-
 other-place-requires : tie.Need-other-place-requires
 other-place-requires c κs = search needs
 
@@ -42,21 +39,32 @@ stored-requires-2 c κs = subst (λ (n : ℕ). n < 8) (sym (c .before .before .b
 
 write-place-requires : tie.Need-write-place-requires
 write-place-requires c κs =
-    let s = c .before .before .before .before .before .before .before .before .before .before in
-    listable (s .args .given) (s .args .place) (s .pre .2) (s .pre .1) (eight s) (s .pre .3) (c .before .before .before .before .before .before .before .before .other-place .result) (c .before .before .before .before .before .before .before .before .other-place .ensures)
-    (c .before .before .before .before .before .before .before .alone .result) (c .before .before .before .before .before .before .before .alone .ensures) (c .before .before .before .before .before .reduce .result) (c .before .before .before .before .before .reduce .ensures) (c .before .before .before .before .before .before .stored .result) (c .before .before .before .before .before .before .stored .ensures)
-    (c .before .before .before .stored2 .result) (c .before .before .before .stored2 .ensures) (s .args .buffer .now) (s .args .at) (s .pre .0 .room)
+    let result = c .before .before .before in
+    let reduced = result .before .before in
+    let source = reduced .before in
+    let single = source .before in
+    let other = single .before in
+    let s = other .before .before in
+    listable (s .args .given) (s .args .place) (s .pre .2) (s .pre .1) (eight s) (s .pre .3) (other .other-place .result) (other .other-place .ensures)
+    (single .alone .result) (single .alone .ensures) (reduced .reduce .result) (reduced .reduce .ensures) (source .stored .result) (source .stored .ensures)
+    (result .stored2 .result) (result .stored2 .ensures) (s .args .buffer .now) (s .args .at) (s .pre .0 .room)
 
 same-length : tie.Need-same-length
 same-length c = search needs
 
 returns : tie.Need-returns
 returns c =
-    let s = c .before .before .before .before .before .before .before .before .before .before .before .before .before in
-    lines-written (s .args .given) (s .args .place) (s .pre .2) (s .pre .1) (eight s) (s .pre .3) (c .before .before .before .before .before .before .before .before .before .before .before .other-place .result) (c .before .before .before .before .before .before .before .before .before .before .before .other-place .ensures)
-    (c .before .before .before .before .before .before .before .before .before .before .alone .result) (c .before .before .before .before .before .before .before .before .before .before .alone .ensures) (c .before .before .before .before .before .before .before .before .reduce .result) (c .before .before .before .before .before .before .before .before .reduce .ensures) (c .before .before .before .before .before .before .before .before .before .stored .result) (c .before .before .before .before .before .before .before .before .before .stored .ensures)
-    (c .before .before .before .before .before .before .stored2 .result) (c .before .before .before .before .before .before .stored2 .ensures) (widths-long s) (source-long (c .before .before .before .before .before .before .before .before .before)) (result-long (c .before .before .before .before .before .before)) (count-small (c .before .before .before .before .before .before .before .before)) (s .args .buffer .now) (s .args .at) (c .before .before .write-place .last .0)
-    (c .before .before .write-place .result) (c .before .before .write-place .ensures)
+    let written = c .before .before in
+    let result = written .before .before .before .before in
+    let reduced = result .before .before in
+    let source = reduced .before in
+    let single = source .before in
+    let other = single .before in
+    let s = other .before .before in
+    lines-written (s .args .given) (s .args .place) (s .pre .2) (s .pre .1) (eight s) (s .pre .3) (other .other-place .result) (other .other-place .ensures)
+    (single .alone .result) (single .alone .ensures) (reduced .reduce .result) (reduced .reduce .ensures) (source .stored .result) (source .stored .ensures)
+    (result .stored2 .result) (result .stored2 .ensures) (source-long source) (result-long result) (count-small reduced) (s .args .buffer .now) (s .args .at)
+    (written .write-place .last .0) (written .write-place .result) (written .write-place .ensures)
 
 pub write-lines-spec : {M : Type 1} → statement M
 write-lines-spec =

@@ -2,7 +2,7 @@
 use mathlib.Core.Path.{_≡_, subst}
 use Prim.Native.Nat.{ℕ, _-_, _≤_}
 use native.Mathlib.Omega.{arith}
-use Rattle.report.specs.Report.{PartWritten}
+use Rattle.report.specs.internal.Places.{PartWritten}
 use Rattle.report.proofs.Joined.{part-started, part-room, part-more, part-size}
 use borrow.Author.Needs.{needs}
 use Rattle.report.proofs.write_places.Statement.{statement}
@@ -30,8 +30,11 @@ loop-less c = search needs
 
 loop-again : tie.Need-loop-again Inv-loop μ-loop
 loop-again c =
-    let s = c .before .before .before .before .before .before .before in
-    (search needs, part-more (s .args .given) _ _ _ _ (c .before .before .before .before .before .loop .inv .1) (s .pre .0) (c .before .before .before .before .loop-test .taken) _ _ (c .before .before .write-place .ensures))
+    let s = c .before .before .before .before .before .before .before in (
+      search needs,
+      part-more (s .args .given) _ _ _ _ (c .before .before .before .before .before .loop .inv .1) (s .pre .0) (c .before .before .before .before .loop-test .taken) _ _
+          (c .before .before .write-place .ensures),
+    )
 
 same-length : tie.Need-same-length Inv-loop μ-loop
 same-length c = part-size (c .before .before .before .args .given) _ _ _ _ (c .before .loop .inv .1) (c .before .before .before .pre .0) (c .before .loop .inv .0)
@@ -39,7 +42,8 @@ same-length c = part-size (c .before .before .before .args .given) _ _ _ _ (c .b
 returns : tie.Need-returns Inv-loop μ-loop
 returns c =
     let e : c .before .loop .place ≡ 8 = omega arith in
-    subst (λ (k : ℕ). PartWritten (c .before .before .before .args .given) 0 k (c .before .before .before .args .buffer .now) 0 (c .before .loop .buffer) (c .before .loop .next)) e (c .before .loop .inv .1)
+    subst (λ (k : ℕ). PartWritten (c .before .before .before .args .given) 0 k (c .before .before .before .args .buffer .now) 0 (c .before .loop .buffer) (c .before .loop .next)) e
+    (c .before .loop .inv .1)
 
 pub write-places-spec : {M : Type 1} → statement M
 write-places-spec =

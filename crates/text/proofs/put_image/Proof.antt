@@ -1,8 +1,9 @@
 -- `text::put_image` meets its contract: its parts one after another. Assumes nothing.
 use borrow.Author.Needs.{needs}
 use mathlib.Core.Path.{refl}
-use Rattle.text.specs.Text.{field, nextWord, imageText}
-use Rattle.text.proofs.Writing.{started, part-fits, rest-fits, wrote, wrote-rest}
+use Rattle.printing.specs.Decimal.{field}
+use Rattle.text.specs.Text.{nextWord, imageText}
+use Rattle.printing.proofs.Writing.{started, part-fits, rest-fits, wrote, wrote-rest}
 use Rattle.text.proofs.put_image.Statement.{statement}
 use Rattle.text.proofs.put_image.Tie as tie
 
@@ -22,7 +23,9 @@ same-length c = search needs
 
 returns : tie.Need-returns
 unfolding imageText
-returns c = wrote-rest (wrote (started (c .before .before .before .before .before .before .before .before .before .before .pre)) _ refl (c .before .before .before .before .before .before .put-field .ensures)) (c .before .before .put-entry-after .ensures)
+returns c =
+    wrote-rest (wrote (started (c .before .before .before .before .before .before .before .before .before .before .pre)) _ refl
+    (c .before .before .before .before .before .before .put-field .ensures)) (c .before .before .put-entry-after .ensures)
 
 pub put-image-spec : {M : Type 1} → statement M
 put-image-spec =

@@ -1,27 +1,43 @@
 -- `text::put_images` meets its contract. Invariant: the images from variable v on are left to be written. Assumes nothing.
 use borrow.Author.Needs.{needs}
-use mathlib.Core.Bool.{Bool, false}
+use mathlib.Core.Path.{_≡_, sym, _∙_}
+use mathlib.Core.Bool.{Bool}
+use mathlib.Core.List.{List}
 use mathlib.Core.Logic.{⊎-elim}
 use Prim.Native.Nat.{ℕ, _-_, _≤_}
-use lib.ListN.{getD}
+use lib.ListN.{take}
+use Rattle.theory.specs.Query.{member, variablesOf, rowEntries}
+use Rattle.query.specs.declared.Cell.{Cell}
+use Rattle.query.specs.View.{rowsOf, imagesOf}
+use Rattle.printing.proofs.Writing.{Progress, started, part-fits, wrote, finished, left-as, moved, same-size}
 use Rattle.text.specs.Text.{passing, imagesText}
-use Rattle.text.specs.Stored.{imageOf, marked}
-use Rattle.text.proofs.Stored.{images-passed, images-skipped, images-end}
-use Rattle.text.proofs.Writing.{Progress, started, part-fits, wrote, finished, seen-as, moved, same-size}
+use Rattle.text.proofs.Turns.{images-passed, images-skipped, images-end}
 use Rattle.text.proofs.put_images.Statement.{statement}
 use Rattle.text.proofs.put_images.Tie as tie
 
+-- Whether a variable stands in one of the first rows
+abbrev inRow : List ℕ → ℕ → List ℕ → List Cell → ℕ → Bool
+inRow schema size named cells v = member v (variablesOf (rowEntries (rowsOf schema (take size named) cells)))
+
 abbrev Inv-loop : tie.InvT-loop
-Inv-loop buffer₀ at seen images next₀ v₀ buffer next v = (v ≤ 96) × Progress buffer₀ at (imagesText (imageOf images) (marked seen)) (imagesText (imageOf images) (passing (λ w. getD seen w false) v (96 - v))) buffer next
+Inv-loop buffer₀ at relations widths images size named cells next₀ v₀ buffer next v =
+    let test : ℕ → Bool = inRow (take relations widths) size named cells in
+    (v ≤ 96) × Progress buffer₀ at (imagesText (imagesOf images) (passing test 0 96)) (imagesText (imagesOf images) (passing test v (96 - v))) buffer next
 
 abbrev μ-loop : tie.MeasureT-loop
-μ-loop buffer₀ at seen images next₀ v₀ buffer next v = 96 - v
+μ-loop buffer₀ at relations widths images size named cells next₀ v₀ buffer next v = 96 - v
+
+cast-size : tie.Need-cast-size Inv-loop μ-loop
+cast-size c = search needs
 
 loop-holds : tie.Need-loop-holds Inv-loop μ-loop
-loop-holds c = (search needs, started (c .before .pre))
+loop-holds c = (search needs, started (c .before .before .before .before .pre .0))
 
-array-read-if1 : tie.Need-array-read-if1 Inv-loop μ-loop
-array-read-if1 c = search needs
+cast-rows-have : tie.Need-cast-rows-have Inv-loop μ-loop
+cast-rows-have c = search needs
+
+rows-have-requires : tie.Need-rows-have-requires Inv-loop μ-loop
+rows-have-requires c κs = search needs
 
 mul-cell : tie.Need-mul-cell Inv-loop μ-loop
 mul-cell c = search needs
@@ -30,7 +46,12 @@ array-copy-out-cell : tie.Need-array-copy-out-cell Inv-loop μ-loop
 array-copy-out-cell c = search needs
 
 put-image-requires : tie.Need-put-image-requires Inv-loop μ-loop
-put-image-requires c κs = part-fits (c .before .before .before .before .loop .inv .1) _ _ (images-passed (imageOf (c .before .before .before .before .before .before .args .t4)) (λ w. getD (c .before .before .before .before .before .before .args .t3) w false) (c .before .before .before .before .loop .v) (c .before .before .before .loop-test .taken) (c .before .before .if1 .taken))
+put-image-requires c κs =
+    let l = c .before .before .before .before .before .loop in
+    let s = c .before .before .before .before .before .before .before .before .before .before .args in
+    let test : ℕ → Bool = inRow (take (s .relations) (s .widths)) (s .query .size) (s .query .relations) (s .query .cells) in
+    let yes = sym (c .before .before .before .rows-have .ensures) ∙ c .before .before .if1 .taken in
+    part-fits (l .inv .1) _ _ (images-passed (imagesOf (s .t6)) test (l .v) (c .before .before .before .before .loop-test .taken) yes)
 
 add-v : tie.Need-add-v Inv-loop μ-loop
 add-v c = search needs
@@ -40,12 +61,15 @@ loop-less c = search needs
 
 loop-again : tie.Need-loop-again Inv-loop μ-loop
 loop-again c =
-    let i = imageOf (c .before .before .before .before .args .t4) in
-    let t : ℕ → Bool = λ w. getD (c .before .before .before .before .args .t3) w false in (
+    let l = c .before .before .before .loop in
+    let s = c .before .before .before .before .before .before .before .before .args in
+    let test : ℕ → Bool = inRow (take (s .relations) (s .widths)) (s .query .size) (s .query .relations) (s .query .cells) in
+    let asked = sym (c .before .rows-have .ensures) in
+    let low = c .before .before .loop-test .taken in (
       search needs,
       ⊎-elim
-          (λ w. moved (wrote (c .before .before .loop .inv .1) _ (images-passed i t (c .before .before .loop .v) (c .before .loop-test .taken) (w .0 .taken)) (w .3 .ensures)) (w .6) (w .7))
-          (λ w. moved (seen-as (c .before .before .loop .inv .1) (images-skipped i t (c .before .before .loop .v) (c .before .loop-test .taken) (w .0 .left))) (w .1) (w .2))
+          (λ w. moved (wrote (l .inv .1) _ (images-passed (imagesOf (s .t6)) test (l .v) low (asked ∙ w .0 .taken)) (w .3 .ensures)) (w .6) (w .7))
+          (λ w. moved (left-as (l .inv .1) (images-skipped (imagesOf (s .t6)) test (l .v) low (asked ∙ w .0 .left))) (w .1) (w .2))
           (c .if1 .came),
     )
 
@@ -53,7 +77,11 @@ same-length : tie.Need-same-length Inv-loop μ-loop
 same-length c = same-size (c .before .loop .inv .1)
 
 returns : tie.Need-returns Inv-loop μ-loop
-returns c = finished (seen-as (c .before .loop .inv .1) (images-end (imageOf (c .before .before .before .args .t4)) (λ w. getD (c .before .before .before .args .t3) w false) (c .before .loop .v) (c .loop-test .left)))
+returns c =
+    let l = c .before .loop in
+    let s = c .before .before .before .before .before .before .args in
+    let test : ℕ → Bool = inRow (take (s .relations) (s .widths)) (s .query .size) (s .query .relations) (s .query .cells) in
+    finished (left-as (l .inv .1) (images-end (imagesOf (s .t6)) test (l .v) (c .loop-test .left)))
 
 pub put-images-spec : {M : Type 1} → statement M
 put-images-spec =
@@ -61,8 +89,10 @@ put-images-spec =
     (tie.spec
     Inv-loop
     μ-loop
+    cast-size
     loop-holds
-    array-read-if1
+    cast-rows-have
+    rows-have-requires
     mul-cell
     array-copy-out-cell
     put-image-requires

@@ -1,76 +1,69 @@
 -- `text::put_rows` meets its contract. Invariant: the rows from r on are left to be written. Assumes nothing.
 use borrow.Author.Needs.{needs}
-use mathlib.Core.Path.{_≡_, sym}
-use mathlib.Core.List.{List, _++_}
-use Prim.Native.Nat.{ℕ, _+_, _*_, _-_, _<_, _≤_}
+use mathlib.Core.Path.{_≡_, sym, subst}
+use Prim.Native.Nat.{ℕ, _*_, _-_, _≤_, _<_}
 use native.Mathlib.Omega.{arith}
 use lib.ListN.{length, take, drop, getD}
-use lib.Seq.{getD-take, length-take-le}
-use mathlib.Core.Bool.{true}
-use Rattle.query.specs.declared.Cell.{Cell}
-use Rattle.query.specs.declared.Query.{Query}
+use Rattle.lists.proofs.Loops.{mapped-length}
 use Rattle.query.specs.View.{rowsOf}
-use Rattle.query.specs.Rule.{goodQuery}
-use Rattle.text.specs.Text.{rowLine, rowsText}
-use Rattle.text.specs.Stored.{rowOf, narrow}
-use Rattle.text.proofs.Good.{size-small, rows-known, relation-known, width-narrow}
-use Rattle.text.proofs.Stored.{mapped-length, rows-turn, rows-end}
-use Rattle.text.proofs.Writing.{Progress, started, part-fits, wrote, finished, seen-as, same-size}
+use Rattle.query.proofs.Good.{good-query}
+use Rattle.query.proofs.Relations.{width-le}
+use Rattle.printing.proofs.Writing.{Progress, started, part-fits, wrote, finished, left-as, same-size}
+use Rattle.text.specs.Text.{rowsText}
+use Rattle.text.proofs.Turns.{rows-turn, rows-end}
 use Rattle.text.proofs.put_rows.Statement.{statement}
 use Rattle.text.proofs.put_rows.Tie as tie
 
-module _ (widths : List ℕ) (q : Query) (good : goodQuery widths q ≡ true) (long : length (q .relations) ≡ 12) (r : ℕ) (h : r < q .size) where
-  fits : q .size ≤ length (q .relations)
-  fits = omega (arith, size-small widths q good)
-
-  -- the relation of a row is one of eight
-  known : length widths ≡ 8 → getD (q .relations) r 0 < 8
-  known eight =
-      let there : r < length (take (q .size) (q .relations)) = rw (length-take-le (q .size) (q .relations) fits) h in
-      let k : getD (take (q .size) (q .relations)) r 0 < length widths = relation-known widths (take (q .size) (q .relations)) (q .cells) r (rows-known widths q good) there in
-      omega (arith, sym (getD-take (q .size) (q .relations) r 0 h))
-
-  -- the line of row r is next
-  turn : narrow widths ≡ true → (row : List Cell) → row ≡ take 8 (drop (8 * r) (q .cells))
-      → rowsText (rowsOf widths (drop r (take (q .size) (q .relations))) (drop (8 * r) (q .cells)))
-      ≡ rowLine (rowOf (getD (q .relations) r 0) (take (getD widths (getD (q .relations) r 0) 0) row))
-      ++ rowsText (rowsOf widths (drop (r + 1) (take (q .size) (q .relations))) (drop (8 * (r + 1)) (q .cells)))
-  turn eight row e = rw e (rows-turn widths (q .relations) (q .cells) (q .size) r h fits (width-narrow widths (getD (q .relations) r 0) eight))
-
 abbrev Inv-loop : tie.InvT-loop
-Inv-loop buffer₀ at widths size relations cells next₀ r₀ buffer next r = (r ≤ size) × (length relations ≡ 12) × (length widths ≡ 8)
-    × Progress buffer₀ at (rowsText (rowsOf widths (take size relations) cells)) (rowsText (rowsOf widths (drop r (take size relations)) (drop (8 * r) cells))) buffer next
+Inv-loop buffer₀ at relations widths size named cells next₀ r₀ buffer next r =
+    (r ≤ size) × (size ≤ 12) × (length named ≡ 12)
+    × Progress buffer₀ at (rowsText (rowsOf (take relations widths) (take size named) cells))
+    (rowsText (rowsOf (take relations widths) (drop r (take size named)) (drop (8 * r) cells)))
+    buffer next
 
 abbrev μ-loop : tie.MeasureT-loop
-μ-loop buffer₀ at widths size relations cells next₀ r₀ buffer next r = size - r
+μ-loop buffer₀ at relations widths size named cells next₀ r₀ buffer next r = size - r
 
 cast-size : tie.Need-cast-size Inv-loop μ-loop
 cast-size c = search needs
 
 loop-holds : tie.Need-loop-holds Inv-loop μ-loop
-loop-holds c = (search needs, search (mapped-length, needs), search needs, started (c .before .before .before .before .pre .0))
+loop-holds c =
+    let s = c .before .before .before .before in
+    (search needs, good-query _ _ (s .pre .2) .size, search (mapped-length, needs), started (s .pre .0))
 
 array-read-relation : tie.Need-array-read-relation Inv-loop μ-loop
-array-read-relation c = omega (arith, size-small _ _ (c .before .before .before .before .before .before .pre .2))
+array-read-relation c = search needs
 
-cast-relation : tie.Need-cast-relation Inv-loop μ-loop
-cast-relation c = search needs
+width-of-requires : tie.Need-width-of-requires Inv-loop μ-loop
+width-of-requires c κs = search needs
 
-array-read-width : tie.Need-array-read-width Inv-loop μ-loop
-array-read-width c = known (c .before .before .before .before .before .before .args .t3) (c .before .before .before .before .before .before .args .query) (c .before .before .before .before .before .before .pre .2) (c .before .loop .inv .1) (c .before .loop .r) (c .loop-test .taken) (c .before .loop .inv .2)
-
-cast-width : tie.Need-cast-width Inv-loop μ-loop
-cast-width c = search needs
+mul-row-cells : tie.Need-mul-row-cells Inv-loop μ-loop
+mul-row-cells c = search needs
 
 row-cells-requires : tie.Need-row-cells-requires Inv-loop μ-loop
-row-cells-requires c κs = omega (arith, size-small _ _ (c .before .before .before .before .before .before .before .pre .2))
+row-cells-requires c κs = search needs
+
+cast-put-row-line : tie.Need-cast-put-row-line Inv-loop μ-loop
+cast-put-row-line c = search needs
+
+cast-put-row-line-2 : tie.Need-cast-put-row-line-2 Inv-loop μ-loop
+cast-put-row-line-2 c = search needs
 
 put-row-line-requires : tie.Need-put-row-line-requires Inv-loop μ-loop
 put-row-line-requires c κs =
-    let q = c .before .before .before .before .before .before .before .before .args .query in (
-      part-fits (c .before .before .before .loop .inv .3) _ _
-          (turn (c .before .before .before .before .before .before .before .before .args .t3) q (c .before .before .before .before .before .before .before .before .pre .2) (c .before .before .before .loop .inv .1) (c .before .before .before .loop .r) (c .before .before .loop-test .taken) (c .before .before .before .before .before .before .before .before .pre .1) (c .row-cells .result) (c .row-cells .ensures)),
-      width-narrow (c .before .before .before .before .before .before .before .before .args .t3) (getD (q .relations) (c .before .before .before .loop .r) 0) (c .before .before .before .before .before .before .before .before .pre .1),
+    let row = c .before .row-cells in
+    let width = c .before .before .width-of in
+    let l = c .before .before .before .before .loop in
+    let low = c .before .before .before .loop-test .taken in
+    let s = c .before .before .before .before .before .before .before .before .before in
+    let schema = take (s .args .relations) (s .args .widths) in
+    let narrow : width .result ≤ 8 = omega (arith, width .ensures, width-le _ _ (s .pre .1) (getD (s .args .query .relations) (l .r) 0)) in (
+      part-fits (l .inv .3) _ _
+          (rows-turn schema (s .args .query .relations) (s .args .query .cells) (s .args .query .size) (l .r) low (omega (arith, l .inv .1, l .inv .2)) (width .result)
+          (width .ensures) narrow (row .result)
+          (row .ensures)),
+      narrow,
     )
 
 add-r : tie.Need-add-r Inv-loop μ-loop
@@ -81,12 +74,20 @@ loop-less c = search needs
 
 loop-again : tie.Need-loop-again Inv-loop μ-loop
 loop-again c =
-    let before = c .before .before .before .before .before .before in (
+    let row = c .before .before .before .before .row-cells in
+    let width = c .before .before .before .before .before .width-of in
+    let l = c .before .before .before .before .before .before .before .loop in
+    let low = c .before .before .before .before .before .before .loop-test .taken in
+    let s = c .before .before .before .before .before .before .before .before .before .before .before .before in
+    let schema = take (s .args .relations) (s .args .widths) in
+    let narrow : width .result ≤ 8 = omega (arith, width .ensures, width-le _ _ (s .pre .1) (getD (s .args .query .relations) (l .r) 0)) in (
       search needs,
       search needs,
       search needs,
-      wrote (before .loop .inv .3) _
-          (turn (c .before .before .before .before .before .before .before .before .before .before .before .args .t3) (c .before .before .before .before .before .before .before .before .before .before .before .args .query) (c .before .before .before .before .before .before .before .before .before .before .before .pre .2) (before .loop .inv .1) (before .loop .r) (c .before .before .before .before .before .loop-test .taken) (c .before .before .before .before .before .before .before .before .before .before .before .pre .1) (c .before .before .before .row-cells .result) (c .before .before .before .row-cells .ensures))
+      wrote (l .inv .3) _
+          (rows-turn schema (s .args .query .relations) (s .args .query .cells) (s .args .query .size) (l .r) low (omega (arith, l .inv .1, l .inv .2)) (width .result)
+          (width .ensures) narrow (row .result)
+          (row .ensures))
           (c .before .before .put-row-line .ensures),
     )
 
@@ -94,7 +95,11 @@ same-length : tie.Need-same-length Inv-loop μ-loop
 same-length c = same-size (c .before .loop .inv .3)
 
 returns : tie.Need-returns Inv-loop μ-loop
-returns c = finished (seen-as (c .before .loop .inv .3) (rows-end (c .before .before .before .before .before .before .args .t3) (c .before .before .before .before .before .before .args .query .relations) (drop (8 * c .before .loop .r) (c .before .before .before .before .before .before .args .query .cells)) (c .before .before .before .before .before .before .args .query .size) (c .before .loop .r) (c .loop-test .left)))
+returns c =
+    let l = c .before .loop in
+    let s = c .before .before .before .before .before .before .args in
+    let rest = drop (8 * l .r) (s .query .cells) in
+    finished (left-as (l .inv .3) (rows-end (take (s .relations) (s .widths)) (s .query .relations) rest (s .query .size) (l .r) (c .loop-test .left)))
 
 pub put-rows-spec : {M : Type 1} → statement M
 put-rows-spec =
@@ -105,10 +110,11 @@ put-rows-spec =
     cast-size
     loop-holds
     array-read-relation
-    cast-relation
-    array-read-width
-    cast-width
+    width-of-requires
+    mul-row-cells
     row-cells-requires
+    cast-put-row-line
+    cast-put-row-line-2
     put-row-line-requires
     add-r
     loop-less

@@ -1,114 +1,87 @@
--- `text::row_cells` meets its contract. Assumes nothing.
+-- `text::row_cells` meets its contract. Invariant: the first i cells of the row are copied, the others blank. Assumes nothing.
 use borrow.Author.Needs.{needs}
-use Prim.Native.Nat.{_*_}
+use mathlib.Core.Path.{_≡_, refl, sym, ap, _∙_}
+use mathlib.Core.List.{List, append-nil}
+use Prim.Native.Nat.{ℕ, _+_, _-_, _≤_, _<_}
 use native.Mathlib.Omega.{arith}
-use mathlib.Core.Path.{_≡_}
-use lib.ListN.{length}
-use Rattle.text.proofs.Stored.{eight-cells}
+use lib.ListN.{length, take, drop, getD, set}
+use lib.Seq.{take-take}
+use Rattle.lists.proofs.Loops.{filledTo, filled-next, stretch-length, stretch-getD}
+use Rattle.query.specs.declared.Cell.{Cell}
+use Rattle.query.specs.Rule.{noCell}
 use Rattle.text.proofs.row_cells.Statement.{statement}
 use Rattle.text.proofs.row_cells.Tie as tie
 
-mul-at : tie.Need-mul-at
-mul-at c = search needs
+module _ (cells : List Cell) (start : ℕ) (room : start + 8 ≤ length cells) where
+  -- a turn copies the next cell
+  turn : (row : List Cell) (i : ℕ) → row ≡ filledTo 8 noCell (take 8 (drop start cells)) i → i < 8
+      → set row i (getD cells (start + i) noCell) ≡ filledTo 8 noCell (take 8 (drop start cells)) (i + 1)
+  turn row i e h =
+      ap (λ (c : Cell). set row i c) (sym (stretch-getD start 8 cells i noCell h))
+      ∙ ap (λ (r : List Cell). set r i (getD (take 8 (drop start cells)) i noCell)) e
+      ∙ filled-next 8 noCell (take 8 (drop start cells)) i (rw (stretch-length start 8 cells room) h) h
 
-mul-t5 : tie.Need-mul-t5
-mul-t5 c = search needs
+  -- after eight the row is there
+  end : (row : List Cell) (i : ℕ) → row ≡ filledTo 8 noCell (take 8 (drop start cells)) i → i ≤ 8 → 8 ≤ i → row ≡ take 8 (drop start cells)
+  end row i e low high =
+      let eight : i ≡ 8 = omega arith in
+      e ∙ ap (filledTo 8 noCell (take 8 (drop start cells))) eight ∙ append-nil (take 8 (take 8 (drop start cells))) ∙ take-take 8 8 (drop start cells) (omega arith)
 
-array-copy-out-t8 : tie.Need-array-copy-out-t8
-array-copy-out-t8 c = search needs
+abbrev Inv-loop : tie.InvT-loop
+Inv-loop start cells row₀ i₀ row i = (i ≤ 8) × (start + 8 ≤ length cells) × (row ≡ filledTo 8 noCell (take 8 (drop start cells)) i)
 
-add-t9 : tie.Need-add-t9
-add-t9 c = search needs
+abbrev μ-loop : tie.MeasureT-loop
+μ-loop start cells row₀ i₀ row i = 8 - i
 
-mul-t10 : tie.Need-mul-t10
-mul-t10 c = search needs
+loop-holds : tie.Need-loop-holds Inv-loop μ-loop
+loop-holds c = (search needs, search needs, refl)
 
-array-copy-out-t13 : tie.Need-array-copy-out-t13
-array-copy-out-t13 c = search needs
+add-row : tie.Need-add-row Inv-loop μ-loop
+add-row c = search needs
 
-add-t14 : tie.Need-add-t14
-add-t14 c = search needs
+mul-row : tie.Need-mul-row Inv-loop μ-loop
+mul-row c = search needs
 
-mul-t15 : tie.Need-mul-t15
-mul-t15 c = search needs
+array-copy-out-row : tie.Need-array-copy-out-row Inv-loop μ-loop
+array-copy-out-row c = search needs
 
-array-copy-out-t18 : tie.Need-array-copy-out-t18
-array-copy-out-t18 c = search needs
+mul-row-2 : tie.Need-mul-row-2 Inv-loop μ-loop
+mul-row-2 c = search needs
 
-add-t19 : tie.Need-add-t19
-add-t19 c = search needs
+array-set-from-row : tie.Need-array-set-from-row Inv-loop μ-loop
+array-set-from-row c = search needs
 
-mul-t20 : tie.Need-mul-t20
-mul-t20 c = search needs
+add-i : tie.Need-add-i Inv-loop μ-loop
+add-i c = search needs
 
-array-copy-out-t23 : tie.Need-array-copy-out-t23
-array-copy-out-t23 c = search needs
+loop-less : tie.Need-loop-less Inv-loop μ-loop
+loop-less c = search needs
 
-add-t24 : tie.Need-add-t24
-add-t24 c = search needs
+loop-again : tie.Need-loop-again Inv-loop μ-loop
+loop-again c =
+    let l = c .before .before .loop in
+    let s = c .before .before .before .args in
+    (search needs, search needs, turn (s .t1) (s .start) (l .inv .1) (l .row) (l .i) (l .inv .2) (search needs))
 
-mul-t25 : tie.Need-mul-t25
-mul-t25 c = search needs
-
-array-copy-out-t28 : tie.Need-array-copy-out-t28
-array-copy-out-t28 c = search needs
-
-add-t29 : tie.Need-add-t29
-add-t29 c = search needs
-
-mul-t30 : tie.Need-mul-t30
-mul-t30 c = search needs
-
-array-copy-out-t33 : tie.Need-array-copy-out-t33
-array-copy-out-t33 c = search needs
-
-add-t34 : tie.Need-add-t34
-add-t34 c = search needs
-
-mul-t35 : tie.Need-mul-t35
-mul-t35 c = search needs
-
-array-copy-out-t38 : tie.Need-array-copy-out-t38
-array-copy-out-t38 c = search needs
-
-add-t39 : tie.Need-add-t39
-add-t39 c = search needs
-
-mul-t40 : tie.Need-mul-t40
-mul-t40 c = search needs
-
-array-copy-out-t43 : tie.Need-array-copy-out-t43
-array-copy-out-t43 c = search needs
-
-returns : tie.Need-returns
-returns c = let l : length (c .before .before .before .before .before .before .before .before .args .t1) ≡ 96 = search needs in eight-cells (c .before .before .before .before .before .before .before .before .args .t1) (8 * c .before .before .before .before .before .before .before .before .args .i) (omega arith)
+returns : tie.Need-returns Inv-loop μ-loop
+returns c =
+    let l = c .before .loop in
+    let s = c .before .before .args in
+    end (s .t1) (s .start) (l .inv .1) (l .row) (l .i) (l .inv .2) (l .inv .0) (c .loop-test .left)
 
 pub row-cells-spec : {M : Type 1} → statement M
 row-cells-spec =
     tie.close
     (tie.spec
-    mul-at
-    mul-t5
-    array-copy-out-t8
-    add-t9
-    mul-t10
-    array-copy-out-t13
-    add-t14
-    mul-t15
-    array-copy-out-t18
-    add-t19
-    mul-t20
-    array-copy-out-t23
-    add-t24
-    mul-t25
-    array-copy-out-t28
-    add-t29
-    mul-t30
-    array-copy-out-t33
-    add-t34
-    mul-t35
-    array-copy-out-t38
-    add-t39
-    mul-t40
-    array-copy-out-t43
+    Inv-loop
+    μ-loop
+    loop-holds
+    add-row
+    mul-row
+    array-copy-out-row
+    mul-row-2
+    array-set-from-row
+    add-i
+    loop-less
+    loop-again
     returns)

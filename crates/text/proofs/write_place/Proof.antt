@@ -1,65 +1,56 @@
--- `text::write_place` meets its contract: the lines one after another. The marked variables are those that occur. Assumes nothing.
+-- `text::write_place` meets its contract: the lines one after another. The variables that stand in a row are those that occur. Assumes nothing.
 use borrow.Author.Needs.{needs}
-use mathlib.Core.Path.{_≡_, refl, sym, ap, _∙_}
-use mathlib.Core.Bool.{Bool, true, false, cond}
+use mathlib.Core.Path.{_≡_, refl, _∙_}
 use mathlib.Core.List.{List, _++_}
-use Prim.Native.Nat.{ℕ, _≤_, _<_}
+use Prim.Native.Nat.{ℕ, _≤_}
 use native.Mathlib.Omega.{arith}
 use lib.Dec.{eqb}
-use lib.ListN.{length, take, getD, replicate, length-replicate, getD-replicate}
+use mathlib.Core.Bool.{false}
+use lib.ListN.{length, take}
 use borrow.Author.Tests.{ne-eqb}
+use Rattle.lists.proofs.Loops.{mapped-length}
 use Rattle.theory.specs.Query as theory
-use Rattle.theory.specs.Query.{member, variablesOf}
 use Rattle.query.specs.declared.Query.{Query}
-use Rattle.query.specs.View.{entriesOf, queryOf}
-use Rattle.query.specs.Rule.{goodQuery}
+use Rattle.query.specs.View.{entriesOf, queryOf, imagesOf}
+use Rattle.query.specs.Rule.{headSafe}
+use Rattle.query.proofs.Good.{good-query}
+use Rattle.query.proofs.Relations.{width-le}
+use Rattle.query.proofs.Shape.{row-count}
+use Rattle.query.proofs.Stored.{subset-in, variables-below}
+use Rattle.printing.specs.internal.Writing.{Fits}
+use Rattle.printing.proofs.Writing.{Progress, started, part-fits, rest-fits, wrote, wrote-rest, left-as}
 use Rattle.text.specs.Text.{neverLine, placeLine, headLine, rowsText, mapLine, occurring, placeText}
-use Rattle.text.specs.Writing.{Fits}
-use Rattle.text.specs.Stored.{imageOf, narrow, marks, marked}
-use Rattle.text.proofs.Good.{head-good, cells-good, arity-small, size-small, query-variables, variables-below}
-use Rattle.text.proofs.Marks.{marks-append, marks-getD, marked-occurring}
-use Rattle.text.proofs.Stored.{mapped-length}
-use Rattle.text.proofs.Bound.{query-rows, place-short}
-use Rattle.text.proofs.Writing.{Progress, started, part-fits, rest-fits, wrote, wrote-rest, seen-as}
+use Rattle.text.specs.internal.Listable.{variablesInRows}
+use Rattle.text.proofs.Bound.{place-short}
+use Rattle.text.proofs.Occurring.{rows-occurring}
 use Rattle.text.proofs.write_place.Statement.{statement}
 use Rattle.text.proofs.write_place.Tie as tie
 
--- The marks after a good query are those of its variables
-marks-occurring : (widths : List ℕ) (q : Query) (seen : List Bool) → narrow widths ≡ true → goodQuery widths q ≡ true → q .size ≤ length (q .relations)
-    → seen ≡ marks (marks (replicate 96 false) (variablesOf (entriesOf (q .head)))) (variablesOf (entriesOf (q .cells))) → marked seen ≡ occurring (queryOf widths q)
-unfolding occurring
-marks-occurring widths q seen narrow good long e =
-    let whole : seen ≡ marks (replicate 96 false) (theory.variables (queryOf widths q)) =
-    e ∙ sym (marks-append (replicate 96 false) (variablesOf (entriesOf (q .head))) (variablesOf (entriesOf (q .cells)))) ∙ ap (marks (replicate 96 false)) (query-variables widths q good long narrow) in
-    marked-occurring seen (theory.variables (queryOf widths q)) (λ v h. ap (λ (s : List Bool). getD s v false) whole ∙ at v h) (variables-below widths q good long narrow)
-  where
-    at : (v : ℕ) → v < 96 → getD (marks (replicate 96 false) (theory.variables (queryOf widths q))) v false ≡ member v (theory.variables (queryOf widths q))
-    at v h =
-        marks-getD (replicate 96 false) (theory.variables (queryOf widths q)) v (rw (length-replicate 96 false) h)
-        ∙ ap (cond (member v (theory.variables (queryOf widths q))) true) (getD-replicate 96 v false false h) ∙ same (member v (theory.variables (queryOf widths q)))
-      where
-        same : (t : Bool) → cond t true false ≡ t
-        same true = refl
-        same false = refl
+abbrev schema : tie.Start → List ℕ
+schema c = take (c .args .relations) (c .args .widths)
+
+abbrev source : tie.Start → theory.Query
+source c = queryOf (schema c) (c .args .source)
+
+abbrev result : tie.Start → theory.Query
+result c = queryOf (schema c) (c .args .result)
 
 source-long : (c : tie.Start) → c .args .source .size ≤ length (c .args .source .relations)
-source-long c = let l : length (c .args .source .relations) ≡ 12 = search (mapped-length, needs) in omega (arith, size-small _ _ (c .pre .source-good))
+source-long c = let l : length (c .args .source .relations) ≡ 12 = search (mapped-length, needs) in omega (arith, good-query _ _ (c .pre .source-good) .size)
 
 result-long : (c : tie.Start) → c .args .result .size ≤ length (c .args .result .relations)
-result-long c = let l : length (c .args .result .relations) ≡ 12 = search (mapped-length, needs) in omega (arith, size-small _ _ (c .pre .result-good))
+result-long c = let l : length (c .args .result .relations) ≡ 12 = search (mapped-length, needs) in omega (arith, good-query _ _ (c .pre .result-good) .size)
 
 -- What is to be written
 abbrev text : tie.Start → List ℕ
-text c =
-    placeText (c .args .place) (queryOf (c .args .widths) (c .args .source)) (queryOf (c .args .widths) (c .args .result)) (c .args .count) (imageOf (c .args .images))
+text c = placeText (c .args .place) (source c) (result c) (c .args .count) (imagesOf (c .args .images))
 
-whole-fits : (c : tie.Start) → Fits (c .args .buffer .now) (c .args .at) (text c)
-whole-fits c =
-    let eight : length (c .args .widths) ≡ 8 = search needs in
+text-fits : (c : tie.Start) → Fits (c .args .buffer .now) (c .args .at) (text c)
+text-fits c =
     let p = c .pre in
     let short =
-    place-short (c .args .widths) eight (p .widths-narrow) (c .args .place) (c .args .source) (c .args .result) (c .args .count) (c .args .images) (p .place-known) (p .source-good)
-    (p .result-good) (source-long c) (result-long c) (c .fits .count .fits) (p .images-good) in
+    place-short (c .args .relations) (c .args .widths) (p .relations-good) (c .args .place) (c .args .source) (c .args .result) (c .args .count) (c .args .images) (p .place-known)
+    (p .source-good) (p .result-good) (source-long c) (result-long c) (c .fits .count .fits) (p .images-good) in
     record { room = omega (arith, p .room) }
 
 -- Where the result is never, one line is left
@@ -67,27 +58,31 @@ never-left : (c : tie.Start) → c .args .result .size ≡ 0
     → Progress (c .args .buffer .now) (c .args .at) (text c) (neverLine (c .args .place) (c .args .source .size) (c .args .count)) (c .args .buffer .now) (c .args .at)
 unfolding placeText
 never-left c z =
-    let m : length (queryOf (c .args .widths) (c .args .source) .rows) ≡ c .args .source .size = query-rows (c .args .widths) (c .args .source) (source-long c) in
-    let k : length (queryOf (c .args .widths) (c .args .result) .rows) ≡ 0 = query-rows (c .args .widths) (c .args .result) (result-long c) ∙ z in
-    seen-as (started (whole-fits c)) (rw (k, m))
+    let m : length (source c .rows) ≡ c .args .source .size = row-count (schema c) (c .args .source) (source-long c) in
+    let k : length (result c .rows) ≡ 0 = row-count (schema c) (c .args .result) (result-long c) ∙ z in
+    left-as (started (text-fits c)) (rw (k, m))
+
+-- The variables that stand in a row are those that occur
+variables : (c : tie.Start) → variablesInRows (source c) ≡ occurring (source c)
+unfolding headSafe
+variables c =
+    rows-occurring (source c) (variables-below (schema c) (width-le _ _ (c .pre .relations-good)) (c .args .source) (c .pre .source-good))
+    (λ v at. subset-in _ _ (c .pre .source-safe) at)
 
 -- Else the four parts are left
-lines-left : (c : tie.Start) {seen : List Bool} → (c .args .result .size ≡ 0 → ⊥)
-    → seen ≡ marks (marks (replicate 96 false) (variablesOf (entriesOf (c .args .source .head)))) (variablesOf (entriesOf (c .args .source .cells)))
+lines-left : (c : tie.Start) → (c .args .result .size ≡ 0 → ⊥)
     → Progress (c .args .buffer .now) (c .args .at) (text c)
     (placeLine (c .args .place) (c .args .source .size) (c .args .result .size) (c .args .count)
     ++ (headLine (entriesOf (take (c .args .result .arity) (c .args .result .head)))
-    ++ (rowsText (queryOf (c .args .widths) (c .args .result) .rows) ++ mapLine (imageOf (c .args .images)) (marked seen))))
+    ++ (rowsText (result c .rows) ++ mapLine (imagesOf (c .args .images)) (variablesInRows (source c)))))
     (c .args .buffer .now)
     (c .args .at)
 unfolding placeText
-lines-left c {seen} some e =
-    let m : length (queryOf (c .args .widths) (c .args .source) .rows) ≡ c .args .source .size = query-rows (c .args .widths) (c .args .source) (source-long c) in
-    let k : length (queryOf (c .args .widths) (c .args .result) .rows) ≡ c .args .result .size = query-rows (c .args .widths) (c .args .result) (result-long c) in
+lines-left c some =
+    let m : length (source c .rows) ≡ c .args .source .size = row-count (schema c) (c .args .source) (source-long c) in
+    let k : length (result c .rows) ≡ c .args .result .size = row-count (schema c) (c .args .result) (result-long c) in
     let z : eqb (c .args .result .size) 0 ≡ false = ne-eqb (c .args .result .size) 0 some in
-    let o : marked seen ≡ occurring (queryOf (c .args .widths) (c .args .source)) =
-    marks-occurring (c .args .widths) (c .args .source) seen (c .pre .widths-narrow) (c .pre .source-good) (source-long c) e in
-    seen-as (started (whole-fits c)) (rw (k, m, z, o))
+    left-as (started (text-fits c)) (rw (k, m, z, variables c))
 
 cast-rows : tie.Need-cast-rows
 cast-rows c = search needs
@@ -102,43 +97,59 @@ same-length : tie.Need-same-length
 same-length c = search needs
 
 returns : tie.Need-returns
-returns c = wrote-rest (never-left (c .before .before .before .before .before .before .before .before) (c .before .before .before .before .if1 .taken)) (c .before .before .put-never-line .ensures)
-
-mark-query-requires : tie.Need-mark-query-requires
-mark-query-requires c κs = (head-good _ _ (c .before .before .before .before .pre .source-good), cells-good _ _ (c .before .before .before .before .pre .source-good) (source-long (c .before .before .before .before)))
+returns c =
+    let test = c .before .before .before .before in
+    wrote-rest (never-left (test .before .before .before .before) (test .if1 .taken)) (c .before .before .put-never-line .ensures)
 
 cast-arity : tie.Need-cast-arity
 cast-arity c = search needs
 
 put-place-line-requires : tie.Need-put-place-line-requires
-put-place-line-requires c κs = part-fits (lines-left (c .before .before .before .before .before .before .before .before) (c .before .before .before .before .if1 .left) (c .before .before .before .mark-query .ensures)) _ _ refl
+put-place-line-requires c κs =
+    let chosen = c .before .before .before in
+    part-fits (lines-left (chosen .before .before .before .before) (chosen .if1 .left)) _ _ refl
 
 put-head-line-requires : tie.Need-put-head-line-requires
 put-head-line-requires c κs =
-    (part-fits (wrote (lines-left (c .before .before .before .before .before .before .before .before .before .before .before .before) (c .before .before .before .before .before .before .before .before .if1 .left) (c .before .before .before .before .before .before .before .mark-query .ensures)) _ refl (c .before .before .before .put-place-line .ensures)) _ _ refl, arity-small _ _ (c .before .before .before .before .before .before .before .before .before .before .before .before .pre .result-good))
+    let line = c .before .before .before in
+    let chosen = line .before .before .before .before in
+    let left = wrote (lines-left (chosen .before .before .before .before) (chosen .if1 .left)) _ refl (line .put-place-line .ensures) in
+    (part-fits left _ _ refl, good-query _ _ (chosen .before .before .before .before .pre .result-good) .arity)
 
 put-rows-requires : tie.Need-put-rows-requires
-put-rows-requires c κs = (
-  part-fits (wrote (wrote (lines-left (c .before .before .before .before .before .before .before .before .before .before .before .before .before .before .before .before) (c .before .before .before .before .before .before .before .before .before .before .before .before .if1 .left) (c .before .before .before .before .before .before .before .before .before .before .before .mark-query .ensures)) _ refl (c .before .before .before .before .before .before .before .put-place-line .ensures)) _ refl (c .before .before .before .put-head-line .ensures)) _ _ refl,
-  c .before .before .before .before .before .before .before .before .before .before .before .before .before .before .before .before .pre .widths-narrow,
-  c .before .before .before .before .before .before .before .before .before .before .before .before .before .before .before .before .pre .result-good,
-)
+put-rows-requires c κs =
+    let head = c .before .before .before in
+    let line = head .before .before .before .before in
+    let chosen = line .before .before .before .before in
+    let left = wrote (wrote (lines-left (chosen .before .before .before .before) (chosen .if1 .left)) _ refl (line .put-place-line .ensures)) _ refl
+    (head .put-head-line .ensures) in
+    let s = chosen .before .before .before .before in
+    (part-fits left _ _ refl, s .pre .relations-good, s .pre .result-good)
 
 put-map-line-requires : tie.Need-put-map-line-requires
 put-map-line-requires c κs =
-    rest-fits
-    (wrote (wrote (wrote (lines-left (c .before .before .before .before .before .before .before .before .before .before .before .before .before .before .before .before .before .before .before .before) (c .before .before .before .before .before .before .before .before .before .before .before .before .before .before .before .before .if1 .left) (c .before .before .before .before .before .before .before .before .before .before .before .before .before .before .before .mark-query .ensures)) _ refl (c .before .before .before .before .before .before .before .before .before .before .before .put-place-line .ensures)) _ refl (c .before .before .before .before .before .before .before .put-head-line .ensures)) _ refl
-    (c .before .before .before .put-rows .ensures))
+    let rows = c .before .before .before in
+    let head = rows .before .before .before .before in
+    let line = head .before .before .before .before in
+    let chosen = line .before .before .before .before in
+    let left = wrote (wrote (lines-left (chosen .before .before .before .before) (chosen .if1 .left)) _ refl (line .put-place-line .ensures)) _ refl
+    (head .put-head-line .ensures) in
+    let s = chosen .before .before .before .before in
+    (rest-fits (wrote left _ refl (rows .put-rows .ensures)), s .pre .relations-good, good-query _ _ (s .pre .source-good) .size)
 
 same-length-2 : tie.Need-same-length-2
 same-length-2 c = search needs
 
 returns-2 : tie.Need-returns-2
 returns-2 c =
-    wrote-rest
-    (wrote (wrote (wrote (lines-left (c .before .before .before .before .before .before .before .before .before .before .before .before .before .before .before .before .before .before .before .before .before .before .before) (c .before .before .before .before .before .before .before .before .before .before .before .before .before .before .before .before .before .before .before .if1 .left) (c .before .before .before .before .before .before .before .before .before .before .before .before .before .before .before .before .before .before .mark-query .ensures)) _ refl (c .before .before .before .before .before .before .before .before .before .before .before .before .before .before .put-place-line .ensures)) _ refl (c .before .before .before .before .before .before .before .before .before .before .put-head-line .ensures)) _ refl
-    (c .before .before .before .before .before .before .put-rows .ensures))
-    (c .before .before .put-map-line .ensures)
+    let map = c .before .before in
+    let rows = map .before .before .before .before in
+    let head = rows .before .before .before .before in
+    let line = head .before .before .before .before in
+    let chosen = line .before .before .before .before in
+    let left = wrote (wrote (lines-left (chosen .before .before .before .before) (chosen .if1 .left)) _ refl (line .put-place-line .ensures)) _ refl
+    (head .put-head-line .ensures) in
+    wrote-rest (wrote left _ refl (rows .put-rows .ensures)) (map .put-map-line .ensures)
 
 pub write-place-spec : {M : Type 1} → statement M
 write-place-spec =
@@ -149,7 +160,6 @@ write-place-spec =
     put-never-line-requires
     same-length
     returns
-    mark-query-requires
     cast-arity
     put-place-line-requires
     put-head-line-requires

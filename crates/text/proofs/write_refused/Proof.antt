@@ -5,10 +5,11 @@ use mathlib.Core.List.{List}
 use Prim.Native.Nat.{ℕ, _+_, _≤_, _<_}
 use native.Mathlib.Omega.{arith}
 use lib.ListN.{length, length-append}
-use Rattle.text.specs.Text.{decimal, field, refusedWord, newline, refusedText}
-use Rattle.text.specs.Writing.{Fits, Written}
-use Rattle.text.proofs.Numbers.{decimal-length}
-use Rattle.text.proofs.Writing.{Progress, started, part-fits, rest-fits, wrote, wrote-rest}
+use Rattle.printing.specs.Decimal.{decimal, field}
+use Rattle.text.specs.Text.{refusedWord, newline, refusedText}
+use Rattle.printing.specs.internal.Writing.{Fits, Written}
+use Rattle.printing.proofs.Decimal.{decimal-length}
+use Rattle.printing.proofs.Writing.{Progress, started, part-fits, rest-fits, wrote, wrote-rest}
 use Rattle.text.proofs.write_refused.Statement.{statement}
 use Rattle.text.proofs.write_refused.Tie as tie
 
@@ -33,13 +34,18 @@ put-field-requires : tie.Need-put-field-requires
 put-field-requires c κs = first-fits (c .before .before .before .pre) (c .before .before .before .fits .n .fits)
 
 put-byte-requires : tie.Need-put-byte-requires
-put-byte-requires c κs = rest-fits (end-left (c .before .before .before .before .before .before .before .pre) (c .before .before .before .before .before .before .before .fits .n .fits) (c .before .before .before .put-field .ensures))
+put-byte-requires c κs =
+    rest-fits (end-left (c .before .before .before .before .before .before .before .pre) (c .before .before .before .before .before .before .before .fits .n .fits)
+    (c .before .before .before .put-field .ensures))
 
 same-length : tie.Need-same-length
 same-length c = search needs
 
 returns : tie.Need-returns
-returns c = wrote-rest (end-left (c .before .before .before .before .before .before .before .before .before .before .pre) (c .before .before .before .before .before .before .before .before .before .before .fits .n .fits) (c .before .before .before .before .before .before .put-field .ensures)) (c .before .before .put-byte .ensures)
+returns c =
+    wrote-rest (end-left (c .before .before .before .before .before .before .before .before .before .before .pre)
+    (c .before .before .before .before .before .before .before .before .before .before .fits .n .fits) (c .before .before .before .before .before .before .put-field .ensures))
+    (c .before .before .put-byte .ensures)
 
 pub write-refused-spec : {M : Type 1} → statement M
 write-refused-spec =

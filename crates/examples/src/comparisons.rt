@@ -1,0 +1,116 @@
+// Two places compared, and a mapping checked, with the refusals and their order.
+// A line is the two places and the answer: the refusal's number; contained, with the images of v0, v1, v2 where there is a mapping; or not contained, with the
+// number of rows and the first row of the first query, chased; of a check yes or no. Relation 0 is R with columns a, b.
+use crate::queries;
+use crate::queries::pair;
+use crate::queries::put;
+use crate::show;
+use comparison::Checked;
+use comparison::Comparison;
+use comparison::Verdict;
+use query::Cell;
+use query::Entry;
+use record::Record;
+
+// Writes a comparison.
+fn comparison(c: Comparison) {
+    let verdict = c.verdict;
+    let images = c.images;
+    let query = c.query;
+    let cells = query.cells;
+    match verdict {
+        Verdict::Never => {
+            io::write_all(1, b" contained, never");
+        }
+        Verdict::Contained => {
+            io::write_all(1, b" contained,");
+            show::images(images);
+        }
+        Verdict::Apart => {
+            show::number(b" not contained, rows ", query.size);
+            io::write_all(1, b", first");
+            show::cell(cells[0]);
+            show::cell(cells[1]);
+        }
+        Verdict::Refused(n) => {
+            show::number(b" ", n);
+        }
+    }
+    show::end();
+}
+
+// Writes what the checking of a mapping says.
+fn checked(answer: Checked) {
+    match answer {
+        Checked::Yes => {
+            io::write_all(1, b" yes");
+        }
+        Checked::No => {
+            io::write_all(1, b" no");
+        }
+        Checked::Refused(n) => {
+            show::number(b" ", n);
+        }
+    }
+    show::end();
+}
+
+// R(v0, v0) at 0, R(v0, v1) at 1, never at 2, R(v0, 3), R(v0, 4) at 3, all with an empty head; R(v0, v1), R(v0, v2) with head v0 at 4, R(v0, 3) with that head at 5.
+fn filled(r: Record) -> Record {
+    let zero = Entry::Constant(0);
+    let three = Entry::Constant(3);
+    let a = put(r, 0, pair(0, zero, 1, Entry::Variable(0), zero));
+    let b = put(a, 1, pair(0, zero, 1, Entry::Variable(1), zero));
+    let c = put(b, 2, pair(0, zero, 0, zero, zero));
+    let d = put(c, 3, pair(0, zero, 2, three, Entry::Constant(4)));
+    let e = put(
+        d,
+        4,
+        pair(1, zero, 2, Entry::Variable(1), Entry::Variable(2)),
+    );
+    put(e, 5, pair(1, zero, 1, three, zero))
+}
+
+// The comparison of place p with each of the places 0 to 8.
+fn compare_with(r: Record, p: u8) {
+    for q in 0..9u8 {
+        show::places(b"compare ", p, q);
+        comparison(comparison::compare(r, p as usize, q as usize));
+    }
+}
+
+// The comparison of each of the places 0 to 8 with each.
+fn compare_all(r: Record) {
+    for p in 0..9u8 {
+        compare_with(r, p);
+    }
+}
+
+// The checking, for each of the places 0 to 8 and place q, of the images of v0, v1, v2.
+fn check_with(r: Record, q: u8, a: Entry, b: Entry, c: Entry) {
+    let blank = Cell {
+        entry: Entry::Constant(0),
+    };
+    let mut images = [blank; 96];
+    images[0] = Cell { entry: a };
+    images[1] = Cell { entry: b };
+    images[2] = Cell { entry: c };
+    for p in 0..9u8 {
+        show::places(b"check ", p, q);
+        checked(comparison::check_mapping(r, p as usize, q as usize, images));
+    }
+}
+
+pub fn all() {
+    let zero = Entry::Constant(0);
+    let v0 = Entry::Variable(0);
+    let opened = Record::open(&[2]);
+    let r = filled(opened.record);
+    compare_all(r);
+    check_with(r, 1, v0, v0, zero);
+    check_with(r, 1, v0, v0, v0);
+    check_with(r, 1, v0, Entry::Constant(3), zero);
+    check_with(r, 2, zero, zero, zero);
+    compare_all(queries::dependent(r));
+    compare_with(queries::spoilt(r), 8);
+}

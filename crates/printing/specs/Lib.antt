@@ -1,0 +1,4 @@
+-- Numbers in decimal.
+pub mod Decimal
+-- What contracts of the functions cite: bytes that fit into a buffer and are written there.
+pub mod internal

@@ -1,5 +1,0 @@
--- The laws that the proofs of this crate share.
-pub mod Spelling
-pub mod Columns
-pub mod Search
-pub mod Obeys

@@ -1,0 +1,31 @@
+-- What the functions that write are given: stored rows, images and queries, and what may be listed.
+use mathlib.Core.Path.{_≡_}
+use mathlib.Core.Bool.{true}
+use mathlib.Core.List.{List}
+use Prim.Native.Nat.{ℕ, _+_, _≤_, _<_}
+use lib.ListN.{length, take}
+use Rattle.query.specs.declared.Cell.{Cell}
+use Rattle.query.specs.declared.Query.{Query}
+use Rattle.query.specs.View.{entriesOf}
+use Rattle.lists.specs.Tests.{every}
+use Rattle.query.specs.Rule.{goodRelations, goodCell, goodQuery, headSafe}
+use Rattle.theory.specs.Query as theory
+use Rattle.text.specs.Text.{passing, placeRoom}
+
+-- The row of a relation with the entries that some cells stand for
+abbrev pub rowOfCells : ℕ → List Cell → theory.Row theory.Entry
+rowOfCells relation cells = record { relation = relation; values = entriesOf cells }
+
+-- The variables below 96 that stand in a row, ascending
+abbrev pub variablesInRows : theory.Query → List ℕ
+variablesInRows q = passing (λ v. theory.member v (theory.variablesOf (theory.rowEntries (q .rows)))) 0 96
+
+-- What may be listed: a place of the record, two good queries, the first with a safe head, images that are good entries, and a buffer with room for the text
+pub record Listable (buffer : List ℕ) (at place relations : ℕ) (widths : List ℕ) (source result : Query) (images : List Cell) : Type 0 where
+  pub room : at + placeRoom ≤ length buffer
+  pub place-known : place < 8
+  pub relations-good : goodRelations relations widths ≡ true
+  pub source-good : goodQuery (take relations widths) source ≡ true
+  pub source-safe : headSafe (take relations widths) source ≡ true
+  pub result-good : goodQuery (take relations widths) result ≡ true
+  pub images-good : every goodCell images ≡ true

@@ -1,0 +1,57 @@
+-- A database as words: each row is its relation's number and then its values, one a column.
+-- `rowsOf` reads the rows, `spellsRows` judges the words (refusal 9), and `Spells` is what the two are: `proofs/Spelling` shows it.
+use mathlib.Core.Path.{_≡_}
+use mathlib.Core.Bool.{Bool, true, false, _&&_}
+use mathlib.Core.List.{List, [], _∷_, _++_}
+use Prim.Native.Nat.{ℕ, zero, suc, _+_, _≤_, _<_}
+use lib.Dec.{ltb}
+use lib.ListN.{length, take, drop, getD}
+use Rattle.theory.specs.Query.{Row}
+use Rattle.theory.specs.Database.{Database, Sound}
+
+-- The words of some rows, row by row
+unfoldable pub wordsOf : Database → List ℕ
+wordsOf [] = []
+wordsOf (r ∷ rs) = r .relation ∷ (r .values ++ wordsOf rs)
+
+-- The words spell the rows: they are the rows' words, and each row is of a known relation and of its width
+abbrev pub Spells : List ℕ → List ℕ → Database → Type 0
+Spells schema words D = (wordsOf D ≡ words) × Sound schema D
+
+-- The rows that words spell, where `due` values of the row before are still to come
+unfoldable pub rowsFrom : List ℕ → ℕ → List ℕ → Database
+rowsFrom schema due [] = []
+rowsFrom schema zero (relation ∷ words) =
+    record { relation = relation; values = take (getD schema relation 0) words } ∷ rowsFrom schema (getD schema relation 0) words
+rowsFrom schema (suc due) (word ∷ words) = rowsFrom schema due words
+
+-- Whether words spell rows, where `due` values of the row before are still to come: each relation is known, and no row is cut short
+unfoldable pub spellsRowsFrom : List ℕ → ℕ → List ℕ → Bool
+spellsRowsFrom schema zero [] = true
+spellsRowsFrom schema (suc due) [] = false
+spellsRowsFrom schema zero (relation ∷ words) = ltb relation (length schema) && spellsRowsFrom schema (getD schema relation 0) words
+spellsRowsFrom schema (suc due) (word ∷ words) = spellsRowsFrom schema due words
+
+-- The rows that words spell
+abbrev pub rowsOf : List ℕ → List ℕ → Database
+rowsOf schema words = rowsFrom schema 0 words
+
+-- Whether words spell rows: the opposite is refusal 9, a row of unknown relation or cut short
+abbrev pub spellsRows : List ℕ → List ℕ → Bool
+spellsRows schema words = spellsRowsFrom schema 0 words
+
+-- The row of the given width that begins at a word
+abbrev pub spanAt : ℕ → List ℕ → ℕ → Row ℕ
+spanAt width words at = record { relation = getD words at 0; values = take width (drop (suc at) words) }
+
+-- The row that begins at a word
+abbrev pub rowAt : List ℕ → List ℕ → ℕ → Row ℕ
+rowAt schema words at = spanAt (getD schema (getD words at 0) 0) words at
+
+-- The row at `at` ends before `after`, and the rows go on there
+pub record Next (schema words : List ℕ) (at after : ℕ) : Type 0 where
+  pub place : after ≡ at + 1 + getD schema (getD words at 0) 0
+  pub fits : after ≤ length words
+  pub known : getD words at 0 < length schema
+  pub read : rowsOf schema (drop at words) ≡ rowAt schema words at ∷ rowsOf schema (drop after words)
+  pub good : spellsRows schema (drop after words) ≡ true
