@@ -1,4 +1,4 @@
-"""Every call of the engine: document 01's examples, its refusals, random records, hostile arguments."""
+"""Every call of the engine: the reference examples, the refusals, random records, hostile arguments."""
 
 import ctypes
 import random
