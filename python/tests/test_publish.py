@@ -46,7 +46,7 @@ class Definitions(unittest.TestCase):
     def test_random_archives(self):
         rng = random.Random(3)
         needed = 0
-        for _ in range(12):
+        for _ in range(8 * context.MANY):
             record = context.random_record(rng, most_width=3, most_relations=2, most_dependencies=8)
             for one in define_all(record, Names.default(record.widths)):
                 short = record.shorten(one.place)
@@ -100,7 +100,7 @@ class Definitions(unittest.TestCase):
     def test_rule_of_any_place(self):
         """A rule needs no vacant place, and its definition is that of the same query in a place."""
         rng = random.Random(4)
-        for _ in range(5):
+        for _ in range(3 * context.MANY):
             record = context.random_record(rng, most_width=3, most_relations=2, most_dependencies=8)
             names = Names.default(record.widths)
             for place, query in enumerate(record.queries):
