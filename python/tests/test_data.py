@@ -16,7 +16,7 @@ from pathlib import Path
 
 import context
 from spernevan import Broken, Constant, DataError, Query, Record, Row, Table, pack, read_database
-from spernevan.data import Progress
+from spernevan.data import Progress, matched
 from spernevan.notation import format_datum
 from test_command import Command, run
 
@@ -117,6 +117,13 @@ class Files(Data):
             for position in range(len(plain)):
                 where, relation, values = plain.stands(position)
                 self.assertTrue(text.splitlines()[int(where.rsplit(":", 1)[1]) - 1].startswith(self.names.tables[relation].name))
+
+    def test_names_that_match(self):
+        for held, wanted in (("Launch time", 0), (" LAUNCH-TIME ", 0), ("launch", None), ("launch time 2", None)):
+            self.assertEqual(matched("launch_time", [held], "the tables"), wanted)
+        self.assertEqual(matched("launch_time", ["Launch time", "launch_time"], "the tables"), 1)
+        with self.assertRaisesRegex(DataError, "launch_time is there 2 times"):
+            matched("launch_time", ["Launch time", "Launch-time"], "the tables")
 
     def test_standard_input(self):
         program = [sys.executable, str(context.HERE.parent / "program")]
