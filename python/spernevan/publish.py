@@ -265,7 +265,7 @@ def add_commands(subparsers: Any, load: Load) -> None:
         return 0
 
     made = command("define", define_command, "print a query's definition: tables, dependencies, both forms, mapping")
-    made.add_argument("query", metavar="PLACE|RULE", help="a place, 0 to 7, or a rule, 'ans(x) :- ..', or - for a rule on standard input")
+    made.add_argument("query", metavar="QUERY", help="a place, 0 to 7, or a rule, 'ans(x) :- ..', or - for a rule on standard input")
     add_shape(made)
     made = command("page", page_command, "make an HTML page of all saved queries, their short forms and containments")
     made.add_argument("--title", metavar="TITLE", help="the page's title (the name of FILE if not given)")
