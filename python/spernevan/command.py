@@ -90,8 +90,8 @@ def usage() -> argparse.ArgumentParser:
     query = "a place, 0 to 7, or a rule, 'ans(x) :- ..', or - for a rule on standard input"
     for_programs = "print JSON, for programs"
 
-    made = on_file("list", list_command, "print each saved query, its short form, the mapping and the count")
-    made.add_argument("--json", action="store_true", help=for_programs)
+    made = on_file("list", list_command, "print each saved query, its short form, the mapping and the count, or definitions in LaTeX, SQL or JSON")
+    publish.add_shape(made, json_too=True)
     made = on_file("show", show_command, "print an archive as text, or some of its queries, or rules, with their short forms")
     made.add_argument("query", metavar="QUERY", nargs="*", type=place_or_rule, help=query)
     made.add_argument("--json", action="store_true", help=for_programs)

@@ -14,6 +14,7 @@ from .files import FILE_BYTES, Failure, is_text, names_path, read_bytes, read_na
 from .layout import answer_columns, comparison_json, reduction_json, set_mapping, set_reduction, set_tables, write_answers
 from .model import FROZEN, PLACES
 from .notation import Names, NotationError, Reader, constants, count, format_columns, format_datum, format_dependency, format_query, parse_rule
+from .publish import define_all, render, shape_of
 from .record import Asked, Broken, Comparison, Record
 from .sources import read_database
 from .text import pack, unpack
@@ -142,6 +143,11 @@ class Subject:
 
 def list_command(options: Options) -> int:
     record, names = load(options)
+    if options.format != "text" or options.form is not None:
+        if options.json:
+            raise Failure("--form does not go with --json; it goes with --format json")
+        print(render(define_all(record, names, names.values.decode), *shape_of(options)), end="")
+        return YES
     found = [Subject(record, place, options.file, "") for place in record.filled()]
     if options.json:
         shapes = [{"place": one.asked, **reduction_json(one.query, record.shorten(one.asked), names, one.variables)} for one in found]

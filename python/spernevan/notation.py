@@ -37,6 +37,7 @@ from .scan import NotationError, Reader, Token, count
 from .values import Value, Values, format_value
 
 _NUMBERED = re.compile(r"v[0-9]+")
+_VARIABLES = frozenset(f"v{number}" for number in range(VARIABLES))
 
 
 # ---- names
@@ -268,7 +269,7 @@ def read_rule(reader: Reader, names: Names) -> Tuple[Query, Dict[int, str]]:
         if token.kind != "name":
             return Constant(names.values.encode(reader.value("a variable or a value")))
         reader.take("name")
-        if _NUMBERED.fullmatch(token.text) and token.text not in {f"v{n}" for n in range(VARIABLES)}:
+        if _NUMBERED.fullmatch(token.text) and token.text not in _VARIABLES:
             raise reader.error(token, f"variables with numbers go from v0 to v{VARIABLES - 1}")
         return token
 

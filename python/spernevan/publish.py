@@ -14,7 +14,7 @@ from typing import Any, Callable, Dict, List, Optional, Sequence, Tuple
 
 from . import latex, sql
 from .definition import Decode, Definition, Writer, define, define_all, define_query, itself, variable_text
-from .files import standard_input, text_of, write_files
+from .files import Failure, standard_input, text_of, write_files
 from .model import Constant, Dependency, Entry, Query
 from .notation import Names, format_dependency, parse_rule
 from .page import page
@@ -221,6 +221,23 @@ def write_out(text: str, path: Optional[str]) -> None:
     write_files([(path, text.encode())])
 
 
+def add_shape(made: argparse.ArgumentParser, json_too: bool = False) -> None:
+    """Adds the options that say what is printed of a definition; with `--json` beside them if it is asked for."""
+    group = made.add_mutually_exclusive_group()
+    if json_too:
+        group.add_argument("--json", action="store_true", help="print JSON, for programs")
+    group.add_argument("--format", choices=FORMATS, default="text", help="what to print (text if not given)")
+    made.add_argument("--form", choices=sql.FORMS, help="only this form; SQL is of the short form if not given")
+    made.add_argument("--dialect", choices=sql.DIALECTS, default="sqlite", help="of SQL (sqlite if not given)")
+    made.add_argument("--without-null", action="store_true", help="SQL that passes over rows with a NULL")
+    made.add_argument("--fragment", action="store_true", help="LaTeX to be \\input, not a document")
+
+
+def shape_of(options: argparse.Namespace) -> Tuple[str, Optional[str], str, bool, bool]:
+    """What those options say, for `render` and `render_one`."""
+    return options.format, options.form, options.dialect, options.fragment, options.without_null
+
+
 def add_commands(subparsers: Any, load: Load) -> None:
     """Adds `define` and `page` to the command's parsers. `load` reads the archive that a command's options name."""
 
@@ -234,10 +251,11 @@ def add_commands(subparsers: Any, load: Load) -> None:
         return made
 
     def define_command(options: argparse.Namespace) -> int:
+        if options.file == options.query.strip() == "-":
+            raise Failure("standard input can be the archive or the rule, not both")
         record, names = load(options)
         definition = _defined(options.query, record, names, names.values.decode)
-        shape = options.format, options.form, options.dialect, options.fragment, options.without_null
-        write_out(render_one(definition, *shape), options.output)
+        write_out(render_one(definition, *shape_of(options)), options.output)
         return 0
 
     def page_command(options: argparse.Namespace) -> int:
@@ -247,12 +265,8 @@ def add_commands(subparsers: Any, load: Load) -> None:
         return 0
 
     made = command("define", define_command, "print a query's definition: tables, dependencies, both forms, mapping")
-    made.add_argument("query", metavar="PLACE|RULE", help="a place, 0 to 7, or a rule, 'ans(x) :- ..', or - for a rule on standard input")
-    made.add_argument("--format", choices=FORMATS, default="text", help="what to print (text if not given)")
-    made.add_argument("--form", choices=sql.FORMS, help="only this form; SQL is of the short form if not given")
-    made.add_argument("--dialect", choices=sql.DIALECTS, default="sqlite", help="of SQL (sqlite if not given)")
-    made.add_argument("--without-null", action="store_true", help="SQL that passes over rows with a NULL")
-    made.add_argument("--fragment", action="store_true", help="LaTeX to be \\input, not a document")
+    made.add_argument("query", metavar="QUERY", help="a place, 0 to 7, or a rule, 'ans(x) :- ..', or - for a rule on standard input")
+    add_shape(made)
     made = command("page", page_command, "make an HTML page of all saved queries, their short forms and containments")
     made.add_argument("--title", metavar="TITLE", help="the page's title (the name of FILE if not given)")
 
@@ -268,11 +282,13 @@ def _defined(asked: str, record: Record, names: Names, decode: Decode) -> Defini
 
 __all__ = [
     "add_commands",
+    "add_shape",
     "define_all",
     "definition_json",
     "definition_text",
     "itself",
     "render",
     "render_one",
+    "shape_of",
     "write_out",
 ]

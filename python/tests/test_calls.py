@@ -1,4 +1,4 @@
-"""Every call of the engine: document 01's examples, its refusals, random records, hostile arguments."""
+"""Every call of the engine: the reference examples, the refusals, random records, hostile arguments."""
 
 import ctypes
 import random
@@ -11,7 +11,7 @@ from array import array
 from pathlib import Path
 
 import context
-from context import plain_answers, plain_obeys, random_data, random_query, random_record, rule
+from context import LONG, MANY, plain_answers, plain_obeys, random_data, random_query, random_record, rule
 from spernevan import Broken, Constant, Query, Record, Refused, Row, Variable, engine
 
 EXAMPLE = bytes.fromhex(
@@ -261,7 +261,7 @@ class Hostile(Calls):
     def test_any_bytes_are_a_record_or_refused(self):
         rng = random.Random(4)
         accepted = 0
-        for _ in range(3000):
+        for _ in range(1000 * MANY):
             file = bytearray(EXAMPLE)
             for _ in range(rng.randint(0, 3)):
                 file[rng.randrange(len(file))] = rng.choice([0, 1, 2, 3, 7, 8, 255, rng.randrange(256)])
@@ -281,7 +281,7 @@ class Hostile(Calls):
 class Random(Calls):
     def test_contents(self):
         rng = random.Random(5)
-        for _ in range(60):
+        for _ in range(30 * MANY):
             widths = [rng.randint(1, 8) for _ in range(rng.randint(1, 8))]
             record = Record.open(widths)
             self.assertEqual(record.widths, tuple(widths))
@@ -297,7 +297,7 @@ class Random(Calls):
     def test_files(self):
         rng = random.Random(6)
         with tempfile.TemporaryDirectory() as folder:
-            for number in range(20):
+            for number in range(10 * MANY):
                 record = random_record(rng)
                 path = Path(folder, f"{number}.file")
                 record.write(path)
@@ -318,7 +318,7 @@ class Random(Calls):
     def test_reductions_and_comparisons(self):
         rng = random.Random(7)
         seen = set()
-        for _ in range(120):
+        for _ in range(80 * MANY):
             record = random_record(rng, 3, 2, 3, most_rows=5, most_head=2, numbers=rng.choice([5, 96]))
             for place, query in enumerate(record.queries):
                 if query is None:
@@ -352,7 +352,7 @@ class Random(Calls):
     def test_databases(self):
         rng = random.Random(8)
         broken = 0
-        for _ in range(150):
+        for _ in range(50 * MANY):
             record = random_record(rng, 3, 2, 3, most_rows=3, most_head=3)
             rows = random_data(rng, record.widths, values=rng.choice([2, 3]))
             found = plain_obeys(record, rows)
@@ -366,7 +366,7 @@ class Random(Calls):
                 if found is None:
                     short = record.shorten(place)
                     self.assertEqual(plain_answers(short.result, rows), answers)
-        self.assertGreater(broken, 20)
+        self.assertGreater(broken, 7)
 
     def test_many_answers(self):
         record = Record.open([2])
@@ -402,7 +402,8 @@ class Random(Calls):
             for y, z in right:
                 after.setdefault(y, set()).add(z)
             both = {(z, x) for x, y in left for z in after.get(y, ())}
-            self.assertEqual(joined.evaluate(0, rows), sorted(both))
+            if n < 65600 or LONG:
+                self.assertEqual(joined.evaluate(0, rows), sorted(both))
             self.assertEqual(joined.evaluate(1, rows), sorted({(z,) for z, _ in both}))
             self.assertEqual(joined.evaluate(2, rows), [()] if any(x in after.get(y, ()) for x, y in left) else [])
             reached = {x for x, _ in left}
@@ -464,7 +465,7 @@ class Listing(Calls):
         if not program.exists() and not context.ALL:
             self.skipTest("target/bin/listing is not there; rt check listing makes it")
         rng = random.Random(11)
-        for _ in range(40):
+        for _ in range(20 * MANY):
             record = random_record(rng, 4, 3, 4, most_rows=7, most_head=3)
             done = subprocess.run([program], input=record.file, capture_output=True)
             self.assertEqual(done.stdout.decode(), self.listed(record))

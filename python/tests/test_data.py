@@ -4,7 +4,6 @@ import csv
 import importlib.util
 import io
 import json
-import os
 import random
 import sqlite3
 import subprocess
@@ -17,7 +16,7 @@ from pathlib import Path
 
 import context
 from spernevan import Broken, Constant, DataError, Query, Record, Row, Table, pack, read_database
-from spernevan.data import Progress
+from spernevan.data import Progress, matched
 from spernevan.notation import format_datum
 from test_command import Command, run
 
@@ -105,7 +104,7 @@ class Files(Data):
         """Rows that stand in one line are read apart from the others; both ways give the same."""
         rng = random.Random(13)
         cells = ["7", "007", "0", "-3", "12.50", "'a, b'", "'it''s'", '"x\\ny"', "2026-01-14", "4294967295", "1e3", "2147483647"]
-        for _ in range(60):
+        for _ in range(30 * context.MANY):
             lines = []
             for _ in range(rng.randint(0, 12)):
                 table, width = rng.choice([("flight", 3), ("burst", 2)])
@@ -118,6 +117,13 @@ class Files(Data):
             for position in range(len(plain)):
                 where, relation, values = plain.stands(position)
                 self.assertTrue(text.splitlines()[int(where.rsplit(":", 1)[1]) - 1].startswith(self.names.tables[relation].name))
+
+    def test_names_that_match(self):
+        for held, wanted in (("Launch time", 0), (" LAUNCH-TIME ", 0), ("launch", None), ("launch time 2", None)):
+            self.assertEqual(matched("launch_time", [held], "the tables"), wanted)
+        self.assertEqual(matched("launch_time", ["Launch time", "launch_time"], "the tables"), 1)
+        with self.assertRaisesRegex(DataError, "launch_time is there 2 times"):
+            matched("launch_time", ["Launch time", "Launch-time"], "the tables")
 
     def test_standard_input(self):
         program = [sys.executable, str(context.HERE.parent / "program")]
@@ -377,7 +383,7 @@ class Random(Data):
         rng = random.Random(14)
         pool = ["Lindenberg", 'it\'s, "so"', Decimal("12.5"), date(2026, 1, 14), 7, -1, 2**31, "007", 2_000_000_000, "a\nb"]
         seen = set()
-        for number in range(40):
+        for number in range(20 * context.MANY):
             plain = context.random_record(rng, 3, 2, 2, most_rows=3, most_head=3, constants=len(pool))
             rows = context.random_data(rng, plain.widths, values=len(pool), most_rows=25)
             named = Record.open(plain.widths)
@@ -457,14 +463,14 @@ class Large(Data):
         database = read_database([cells], self.names)
         self.assertLess(time.process_time() - start, 5)
         self.assertEqual((len(database), len(database.words)), (2 * n, 7 * n))
-        first = next(position for position in range(0, 2 * n, 1000) if database.stands(position).relation == 1)
+        first = 0 if database.stands(0).relation == 1 else n
         self.assertEqual(
             database.stands(first + 70_001),
-            (f"{cells}/burst.csv:{first % n + 70_003}", 1, (first % n + 70_001, Decimal(f"{(first % n + 70_001) % 977}.5"))),
+            (f"{cells}/burst.csv:70003", 1, (70_001, Decimal(f"{70_001 % 977}.5"))),
         )
         self.assertIsNone(self.record.test(database))
 
-    @unittest.skipUnless(os.environ.get("SPERNEVAN_TEST_LONG"), "takes a minute; SPERNEVAN_TEST_LONG=1 runs it")
+    @unittest.skipUnless(context.LONG, "takes a minute; SPERNEVAN_TEST_LONG=1 runs it")
     def test_a_million_rows(self):
         """A million rows in seconds, from each kind of file, with texts, dates and as many different keys as rows."""
         n = 500_000

@@ -48,7 +48,7 @@ class Rules(unittest.TestCase):
 
     def test_print_and_parse(self):
         rng = random.Random(2)
-        for _ in range(500):
+        for _ in range(150 * context.MANY):
             widths = [rng.randint(1, 8) for _ in range(rng.randint(1, 8))]
             names = Names.default(widths)
             query = context.random_query(rng, widths, constants=rng.choice([0, 3]))
@@ -108,7 +108,7 @@ class Rules(unittest.TestCase):
     def test_any_text_is_a_rule_or_an_error(self):
         rng = random.Random(3)
         words = "ans ( ) , :- -> : x v0 v99 7 _ never burst flight # é \0".split(" ") + [" ", "\n"]
-        for _ in range(5000):
+        for _ in range(2000 * context.MANY):
             text = "".join(rng.choice(words) for _ in range(rng.randint(0, 25)))
             try:
                 query = parse_query(text, NAMES)

@@ -116,7 +116,7 @@ class Page(unittest.TestCase):
 
     def test_random_archives(self):
         rng = random.Random(11)
-        for _ in range(6):
+        for _ in range(3 * context.MANY):
             record = context.random_record(rng)
             self.check(record, Names.default(record.widths))
 

@@ -138,43 +138,46 @@ class Program(unittest.TestCase):
 
 @context.with_engine
 class Install(unittest.TestCase):
-    """The wheel, in a fresh environment without this folder."""
+    """The wheel, and then the folder in its stead, in a fresh environment without this folder."""
 
     def setUp(self):
         folder = tempfile.TemporaryDirectory()
         self.addCleanup(folder.cleanup)
         self.folder = Path(folder.name)
-        pip = subprocess.run([sys.executable, "-m", "pip", "--python", sys.executable, "--version"], capture_output=True)
-        if pip.returncode != 0:
-            self.skipTest("pip is not here, or does not know --python")
-        subprocess.run([sys.executable, "-m", "venv", "--without-pip", str(self.folder / "venv")], check=True)
+
+    def pip(self, *arguments):
+        quiet = {**os.environ, "PIP_DISABLE_PIP_VERSION_CHECK": "1", "PIP_ROOT_USER_ACTION": "ignore"}
+        environment = self.folder / "venv" / "bin" / "python"
+        return subprocess.run([sys.executable, "-m", "pip", "--python", str(environment), *arguments], capture_output=True, text=True, env=quiet)
 
     def tried(self, what):
-        pip = [sys.executable, "-m", "pip", "--python", str(self.folder / "venv" / "bin" / "python")]
-        quiet = {**os.environ, "PIP_DISABLE_PIP_VERSION_CHECK": "1", "PIP_ROOT_USER_ACTION": "ignore"}
-        subprocess.run([*pip, "install", "--quiet", "--no-index", str(what)], check=True, env=quiet)
+        done = self.pip("install", "--quiet", "--no-index", "--force-reinstall", str(what))
+        self.assertEqual(done.returncode, 0, done.stdout + done.stderr)
         program = self.folder / "venv" / "bin" / "spernevan"
         bare = {"PATH": "/nowhere"}
-        for name in ("flights.file", "flights.names", "flights.data"):
-            shutil.copy(context.SAMPLES / name, self.folder)
         done = subprocess.run([program, "evaluate", "flights.file", "5", "flights.data"], capture_output=True, cwd=self.folder, env=bare)
         self.assertEqual((done.returncode, done.stdout, done.stderr), (0, b"ans(101, 31200)\nans(102, 29850)\n# 2 answers\n", b""))
         code = "import spernevan; print(spernevan.__file__, spernevan.__version__)"
         done = subprocess.run(
             [self.folder / "venv" / "bin" / "python", "-c", code], capture_output=True, text=True, cwd=self.folder, env=bare, check=True
         )
-        return done.stdout
+        self.assertTrue(done.stdout.startswith(str(self.folder / "venv")))
 
-    def test_the_wheel(self):
+    def test_the_wheel_and_the_folder(self):
+        subprocess.run([sys.executable, "-m", "venv", "--without-pip", str(self.folder / "venv")], check=True)
+        if self.pip("--version").returncode != 0:
+            self.skipTest("pip is not here, or does not know --python")
+        for name in ("flights.file", "flights.names", "flights.data"):
+            shutil.copy(context.SAMPLES / name, self.folder)
         made = subprocess.run([str(context.HERE.parent / "wheel"), str(self.folder / "dist")], check=True, capture_output=True, text=True)
         path = made.stdout.strip()
         self.assertTrue(path.endswith("-py3-none-linux_x86_64.whl"))
-        self.assertTrue(self.tried(path).startswith(str(self.folder / "venv")))
-
-    def test_from_the_folder(self):
+        self.tried(path)
         copy = self.folder / "python"
         shutil.copytree(context.HERE.parent, copy, ignore=shutil.ignore_patterns("__pycache__", "tests", "dist"))
-        self.assertTrue(self.tried(copy).startswith(str(self.folder / "venv")))
+        # so that it is seen that what is tried comes from the folder
+        shutil.rmtree(self.folder / "dist")
+        self.tried(copy)
 
 
 class Types(unittest.TestCase):

@@ -46,7 +46,7 @@ class Definitions(unittest.TestCase):
     def test_random_archives(self):
         rng = random.Random(3)
         needed = 0
-        for _ in range(12):
+        for _ in range(8 * context.MANY):
             record = context.random_record(rng, most_width=3, most_relations=2, most_dependencies=8)
             for one in define_all(record, Names.default(record.widths)):
                 short = record.shorten(one.place)
@@ -100,7 +100,7 @@ class Definitions(unittest.TestCase):
     def test_rule_of_any_place(self):
         """A rule needs no vacant place, and its definition is that of the same query in a place."""
         rng = random.Random(4)
-        for _ in range(5):
+        for _ in range(3 * context.MANY):
             record = context.random_record(rng, most_width=3, most_relations=2, most_dependencies=8)
             names = Names.default(record.widths)
             for place, query in enumerate(record.queries):
@@ -203,6 +203,22 @@ class Commands(unittest.TestCase):
             with self.assertRaises(ValueError):
                 publish.render(found, **wrong)
 
+    def test_list(self):
+        """`list --format` has the definitions of all places; as text and with --json it is as without."""
+        each = [json.loads(self.done("define", FLIGHTS, place, "--format", "json")) for place in (0, 1, 2, 3, 5, 6)]
+        self.assertEqual(json.loads(self.done("list", FLIGHTS, "--format", "json")), each)
+        found = self.done("list", FLIGHTS, "--format", "sql", "--form", "long", "--dialect", "postgresql")
+        self.assertIn("-- Place 2, long form\n" + self.done("define", FLIGHTS, 2, "--format", "sql", "--form", "long"), found)
+        whole = self.done("list", FLIGHTS, "--format", "latex")
+        self.assertTrue(whole.startswith("\\documentclass") and whole.count("Short form") == 6)
+        self.assertNotIn("\\documentclass", self.done("list", FLIGHTS, "--format", "latex", "--fragment"))
+        self.assertIn("\n\nans(f, low, low) :- burst(f, low)\n\n", self.done("list", FLIGHTS, "--form", "short"))
+        self.assertEqual(self.done("list", FLIGHTS, "--format", "text"), self.done("list", FLIGHTS))
+        self.assertEqual([one["place"] for one in json.loads(self.done("list", FLIGHTS, "--json"))], [0, 1, 2, 3, 5, 6])
+        self.assertEqual(self.done("list", FLIGHTS, "--plain", "--format", "sql").count('"R4"'), 4)
+        for wrong in (["--json", "--format", "sql"], ["--json", "--form", "short"]):
+            self.assertEqual(run("list", FLIGHTS, *wrong)[:2], (2, ""))
+
     def test_output(self):
         out = self.folder / "page.html"
         self.assertEqual(self.done("page", FLIGHTS, "-o", out), "")
@@ -246,6 +262,7 @@ class Commands(unittest.TestCase):
         ]:
             status, out, err = run("define", FLIGHTS, *arguments)
             self.assertTrue(status and not out and err.count("\n") == 1 and message in err, err)
+        self.assertEqual(run("define", "-", "-"), (2, "", "spernevan: standard input can be the archive or the rule, not both\n"))
         for arguments in (["define", FLIGHTS], ["define", FLIGHTS, 0, "--format", "pdf"], ["define", FLIGHTS, 0, "--dialect", "x"]):
             self.assertEqual(run(*arguments)[0], 2)
 

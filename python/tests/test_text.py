@@ -39,7 +39,7 @@ class Text(unittest.TestCase):
 
     def test_round_trip_to_the_byte(self):
         rng = random.Random(9)
-        for _ in range(80):
+        for _ in range(12 * context.MANY):
             record = context.random_record(rng, constants=rng.choice([0, 3]))
             plain = Names.default(record.widths)
             again, _ = pack(unpack(record, plain))
@@ -104,7 +104,7 @@ class Text(unittest.TestCase):
     def test_any_text_is_a_record_or_an_error(self):
         rng = random.Random(10)
         words = SMALL.replace("(", " ( ").replace(")", " ) ").replace(",", " , ").split(" ")
-        for _ in range(3000):
+        for _ in range(600 * context.MANY):
             mixed = list(words)
             for _ in range(rng.randint(1, 3)):
                 at = rng.randrange(len(mixed))
