@@ -43,8 +43,8 @@ use Rattle.theory.specs.Reduction.{Reduction}
 abbrev pub InOrder : List Condition → Type 0
 InOrder conditions = follows (map (λ c. c .1) conditions) order ≡ true
 
--- Each call's promise is an equation with the first of its conditions that holds, so a refusal comes exactly when a condition holds, and with the first number.
--- These are the conditions of the calls, and each list is in order
+-- The promise of each of these calls refuses with the first of its conditions that holds, and with none where none holds; here it is said that each list of
+-- conditions is in order. Reading and writing have their order in their own definitions, `readFile` and `written`
 pub record AsksInOrder : Type 0 where
   pub opens : (widths : List ℕ) → InOrder (openConditions widths)
   pub adds : (r : Record) (d : Dependency) → InOrder (addConditions r d)

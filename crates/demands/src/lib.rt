@@ -1,5 +1,5 @@
 // The three demands (SPECIFICATION, The demands) as contracts on the public calls. Each function makes one call and adds nothing; its contract is the demand.
-// Demand 1 for all calls is in specs/Demands, beside the calls' own contracts, which are equations.
+// Demand 1 is in the calls' own contracts; that their conditions are asked in order is in specs/Demands.
 use comparison::Comparison;
 use database::Answered;
 use record::Record;
