@@ -105,7 +105,7 @@ def read_names_beside(file: Path, data: bytes, given: Optional[Path] = None) -> 
     if found.checksum is not None and found.checksum != checksum(data):
         raise Failure(
             f"{path}: these names were written for another state of {shown(file)}: its checksum is not the one in the line archive. "
-            f"Put back the file that goes with them, or pack its text again; --plain goes without names"
+            f"Put back the file that goes with them, or remove them and pack its text again; --plain goes without names"
         )
     return found
 

@@ -12,7 +12,7 @@ from typing import Any, Dict, FrozenSet, Iterable, List, Optional, Sequence, Tup
 from . import engine
 from .data import Database, of_python
 from .engine import Refused, Words
-from .files import FILE_BYTES, Path, checksum, is_text, names_path, read_bytes, read_names_beside, shown, write_files
+from .files import FILE_BYTES, Failure, Path, checksum, is_text, names_path, read_bytes, read_names_beside, read_text, shown, write_files
 from .model import (
     BYTE,
     FROZEN,
@@ -35,7 +35,7 @@ from .model import (
     mask_of,
     whole,
 )
-from .notation import Names, Table, constants, count, format_names, parse_dependencies, parse_rule
+from .notation import Names, NotationError, Table, constants, count, format_names, parse_dependencies, parse_rule, read_names_file
 from .values import Value
 
 # A row of a database: the number of its relation, and its values.
@@ -90,6 +90,26 @@ class Broken:
     dependency: int
     first: int
     second: int
+
+
+def _is_archive(file: bytes) -> bool:
+    """Whether bytes are an archive file."""
+    try:
+        engine.read(file)
+    except Refused:
+        return False
+    return True
+
+
+def _may_be_replaced(names: str, path: Path, before: Optional[bytes]) -> None:
+    """ValueError unless a names file is the one of the archive file at a path, which had these bytes; None if there was none."""
+    cure = "write elsewhere, or remove it first"
+    try:
+        found = read_names_file(read_text(names), names)
+    except (Failure, NotationError):
+        raise ValueError(f"{names} is no names file, and the names of {path} would replace it: {cure}") from None
+    if not before or found.checksum not in (None, checksum(before)):
+        raise ValueError(f"{names} has the names of another archive file, which those of {path} would replace: {cure}")
 
 
 class Record:
@@ -150,17 +170,23 @@ class Record:
     def write(self, path: Path) -> None:
         """Writes the archive file, and the names file beside it if there are names: both, or neither.
 
-        Those that are there already are replaced. ValueError if the file to be replaced is a text, or if
-        there is a names file and this record has no names of its own.
+        Those that are there already are replaced. ValueError if the file to be replaced is no archive file, if
+        there is a names file that belongs to another archive, and if there is one and this record has no names
+        of its own.
         """
         beside = names_path(path)
         if os.path.realpath(beside) == os.path.realpath(path):
             raise ValueError(f"{path} is a name for a names file; an archive file has another ending, such as .file")
-        if os.path.isfile(path) and is_text(read_bytes(path, FILE_BYTES)):
+        before = read_bytes(path) if os.path.isfile(path) else None
+        if before and is_text(before):
             raise ValueError(f"{path} is a text, which an archive file does not replace: write elsewhere, or remove it first")
+        if before and not _is_archive(before):
+            raise ValueError(f"{path} is no archive file, and an archive file does not replace it: write elsewhere, or remove it first")
         files = [(path, engine.write(self.file))]
         names = self.own_names()
         if self._named or not names.is_default():
+            if os.path.isfile(beside):
+                _may_be_replaced(beside, path, before)
             files.append((beside, format_names(names, checksum(self.file)).encode()))
         elif os.path.lexists(beside):
             raise ValueError(

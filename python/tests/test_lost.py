@@ -114,6 +114,23 @@ class Writing(Lost):
         self.done("unpack", self.file, fresh)
         self.assertEqual(pack(fresh.read_text())[0].file, self.file.read_bytes())
 
+    def test_the_names_of_another_archive_are_not_replaced(self):
+        self.done("put", self.file, 3, "ans(a) :- flight(a, 'Lindenberg')")
+        self.before = self.state()
+        other = self.folder / "a.other"
+        for arguments in (["drop", self.file, 3, "-o", other], ["pack", self.new, other]):
+            self.failed(f"{self.names} has the names of another archive file, which those of {other} would replace: ", *arguments)
+        with self.assertRaisesRegex(ValueError, "the names of another archive file"):
+            Record.read(self.file).write(other)
+        self.unchanged()
+        self.done("pack", self.new, self.file)
+        self.file.write_bytes(pack(OLD)[0].file)
+        self.failed(f"{self.names} has the names of another archive file", "pack", self.new, self.file)
+        self.names.write_text("Ada, Grace\n")
+        self.failed(f"{self.names} is no names file, and the names of {self.file} would replace it", "pack", self.new, self.file)
+        self.names.unlink()
+        self.done("pack", self.new, self.file)
+
     def test_rights_and_links_stay(self):
         self.file.chmod(0o640)
         link = self.folder / "link.file"
