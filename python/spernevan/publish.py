@@ -8,13 +8,14 @@ from __future__ import annotations
 import argparse
 import json
 import os
+import re
 import sys
 import textwrap
 from typing import Any, Callable, Dict, List, Optional, Sequence, Tuple
 
 from . import latex, sql
 from .definition import Decode, Definition, Writer, define, define_all, define_query, itself, variable_text
-from .files import Failure, standard_input, text_of, write_files
+from .files import FILE_BYTES, Failure, read_bytes, standard_input, text_of, write_files
 from .model import Constant, Dependency, Entry, Query
 from .notation import Names, format_dependency, parse_rule
 from .page import page
@@ -213,11 +214,30 @@ def _latex_of(definition: Definition, form: Optional[str]) -> str:
 # ---- the commands
 
 
+# How what `define` writes begins, in its formats and forms, and how a page does.
+_WRITTEN = re.compile(
+    r"""(?:Place\ [0-7]|Query)\n\ \ (?:Tables|Dependencies\ needed|Long\ form)
+    |ans\(
+    |(?:\\documentclass\{article\}\n\\begin\{document\}\n)?\\(?:begingroup\\raggedright\n|par\\nobreak\\noindent)
+    |SELECT\ (?:DISTINCT|1\ AS|NULL\ AS)\ 
+    |\{\n\ \ "(?:place|rule)":\ 
+    |<!DOCTYPE\ html>\n.*:\ saved\ queries\ and\ their\ short\ forms</title>""",
+    re.DOTALL | re.VERBOSE,
+)
+
+
 def write_out(text: str, path: Optional[str]) -> None:
-    """Prints the text; to a file if a path other than `-` is given, which is replaced only by the whole text."""
+    """Prints the text; to a file if a path other than `-` is given, which is replaced only by the whole text.
+
+    Failure if the file is there and does not begin as a definition or a page does.
+    """
     if path is None or path == "-":
         sys.stdout.write(text)
         return
+    if os.path.isfile(path):
+        before = read_bytes(path, FILE_BYTES).decode("utf-8", "replace")
+        if before and not _WRITTEN.match(before):
+            raise Failure(f"{path} is there already, and is no definition or page that could be replaced: write elsewhere, or remove it first")
     write_files([(path, text.encode())])
 
 

@@ -131,6 +131,13 @@ class Writing(Lost):
         self.names.unlink()
         self.done("pack", self.new, self.file)
 
+    def test_an_archive_replaces_an_archive_only(self):
+        other = self.write("a.db", b"SQLite format 3\0 and more")
+        self.before = self.state()
+        for arguments in (["pack", self.new, other], ["drop", self.file, 0, "-o", other]):
+            self.failed(f"{other} is no archive file, and an archive file does not replace it: write elsewhere, or remove it first", *arguments)
+        self.unchanged()
+
     def test_rights_and_links_stay(self):
         self.file.chmod(0o640)
         link = self.folder / "link.file"

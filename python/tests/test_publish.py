@@ -246,6 +246,26 @@ class Commands(unittest.TestCase):
         self.assertEqual(self.done("page", FLIGHTS, "-o", "/dev/null"), "")
         self.assertTrue(Path("/dev/null").is_char_device())
 
+    def test_files_of_others_are_not_replaced(self):
+        out = self.folder / "out"
+        for kind in ([], ["--format", "latex"], ["--format", "latex", "--fragment"], ["--format", "sql"], ["--format", "json"]):
+            for query in (1, "ans(f) :- burst(f, h)", "ans() :- burst(f, h)", "ans(7) :- burst(f, h)", "ans(_) :- never", "ans() :- never"):
+                for form in ([], ["--form", "long"]):
+                    arguments = ["define", FLIGHTS, query, *kind, *form, "-o", out]
+                    self.assertEqual((self.done(*arguments), self.done(*arguments)), ("", ""))
+        archive = self.folder / "a.file"
+        Record.read(FLIGHTS).write(archive)
+        for name, text in (("a.text", "flight(a)\n"), ("a.csv", "a,b\n"), ("a.html", "<!DOCTYPE html>\n<title>Mine</title>\n")):
+            (self.folder / name).write_text(text)
+        for name in ("a.file", "a.names", "a.text", "a.csv", "a.html"):
+            path = self.folder / name
+            before = path.read_bytes()
+            for arguments in (["define", archive, 0, "-o", path], ["page", archive, "-o", path]):
+                status, printed, err = run(*arguments)
+                self.assertEqual((status, printed, err.count("\n")), (2, "", 1))
+                self.assertIn(f"{path} is there already, and is no definition or page", err)
+            self.assertEqual(path.read_bytes(), before)
+
     def umask(self):
         mask = os.umask(0)
         os.umask(mask)
