@@ -25,8 +25,13 @@ class Failure(Exception):
 
 
 def names_path(file: Path) -> str:
-    """The names file that belongs to an archive file."""
-    return os.path.splitext(os.fspath(file))[0] + ".names"
+    """The names file that belongs to an archive file. That of a symbolic link is beside the file itself, unless only the link has one."""
+    beside = os.path.splitext(os.fspath(file))[0] + ".names"
+    if os.path.islink(file):
+        real = os.path.splitext(os.path.realpath(file))[0] + ".names"
+        if os.path.exists(real) or not os.path.exists(beside):
+            return real
+    return beside
 
 
 def checksum(file: bytes) -> str:

@@ -153,6 +153,28 @@ class Writing(Lost):
         self.done("pack", self.old, out)
         self.assertEqual(stat.S_IMODE(out.stat().st_mode), 0o640)
 
+    def test_names_go_with_the_file_and_not_with_a_link(self):
+        folder = self.folder / "links"
+        folder.mkdir()
+        link = folder / "link.file"
+        link.symlink_to(self.file)
+        self.done("put", link, 3, "ans(a) :- flight(a, 'Lindenberg')")
+        self.assertIn("'Lindenberg'", self.done("list", self.file))
+        self.assertEqual(self.done("unpack", self.file), self.done("unpack", link))
+        self.assertEqual(Record.read(link).names, Record.read(self.file).names)
+        self.assertEqual([path.name for path in folder.iterdir()], ["link.file"])
+        # A link to an archive whose names are only beside the link.
+        self.names.rename(folder / "link.names")
+        self.done("drop", link, 0)
+        self.assertIn("'Lindenberg'", self.done("list", link))
+        self.assertFalse(self.names.exists())
+        # One that leads nowhere yet.
+        ahead = folder / "ahead.file"
+        ahead.symlink_to(self.folder / "later.file")
+        self.done("pack", self.old, ahead)
+        self.done("list", self.folder / "later.file")
+        self.assertTrue((self.folder / "later.names").exists())
+
     def test_devices_are_written_as_they_are(self):
         done = subprocess.run([*PROGRAM, "unpack", str(self.file), "/dev/stdout"], capture_output=True)
         self.assertEqual((done.returncode, done.stderr), (0, b""))
