@@ -42,17 +42,19 @@ def load_record(file: str, names: Optional[str] = None, plain: bool = False) -> 
         record = Record(data)
     except Refused as refused:
         raise Failure(f"{shown(file)} is no archive file, and no text: {refused.meaning}") from None
-    if plain or (names is None and file == "-"):
+    if plain:
         return record, False
-    found = read_names_beside(file, data, names)
-    if found is None:
-        coded = [number for query in record.queries if query is not None for number in constants(query) if number >= FIRST_CODE]
-        if coded:
-            say(
-                f"spernevan: {shown(file)} has the constant {coded[0]} and no names file, {names_path(file)}, beside it: "
-                f"if it is a code for a text or a date, what it stands for is lost; --plain takes it for a number"
-            )
-    else:
+    codes = record.codes()
+    found = None if names is None and file == "-" else read_names_beside(file, data, names, codes)
+    lacking = codes if found is None else found.names.lacking(codes)
+    if lacking:
+        path = names or names_path(file)
+        no_file = "comes without its names" if file == "-" else f"no names file, {path}, beside it"
+        say(
+            f"spernevan: {shown(file)} has the constant {lacking[0]} and {no_file if found is None else f'{path} has no line for it'}: "
+            f"if it is a code for a text or a date, what it stands for is lost; --plain takes it for a number"
+        )
+    if found is not None:
         try:
             record = record.named(found.names)
             record.names

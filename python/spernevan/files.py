@@ -10,7 +10,7 @@ import signal
 import stat
 import sys
 from contextlib import contextmanager, nullcontext
-from typing import BinaryIO, Callable, ContextManager, Iterator, List, Optional, Sequence, Tuple, Union
+from typing import BinaryIO, Callable, ContextManager, Iterable, Iterator, List, Optional, Sequence, Tuple, Union
 
 from .notation import NamesFile, read_names_file
 
@@ -98,10 +98,10 @@ def is_text(data: bytes) -> bool:
     return True
 
 
-def read_names_beside(file: Path, data: bytes, given: Optional[Path] = None) -> Optional[NamesFile]:
+def read_names_beside(file: Path, data: bytes, given: Optional[Path] = None, codes: Iterable[int] = ()) -> Optional[NamesFile]:
     """The names file beside an archive file, or the one that is given; None if there is none.
 
-    Failure if it was written for an archive file of other bytes.
+    Failure if it was written for an archive file of other bytes, or lacks one of the codes that the archive has.
     """
     path = names_path(file) if given is None else os.fspath(given)
     if given is None and not os.path.exists(path):
@@ -112,6 +112,12 @@ def read_names_beside(file: Path, data: bytes, given: Optional[Path] = None) -> 
             f"{path}: these names were written for another state of {shown(file)}: its checksum is not the one in the line archive. "
             f"Put back the file that goes with them, or remove them and pack its text again; --plain goes without names"
         )
+    if found.checksum is not None:
+        for code in found.names.lacking(codes):
+            raise Failure(
+                f"{path}: these names are cut short: {shown(file)} has the constant {code}, and what it stands for is not here. "
+                f"Put back the whole names file, or remove it and pack the text of the archive again; --plain goes without names"
+            )
     return found
 
 

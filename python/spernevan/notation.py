@@ -83,6 +83,11 @@ class Names:
             variables[place] = named
         return Names(self.tables, variables, self.values)
 
+    def lacking(self, codes: Iterable[int]) -> List[int]:
+        """Those of the codes that have no entry."""
+        held = dict(self.values)
+        return [code for code in codes if code not in held]
+
     def fit(self, widths: Sequence[int]) -> None:
         """ValueError unless these are names for tables of these widths."""
         if len(self.tables) != len(widths):
@@ -181,21 +186,23 @@ class NamesFile(NamedTuple):
 def read_names_file(text: str, source: str) -> NamesFile:
     """A names file: the tables in their order, then for a place the names of its variables 0, 1, ..
 
-        archive '0f3a..'
+        archive '0f3a..', 3 lines
         flight(number, sonde, launch)
         0: f, s, v2, t
         2000000000 = 'Lindenberg'
 
     A variable that has no name is listed as v and its number. The first line is the checksum of the
-    archive file; the last says what a constant stands for.
+    archive file, and how many lines follow; the last says what a constant stands for.
     """
     reader = Reader(text, source)
     tables: List[Table] = []
     variables: Dict[int, Dict[int, str]] = {}
     values = Values()
     checksum: Optional[str] = None
+    lines = written = 0
     while not reader.at_end():
         start = reader.next
+        lines += 1
         if start.kind == "number" and reader.then.kind == "=":
             read_entry(reader, values)
         elif start.kind == "number":
@@ -208,9 +215,14 @@ def read_names_file(text: str, source: str) -> NamesFile:
                 raise reader.error(start, "there is a line archive already")
             reader.take("name")
             checksum = str(reader.value("a checksum"))
+            if reader.try_take(","):
+                written = reader.number("a count of lines", 10**9) + 1
+                reader.take("name", "'lines'")
         else:
             tables.append(read_table(reader, tables))
         reader.line_ends()
+    if lines < written or (checksum is not None and not text.endswith("\n")):
+        raise reader.error(reader.next, "this names file is cut short: put back the whole one, or pack the text of the archive again")
     return NamesFile(Names(tuple(tables), variables, values), checksum)
 
 
@@ -240,13 +252,13 @@ def _read_variable_names(reader: Reader) -> Dict[int, str]:
 
 def format_names(names: Names, checksum: Optional[str] = None) -> str:
     """A names file."""
-    lines = [] if checksum is None else [f"archive '{checksum}'"]
-    lines += [str(table) for table in names.tables]
+    lines = [str(table) for table in names.tables]
     for place, named in sorted(names.variables.items()):
         if named:
             lines.append(f"{place}: {', '.join(named.get(n, f'v{n}') for n in range(max(named) + 1))}")
     lines += format_entries(names.values)
-    return "".join(f"{line}\n" for line in lines)
+    first = [] if checksum is None else [f"archive '{checksum}', {count(len(lines), 'line')}"]
+    return "".join(f"{line}\n" for line in first + lines)
 
 
 # ---- rules

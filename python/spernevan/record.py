@@ -36,7 +36,7 @@ from .model import (
     whole,
 )
 from .notation import Names, NotationError, Table, constants, count, format_names, parse_dependencies, parse_rule, read_names_file
-from .values import Value
+from .values import FIRST_CODE, Value
 
 # A row of a database: the number of its relation, and its values.
 DataRow = Tuple[int, Tuple[int, ...]]
@@ -107,7 +107,7 @@ def _may_be_replaced(names: str, path: Path, before: Optional[bytes]) -> None:
     try:
         found = read_names_file(read_text(names), names)
     except (Failure, NotationError):
-        raise ValueError(f"{names} is no names file, and the names of {path} would replace it: {cure}") from None
+        raise ValueError(f"{names} is no names file, or is cut short, and the names of {path} would replace it: {cure}") from None
     if not before or found.checksum not in (None, checksum(before)):
         raise ValueError(f"{names} has the names of another archive file, which those of {path} would replace: {cure}")
 
@@ -159,7 +159,7 @@ class Record:
         record = cls(data)
         if names is False:
             return record
-        found = read_names_beside(path, data, None if names is True else names)
+        found = read_names_beside(path, data, None if names is True else names, record.codes())
         return record if found is None else record.named(found.names)
 
     def named(self, names: Names) -> Record:
@@ -238,6 +238,10 @@ class Record:
             self._names = Names.default(self.widths)
         self._names.values.reserve(number for query in self.queries if query is not None for number in constants(query))
         return self._names
+
+    def codes(self) -> List[int]:
+        """The constants of the saved queries that may stand for a text, a date or another value."""
+        return [number for query in self.queries if query is not None for number in constants(query) if number >= FIRST_CODE]
 
     def own_names(self) -> Names:
         """The names with the values that the saved queries have, and no others."""

@@ -127,7 +127,7 @@ class Writing(Lost):
         self.file.write_bytes(pack(OLD)[0].file)
         self.failed(f"{self.names} has the names of another archive file", "pack", self.new, self.file)
         self.names.write_text("Ada, Grace\n")
-        self.failed(f"{self.names} is no names file, and the names of {self.file} would replace it", "pack", self.new, self.file)
+        self.failed(f"{self.names} is no names file, or is cut short, and the names of {self.file} would replace it", "pack", self.new, self.file)
         self.names.unlink()
         self.done("pack", self.new, self.file)
 
@@ -202,6 +202,36 @@ class Parting(Lost):
         self.assertEqual((status, out.count("2000000000"), err.count("\n")), (0, 2, 1))
         self.assertIn(f"{self.file} has the constant 2000000000 and no names file, {self.names}, beside it", err)
         self.done("list", "--plain", self.file)
+
+    def test_names_that_are_cut_short(self):
+        self.done("put", self.file, 3, "ans(a) :- flight(a, 'Lindenberg'), flight(a, 12.55)")
+        whole = self.names.read_bytes()
+        archive = self.file.read_bytes()
+        lines = whole.splitlines(keepends=True)
+        self.assertEqual(lines[0].split()[-2:], [b"5", b"lines"])
+        for length in range(1, len(whole)):
+            self.names.write_bytes(whole[:length])
+            for arguments in (["list", self.file], ["put", self.file, 4, "ans(x) :- flight(x, y)"]):
+                status, out, err = run(*arguments)
+                self.assertEqual((status, out, err.count("\n")), (2, "", 1), whole[:length])
+            self.assertRaises((files.Failure, NotationError), Record.read, self.file)
+        # Names files with a checksum and without a count of lines.
+        for kept in (lines[1:], lines[1:5]):
+            self.names.write_bytes(lines[0].split(b",")[0] + b"\n" + b"".join(kept))
+            if kept == lines[1:]:
+                self.done("list", self.file)
+            else:
+                self.failed(f"{self.names}: these names are cut short: {self.file} has the constant 2000000001", "list", self.file)
+        # Names that a person wrote, and an archive on standard input.
+        self.names.write_bytes(b"".join(lines[1:4]))
+        status, out, err = run("list", self.file)
+        self.assertEqual((status, err.count("\n")), (0, 1))
+        self.assertIn(f"{self.file} has the constant 2000000000 and {self.names} has no line for it", err)
+        for plain, said in (([], 1), (["--plain"], 0)):
+            done = subprocess.run([*PROGRAM, "unpack", *plain, "-"], input=archive, capture_output=True)
+            self.assertEqual((done.returncode, done.stderr.count(b"\n")), (0, said))
+            self.assertEqual(done.stderr.count(b"standard input has the constant 2000000000 and comes without its names"), said)
+        self.assertEqual(self.file.read_bytes(), archive)
 
     def test_every_change_writes_both(self):
         for arguments in (
