@@ -10,7 +10,7 @@ from typing import Callable, Dict, List, Optional, Sequence, Tuple, Union
 
 from .data import Database
 from .engine import Refused
-from .files import FILE_BYTES, Failure, is_text, names_path, read_bytes, read_names_beside, read_while, shown, standard_input, text_of, write_files
+from .files import FILE_BYTES, Failure, is_text, locked, names_path, read_bytes, read_names_beside, read_while, shown, standard_input, text_of, write_files
 from .layout import answer_columns, comparison_json, reduction_json, set_mapping, set_reduction, set_tables, write_answers
 from .model import FROZEN, PLACES
 from .notation import Names, NotationError, Reader, constants, count, format_columns, format_datum, format_dependency, format_query, parse_rule
@@ -67,6 +67,22 @@ def load(options: Options) -> Tuple[Record, Names]:
     """The record that FILE has, and its names."""
     record, _ = load_record(options.file, options.names, options.plain)
     return record, record.names
+
+
+def _changing(change: Callable[[Options], int]) -> Callable[[Options], int]:
+    """A command that changes an archive file: from reading to writing no other may change it. A rule on standard input is read before."""
+
+    def command(options: Options) -> int:
+        for name in ("query", "rule"):
+            if getattr(options, name, None) == "-":
+                setattr(options, name, rule_of("-", options.file))
+        out = options.output or options.file
+        if out == "-":
+            return change(options)
+        with locked(out):
+            return change(options)
+
+    return command
 
 
 def save(options: Options, record: Record, was_text: bool, said: str) -> None:
@@ -335,7 +351,8 @@ def pack_command(options: Options) -> int:
     path = names_path(options.file)
     if os.path.realpath(path) == os.path.realpath(options.text):
         raise Failure(f"{options.text} is where the names of {options.file} go: give the archive file another name")
-    record.write(options.file)
+    with locked(options.file):
+        record.write(options.file)
     print(f"{options.file}: {len(record.file)} bytes; names in {path}")
     return YES
 
@@ -353,6 +370,7 @@ def unpack_command(options: Options) -> int:
     return YES
 
 
+@_changing
 def put_command(options: Options) -> int:
     record, was_text = load_record(options.file)
     query, variables = parse_rule(rule_of(options.rule, options.file), record.names)
@@ -361,6 +379,7 @@ def put_command(options: Options) -> int:
     return YES
 
 
+@_changing
 def drop_command(options: Options) -> int:
     record, was_text = load_record(options.file)
     for place in options.place:
@@ -371,6 +390,7 @@ def drop_command(options: Options) -> int:
     return YES
 
 
+@_changing
 def add_command(options: Options) -> int:
     record, was_text = load_record(options.file)
     before = len(record.dependencies)
@@ -381,6 +401,7 @@ def add_command(options: Options) -> int:
     return YES
 
 
+@_changing
 def reduce_command(options: Options) -> int:
     record, was_text = load_record(options.file)
     asked = Subject(record, options.query, options.file, "the rule")

@@ -182,6 +182,32 @@ class Writing(Lost):
         self.assertTrue(stat.S_ISCHR(os.stat("/dev/null").st_mode))
 
 
+class Together(Lost):
+    def test_two_writers_at_once(self):
+        for _ in range(2):
+            self.done("pack", self.old, self.file)
+            rules = {place: f"ans(x{place}) :- flight(x{place}, 'y{place}')" for place in range(1, 6)}
+            started = [subprocess.Popen([*PROGRAM, "put", self.file, str(place), rule], stdout=subprocess.DEVNULL) for place, rule in rules.items()]
+            self.assertEqual([one.wait(60) for one in started], [0] * 5)
+            text = self.done("unpack", self.file)
+            for place, rule in rules.items():
+                self.assertIn(f"{place}: {rule}\n", text)
+
+    def test_a_change_waits_for_the_one_before(self):
+        with files.locked(self.file):
+            waiting = subprocess.Popen([*PROGRAM, "drop", self.file, "0"], stdout=subprocess.DEVNULL)
+            self.assertRaises(subprocess.TimeoutExpired, waiting.wait, 1)
+            self.done("list", self.file)
+            self.unchanged()
+        self.assertEqual(waiting.wait(60), 0)
+        self.assertEqual(self.done("list", self.file), "Every place is vacant.\n")
+
+    def test_a_folder_that_cannot_be_locked(self):
+        with mock.patch.object(files.fcntl, "flock", side_effect=OSError(38, "Function not implemented")):
+            self.done("drop", self.file, 0)
+        self.failed(f"{self.folder}/none/a.file: No such file", "pack", self.old, self.folder / "none" / "a.file")
+
+
 class Parting(Lost):
     def test_an_archive_under_the_names_of_another(self):
         self.file.write_bytes(pack("kite(a, b)\n0: ans(x) :- kite(x, y)\n1: ans(x) :- kite(x, x)\n")[0].file)
