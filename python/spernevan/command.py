@@ -29,6 +29,7 @@ from .commands import (
     place,
     place_or_rule,
     put_command,
+    read_once,
     reduce_command,
     say,
     show_command,
@@ -141,6 +142,7 @@ def main(arguments: Optional[Sequence[str]] = None) -> int:
     try:
         if sys.stdout is None:
             raise Failure("standard output is closed")
+        read_once(options)
         status: int = options.run(options)
         sys.stdout.flush()
         return status
@@ -153,7 +155,8 @@ def main(arguments: Optional[Sequence[str]] = None) -> int:
         say(f"spernevan: {error}")
     except OSError as error:
         _close_output()
-        say(f"spernevan: {error.filename or 'output'}: {error.strerror}")
+        where = "output" if error.filename is None else error.filename or "''"
+        say(f"spernevan: {where}: {error.strerror}")
     except MemoryError:
         say("spernevan: there is not enough memory")
     except Exception as error:

@@ -13,7 +13,7 @@ from .engine import Refused
 from .files import FILE_BYTES, Failure, is_text, locked, names_path, read_bytes, read_names_beside, read_while, shown, standard_input, text_of, write_files
 from .layout import answer_columns, comparison_json, reduction_json, set_mapping, set_reduction, set_tables, write_answers
 from .model import FROZEN, PLACES
-from .notation import Names, NotationError, Reader, constants, count, format_columns, format_datum, format_dependency, format_query, parse_rule
+from .notation import Names, NotationError, Reader, constants, count, format_columns, format_datum, format_dependency, format_query, parse_dependencies, parse_rule
 from .publish import define_all, render, shape_of
 from .record import Asked, Broken, Comparison, Record
 from .sources import read_database
@@ -74,8 +74,8 @@ def _changing(change: Callable[[Options], int]) -> Callable[[Options], int]:
 
     def command(options: Options) -> int:
         for name in ("query", "rule"):
-            if getattr(options, name, None) == "-":
-                setattr(options, name, rule_of("-", options.file))
+            if str(getattr(options, name, "")).strip() == "-":
+                setattr(options, name, rule_of("-"))
         out = options.output or options.file
         if out == "-":
             return change(options)
@@ -125,25 +125,48 @@ def place_or_rule(text: str) -> Union[int, str]:
 
 def place(text: str) -> int:
     """A place on the command line."""
-    found = place_or_rule(text) if not text.strip().startswith(("ans", "-")) else None
+    word = text.strip()
+    found = place_or_rule(word) if word.isascii() and word.isdigit() else None
     if not isinstance(found, int):
         raise argparse.ArgumentTypeError(f"{text!r} is not a place; places go from 0 to {PLACES - 1}")
     return found
 
 
-def rule_of(asked: str, file: str) -> str:
+def rule_of(asked: str) -> str:
     """The text of a rule: the argument, or standard input for `-`."""
-    if asked != "-":
+    if asked.strip() != "-":
         return asked
-    if file == "-":
-        raise Failure("standard input can be the archive or the rule, not both")
     return text_of(standard_input().read(), "-")
+
+
+_READ = {
+    "file": "the archive",
+    "names": "the names",
+    "p": "the first rule",
+    "q": "the second rule",
+    "query": "the rule",
+    "rule": "the rule",
+    "data": "the data",
+}
+
+
+def read_once(options: Options) -> None:
+    """Failure if standard input is named for two things."""
+    named: List[str] = []
+    for name, what in _READ.items():
+        if name == "file" and options.run is pack_command:
+            continue
+        value = getattr(options, name, None)
+        named += [what for word in (value if isinstance(value, list) else [value]) if isinstance(word, str) and word.strip() == "-"]
+    if len(named) > 1:
+        both = f"can be {named[0]} or {named[1]}, not both" if named[0] != named[1] else f"is named twice for {named[0]}, and can be read once"
+        raise Failure(f"standard input {both}")
 
 
 class Subject:
     """A query that a command is about: what to call it, its query, and the names of its variables."""
 
-    def __init__(self, record: Record, asked: Union[int, str], file: str, title: str) -> None:
+    def __init__(self, record: Record, asked: Union[int, str], title: str) -> None:
         self.variables: Dict[int, str]
         self.asked: Asked
         if isinstance(asked, int):
@@ -151,7 +174,7 @@ class Subject:
             self.variables = record.names.variables.get(asked, {})
             self.shown: Union[int, str] = asked
         else:
-            self.query, self.variables = parse_rule(rule_of(asked, file), record.names)
+            self.query, self.variables = parse_rule(rule_of(asked), record.names)
             self.title, self.asked = title, self.query
             self.shown = format_query(self.query, record.names, self.variables)
 
@@ -166,7 +189,7 @@ def list_command(options: Options) -> int:
             raise Failure("--form does not go with --json; it goes with --format json")
         print(render(define_all(record, names, names.values.decode), *shape_of(options)), end="")
         return YES
-    found = [Subject(record, place, options.file, "") for place in record.filled()]
+    found = [Subject(record, place, "") for place in record.filled()]
     if options.json:
         shapes = [{"place": one.asked, **reduction_json(one.query, record.shorten(one.asked), names, one.variables)} for one in found]
         print(json.dumps(shapes, indent=2))
@@ -185,7 +208,7 @@ def show_command(options: Options) -> int:
     if not options.query:
         print(unpack(record, names), end="")
         return YES
-    found = [Subject(record, asked, options.file, "the rule") for asked in options.query]
+    found = [Subject(record, asked, "the rule") for asked in options.query]
     if options.json:
         shapes = [{"query": one.shown, **reduction_json(one.query, record.shorten(one.asked), names, one.variables)} for one in found]
         print(json.dumps(shapes, indent=2))
@@ -194,18 +217,18 @@ def show_command(options: Options) -> int:
     return YES
 
 
-def _compared(record: Record, p: Subject, q: Subject, compared: Comparison) -> List[str]:
-    """A comparison for people."""
+def _compared(record: Record, p: Subject, q: Subject, compared: Comparison, verdict: str = "Not contained.") -> List[str]:
+    """A comparison for people; `verdict` begins a no."""
     names = record.names
     example = compared.counterexample()
     if example is None:
         lines = ["Contained: on every database that obeys the dependencies,", f"each answer of {p.title} is an answer of {q.title}."]
         if compared.mapping is None:
             return [*lines, f"The dependencies leave {p.title} without an answer."]
-        lines.append(f"Mapping from {q.title} to the chased form of {p.title}:")
+        lines.append(f"Mapping from {q.title} to {p.title} with the dependencies applied:")
         return [*lines, set_mapping(compared.mapping, q.variables, p.variables, names.values)]
     answer = format_datum("ans", map(names.values.decode, example[1]))
-    lines = ["Not contained. This database obeys the dependencies:", *set_tables(example[0], names)]
+    lines = [f"{verdict} This database obeys the dependencies:", *set_tables(example[0], names)]
     lines.append(f"There {answer} is an answer of {p.title} and not of {q.title}.")
     if any(value >= FROZEN for _, values in example[0] for value in values):
         lines.append(f"A number from {FROZEN} on stands for a variable of {p.title}.")
@@ -215,8 +238,8 @@ def _compared(record: Record, p: Subject, q: Subject, compared: Comparison) -> L
 def _two(options: Options) -> Tuple[Record, Subject, Subject]:
     record, _ = load(options)
     rules = isinstance(options.p, str) and isinstance(options.q, str)
-    p = Subject(record, options.p, options.file, "the first rule" if rules else "the rule")
-    return record, p, Subject(record, options.q, options.file, "the second rule" if rules else "the rule")
+    p = Subject(record, options.p, "the first rule" if rules else "the rule")
+    return record, p, Subject(record, options.q, "the second rule" if rules else "the rule")
 
 
 def compare_command(options: Options) -> int:
@@ -245,14 +268,14 @@ def equivalent_command(options: Options) -> int:
     elif same:
         print(f"Equivalent: {p.title} and {q.title} have the same answers on every database that obeys the dependencies.")
     else:
-        print("\n".join(_compared(record, p, q, there) if not there.contained else _compared(record, q, p, back)))
+        one, other, compared = (p, q, there) if not there.contained else (q, p, back)
+        verdict = f"Not equivalent: {one.title} is not contained in {other.title}."
+        print("\n".join(_compared(record, one, other, compared, verdict)))
     return YES if same else NO
 
 
 def _data(options: Options, record: Record) -> Database:
     """The database of DATA."""
-    if options.file == "-" and "-" in options.data:
-        raise Failure("standard input can be the archive or the data, not both")
     return read_database(options.data, record.names, _null(options.null), options.text, sys.stderr)
 
 
@@ -282,7 +305,7 @@ def _broken(record: Record, database: Database, broken: Broken) -> List[str]:
 
 def evaluate_command(options: Options) -> int:
     record, names = load(options)
-    asked = Subject(record, options.query, options.file, "the rule")
+    asked = Subject(record, options.query, "the rule")
     database = _data(options, record)
     _missing(database, [row.relation for row in asked.query.rows], names, "the query asks for")
     for note in database.notes:
@@ -373,7 +396,7 @@ def unpack_command(options: Options) -> int:
 @_changing
 def put_command(options: Options) -> int:
     record, was_text = load_record(options.file)
-    query, variables = parse_rule(rule_of(options.rule, options.file), record.names)
+    query, variables = parse_rule(rule_of(options.rule), record.names)
     record = record.put(options.place, query, variables)
     save(options, record, was_text, f"place {options.place} holds {format_query(query, record.names, variables)}")
     return YES
@@ -381,6 +404,9 @@ def put_command(options: Options) -> int:
 
 @_changing
 def drop_command(options: Options) -> int:
+    twice = [place for position, place in enumerate(options.place) if place in options.place[:position]]
+    if twice:
+        raise Failure(f"place {twice[0]} is named twice")
     record, was_text = load_record(options.file)
     for place in options.place:
         record.drop(place)
@@ -394,8 +420,7 @@ def drop_command(options: Options) -> int:
 def add_command(options: Options) -> int:
     record, was_text = load_record(options.file)
     before = len(record.dependencies)
-    for dependency in options.dependency:
-        record = record.add(dependency)
+    record = record.add_all([one for text in options.dependency for one in parse_dependencies(text, record.names)])
     held = len(record.dependencies)
     save(options, record, was_text, f"{count(held - before, 'dependency')} added, {held} in all")
     return YES
@@ -404,7 +429,7 @@ def add_command(options: Options) -> int:
 @_changing
 def reduce_command(options: Options) -> int:
     record, was_text = load_record(options.file)
-    asked = Subject(record, options.query, options.file, "the rule")
+    asked = Subject(record, options.query, "the rule")
     vacant = record.vacant()
     if options.target is None and not vacant:
         raise Failure(f"{shown(options.file)}: every place is filled: drop one first")

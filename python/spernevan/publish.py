@@ -271,8 +271,6 @@ def add_commands(subparsers: Any, load: Load) -> None:
         return made
 
     def define_command(options: argparse.Namespace) -> int:
-        if options.file == options.query.strip() == "-":
-            raise Failure("standard input can be the archive or the rule, not both")
         record, names = load(options)
         definition = _defined(options.query, record, names, names.values.decode)
         write_out(render_one(definition, *shape_of(options)), options.output)

@@ -16,6 +16,7 @@ from .files import FILE_BYTES, Failure, Path, checksum, is_text, names_path, rea
 from .model import (
     BYTE,
     FROZEN,
+    MOST_DEPENDENCIES,
     PLACES,
     VARIABLES,
     WORD,
@@ -298,14 +299,29 @@ class Record:
         A text such as `layer: flight, level -> height, temperature` adds one for each column on its right.
         """
         if isinstance(relation, str):
-            record = self
-            for one in parse_dependencies(relation, self.names):
-                record = record.add(one.relation, one.left, one.right)
-            return record
+            return self.add_all(parse_dependencies(relation, self.names))
         try:
             return self._of(engine.add(self.file, relation, mask_of(left), right), self._names, self._named)
         except Refused as refused:
             raise self._explained(refused) from None
+
+    def add_all(self, dependencies: Iterable[Dependency]) -> Record:
+        """The record with more dependencies, all or none."""
+        held, more = len(self.dependencies), list(dependencies)
+        record = self
+        try:
+            for one in more:
+                record = record.add(one.relation, one.left, one.right)
+        except Refused as refused:
+            if refused.number == 13 and held < MOST_DEPENDENCIES:
+                are = "dependency is" if held == 1 else "dependencies are"
+                meaning = (
+                    f"{held} {are} held, and {len(more)} more would make {held + len(more)}; "
+                    f"there may be {MOST_DEPENDENCIES}, and each column on the right counts one"
+                )
+                raise Refused(13, meaning) from None
+            raise
+        return record
 
     def put(self, place: int, query: Union[str, Query], variables: Optional[Dict[int, str]] = None) -> Record:
         """The record with a query, or the query of a rule, in a vacant place. A rule brings the names of its variables."""

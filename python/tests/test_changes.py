@@ -40,12 +40,16 @@ class Changes(Command):
         self.failed("dependency:1:8: burst(flight, height) has no column site", "add", self.file, "burst: site -> flight")
         self.failed("dependency:1:7: the name of a column was expected, not the end", "add", self.file, "burst:")
         self.failed(
-            f"{self.file}: 32 dependencies are held, which is as many as there may be; each column on the right counts one",
+            f"{self.file}: 13 dependencies are held, and 20 more would make 33; there may be 32, and each column on the right counts one",
             "add",
             self.file,
             *["burst: flight -> height"] * 20,
         )
         self.assertEqual(len(Record.read(self.file).dependencies), 13)
+        self.done("add", self.file, *["burst: flight -> height"] * 18)
+        self.failed(f"{self.file}: 31 dependencies are held, and 2 more would make 33", "add", self.file, "layer: level -> height, flight")
+        self.done("add", self.file, "burst: flight -> height")
+        self.failed(f"{self.file}: 32 dependencies are held, which is as many as there may be", "add", self.file, "burst: flight -> height")
 
     def test_reduce(self):
         rule = "ans(f, h) :- flight(f, s, 7, t), sonde(s, c, m), calibration(c, l, 2), burst(f, h)"
@@ -108,6 +112,11 @@ class Changes(Command):
 
 
 class Rules(Command):
+    def test_not_equivalent(self):
+        for p, q in ((5, 0), (0, 5)):
+            said = "Not equivalent: place 5 is not contained in place 0. This database obeys the dependencies:\n  flight\n"
+            self.assertTrue(self.done("equivalent", FLIGHTS, p, q, status=1).startswith(said))
+
     def test_equivalent(self):
         short = "ans(f, h) :- flight(f, s, 7, t), sonde(s, c, m), calibration(c, l, 2), burst(f, h)"
         same = "Equivalent: place 0 and the rule have the same answers on every database that obeys the dependencies.\n"
@@ -192,6 +201,29 @@ class Rules(Command):
             status, out, err = run(*arguments)
             self.assertEqual((status, out), (2, ""))
             self.assertRegex(err, "is neither a place, 0 to 7, nor a rule|is not a place; places go from 0 to 7")
+
+        for arguments in (["put", FLIGHTS, "x", "ans(f) :- burst(f, h)"], ["put", FLIGHTS, "burst(x)", "ans() :- never"]):
+            self.assertIn(f"argument PLACE: '{arguments[2]}' is not a place; places go from 0 to 7", run(*arguments)[2])
+
+    def test_standard_input_named_twice(self):
+        for both, arguments in (
+            ("can be the first rule or the second rule, not both", ["compare", FLIGHTS, "-", "-"]),
+            ("can be the first rule or the second rule, not both", ["equivalent", FLIGHTS, "-", " - "]),
+            ("can be the archive or the second rule, not both", ["compare", "-", 0, "-"]),
+            ("is named twice for the rule, and can be read once", ["show", FLIGHTS, "-", "-"]),
+            ("can be the rule or the data, not both", ["evaluate", FLIGHTS, "-", "-"]),
+            ("is named twice for the data, and can be read once", ["test", FLIGHTS, "-", "-"]),
+            ("can be the archive or the rule, not both", ["put", "-", 6, "-"]),
+            ("can be the archive or the rule, not both", ["reduce", "-", "-"]),
+            ("can be the archive or the names, not both", ["list", "-", "--names", "-"]),
+        ):
+            self.failed(f"standard input {both}\n", *arguments)
+
+    def test_a_place_named_twice(self):
+        self.failed("place 0 is named twice\n", "drop", FLIGHTS, 1, 0, 0, "-o", self.folder / "x.file")
+
+    def test_a_file_without_a_name(self):
+        self.failed("'': No such file or directory\n", "list", "")
 
     def test_a_mistake_of_the_command_itself(self):
         from unittest import mock

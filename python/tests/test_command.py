@@ -109,7 +109,7 @@ class Sample(Command):
             self.done("compare", FLIGHTS, 0, 5),
             "Contained: on every database that obeys the dependencies,\n"
             "each answer of place 0 is an answer of place 5.\n"
-            "Mapping from place 5 to the chased form of place 0:\n"
+            "Mapping from place 5 to place 0 with the dependencies applied:\n"
             "    f -> f, h -> h, v2 -> s, v3 -> t\n",
         )
         self.assertEqual(
@@ -165,7 +165,8 @@ class Sample(Command):
         names = self.folder / "a.names"
         self.assertEqual(self.done("pack", text, out), f"{out}: 510 bytes; names in {names}\n")
         self.assertEqual(out.read_bytes(), Path(FLIGHTS).read_bytes())
-        self.assertEqual(names.read_bytes(), Path(names_path(FLIGHTS)).read_bytes())
+        first, rest = names.read_text().split("\n", 1)
+        self.assertEqual(f"{first.partition(', 11 lines')[0]}\n{rest}", Path(names_path(FLIGHTS)).read_text())
         self.assertEqual(self.done("unpack", out), Path(text).read_text())
         plain = self.write("b.text", self.done("unpack", "--plain", EXAMPLE))
         self.done("pack", plain, self.folder / "b.file")

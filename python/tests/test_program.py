@@ -85,6 +85,12 @@ class Program(unittest.TestCase):
         out, err = running.communicate(timeout=20)
         self.assertEqual((running.returncode, out, err), (-signal.SIGINT, b"", b""))
 
+    def test_nothing_is_read_before_an_interrupt_ends_the_command(self):
+        done = subprocess.run([sys.executable, "-X", "importtime", *PROGRAM[1:], "--version"], capture_output=True, text=True)
+        self.assertIn("spernevan.command", done.stderr)
+        alone = [line.split("| ")[-1] for line in done.stderr.splitlines()]
+        self.assertNotIn("signal", alone)
+
     def test_an_interrupt_in_python(self):
         """Waiting for the engine ends with KeyboardInterrupt, and the next call works."""
         code = (
