@@ -10,15 +10,40 @@ from typing import Callable, Dict, List, Optional, Sequence, Tuple, Union
 
 from .data import Database
 from .engine import Refused
-from .files import FILE_BYTES, Failure, is_text, locked, names_path, read_bytes, read_names_beside, read_while, shown, standard_input, text_of, write_files
+from .files import (
+    FILE_BYTES,
+    Failure,
+    is_text,
+    locked,
+    names_path,
+    read_bytes,
+    read_names_beside,
+    read_while,
+    shown,
+    standard_input,
+    text_of,
+    write_files,
+)
 from .layout import answer_columns, comparison_json, reduction_json, set_mapping, set_reduction, set_tables, write_answers
 from .model import FROZEN, PLACES
-from .notation import Names, NotationError, Reader, constants, count, format_columns, format_datum, format_dependency, format_query, parse_dependencies, parse_rule
+from .notation import (
+    Names,
+    NotationError,
+    Reader,
+    constants,
+    count,
+    format_columns,
+    format_datum,
+    format_dependency,
+    format_query,
+    parse_dependencies,
+    parse_rule,
+)
 from .publish import define_all, render, shape_of
 from .record import Asked, Broken, Comparison, Record
 from .sources import read_database
 from .text import pack, unpack
-from .values import FIRST_CODE, Value, read_cell, read_literal
+from .values import Value, read_cell, read_literal
 
 YES, NO, TROUBLE = 0, 1, 2
 

@@ -222,7 +222,7 @@ def read_names_file(text: str, source: str) -> NamesFile:
             tables.append(read_table(reader, tables))
         reader.line_ends()
     if lines < written or (checksum is not None and not text.endswith("\n")):
-        raise reader.error(reader.next, "this names file is cut short: put back the whole one, or pack the text of the archive again")
+        raise reader.error(reader.next, "this names file is cut short: put back the whole one, or remove it and pack the text of the archive again")
     return NamesFile(Names(tuple(tables), variables, values), checksum)
 
 
