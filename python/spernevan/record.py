@@ -178,7 +178,7 @@ class Record:
         beside = names_path(path)
         if os.path.realpath(beside) == os.path.realpath(path):
             raise ValueError(f"{path} is a name for a names file; an archive file has another ending, such as .file")
-        before = read_bytes(path) if os.path.isfile(path) else None
+        before = read_bytes(path, FILE_BYTES) if os.path.isfile(path) else None
         if before and is_text(before):
             raise ValueError(f"{path} is a text, which an archive file does not replace: write elsewhere, or remove it first")
         if before and not _is_archive(before):
