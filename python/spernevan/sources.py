@@ -14,7 +14,7 @@ import re
 import sqlite3
 from array import array
 from itertools import islice
-from typing import AbstractSet, Dict, Iterable, List, NoReturn, Optional, Sequence, TextIO, Tuple
+from typing import AbstractSet, Dict, Iterable, Iterator, List, NoReturn, Optional, Sequence, TextIO, Tuple
 from urllib.request import pathname2url
 
 from .data import CHUNK, Cells, Database, DataError, Progress, Where, matched, positions
@@ -81,6 +81,8 @@ def _read(path: Path, database: Database, kept: AbstractSet[Tuple[int, int]]) ->
             raise DataError("an SQLite file cannot be read from standard input; give its name")
         read_sqlite(name, database)
         return
+    if not data and name != "-":
+        raise DataError(f"{name}: the file is empty; for no rows at all give a line such as # no rows, or a CSV file with its header line alone")
     read_rows(text_of(data, path), shown(path), database)
 
 
@@ -210,11 +212,11 @@ def read_csv(path: str, relation: int, database: Database, kept: AbstractSet[Tup
         with open(path, encoding="utf-8-sig", newline="") as file:
             first = file.readline()
             sign = _delimiter(first, table, path)
-            header: List[str] = next(csv.reader([first], delimiter=sign, skipinitialspace=True), [])
+            header: List[str] = next(_csv_rows([first], sign), [])
             if not header:
                 raise DataError(f"{path}:1: a header line with the names of the columns was expected, not an empty line")
             at = positions(table.columns, header, f"{path}:1")
-            reader = csv.reader(file, delimiter=sign, skipinitialspace=True)
+            reader = _csv_rows(file, sign)
             start = 0
             while True:
                 rows = list(islice(reader, CHUNK))
@@ -238,7 +240,7 @@ def read_csv(path: str, relation: int, database: Database, kept: AbstractSet[Tup
         text_of(read_bytes(path), path)
         raise
     except csv.Error as error:
-        raise DataError(f"{path}:{_csv_error_line(path, sign)}: {error}") from None
+        raise DataError(f"{path}:{_csv_error_line(path, sign)}: {_csv_error(str(error))}") from None
     for column, cells in enumerate(readers):
         if cells.same is not None:
             name = f"{table.name}.{table.columns[column]}"
@@ -253,6 +255,22 @@ def _delimiter(header: str, table: Table, path: str) -> str:
         if all(matched(column, labels, f"{path}:1") is not None for column in table.columns):
             return sign
     return ";" if ";" in header and "," not in header else ","
+
+
+def _csv_rows(lines: Iterable[str], sign: str) -> Iterator[List[str]]:
+    """The rows of CSV; a quote that does not end, or that a cell goes on after, is an error."""
+    return csv.reader(lines, delimiter=sign, skipinitialspace=True, strict=True)
+
+
+def _csv_error(words: str) -> str:
+    """What to say of an error of the csv module."""
+    if "unexpected end" in words:
+        return 'a quote " that begins in this row does not end'
+    if "expected after" in words:
+        return 'a cell goes on after the quote " that ends it; a quote inside a quoted cell is written twice'
+    if "field limit" in words:
+        return f'a cell has more than {csv.field_size_limit()} characters; a quote " may be missing'
+    return words
 
 
 def _rows_of(path: str, sign: str) -> Iterable[Tuple[int, List[str]]]:
@@ -277,13 +295,18 @@ def _csv_where(path: str, sign: str, start: int) -> Where:
 
 
 def _csv_error_line(path: str, sign: str) -> int:
+    """The line on which the first row begins that is no CSV."""
     line = 1
-    try:
-        for line, _ in _rows_of(path, sign):
+    with open(path, encoding="utf-8-sig", newline="") as file:
+        try:
+            next(_csv_rows([file.readline()], sign), [])
+            line = 2
+            reader = csv.reader(file, delimiter=sign, skipinitialspace=True, strict=True)
+            for _ in reader:
+                line = reader.line_num + 2
+        except csv.Error:
             pass
-    except csv.Error:
-        pass
-    return line + 1
+    return line
 
 
 def _sound_rows(rows: List[List[str]], width: int, path: str, sign: str, start: int) -> List[List[str]]:

@@ -106,7 +106,7 @@ class Files(Data):
         cells = ["7", "007", "0", "-3", "12.50", "'a, b'", "'it''s'", '"x\\ny"', "2026-01-14", "4294967295", "1e3", "2147483647"]
         for _ in range(30 * context.MANY):
             lines = []
-            for _ in range(rng.randint(0, 12)):
+            for _ in range(rng.randint(1, 12)):
                 table, width = rng.choice([("flight", 3), ("burst", 2)])
                 lines.append(f"{table}({', '.join(rng.choice(cells) for _ in range(width))})" + rng.choice(["", " # c", "  ", "\n"]))
             text = "\n".join(lines)
@@ -198,7 +198,11 @@ class Files(Data):
             (header + "1,2\n", "flight.csv:2: the row has 2 cells, the header 3"),
             (header + "1,2,3\n\n1,2,3,4\n", "flight.csv:4: the row has 4 cells, the header 3"),
             (header.encode() + b"1,2,3\n1,\xff,3\n", "flight.csv:3:3: this byte is not UTF-8 text"),
-            (header + '1,2,"' + "x" * 200000 + '"\n', "flight.csv:2: field larger than field limit"),
+            (header + '1,2,"' + "x" * 200000 + '"\n', 'flight.csv:2: a cell has more than 131072 characters; a quote " may be missing'),
+            (header + '1,"2\n0",3\n\n1,"2,3\n1,2,3\n', 'flight.csv:5: a quote " that begins in this row does not end'),
+            (header + '1,2,"3" x\n', 'flight.csv:2: a cell goes on after the quote " that ends it; a quote inside a quoted cell is written twice'),
+            (header + '1,2,3\n1,"4"5",3\n', 'flight.csv:3: a cell goes on after the quote " that ends it'),
+            ('number,site,"launch\n1,2,3\n', 'flight.csv:1: a quote " that begins in this row does not end'),
         ]:
             cells = self.csv(flight)
             self.failed(f"{cells}/{message}", "test", self.text, cells)
@@ -220,6 +224,20 @@ class Files(Data):
         self.failed(f"{both}: FLIGHT.csv and flight.csv are both for the table flight", "test", self.text, both)
         self.failed("sonde.version is no TABLE.COLUMN of the archive", "test", self.text, self.csv(), "--text", "sonde.version")
         self.failed(f"{self.folder}/none: No such file", "test", self.text, self.folder / "none")
+
+    def test_a_quote_inside_a_cell(self):
+        cells = self.csv('number,site,launch\n1,4" pipe,x\n2,"4"" pipe",x\n')
+        self.assertEqual(self.done("evaluate", self.text, 1, cells), "ans('4\" pipe')\n# 1 answer\n")
+
+    def test_an_empty_file_is_no_database(self):
+        for name in ("b.db", "b.data"):
+            empty = self.write(name, "")
+            self.failed(f"{empty}: the file is empty; for no rows at all give a line such as # no rows", "test", self.text, empty)
+            self.failed(f"{empty}: the file is empty; ", "evaluate", self.text, 1, empty)
+        self.assertEqual(self.done("evaluate", self.text, 1, self.write("c.data", "# no rows\n")), "# 0 answers\n")
+        program = [sys.executable, str(context.HERE.parent / "program")]
+        done = subprocess.run([*program, "evaluate", self.text, "1", "-"], input=b"", capture_output=True)
+        self.assertEqual((done.returncode, done.stdout), (0, b"# 0 answers\n"))
 
     def test_sqlite_that_cannot_be_read(self):
         self.failed("", "test", self.text, self.write("x.db", b"SQLite format 3\0 and no more"))
@@ -430,7 +448,7 @@ class Random(Data):
 
     def from_rows(self, tables, record):
         return read_database(
-            [self.write("r.data", "".join(f"{format_datum(name, row)}\n" for name, rows in tables.items() for row in rows))], record.names
+            [self.write("r.data", "# rows\n" + "".join(f"{format_datum(name, row)}\n" for name, rows in tables.items() for row in rows))], record.names
         )
 
     def from_sqlite(self, number, tables, record):
