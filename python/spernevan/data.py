@@ -16,7 +16,7 @@ from typing import Any, Callable, Dict, Iterable, Iterator, List, Mapping, Named
 
 from .engine import Words
 from .notation import Names, Table, count, format_datum
-from .values import FIRST_CODE, Null, Value, Values, order, plain, read_cell, read_literal
+from .values import FIRST_CODE, Null, Value, Values, number_meant, order, plain, read_cell, read_literal
 
 CHUNK = 50_000
 
@@ -158,6 +158,8 @@ class Cells(Dict[Any, int]):
         self._values, self._null, self._read = values, null, read
         self._written: Dict[int, str] = {}
         self.same: Optional[Tuple[str, str]] = None
+        # The first cell of a column without types that is taken as a text and looks like a number, and that number.
+        self.meant: Optional[Tuple[str, str]] = None
 
     def column(self, cells: Sequence[Any]) -> Words:
         """Cells in words. A cell that is no value raises ValueError, or Null; `fault` then says which."""
@@ -201,6 +203,9 @@ class Cells(Dict[Any, int]):
             written = self._written.setdefault(word, cell.strip())
             if written != cell.strip() and self.same is None:
                 self.same = written, cell.strip()
+        elif self._read is read_cell and self.meant is None and cell[:1] <= "9":
+            number = number_meant(cell)
+            self.meant = None if number is None else (cell, number)
         try:
             self[cell] = word
         except TypeError:

@@ -269,6 +269,8 @@ def read_rule(reader: Reader, names: Names) -> Tuple[Query, Dict[int, str]]:
         if token.kind != "name":
             return Constant(names.values.encode(reader.value("a variable or a value")))
         reader.take("name")
+        if token.text.upper() == "NULL":
+            raise reader.error(token, f"{token.text} is no value and no variable: a query asks for values that are there")
         if _NUMBERED.fullmatch(token.text) and token.text not in _VARIABLES:
             raise reader.error(token, f"variables with numbers go from v0 to v{VARIABLES - 1}")
         return token

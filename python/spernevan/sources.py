@@ -227,12 +227,16 @@ def read_csv(path: str, relation: int, database: Database, kept: AbstractSet[Tup
                 columns = list(zip(*rows)) if rows else [()] * len(header)
                 words = []
                 for column, (number, cells) in enumerate(zip(at, readers)):
+                    known = cells.meant
                     try:
                         words.append(cells.column(columns[number]))
                     except ValueError:
                         position, error = cells.fault(columns[number])
                         line = _csv_line(path, sign, start + position)
                         _refuse(f"{path}:{line}: column {table.columns[column]}", error, "the cell is empty (NULL)")
+                    if known is None and cells.meant is not None:
+                        line = _csv_line(path, sign, start + columns[number].index(cells.meant[0]))
+                        database.notes.append(_meant(f"{path}:{line}", *cells.meant, f"{table.name}.{table.columns[column]}"))
                 if rows:
                     database.add(relation, words, _csv_where(path, sign, start))
                 start += len(rows)
@@ -246,6 +250,11 @@ def read_csv(path: str, relation: int, database: Database, kept: AbstractSet[Tup
             name = f"{table.name}.{table.columns[column]}"
             one, other = cells.same
             database.notes.append(f"{path}: {one} and {other} are one number in {name}; if they are no numbers, say --text {name}")
+
+
+def _meant(where: str, cell: str, number: str, name: str) -> str:
+    """The note of a cell that is taken as a text and looks like a number."""
+    return f"{where}: {cell.strip()} in {name} is taken as a text; the number is written {number}; if it is no number, say --text {name}"
 
 
 def _delimiter(header: str, table: Table, path: str) -> str:

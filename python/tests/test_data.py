@@ -103,7 +103,7 @@ class Files(Data):
     def test_rows_in_any_writing(self):
         """Rows that stand in one line are read apart from the others; both ways give the same."""
         rng = random.Random(13)
-        cells = ["7", "007", "0", "-3", "12.50", "'a, b'", "'it''s'", '"x\\ny"', "2026-01-14", "4294967295", "1e3", "2147483647"]
+        cells = ["7", "0", "-3", "12.50", "'a, b'", "'it''s'", '"x\\ny"', "2026-01-14", "4294967295", "1e3", "2147483647"]
         for _ in range(30 * context.MANY):
             lines = []
             for _ in range(rng.randint(1, 12)):
@@ -228,6 +228,23 @@ class Files(Data):
     def test_a_quote_inside_a_cell(self):
         cells = self.csv('number,site,launch\n1,4" pipe,x\n2,"4"" pipe",x\n')
         self.assertEqual(self.done("evaluate", self.text, 1, cells), "ans('4\" pipe')\n# 1 answer\n")
+
+    def test_a_text_that_a_program_may_have_meant_as_a_number(self):
+        for cell, number in [("1e4", "10000"), ("+5", "5"), ("5.", "5"), (".5", "0.5"), ("00.5", "0.5"), ("1E99", "without an exponent")]:
+            cells = self.csv(burst=f"flight,height\n1,12\n2,F\n3,{cell}\n4,2e5\n")
+            note = f"{cells}/burst.csv:4: {cell} in burst.height is taken as a text; the number is written {number}; if it is no number, say --text burst.height"
+            status, out, err = run("evaluate", self.text, "ans(f) :- burst(f, 1e4)", cells)
+            self.assertEqual((status, out, err), (0, "# 0 answers\n", f"spernevan: {note}\n"))
+            self.assertEqual(run("test", self.text, cells)[2], f"spernevan: {note}\n")
+            self.assertEqual(run("test", self.text, cells, "--text", "burst.height")[2], "")
+        for cell in ("1E+04", "1.0e4", "10000", "10000.0"):
+            cells = self.csv(burst=f"flight,height\n1,{cell}\n")
+            self.assertEqual(run("evaluate", self.text, "ans(f) :- burst(f, 1e4)", cells), (0, "ans(1)\n# 1 answer\n", ""))
+        self.assertEqual(run("test", self.text, self.csv(burst="flight,height\n06610,1\n7,-0\n"))[2], "")
+
+    def test_rows_with_zeros_in_front(self):
+        path = self.write("z.data", "burst(1, 2)\nburst(007, 2)\n")
+        self.failed(f"{path}:2:7: 007 begins with 0: write '007' for the text, 7 for the number", "test", self.text, path)
 
     def test_an_empty_file_is_no_database(self):
         for name in ("b.db", "b.data"):
