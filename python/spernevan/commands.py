@@ -280,7 +280,7 @@ def evaluate_command(options: Options) -> int:
         for line in _broken(record, database, broken):
             say(line)
         say("On such a database the long and the short form of a query may have different answers.")
-    answers = record.evaluate(asked.asked, database)
+    answers = record.evaluate(asked.asked, database, tested=True)
     write_answers(answers, answer_columns(asked.query, names, asked.variables), options.format, sys.stdout)
     return YES
 

@@ -297,6 +297,8 @@ def of_python(data: object, names: Names, values: Optional[Values] = None, null:
     for table, rows in data.items():
         relation = relation_of(table, names)
         held = names.tables[relation]
+        if relation in database.tables:
+            raise DataError(f"the table {held.name} is there twice, the second time as {table!r:.40}")
         database.has(relation)
         columns = _columns_of(rows, held)
         readers = [database.typed() for _ in columns]
@@ -325,7 +327,8 @@ def _python_column(reader: Cells, cells: Any, start: int, where: str) -> Words:
         return reader.column(held)
     except ValueError:
         position, error = reader.fault(held)
-        raise DataError(f"{where}, row {start + position}: {error}") from None
+        cure = "; say what it stands for, as in record.database(data, null=0)" if isinstance(error, Null) else ""
+        raise DataError(f"{where}, row {start + position}: {error}{cure}") from None
 
 
 def _columns_of(rows: Any, table: Table) -> List[Any]:

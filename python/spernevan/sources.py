@@ -14,7 +14,7 @@ import re
 import sqlite3
 from array import array
 from itertools import islice
-from typing import AbstractSet, Dict, Iterable, Iterator, List, NoReturn, Optional, Sequence, TextIO, Tuple
+from typing import AbstractSet, Dict, Iterable, Iterator, List, NoReturn, Optional, Sequence, TextIO, Tuple, Union
 from urllib.request import pathname2url
 
 from .data import CHUNK, Cells, Database, DataError, Progress, Where, matched, positions
@@ -27,13 +27,13 @@ CURE = "say what it stands for with --null VALUE"
 
 
 def read_database(
-    paths: Sequence[Path],
+    paths: Union[Path, Sequence[Path]],
     names: Names,
     null: Optional[Value] = None,
     text: Iterable[str] = (),
     progress: Optional[TextIO] = None,
 ) -> Database:
-    """The database of some files: rows of text, CSV files or folders of them, SQLite files.
+    """The database of a file or some files: rows of text, CSV files or folders of them, SQLite files.
 
     `null` is what an absent value stands for; without it, one is refused. `text` has columns of CSV
     files, as `sonde.version`, whose cells stay texts also where they look like numbers. `progress` is
@@ -44,7 +44,7 @@ def read_database(
     collecting = gc.isenabled()
     gc.disable()  # Rows make no cycles, and looking for them doubles the time.
     try:
-        for path in paths:
+        for path in [paths] if isinstance(paths, (str, os.PathLike)) else paths:
             _read(path, database, kept)
     finally:
         if collecting:

@@ -10,12 +10,13 @@ import subprocess
 import sys
 import time
 import unittest
+import warnings
 from datetime import date, datetime
 from decimal import Decimal
 from pathlib import Path
 
 import context
-from spernevan import Broken, Constant, DataError, Query, Record, Row, Table, pack, read_database
+from spernevan import Broken, Constant, DataError, Query, Record, Refused, Row, Table, pack, read_database
 from spernevan.data import Progress, matched
 from spernevan.notation import format_datum
 from test_command import Command, run
@@ -340,10 +341,44 @@ class FromPython(Data):
         self.assertEqual(self.record.test({"burst": [(1, 2), (1, 3)]}), Broken(2, 0, 1))
         self.assertEqual(self.record.evaluate(1, {"flight": []}), [])
         self.assertEqual(
-            self.record.evaluate(1, {"flight": [(1, 3.0, 1), (1, 2.5, 1), (1, -4, 1), (1, "a", 1), (1, 2**40, 1)]}),
+            self.record.evaluate(1, {"flight": [(1, 3.0, 1), (2, 2.5, 1), (3, -4, 1), (4, "a", 1), (5, 2**40, 1)]}),
             [(-4,), (2.5,), (3,), (2**40,), ("a",)],
         )
         self.assertEqual(len(self.record.names.values), len(pack(TEXT)[1].values))
+
+    def test_a_table_that_is_not_there(self):
+        for place, data, missing in [(0, {}, "flight, burst"), (1, {"burst": [(1, 2)]}, "flight")]:
+            message = f"the data has no table {missing}, which the query asks for; an empty table is {{'flight': \\[\\]}}"
+            with self.assertRaisesRegex(DataError, message):
+                self.record.evaluate(place, data)
+        with self.assertRaisesRegex(DataError, "the table burst is there twice, the second time as 'Burst'"):
+            self.record.evaluate(1, {"flight": [], "burst": [(1, 2)], "Burst": [(3, 4)]})
+
+    def test_a_broken_dependency_is_a_warning(self):
+        data = {"flight": [], "burst": [("F-1", 2), ("F-1", 3)]}
+        with self.assertWarnsRegex(UserWarning, r"the database breaks burst: flight -> height \(row 0 of burst: burst\('F-1', 2\); row 1 of burst: ") as seen:
+            self.assertEqual(self.record.evaluate("ans(h) :- burst(f, h)", data), [(2,), (3,)])
+        self.assertEqual(seen.filename, __file__)
+        with warnings.catch_warnings():
+            warnings.simplefilter("error")
+            self.record.evaluate(1, data, tested=True)
+            self.record.evaluate(1, {"flight": [], "burst": [("F-1", 2), ("F-2", 3)]})
+
+    def test_what_is_no_place_and_no_database(self):
+        for place in (1.5, True, None):
+            with self.assertRaisesRegex(ValueError, f"a place must be a whole number, not {place}"):
+                self.record.evaluate(place, {"flight": []})
+            with self.assertRaisesRegex(ValueError, f"a place must be a whole number, not {place}"):
+                self.record.query(place)
+        cells = self.csv("number,site,launch\n1,x,2\n")
+        for path in (cells, str(cells)):
+            with self.assertRaisesRegex(ValueError, r"a database is no name of a file: read_database\(\[.*\], record.names\) reads files"):
+                self.record.evaluate(1, path)
+            self.assertEqual(self.record.evaluate(1, read_database(path, self.names)), [("x",)])
+        with self.assertRaisesRegex(DataError, r"there is no value here \(NULL\); say what it stands for, as in record.database\(data, null=0\)"):
+            self.record.test(self.data)
+        with self.assertRaisesRegex(Refused, r"a.text is a text: pack it first, as spernevan.pack\(text\) does"):
+            Record.read(self.text)
 
     def test_a_single_table(self):
         record = Record.open([Table("burst", ("flight", "height"))])
@@ -441,7 +476,7 @@ class Random(Data):
                 seen.add(named.test(data) is None)
                 for place in plain.filled():
                     wanted = {tuple(pool[value] for value in answer) for answer in plain.evaluate(place, rows)}
-                    answers = named.evaluate(place, data)
+                    answers = named.evaluate(place, data, tested=True)
                     self.assertEqual((set(answers), len(answers)), (wanted, len(wanted)))
         self.assertEqual(seen, {True, False})
 
