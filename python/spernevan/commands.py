@@ -273,7 +273,7 @@ def evaluate_command(options: Options) -> int:
     if double is not None:
         say(
             f"spernevan: the text '{double}' and the number {double} are different values, and both are here; "
-            f"a query has the text between quotes, and --text TABLE.COLUMN takes a column of CSV as text"
+            "a query has the text between quotes" + (", and --text TABLE.COLUMN takes a column of CSV as text" if database.has_cells else "")
         )
     broken = record.test(database)
     if broken is not None:

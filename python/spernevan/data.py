@@ -55,6 +55,7 @@ class Database:
         self.tables: Dict[int, int] = {}
         self.progress = progress or Progress(None)
         self.notes: List[str] = []
+        self.has_cells = False
         self._null = None if null is None else self.values.encode(null)
         self._blocks: List[Block] = []
         self._firsts: List[int] = []
@@ -63,6 +64,11 @@ class Database:
     def __len__(self) -> int:
         """How many rows there are."""
         return self._rows
+
+    @property
+    def null(self) -> Optional[int]:
+        """The word of what an absent value stands for, if that is said."""
+        return self._null
 
     def has(self, relation: int) -> None:
         """Notes that a table has been read, also one without rows."""
@@ -85,6 +91,7 @@ class Database:
 
     def cells(self, text: bool = False) -> Cells:
         """A reader of one column's cells that have no type, as in CSV; `text` leaves them as they are."""
+        self.has_cells = True
         return Cells(self.values, self._null, str) if text else Cells(self.values, self._null, read_cell)
 
     def literals(self) -> Cells:

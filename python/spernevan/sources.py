@@ -83,7 +83,11 @@ def _read(path: Path, database: Database, kept: AbstractSet[Tuple[int, int]]) ->
         return
     if not data and name != "-":
         raise DataError(f"{name}: the file is empty; for no rows at all give a line such as # no rows, or a CSV file with its header line alone")
-    read_rows(text_of(data, path), shown(path), database)
+    text = text_of(data, path)
+    if _like_csv(text):
+        known = ", ".join(f"{table.name}.csv" for table in database.names.tables)
+        raise DataError(f"{shown(path)}: this looks like CSV and not like rows of text; a CSV file is called {known}")
+    read_rows(text, shown(path), database)
 
 
 # ---- rows of text
@@ -94,6 +98,19 @@ _EACH = re.compile(_ITEM)
 _ROW = re.compile(
     rf"[ \t]*([^\W\d]\w*)[ \t]*\(([ \t]*{_ITEM}[ \t]*(?:,[ \t]*{_ITEM}[ \t]*)*)\)[ \t]*(?:\#[^\n]*)?(?:\n|\Z)|[ \t]*(?:\#[^\n]*)?\n"
 )
+
+
+def _like_csv(text: str) -> bool:
+    """Whether the first line that is not empty has cells and no parenthesis, as every row of text has."""
+    at = 0
+    while at < len(text):
+        end = text.find("\n", at)
+        end = len(text) if end < 0 else end
+        line = text[at:end].partition("#")[0].strip()
+        if line:
+            return "(" not in line and any(sign in line for sign in ",;\t")
+        at = end + 1
+    return False
 
 
 def read_rows(text: str, source: str, database: Database) -> None:
@@ -166,13 +183,24 @@ def _read_any_rows(text: str, source: str, database: Database) -> None:
     while not reader.at_end():
         token = reader.next
         relation = names.relation(reader)
-        values = reader.listed(lambda: reader.value("a value"))
+        values = reader.listed(lambda: _word(reader, database))
         table = names.tables[relation]
         if len(values) != len(table.columns):
             raise reader.error(token, f"{table} has {count(len(table.columns), 'column')}, not {len(values)}")
         reader.line_ends()
-        words = [array("I", [database.values.encode(value)]) for value in values]
+        words = [array("I", [value]) for value in values]
         database.add(relation, words, _line_of(source, array("I", [token.line])))
+
+
+def _word(reader: Reader, database: Database) -> int:
+    """The word of the next value; NULL is one if it is said what that stands for."""
+    token = reader.next
+    if token.kind != "name" or token.text.upper() != "NULL":
+        return database.values.encode(reader.value("a value"))
+    if database.null is None:
+        raise reader.error(token, f"there is no value here (NULL); {CURE}")
+    reader.take("name")
+    return database.null
 
 
 # ---- CSV

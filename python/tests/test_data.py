@@ -243,6 +243,19 @@ class Files(Data):
             self.assertEqual(run("evaluate", self.text, "ans(f) :- burst(f, 1e4)", cells), (0, "ans(1)\n# 1 answer\n", ""))
         self.assertEqual(run("test", self.text, self.csv(burst="flight,height\n06610,1\n7,-0\n"))[2], "")
 
+    def test_null_in_rows_of_text(self):
+        path = self.write("n.data", "flight(1, 'x', 2)\nflight(2, NULL, 3)\n")
+        self.failed(f"{path}:2:11: there is no value here (NULL); say what it stands for with --null VALUE", "test", self.text, path)
+        self.assertEqual(self.done("evaluate", self.text, 1, path, "--null", "none"), "ans('none')\nans('x')\n# 2 answers\n")
+
+    def test_csv_under_another_name(self):
+        for text in ("flight,height\nF-1,3\n", "# burst\n\n flight;height\n", "flight\theight\n", "1,2"):
+            path = self.write("burst.txt", text)
+            said = f"{path}: this looks like CSV and not like rows of text; a CSV file is called flight.csv, burst.csv"
+            self.failed(said, "test", self.text, path)
+        for text in ("burst(1,\n2)\n", "# a, b\nburst(1, 2)\n", "\tburst(1, 2)"):
+            self.done("test", self.text, self.write("burst.txt", text))
+
     def test_rows_with_zeros_in_front(self):
         path = self.write("z.data", "burst(1, 2)\nburst(007, 2)\n")
         self.failed(f"{path}:2:7: 007 begins with 0: write '007' for the text, 7 for the number", "test", self.text, path)
@@ -287,11 +300,12 @@ class Files(Data):
         base = self.sqlite(flights=[("101", "De Bilt", "x")], bursts=[("101", 7)])
         status, out, err = run("evaluate", self.text, "ans(h) :- burst(101, h)", base)
         self.assertEqual((status, out), (0, "# 0 answers\n"))
-        self.assertIn("the text '101' and the number 101 are different values, and both are here", err)
+        self.assertIn("the text '101' and the number 101 are different values, and both are here; a query has the text between quotes\n", err)
         self.assertEqual(self.done("evaluate", self.text, "ans(h) :- burst('101', h)", base), "ans(7)\n# 1 answer\n")
         more = self.folder_of(burst="flight,height\n101,8\n")
         status, out, err = run("evaluate", self.text, "ans(h) :- flight(f, p, t), burst(f, h)", base, more)
         self.assertIn("the text '101' and the number 101 are different values", err)
+        self.assertIn("between quotes, and --text TABLE.COLUMN takes a column of CSV as text\n", err)
         found = run("evaluate", self.text, "ans(h) :- flight(f, p, t), burst(f, h)", base, more, "--text", "burst.flight")
         self.assertEqual((found[1], "different values" in found[2]), ("ans(7)\nans(8)\n# 2 answers\n", False))
 

@@ -37,6 +37,25 @@ class Rules(unittest.TestCase):
             with self.assertRaisesRegex(NotationError, f"rule:1:20: {word} is no value and no variable"):
                 parse_query(f"ans(x) :- burst(x, {word})", NAMES)
 
+    def test_a_variable_called_null_loses_its_name(self):
+        self.assertEqual(read_names("burst(a, b)\n0: x, NULL, y\n", "a.names").variables, {0: {0: "x", 2: "y"}})
+
+    def test_words_that_are_no_value(self):
+        for word, said in [
+            ("2026-1-14", "2026-1-14 is no date; a date is written 2026-01-14, with two digits for the month and the day"),
+            ("2026-01-145", "2026-01-145 is no date; a date is written 2026-01-14"),
+            ("2026-01-14T00:00", "2026-01-14 goes on; a date is written 2026-01-14, and one with a time is a text between quotes"),
+            ("5a", "5a is no number; a text stands between quotes"),
+            ("0x10", "0x10 is no number; a text stands between quotes"),
+            ("1e5x", "1e5x is no number; a text stands between quotes"),
+            ("\u201cx\u201d", "'\u201c' is no quote of a rule; a text stands between straight quotes, as in 'De Bilt'"),
+        ]:
+            with self.subTest(word=word), self.assertRaisesRegex(NotationError, f"^rule:1:20: {said}"):
+                parse_query(f"ans(x) :- burst(x, {word})", NAMES)
+        for word in ("5 a", "x 5", "'a' 5", "2026 -1"):
+            with self.subTest(word=word), self.assertRaisesRegex(NotationError, f"a comma is missing before {word.split()[1]}$"):
+                parse_query(f"ans(x) :- burst({word})", NAMES)
+
     def test_never(self):
         self.same("ans(_, _) :- never", Query.never(2))
         self.same("ans() :- never", Query.never(0))
