@@ -233,7 +233,10 @@ class Files(Data):
     def test_a_text_that_a_program_may_have_meant_as_a_number(self):
         for cell, number in [("1e4", "10000"), ("+5", "5"), ("5.", "5"), (".5", "0.5"), ("00.5", "0.5"), ("1E99", "without an exponent")]:
             cells = self.csv(burst=f"flight,height\n1,12\n2,F\n3,{cell}\n4,2e5\n")
-            note = f"{cells}/burst.csv:4: {cell} in burst.height is taken as a text; the number is written {number}; if it is no number, say --text burst.height"
+            note = (
+                f"{cells}/burst.csv:4: {cell} in burst.height is taken as a text; the number is written {number}; "
+                "if it is no number, say --text burst.height"
+            )
             status, out, err = run("evaluate", self.text, "ans(f) :- burst(f, 1e4)", cells)
             self.assertEqual((status, out, err), (0, "# 0 answers\n", f"spernevan: {note}\n"))
             self.assertEqual(run("test", self.text, cells)[2], f"spernevan: {note}\n")
@@ -370,7 +373,8 @@ class FromPython(Data):
 
     def test_a_broken_dependency_is_a_warning(self):
         data = {"flight": [], "burst": [("F-1", 2), ("F-1", 3)]}
-        with self.assertWarnsRegex(UserWarning, r"the database breaks burst: flight -> height \(row 0 of burst: burst\('F-1', 2\); row 1 of burst: ") as seen:
+        message = r"the database breaks burst: flight -> height \(row 0 of burst: burst\('F-1', 2\); row 1 of burst: "
+        with self.assertWarnsRegex(UserWarning, message) as seen:
             self.assertEqual(self.record.evaluate("ans(h) :- burst(f, h)", data), [(2,), (3,)])
         self.assertEqual(seen.filename, __file__)
         with warnings.catch_warnings():
@@ -513,9 +517,8 @@ class Random(Data):
         return read_database([folder], record.names)
 
     def from_rows(self, tables, record):
-        return read_database(
-            [self.write("r.data", "# rows\n" + "".join(f"{format_datum(name, row)}\n" for name, rows in tables.items() for row in rows))], record.names
-        )
+        lines = [f"{format_datum(name, row)}\n" for name, rows in tables.items() for row in rows]
+        return read_database([self.write("r.data", "# rows\n" + "".join(lines))], record.names)
 
     def from_sqlite(self, number, tables, record):
         path = self.folder / f"random{number}.db"
