@@ -339,14 +339,14 @@ def evaluate_command(options: Options) -> int:
     if double is not None:
         say(
             f"spernevan: the text '{double}' and the number {double} are different values, and both are here; "
-            f"a query has the text between quotes, and --text TABLE.COLUMN takes a column of CSV as text"
+            "a query has the text between quotes" + (", and --text TABLE.COLUMN takes a column of CSV as text" if database.has_cells else "")
         )
     broken = record.test(database)
     if broken is not None:
         for line in _broken(record, database, broken):
             say(line)
         say("On such a database the long and the short form of a query may have different answers.")
-    answers = record.evaluate(asked.asked, database)
+    answers = record.evaluate(asked.asked, database, tested=True)
     write_answers(answers, answer_columns(asked.query, names, asked.variables), options.format, sys.stdout)
     return YES
 

@@ -16,7 +16,7 @@ from typing import Any, Callable, Dict, Iterable, Iterator, List, Mapping, Named
 
 from .engine import Words
 from .notation import Names, Table, count, format_datum
-from .values import FIRST_CODE, Null, Value, Values, order, plain, read_cell, read_literal
+from .values import FIRST_CODE, Null, Value, Values, number_meant, order, plain, read_cell, read_literal
 
 CHUNK = 50_000
 
@@ -55,6 +55,7 @@ class Database:
         self.tables: Dict[int, int] = {}
         self.progress = progress or Progress(None)
         self.notes: List[str] = []
+        self.has_cells = False
         self._null = None if null is None else self.values.encode(null)
         self._blocks: List[Block] = []
         self._firsts: List[int] = []
@@ -63,6 +64,11 @@ class Database:
     def __len__(self) -> int:
         """How many rows there are."""
         return self._rows
+
+    @property
+    def null(self) -> Optional[int]:
+        """The word of what an absent value stands for, if that is said."""
+        return self._null
 
     def has(self, relation: int) -> None:
         """Notes that a table has been read, also one without rows."""
@@ -85,6 +91,7 @@ class Database:
 
     def cells(self, text: bool = False) -> Cells:
         """A reader of one column's cells that have no type, as in CSV; `text` leaves them as they are."""
+        self.has_cells = True
         return Cells(self.values, self._null, str) if text else Cells(self.values, self._null, read_cell)
 
     def literals(self) -> Cells:
@@ -158,6 +165,8 @@ class Cells(Dict[Any, int]):
         self._values, self._null, self._read = values, null, read
         self._written: Dict[int, str] = {}
         self.same: Optional[Tuple[str, str]] = None
+        # The first cell of a column without types that is taken as a text and looks like a number, and that number.
+        self.meant: Optional[Tuple[str, str]] = None
 
     def column(self, cells: Sequence[Any]) -> Words:
         """Cells in words. A cell that is no value raises ValueError, or Null; `fault` then says which."""
@@ -201,6 +210,9 @@ class Cells(Dict[Any, int]):
             written = self._written.setdefault(word, cell.strip())
             if written != cell.strip() and self.same is None:
                 self.same = written, cell.strip()
+        elif self._read is read_cell and self.meant is None and cell[:1] <= "9":
+            number = number_meant(cell)
+            self.meant = None if number is None else (cell, number)
         try:
             self[cell] = word
         except TypeError:
@@ -292,6 +304,8 @@ def of_python(data: object, names: Names, values: Optional[Values] = None, null:
     for table, rows in data.items():
         relation = relation_of(table, names)
         held = names.tables[relation]
+        if relation in database.tables:
+            raise DataError(f"the table {held.name} is there twice, the second time as {table!r:.40}")
         database.has(relation)
         columns = _columns_of(rows, held)
         readers = [database.typed() for _ in columns]
@@ -320,7 +334,8 @@ def _python_column(reader: Cells, cells: Any, start: int, where: str) -> Words:
         return reader.column(held)
     except ValueError:
         position, error = reader.fault(held)
-        raise DataError(f"{where}, row {start + position}: {error}") from None
+        cure = "; say what it stands for, as in record.database(data, null=0)" if isinstance(error, Null) else ""
+        raise DataError(f"{where}, row {start + position}: {error}{cure}") from None
 
 
 def _columns_of(rows: Any, table: Table) -> List[Any]:

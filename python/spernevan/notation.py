@@ -232,14 +232,14 @@ def read_names(text: str, source: str) -> Names:
 
 
 def _read_variable_names(reader: Reader) -> Dict[int, str]:
-    """`f, s, v2, t`: names of variables 0, 1, .., where v2 is no name."""
+    """`f, s, v2, t`: names of variables 0, 1, .., where v2 is no name. NULL, which a rule cannot have, is none either."""
     names: Dict[int, str] = {}
     number = 0
     while True:
         token = reader.take("name", "the name of a variable")
         if number == VARIABLES:
             raise reader.error(token, f"there are {VARIABLES} variables at most")
-        if token.text != f"v{number}":
+        if token.text != f"v{number}" and token.text.upper() != "NULL":
             if token.text == "_" or _NUMBERED.fullmatch(token.text):
                 raise reader.error(token, f"{token.text} cannot be the name of v{number}")
             if token.text in names.values():
@@ -281,6 +281,8 @@ def read_rule(reader: Reader, names: Names) -> Tuple[Query, Dict[int, str]]:
         if token.kind != "name":
             return Constant(names.values.encode(reader.value("a variable or a value")))
         reader.take("name")
+        if token.text.upper() == "NULL":
+            raise reader.error(token, f"{token.text} is no value and no variable: a query asks for values that are there")
         if _NUMBERED.fullmatch(token.text) and token.text not in _VARIABLES:
             raise reader.error(token, f"variables with numbers go from v0 to v{VARIABLES - 1}")
         return token

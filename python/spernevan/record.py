@@ -4,13 +4,14 @@ from __future__ import annotations
 
 import html
 import os
+import warnings
 from array import array
 from dataclasses import dataclass
 from functools import cached_property
 from typing import Any, Dict, FrozenSet, Iterable, List, Optional, Sequence, Tuple, Union
 
 from . import engine
-from .data import Database, of_python
+from .data import Database, DataError, of_python
 from .engine import Refused, Words
 from .files import FILE_BYTES, Failure, Path, checksum, is_text, names_path, read_bytes, read_names_beside, read_text, shown, write_files
 from .model import (
@@ -36,7 +37,18 @@ from .model import (
     mask_of,
     whole,
 )
-from .notation import Names, NotationError, Table, constants, count, format_names, parse_dependencies, parse_rule, read_names_file
+from .notation import (
+    Names,
+    NotationError,
+    Table,
+    constants,
+    count,
+    format_dependency,
+    format_names,
+    parse_dependencies,
+    parse_rule,
+    read_names_file,
+)
 from .values import FIRST_CODE, Value
 
 # A row of a database: the number of its relation, and its values.
@@ -156,7 +168,7 @@ class Record:
         """
         data = read_bytes(path, FILE_BYTES)
         if is_text(data):
-            raise Refused(1, f"{shown(path)} is a text: pack it first")
+            raise Refused(1, f"{shown(path)} is a text: pack it first, as spernevan.pack(text) does")
         record = cls(data)
         if names is False:
             return record
@@ -350,7 +362,7 @@ class Record:
 
     def placed(self, *asked: Asked) -> Tuple[Record, List[int]]:
         """A record in which each of one or two queries has a place, and the places: itself, if they are its own places."""
-        places = [one for one in asked if not isinstance(one, (str, Query))]
+        places = [_place(one) for one in asked if not isinstance(one, (str, Query))]
         if len(places) == len(asked):
             return self, places
         record = self
@@ -366,7 +378,7 @@ class Record:
 
     def query(self, place: int) -> Query:
         """The query of a place; Refused if there is none."""
-        if whole("a place", place) >= PLACES:
+        if _place(place) >= PLACES:
             raise self._explained(Refused(7), [place])
         query = self.queries[place]
         if query is None:
@@ -442,14 +454,20 @@ class Record:
         found = engine.test(self.file, held.words if isinstance(held, Database) else held)
         return None if found is None else Broken(*found)
 
-    def evaluate(self, place: Asked, database: Any, room: Optional[int] = None) -> List[Tuple[Any, ...]]:
+    def evaluate(self, place: Asked, database: Any, room: Optional[int] = None, tested: bool = False) -> List[Tuple[Any, ...]]:
         """The answers of the query at a place, ascending, each once. See `database`.
 
-        `room` is how many words the answers may take; without it there is room for all of them.
+        `room` is how many words the answers may take; without it there is room for all of them. A database
+        of named tables must have those of the query; it is tested first, unless it is `tested` already,
+        and a dependency that it breaks is a warning.
         """
         record, (at,) = self.placed(place)
         held = record._data(database)
         if isinstance(held, Database):
+            if at < PLACES:
+                self._has_tables(held, [row.relation for row in record.query(at).rows])
+            if not tested:
+                self._warn(held)
             record, at = record._translated(at, held)
         words = held.words if isinstance(held, Database) else held
         size = max(4096, 2 * len(words)) if room is None else room
@@ -467,6 +485,23 @@ class Record:
         if isinstance(held, Database):
             return held.decoded(answers[: number * length], length, number)
         return [tuple(answers[start * length : (start + 1) * length]) for start in range(number)]
+
+    def _has_tables(self, database: Database, relations: Iterable[int]) -> None:
+        """DataError if a table that a query asks for is in none of the data."""
+        missing = [self.names.tables[relation].name for relation in sorted(set(relations)) if relation not in database.tables]
+        if missing:
+            raise DataError(f"the data has no table {', '.join(missing)}, which the query asks for; an empty table is {{{missing[0]!r}: []}}")
+
+    def _warn(self, database: Database) -> None:
+        """A warning, for who called `evaluate`, if the database breaks a dependency."""
+        found = engine.test(self.file, database.words)
+        if found is not None:
+            number, first, second = found
+            warnings.warn(
+                f"the database breaks {format_dependency(self.dependencies[number], self.names)} "
+                f"({database.say(first)}; {database.say(second)}): the long and the short form of a query may have different answers",
+                stacklevel=3,
+            )
 
     def _translated(self, place: int, database: Database) -> Tuple[Record, int]:
         """A record whose query at a place has the constants by the database's dictionary, which may have grown apart from this one."""
@@ -497,6 +532,8 @@ class Record:
         """A database as the engine takes it. A row of a known relation must have its width."""
         if isinstance(data, array):
             return data
+        if isinstance(data, (str, bytes, os.PathLike)):
+            raise ValueError(f"a database is no name of a file: read_database([{data!r:.40}], record.names) reads files")
         if isinstance(data, Database):
             if data.names.tables != self.names.tables:
                 raise ValueError(f"the database is of other tables: {', '.join(map(str, data.names.tables))}")
@@ -521,6 +558,13 @@ class Record:
                     f"relation {relation} has {self.widths[relation]} columns"
                 )
         return words
+
+
+def _place(value: object) -> int:
+    """A place that is given in Python."""
+    if isinstance(value, bool):
+        raise ValueError(f"a place must be a whole number, not {value}")
+    return whole("a place", value)
 
 
 def _listed(places: Sequence[int]) -> str:

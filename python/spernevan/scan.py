@@ -50,13 +50,14 @@ _VALUES = {"number", "decimal", "date", "text"}
 
 
 class Reader:
-    """The tokens of a text, taken one after another; `next` and `then` are the two that come."""
+    """The tokens of a text, taken one after another; `next` and `then` are the two that come, `last` the one taken last."""
 
     def __init__(self, text: str, source: str) -> None:
         self.source = source
         self._tokens = self._scan(text)
         self.next = next(self._tokens)
         self.then = next(self._tokens, self.next)
+        self.last = self.next
 
     def _scan(self, text: str) -> Iterator[Token]:
         """The tokens; a newline is one only where a statement may end, and "end" is the last."""
@@ -96,7 +97,7 @@ class Reader:
         token = self.next
         if token.kind != kind:
             raise self.expected(what or repr(kind))
-        self.next, self.then = self.then, next(self._tokens, self.then)
+        self.last, self.next, self.then = token, self.then, next(self._tokens, self.then)
         return token
 
     def try_take(self, kind: str) -> Optional[Token]:
@@ -132,9 +133,22 @@ class Reader:
         while self.try_take(","):
             found.append(item())
         if self.next.kind in _VALUES or self.next.kind == "name":
-            raise self.error(self.next, f"a comma is missing before {self.next.text:.40}")
+            raise self._joined() or self.error(self.next, f"a comma is missing before {self.next.text:.40}")
         self.take(")", "',' or ')'")
         return found
+
+    def _joined(self) -> Optional[NotationError]:
+        """The error of a word that begins as a number or a date and goes on otherwise, as 2026-1-14 or 5a; None if there is a space."""
+        last, token = self.last, self.next
+        if last.kind not in ("number", "decimal", "date") or (token.line, token.column) != (last.line, last.column + len(last.text)):
+            return None
+        word = f"{last.text}{token.text}"[:40]
+        if last.kind == "number" and token.text.startswith("-"):
+            word += self.then.text if self.then.kind == "decimal" else ""
+            return self.error(last, f"{word:.40} is no date; a date is written 2026-01-14, with two digits for the month and the day")
+        if last.kind == "date":
+            return self.error(last, f"{last.text} goes on; a date is written 2026-01-14, and one with a time is a text between quotes")
+        return self.error(last, f"{word} is no number; a text stands between quotes")
 
     def line_ends(self) -> None:
         """The statement must end with its line."""
@@ -152,6 +166,8 @@ def _strange(character: str) -> str:
     """What to say of a character that begins no word."""
     if character in "'\"":
         return f"the quote {character} that begins here does not end on this line"
+    if character in "\u2018\u2019\u201a\u201b\u201c\u201d\u201e\u201f\u00ab\u00bb\u2039\u203a\u0060\u00b4":
+        return f"{character!r} is no quote of a rule; a text stands between straight quotes, as in 'De Bilt'"
     if character == ".":
         return "'.' has no meaning here; a decimal has digits before and after its point"
     if character == "\0":

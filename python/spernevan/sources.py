@@ -14,7 +14,7 @@ import re
 import sqlite3
 from array import array
 from itertools import islice
-from typing import AbstractSet, Dict, Iterable, List, NoReturn, Optional, Sequence, TextIO, Tuple
+from typing import AbstractSet, Dict, Iterable, Iterator, List, NoReturn, Optional, Sequence, TextIO, Tuple, Union
 from urllib.request import pathname2url
 
 from .data import CHUNK, Cells, Database, DataError, Progress, Where, matched, positions
@@ -27,13 +27,13 @@ CURE = "say what it stands for with --null VALUE"
 
 
 def read_database(
-    paths: Sequence[Path],
+    paths: Union[Path, Sequence[Path]],
     names: Names,
     null: Optional[Value] = None,
     text: Iterable[str] = (),
     progress: Optional[TextIO] = None,
 ) -> Database:
-    """The database of some files: rows of text, CSV files or folders of them, SQLite files.
+    """The database of a file or some files: rows of text, CSV files or folders of them, SQLite files.
 
     `null` is what an absent value stands for; without it, one is refused. `text` has columns of CSV
     files, as `sonde.version`, whose cells stay texts also where they look like numbers. `progress` is
@@ -44,7 +44,7 @@ def read_database(
     collecting = gc.isenabled()
     gc.disable()  # Rows make no cycles, and looking for them doubles the time.
     try:
-        for path in paths:
+        for path in [paths] if isinstance(paths, (str, os.PathLike)) else paths:
             _read(path, database, kept)
     finally:
         if collecting:
@@ -81,7 +81,13 @@ def _read(path: Path, database: Database, kept: AbstractSet[Tuple[int, int]]) ->
             raise DataError("an SQLite file cannot be read from standard input; give its name")
         read_sqlite(name, database)
         return
-    read_rows(text_of(data, path), shown(path), database)
+    if not data and name != "-":
+        raise DataError(f"{name}: the file is empty; for no rows at all give a line such as # no rows, or a CSV file with its header line alone")
+    text = text_of(data, path)
+    if _like_csv(text):
+        known = ", ".join(f"{table.name}.csv" for table in database.names.tables)
+        raise DataError(f"{shown(path)}: this looks like CSV and not like rows of text; a CSV file is called {known}")
+    read_rows(text, shown(path), database)
 
 
 # ---- rows of text
@@ -92,6 +98,19 @@ _EACH = re.compile(_ITEM)
 _ROW = re.compile(
     rf"[ \t]*([^\W\d]\w*)[ \t]*\(([ \t]*{_ITEM}[ \t]*(?:,[ \t]*{_ITEM}[ \t]*)*)\)[ \t]*(?:\#[^\n]*)?(?:\n|\Z)|[ \t]*(?:\#[^\n]*)?\n"
 )
+
+
+def _like_csv(text: str) -> bool:
+    """Whether the first line that is not empty has cells and no parenthesis, as every row of text has."""
+    at = 0
+    while at < len(text):
+        end = text.find("\n", at)
+        end = len(text) if end < 0 else end
+        line = text[at:end].partition("#")[0].strip()
+        if line:
+            return "(" not in line and any(sign in line for sign in ",;\t")
+        at = end + 1
+    return False
 
 
 def read_rows(text: str, source: str, database: Database) -> None:
@@ -164,13 +183,24 @@ def _read_any_rows(text: str, source: str, database: Database) -> None:
     while not reader.at_end():
         token = reader.next
         relation = names.relation(reader)
-        values = reader.listed(lambda: reader.value("a value"))
+        values = reader.listed(lambda: _word(reader, database))
         table = names.tables[relation]
         if len(values) != len(table.columns):
             raise reader.error(token, f"{table} has {count(len(table.columns), 'column')}, not {len(values)}")
         reader.line_ends()
-        words = [array("I", [database.values.encode(value)]) for value in values]
+        words = [array("I", [value]) for value in values]
         database.add(relation, words, _line_of(source, array("I", [token.line])))
+
+
+def _word(reader: Reader, database: Database) -> int:
+    """The word of the next value; NULL is one if it is said what that stands for."""
+    token = reader.next
+    if token.kind != "name" or token.text.upper() != "NULL":
+        return database.values.encode(reader.value("a value"))
+    if database.null is None:
+        raise reader.error(token, f"there is no value here (NULL); {CURE}")
+    reader.take("name")
+    return database.null
 
 
 # ---- CSV
@@ -210,11 +240,11 @@ def read_csv(path: str, relation: int, database: Database, kept: AbstractSet[Tup
         with open(path, encoding="utf-8-sig", newline="") as file:
             first = file.readline()
             sign = _delimiter(first, table, path)
-            header: List[str] = next(csv.reader([first], delimiter=sign, skipinitialspace=True), [])
+            header: List[str] = next(_csv_rows([first], sign), [])
             if not header:
                 raise DataError(f"{path}:1: a header line with the names of the columns was expected, not an empty line")
             at = positions(table.columns, header, f"{path}:1")
-            reader = csv.reader(file, delimiter=sign, skipinitialspace=True)
+            reader = _csv_rows(file, sign)
             start = 0
             while True:
                 rows = list(islice(reader, CHUNK))
@@ -225,12 +255,16 @@ def read_csv(path: str, relation: int, database: Database, kept: AbstractSet[Tup
                 columns = list(zip(*rows)) if rows else [()] * len(header)
                 words = []
                 for column, (number, cells) in enumerate(zip(at, readers)):
+                    known = cells.meant
                     try:
                         words.append(cells.column(columns[number]))
                     except ValueError:
                         position, error = cells.fault(columns[number])
                         line = _csv_line(path, sign, start + position)
                         _refuse(f"{path}:{line}: column {table.columns[column]}", error, "the cell is empty (NULL)")
+                    if known is None and cells.meant is not None:
+                        line = _csv_line(path, sign, start + columns[number].index(cells.meant[0]))
+                        database.notes.append(_meant(f"{path}:{line}", *cells.meant, f"{table.name}.{table.columns[column]}"))
                 if rows:
                     database.add(relation, words, _csv_where(path, sign, start))
                 start += len(rows)
@@ -238,12 +272,17 @@ def read_csv(path: str, relation: int, database: Database, kept: AbstractSet[Tup
         text_of(read_bytes(path), path)
         raise
     except csv.Error as error:
-        raise DataError(f"{path}:{_csv_error_line(path, sign)}: {error}") from None
+        raise DataError(f"{path}:{_csv_error_line(path, sign)}: {_csv_error(str(error))}") from None
     for column, cells in enumerate(readers):
         if cells.same is not None:
             name = f"{table.name}.{table.columns[column]}"
             one, other = cells.same
             database.notes.append(f"{path}: {one} and {other} are one number in {name}; if they are no numbers, say --text {name}")
+
+
+def _meant(where: str, cell: str, number: str, name: str) -> str:
+    """The note of a cell that is taken as a text and looks like a number."""
+    return f"{where}: {cell.strip()} in {name} is taken as a text; the number is written {number}; if it is no number, say --text {name}"
 
 
 def _delimiter(header: str, table: Table, path: str) -> str:
@@ -253,6 +292,22 @@ def _delimiter(header: str, table: Table, path: str) -> str:
         if all(matched(column, labels, f"{path}:1") is not None for column in table.columns):
             return sign
     return ";" if ";" in header and "," not in header else ","
+
+
+def _csv_rows(lines: Iterable[str], sign: str) -> Iterator[List[str]]:
+    """The rows of CSV; a quote that does not end, or that a cell goes on after, is an error."""
+    return csv.reader(lines, delimiter=sign, skipinitialspace=True, strict=True)
+
+
+def _csv_error(words: str) -> str:
+    """What to say of an error of the csv module."""
+    if "unexpected end" in words:
+        return 'a quote " that begins in this row does not end'
+    if "expected after" in words:
+        return 'a cell goes on after the quote " that ends it; a quote inside a quoted cell is written twice'
+    if "field limit" in words:
+        return f'a cell has more than {csv.field_size_limit()} characters; a quote " may be missing'
+    return words
 
 
 def _rows_of(path: str, sign: str) -> Iterable[Tuple[int, List[str]]]:
@@ -277,13 +332,18 @@ def _csv_where(path: str, sign: str, start: int) -> Where:
 
 
 def _csv_error_line(path: str, sign: str) -> int:
+    """The line on which the first row begins that is no CSV."""
     line = 1
-    try:
-        for line, _ in _rows_of(path, sign):
+    with open(path, encoding="utf-8-sig", newline="") as file:
+        try:
+            next(_csv_rows([file.readline()], sign), [])
+            line = 2
+            reader = csv.reader(file, delimiter=sign, skipinitialspace=True, strict=True)
+            for _ in reader:
+                line = reader.line_num + 2
+        except csv.Error:
             pass
-    except csv.Error:
-        pass
-    return line + 1
+    return line
 
 
 def _sound_rows(rows: List[List[str]], width: int, path: str, sign: str, start: int) -> List[List[str]]:

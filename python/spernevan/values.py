@@ -189,8 +189,11 @@ class Values:
 
 # ---- values as they are written
 
-_WHOLE = re.compile(r"0|-?[1-9][0-9]*")
-_DECIMAL = re.compile(r"-?(?:0|[1-9][0-9]*)(?:\.[0-9]+(?:[eE][+-]?[0-9]+)?|e[+-][0-9]{2,})")
+_WHOLE = re.compile(r"-?(?:0|[1-9][0-9]*)")
+_DECIMAL = re.compile(r"-?(?:0|[1-9][0-9]*)(?:\.[0-9]+(?:[eE][+-]?[0-9]+)?|[eE][+-][0-9]{2,})")
+_LITERAL = re.compile(r"-?[0-9]+(?:\.[0-9]+)?(?:[eE][+-]?[0-9]+)?")
+# What a program may have written for a number.
+_LIKE_NUMBER = re.compile(r"[+-]?(?:[0-9]+\.?[0-9]*|\.[0-9]+)(?:[eE][+-]?[0-9]+)?")
 _DATE = re.compile(r"[0-9]{4}-[0-9]{2}-[0-9]{2}")
 
 
@@ -213,6 +216,21 @@ def read_cell(cell: str) -> Value:
         found = read_date(word)
         return cell if found is None else found
     return cell
+
+
+def number_meant(cell: str) -> Optional[str]:
+    """How `read_cell` wants the number of a cell that it takes as a text, as 1e4, +5, 5. or .5; None if it looks like none.
+
+    Digits alone, as 007, are meant as they are.
+    """
+    word = cell.strip()
+    if word.isdigit() or len(word) > MOST_DIGITS or not _LIKE_NUMBER.fullmatch(word):
+        return None
+    try:
+        found = bare(_number(Decimal(word)))
+    except (InvalidOperation, ValueError):
+        return None
+    return found if len(found) <= 40 else "without an exponent"
 
 
 def read_date(word: str) -> Optional[date]:
@@ -267,7 +285,12 @@ def read_literal(word: str) -> Value:
         if found is None:
             raise ValueError(f"there is no day {word}")
         return found
+    if re.match("-?0[0-9]", word):
+        number = re.sub("^(-?)0+(?=[0-9])", r"\1", word)
+        raise ValueError(f"{word:.24} begins with 0: write '{word:.24}' for the text, {number:.24} for the number")
     try:
+        if not _LITERAL.fullmatch(word):
+            raise ValueError
         return plain(Decimal(word))
     except (ValueError, ArithmeticError):
         raise ValueError(f"{word:.24} is no number, or one of more than {MOST_DIGITS} digits") from None

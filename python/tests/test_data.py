@@ -10,12 +10,13 @@ import subprocess
 import sys
 import time
 import unittest
+import warnings
 from datetime import date, datetime
 from decimal import Decimal
 from pathlib import Path
 
 import context
-from spernevan import Broken, Constant, DataError, Query, Record, Row, Table, pack, read_database
+from spernevan import Broken, Constant, DataError, Query, Record, Refused, Row, Table, pack, read_database
 from spernevan.data import Progress, matched
 from spernevan.notation import format_datum
 from test_command import Command, run
@@ -103,10 +104,10 @@ class Files(Data):
     def test_rows_in_any_writing(self):
         """Rows that stand in one line are read apart from the others; both ways give the same."""
         rng = random.Random(13)
-        cells = ["7", "007", "0", "-3", "12.50", "'a, b'", "'it''s'", '"x\\ny"', "2026-01-14", "4294967295", "1e3", "2147483647"]
+        cells = ["7", "0", "-3", "12.50", "'a, b'", "'it''s'", '"x\\ny"', "2026-01-14", "4294967295", "1e3", "2147483647"]
         for _ in range(30 * context.MANY):
             lines = []
-            for _ in range(rng.randint(0, 12)):
+            for _ in range(rng.randint(1, 12)):
                 table, width = rng.choice([("flight", 3), ("burst", 2)])
                 lines.append(f"{table}({', '.join(rng.choice(cells) for _ in range(width))})" + rng.choice(["", " # c", "  ", "\n"]))
             text = "\n".join(lines)
@@ -198,7 +199,11 @@ class Files(Data):
             (header + "1,2\n", "flight.csv:2: the row has 2 cells, the header 3"),
             (header + "1,2,3\n\n1,2,3,4\n", "flight.csv:4: the row has 4 cells, the header 3"),
             (header.encode() + b"1,2,3\n1,\xff,3\n", "flight.csv:3:3: this byte is not UTF-8 text"),
-            (header + '1,2,"' + "x" * 200000 + '"\n', "flight.csv:2: field larger than field limit"),
+            (header + '1,2,"' + "x" * 200000 + '"\n', 'flight.csv:2: a cell has more than 131072 characters; a quote " may be missing'),
+            (header + '1,"2\n0",3\n\n1,"2,3\n1,2,3\n', 'flight.csv:5: a quote " that begins in this row does not end'),
+            (header + '1,2,"3" x\n', 'flight.csv:2: a cell goes on after the quote " that ends it; a quote inside a quoted cell is written twice'),
+            (header + '1,2,3\n1,"4"5",3\n', 'flight.csv:3: a cell goes on after the quote " that ends it'),
+            ('number,site,"launch\n1,2,3\n', 'flight.csv:1: a quote " that begins in this row does not end'),
         ]:
             cells = self.csv(flight)
             self.failed(f"{cells}/{message}", "test", self.text, cells)
@@ -220,6 +225,53 @@ class Files(Data):
         self.failed(f"{both}: FLIGHT.csv and flight.csv are both for the table flight", "test", self.text, both)
         self.failed("sonde.version is no TABLE.COLUMN of the archive", "test", self.text, self.csv(), "--text", "sonde.version")
         self.failed(f"{self.folder}/none: No such file", "test", self.text, self.folder / "none")
+
+    def test_a_quote_inside_a_cell(self):
+        cells = self.csv('number,site,launch\n1,4" pipe,x\n2,"4"" pipe",x\n')
+        self.assertEqual(self.done("evaluate", self.text, 1, cells), "ans('4\" pipe')\n# 1 answer\n")
+
+    def test_a_text_that_a_program_may_have_meant_as_a_number(self):
+        for cell, number in [("1e4", "10000"), ("+5", "5"), ("5.", "5"), (".5", "0.5"), ("00.5", "0.5"), ("1E99", "without an exponent")]:
+            cells = self.csv(burst=f"flight,height\n1,12\n2,F\n3,{cell}\n4,2e5\n")
+            note = (
+                f"{cells}/burst.csv:4: {cell} in burst.height is taken as a text; the number is written {number}; "
+                "if it is no number, say --text burst.height"
+            )
+            status, out, err = run("evaluate", self.text, "ans(f) :- burst(f, 1e4)", cells)
+            self.assertEqual((status, out, err), (0, "# 0 answers\n", f"spernevan: {note}\n"))
+            self.assertEqual(run("test", self.text, cells)[2], f"spernevan: {note}\n")
+            self.assertEqual(run("test", self.text, cells, "--text", "burst.height")[2], "")
+        for cell in ("1E+04", "1.0e4", "10000", "10000.0"):
+            cells = self.csv(burst=f"flight,height\n1,{cell}\n")
+            self.assertEqual(run("evaluate", self.text, "ans(f) :- burst(f, 1e4)", cells), (0, "ans(1)\n# 1 answer\n", ""))
+        self.assertEqual(run("test", self.text, self.csv(burst="flight,height\n06610,1\n7,-0\n"))[2], "")
+
+    def test_null_in_rows_of_text(self):
+        path = self.write("n.data", "flight(1, 'x', 2)\nflight(2, NULL, 3)\n")
+        self.failed(f"{path}:2:11: there is no value here (NULL); say what it stands for with --null VALUE", "test", self.text, path)
+        self.assertEqual(self.done("evaluate", self.text, 1, path, "--null", "none"), "ans('none')\nans('x')\n# 2 answers\n")
+
+    def test_csv_under_another_name(self):
+        for text in ("flight,height\nF-1,3\n", "# burst\n\n flight;height\n", "flight\theight\n", "1,2"):
+            path = self.write("burst.txt", text)
+            said = f"{path}: this looks like CSV and not like rows of text; a CSV file is called flight.csv, burst.csv"
+            self.failed(said, "test", self.text, path)
+        for text in ("burst(1,\n2)\n", "# a, b\nburst(1, 2)\n", "\tburst(1, 2)"):
+            self.done("test", self.text, self.write("burst.txt", text))
+
+    def test_rows_with_zeros_in_front(self):
+        path = self.write("z.data", "burst(1, 2)\nburst(007, 2)\n")
+        self.failed(f"{path}:2:7: 007 begins with 0: write '007' for the text, 7 for the number", "test", self.text, path)
+
+    def test_an_empty_file_is_no_database(self):
+        for name in ("b.db", "b.data"):
+            empty = self.write(name, "")
+            self.failed(f"{empty}: the file is empty; for no rows at all give a line such as # no rows", "test", self.text, empty)
+            self.failed(f"{empty}: the file is empty; ", "evaluate", self.text, 1, empty)
+        self.assertEqual(self.done("evaluate", self.text, 1, self.write("c.data", "# no rows\n")), "# 0 answers\n")
+        program = [sys.executable, str(context.HERE.parent / "program")]
+        done = subprocess.run([*program, "evaluate", self.text, "1", "-"], input=b"", capture_output=True)
+        self.assertEqual((done.returncode, done.stdout), (0, b"# 0 answers\n"))
 
     def test_sqlite_that_cannot_be_read(self):
         self.failed("", "test", self.text, self.write("x.db", b"SQLite format 3\0 and no more"))
@@ -251,11 +303,12 @@ class Files(Data):
         base = self.sqlite(flights=[("101", "De Bilt", "x")], bursts=[("101", 7)])
         status, out, err = run("evaluate", self.text, "ans(h) :- burst(101, h)", base)
         self.assertEqual((status, out), (0, "# 0 answers\n"))
-        self.assertIn("the text '101' and the number 101 are different values, and both are here", err)
+        self.assertIn("the text '101' and the number 101 are different values, and both are here; a query has the text between quotes\n", err)
         self.assertEqual(self.done("evaluate", self.text, "ans(h) :- burst('101', h)", base), "ans(7)\n# 1 answer\n")
         more = self.folder_of(burst="flight,height\n101,8\n")
         status, out, err = run("evaluate", self.text, "ans(h) :- flight(f, p, t), burst(f, h)", base, more)
         self.assertIn("the text '101' and the number 101 are different values", err)
+        self.assertIn("between quotes, and --text TABLE.COLUMN takes a column of CSV as text\n", err)
         found = run("evaluate", self.text, "ans(h) :- flight(f, p, t), burst(f, h)", base, more, "--text", "burst.flight")
         self.assertEqual((found[1], "different values" in found[2]), ("ans(7)\nans(8)\n# 2 answers\n", False))
 
@@ -305,10 +358,45 @@ class FromPython(Data):
         self.assertEqual(self.record.test({"burst": [(1, 2), (1, 3)]}), Broken(2, 0, 1))
         self.assertEqual(self.record.evaluate(1, {"flight": []}), [])
         self.assertEqual(
-            self.record.evaluate(1, {"flight": [(1, 3.0, 1), (1, 2.5, 1), (1, -4, 1), (1, "a", 1), (1, 2**40, 1)]}),
+            self.record.evaluate(1, {"flight": [(1, 3.0, 1), (2, 2.5, 1), (3, -4, 1), (4, "a", 1), (5, 2**40, 1)]}),
             [(-4,), (2.5,), (3,), (2**40,), ("a",)],
         )
         self.assertEqual(len(self.record.names.values), len(pack(TEXT)[1].values))
+
+    def test_a_table_that_is_not_there(self):
+        for place, data, missing in [(0, {}, "flight, burst"), (1, {"burst": [(1, 2)]}, "flight")]:
+            message = f"the data has no table {missing}, which the query asks for; an empty table is {{'flight': \\[\\]}}"
+            with self.assertRaisesRegex(DataError, message):
+                self.record.evaluate(place, data)
+        with self.assertRaisesRegex(DataError, "the table burst is there twice, the second time as 'Burst'"):
+            self.record.evaluate(1, {"flight": [], "burst": [(1, 2)], "Burst": [(3, 4)]})
+
+    def test_a_broken_dependency_is_a_warning(self):
+        data = {"flight": [], "burst": [("F-1", 2), ("F-1", 3)]}
+        message = r"the database breaks burst: flight -> height \(row 0 of burst: burst\('F-1', 2\); row 1 of burst: "
+        with self.assertWarnsRegex(UserWarning, message) as seen:
+            self.assertEqual(self.record.evaluate("ans(h) :- burst(f, h)", data), [(2,), (3,)])
+        self.assertEqual(seen.filename, __file__)
+        with warnings.catch_warnings():
+            warnings.simplefilter("error")
+            self.record.evaluate(1, data, tested=True)
+            self.record.evaluate(1, {"flight": [], "burst": [("F-1", 2), ("F-2", 3)]})
+
+    def test_what_is_no_place_and_no_database(self):
+        for place in (1.5, True, None):
+            with self.assertRaisesRegex(ValueError, f"a place must be a whole number, not {place}"):
+                self.record.evaluate(place, {"flight": []})
+            with self.assertRaisesRegex(ValueError, f"a place must be a whole number, not {place}"):
+                self.record.query(place)
+        cells = self.csv("number,site,launch\n1,x,2\n")
+        for path in (cells, str(cells)):
+            with self.assertRaisesRegex(ValueError, r"a database is no name of a file: read_database\(\[.*\], record.names\) reads files"):
+                self.record.evaluate(1, path)
+            self.assertEqual(self.record.evaluate(1, read_database(path, self.names)), [("x",)])
+        with self.assertRaisesRegex(DataError, r"there is no value here \(NULL\); say what it stands for, as in record.database\(data, null=0\)"):
+            self.record.test(self.data)
+        with self.assertRaisesRegex(Refused, r"a.text is a text: pack it first, as spernevan.pack\(text\) does"):
+            Record.read(self.text)
 
     def test_a_single_table(self):
         record = Record.open([Table("burst", ("flight", "height"))])
@@ -406,7 +494,7 @@ class Random(Data):
                 seen.add(named.test(data) is None)
                 for place in plain.filled():
                     wanted = {tuple(pool[value] for value in answer) for answer in plain.evaluate(place, rows)}
-                    answers = named.evaluate(place, data)
+                    answers = named.evaluate(place, data, tested=True)
                     self.assertEqual((set(answers), len(answers)), (wanted, len(wanted)))
         self.assertEqual(seen, {True, False})
 
@@ -429,9 +517,8 @@ class Random(Data):
         return read_database([folder], record.names)
 
     def from_rows(self, tables, record):
-        return read_database(
-            [self.write("r.data", "".join(f"{format_datum(name, row)}\n" for name, rows in tables.items() for row in rows))], record.names
-        )
+        lines = [f"{format_datum(name, row)}\n" for name, rows in tables.items() for row in rows]
+        return read_database([self.write("r.data", "# rows\n" + "".join(lines))], record.names)
 
     def from_sqlite(self, number, tables, record):
         path = self.folder / f"random{number}.db"

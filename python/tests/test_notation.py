@@ -23,10 +23,38 @@ class Rules(unittest.TestCase):
         self.same("ans(x, 7, z) :- flight(x, 7, z)", Query((v(0), Constant(7), v(1)), (row,)))
         self.same("ans() :- burst(x, x)", Query((), (Row(1, (v(0), v(0))),)))
         self.same("ans(x):-burst(x,_),burst(_,x)", Query((v(0),), (Row(1, (v(0), v(1))), Row(1, (v(2), v(0))))))
-        self.same("  # a comment\n ans( # head\n x) :-\n\n burst(x,\n y),\n burst(x, 007)  # end\n",
+        self.same("  # a comment\n ans( # head\n x) :-\n\n burst(x,\n y),\n burst(x, 7)  # end\n",
                   Query((v(0),), (Row(1, (v(0), v(1))), Row(1, (v(0), Constant(7))))))
         self.same("ans(never, ans) :- burst(never, ans)", Query((v(0), v(1)), (Row(1, (v(0), v(1))),)))
         self.same("ans(höhe) :- burst(1, höhe)", Query((v(0),), (Row(1, (Constant(1), v(0))),)))
+
+    def test_zeros_in_front_and_null(self):
+        for word, said in [("007", "write '007' for the text, 7 for the number"), ("-00.5", "write '-00.5' for the text, -0.5 for the number")]:
+            with self.assertRaisesRegex(NotationError, f"rule:1:20: {word} begins with 0: {said}"):
+                parse_query(f"ans(x) :- burst(x, {word})", NAMES)
+        self.same("ans(x) :- burst(x, 0)", Query((v(0),), (Row(1, (v(0), Constant(0))),)))
+        for word in ("NULL", "null"):
+            with self.assertRaisesRegex(NotationError, f"rule:1:20: {word} is no value and no variable"):
+                parse_query(f"ans(x) :- burst(x, {word})", NAMES)
+
+    def test_a_variable_called_null_loses_its_name(self):
+        self.assertEqual(read_names("burst(a, b)\n0: x, NULL, y\n", "a.names").variables, {0: {0: "x", 2: "y"}})
+
+    def test_words_that_are_no_value(self):
+        for word, said in [
+            ("2026-1-14", "2026-1-14 is no date; a date is written 2026-01-14, with two digits for the month and the day"),
+            ("2026-01-145", "2026-01-145 is no date; a date is written 2026-01-14"),
+            ("2026-01-14T00:00", "2026-01-14 goes on; a date is written 2026-01-14, and one with a time is a text between quotes"),
+            ("5a", "5a is no number; a text stands between quotes"),
+            ("0x10", "0x10 is no number; a text stands between quotes"),
+            ("1e5x", "1e5x is no number; a text stands between quotes"),
+            ("\u201cx\u201d", "'\u201c' is no quote of a rule; a text stands between straight quotes, as in 'De Bilt'"),
+        ]:
+            with self.subTest(word=word), self.assertRaisesRegex(NotationError, f"^rule:1:20: {said}"):
+                parse_query(f"ans(x) :- burst(x, {word})", NAMES)
+        for word in ("5 a", "x 5", "'a' 5", "2026 -1"):
+            with self.subTest(word=word), self.assertRaisesRegex(NotationError, f"a comma is missing before {word.split()[1]}$"):
+                parse_query(f"ans(x) :- burst({word})", NAMES)
 
     def test_never(self):
         self.same("ans(_, _) :- never", Query.never(2))
