@@ -1,4 +1,4 @@
-// The calls that change or ask the record alone. Each takes the record by value and hands it back with the answer; a refused call hands it back unchanged.
+// The calls that change or ask the record alone. One that changes it takes it by value and hands it back with the answer, unchanged where it is refused.
 use crate::Answer;
 use crate::Columns;
 use crate::Lookup;

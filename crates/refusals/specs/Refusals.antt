@@ -15,15 +15,15 @@ badDirectory = 1
 abbrev pub badOffsets : ℕ
 badOffsets = 2
 
--- Relations break the record's rule
+-- Relations break the record's rule, or their part of a file has another length
 abbrev pub badRelations : ℕ
 badRelations = 3
 
--- A dependency, or a relation or set asked of, breaks the record's rule
+-- A dependency, or a relation or set asked of, breaks the record's rule, or the part of a file has another length
 abbrev pub badDependency : ℕ
 badDependency = 4
 
--- A query breaks the record's rule
+-- A query breaks the record's rule, its part of a file has another length, or the last part of a file is a vacant place
 abbrev pub badQuery : ℕ
 badQuery = 5
 

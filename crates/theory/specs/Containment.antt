@@ -10,7 +10,7 @@ use Rattle.theory.specs.Answer.{Answer, valueOf, itself}
 abbrev pub Contained : List ℕ → List Dependency → Query → Query → Type 0
 Contained widths ds p q = (D : Database) → Sound widths D → Obeys ds D → (t : List ℕ) → Answer D p t → Answer D q t
 
--- The database D and its row t show that p is not contained in q: D is sound and obeys the dependencies, and t is an answer of p and not of q
+-- The database D and the tuple t show that p is not contained in q: D is sound and obeys the dependencies, and t is an answer of p and not of q
 pub record Counterexample (widths : List ℕ) (ds : List Dependency) (p q : Query) (D : Database) (t : List ℕ) : Type 0 where
   pub sound : Sound widths D
   pub obeys : Obeys ds D
