@@ -9,7 +9,8 @@ use lib.Seq.{drop-cons}
 use lib.Dec.{leb, leb·zero}
 use Rattle.lists.specs.Tests.{between}
 use Rattle.format.specs.Format.{Reading, none, got, gotIf, andThen, mapReading, Format, getByte, sequence}
-use Rattle.format.specs.File.{ok, refused, complete}
+use Rattle.refusals.specs.Refusals.{gives, refused}
+use Rattle.format.specs.File.{complete}
 use Rattle.decoder.specs.declared.ByteRead.the-variants.{Byte, NoByte}
 use Rattle.decoder.specs.internal.Read.{byteRead}
 
@@ -53,7 +54,7 @@ module _ {A B : Type 0} (m : ℕ) (f : A → B) (o : Reading A) (p : Reading B) 
   unfolding complete mapReading
   complete-fails n = rw (e, n)
 
-  pub complete-ends : (a : A) (s : List ℕ) (at : ℕ) → o ≡ got a (drop at s) → length s ≤ at → complete m p ≡ ok (f a)
+  pub complete-ends : (a : A) (s : List ℕ) (at : ℕ) → o ≡ got a (drop at s) → length s ≤ at → complete m p ≡ gives (f a)
   unfolding complete mapReading
   complete-ends a s at g h = rw (e, g, drop-of-length-le s {i = at} h)
 
@@ -72,7 +73,7 @@ no-low high [] = refl
 no-low high (b ∷ bytes) = rw (leb·zero b)
 
 module _ {A : Type 0} (m : ℕ) (o : Reading A) (a : A) (s : List ℕ) (at : ℕ) (g : o ≡ got a (drop at s)) where
-  pub got-ends : length s ≤ at → complete m o ≡ ok a
+  pub got-ends : length s ≤ at → complete m o ≡ gives a
   unfolding complete
   got-ends h = rw (g, drop-of-length-le s {i = at} h)
 

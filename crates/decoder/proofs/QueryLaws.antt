@@ -9,7 +9,8 @@ use lib.ListN.{drop}
 use Rattle.query.specs.declared.Cell.{Cell}
 use Rattle.format.specs.Format.{Reading, none, got, mapReading, Format, getByte, byte, sequence, via}
 use Rattle.format.specs.Parts.{entries, rows, flat, queryWith, query}
-use Rattle.format.specs.File.{Result, ok, refused, complete}
+use Rattle.refusals.specs.Refusals.{Reply, gives, refused}
+use Rattle.format.specs.File.{complete}
 use Rattle.decoder.specs.declared.RowsRead.{RowsRead}
 use Rattle.decoder.specs.internal.Read.{rowsRead}
 use Rattle.decoder.proofs.Counted.{sequence-none, sequence-got}
@@ -65,7 +66,7 @@ module _ (schema part : List ℕ) where
 
 -- ---- a mapped reading that is to be the whole part
 
-pub complete-map-ok : {A B : Type 0} (m : ℕ) (f : A → B) (o : Reading A) (a : A) → complete m o ≡ ok a → complete m (mapReading f o) ≡ ok (f a)
+pub complete-map-ok : {A B : Type 0} (m : ℕ) (f : A → B) (o : Reading A) (a : A) → complete m o ≡ gives a → complete m (mapReading f o) ≡ gives (f a)
 unfolding complete mapReading
 complete-map-ok m f none a e = let z : _≡_ {A = ℕ} 0 1 = cc in absurd (omega arith)
 complete-map-ok m f (got x []) a e = let p : x ≡ a = cc in rw p
@@ -79,11 +80,11 @@ complete-map-refused m f (got x (b ∷ rest)) n e = refl
 
 -- ---- the answer of the rows' reader
 
-pub rows-bad : (o : Result (List (ℕ × List Cell))) (r : RowsRead) → r ≡ rowsRead o → r .good ≡ false → (n : ℕ) × (o ≡ refused n)
-rows-bad (ok rs) r e g = let t : r .good ≡ true = ap (λ (r : RowsRead). r .good) e in let z : _≡_ {A = ℕ} 0 1 = cc in absurd (omega arith)
+pub rows-bad : (o : Reply (List (ℕ × List Cell))) (r : RowsRead) → r ≡ rowsRead o → r .good ≡ false → (n : ℕ) × (o ≡ refused n)
+rows-bad (gives rs) r e g = let t : r .good ≡ true = ap (λ (r : RowsRead). r .good) e in let z : _≡_ {A = ℕ} 0 1 = cc in absurd (omega arith)
 rows-bad (refused n) r e g = (n, refl)
 
-pub rows-some : (o : Result (List (ℕ × List Cell))) (r : RowsRead) → r ≡ rowsRead o → r .good ≡ true
-    → (rs : List (ℕ × List Cell)) × (o ≡ ok rs) × (r .relations ≡ map (λ r. r .0) rs) × (r .cells ≡ flat rs)
-rows-some (ok rs) r e g = (rs, refl, ap (λ (r : RowsRead). r .relations) e, ap (λ (r : RowsRead). r .cells) e)
+pub rows-some : (o : Reply (List (ℕ × List Cell))) (r : RowsRead) → r ≡ rowsRead o → r .good ≡ true
+    → (rs : List (ℕ × List Cell)) × (o ≡ gives rs) × (r .relations ≡ map (λ r. r .0) rs) × (r .cells ≡ flat rs)
+rows-some (gives rs) r e g = (rs, refl, ap (λ (r : RowsRead). r .relations) e, ap (λ (r : RowsRead). r .cells) e)
 rows-some (refused n) r e g = let t : r .good ≡ false = ap (λ (r : RowsRead). r .good) e in let z : _≡_ {A = ℕ} 0 1 = cc in absurd (omega arith)

@@ -10,14 +10,14 @@ use mir.Syntax.{w8, w64}
 use mir.Val.{Fits}
 use lib.ListN.{length, take, drop, getD, set, replicate, length-set}
 use lib.Seq.{take-all, drop-drop, getD-take, length-take-le}
-use Rattle.refusals.specs.Refusals.{badQuery}
+use Rattle.refusals.specs.Refusals.{badQuery, gives}
 use Rattle.query.specs.declared.Entry.{Entry}
 use Rattle.query.specs.declared.Cell.{Cell}
 use Rattle.query.specs.Rule.{noCell, goodRelations}
 use Rattle.lists.specs.Over.{over}
 use Rattle.format.specs.Format.{Reading, none, got, padded}
 use Rattle.format.specs.Parts.{entry, entries, row, noRow, rows, chunk, flat}
-use Rattle.format.specs.File.{ok, complete}
+use Rattle.format.specs.File.{complete}
 use Rattle.lists.proofs.Loops.{replicate-drop}
 use Rattle.format.proofs.Parts.{Narrow, map-chunk, flat-chunk}
 use Rattle.format.proofs.Rules.{length-chunk}
@@ -100,11 +100,11 @@ module _ (schema part : List ℕ) (start size : ℕ) (relations : List ℕ) (cel
 
   pub accepted : size ≤ r → length part ≤ at → record { good = true; relations = relations; cells = cells } ≡ rowsRead (complete badQuery (Rows schema part start size))
   accepted h l =
-      let w : complete badQuery (Rows schema part start size) ≡ ok (chunk relations cells) =
+      let w : complete badQuery (Rows schema part start size) ≡ gives (chunk relations cells) =
       got-ends badQuery (Rows schema part start size) (chunk relations cells) part at (filling-ends (f .reading) h) l in
       let e : cells ≡ flat (chunk relations cells) =
       sym (flat-chunk relations cells ∙ take-all (8 * length relations) cells (omega (arith, f .cells-long, f .relations-long))) in
-      let same : record { good = true; relations = relations; cells = cells } ≡ rowsRead (ok (chunk relations cells)) =
+      let same : record { good = true; relations = relations; cells = cells } ≡ rowsRead (gives (chunk relations cells)) =
       λ i. record { good = true; relations = sym (map-chunk relations cells) i; cells = e i } in
       same ∙ sym (ap rowsRead w)
 

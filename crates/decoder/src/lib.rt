@@ -11,11 +11,11 @@ ghost use Prim.Native.Nat.{_+_, _≤_, _<_};
 ghost use lib.ListN.{length, take, drop};
 ghost use Rattle.lists.specs.Tests.{between};
 ghost use Rattle.query.specs.Rule.{goodRelations};
-ghost use Rattle.refusals.specs.Refusals.{badQuery};
+ghost use Rattle.refusals.specs.Refusals.{badQuery, refused};
 ghost use Rattle.format.specs.Bytes.{number};
 ghost use Rattle.format.specs.Format.{getByte};
 ghost use Rattle.format.specs.Parts.{entry, entries, rows, query};
-ghost use Rattle.format.specs.File.{complete, refused, isVacant, readPlace};
+ghost use Rattle.format.specs.File.{complete, isVacant, readPlace};
 ghost use Rattle.decoder.specs.internal.Read.{byteRead, entryRead, cellsRead, noRowsRead, rowsRead, noQueryRead, queryRead, placeRead};
 
 // ---- numbers and bytes

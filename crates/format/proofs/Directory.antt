@@ -9,9 +9,9 @@ use lib.ListN.{length, take, drop, length-append, length-take, length-drop, take
 use lib.Seq.{take-at, drop-at, length-take-le, drop-drop, take-add, drop-length}
 use borrow.Author.Tests.{eqb-true, eq-eqb, leb-true, le-leb}
 use Rattle.lists.specs.Tests.{between, every}
-use Rattle.refusals.specs.Refusals.{badOffsets}
+use Rattle.refusals.specs.Refusals.{badOffsets, gives, refused, Reply}
 use Rattle.format.specs.Bytes.{number, digits, Bytes}
-use Rattle.format.specs.File.{Result, ok, refused, chained, stretches, tableFits, directory, tableOf, join, assemble}
+use Rattle.format.specs.File.{chained, stretches, tableFits, directory, tableOf, join, assemble}
 use Rattle.lists.proofs.Tests.{and-left, and-right, and-both, and-iff, every-take, every-drop}
 use Rattle.format.proofs.Arrays.{bytes-append}
 use Rattle.format.proofs.Numbers.{number-digits, digits-number, length-digits}
@@ -83,7 +83,7 @@ stretches-table (p ∷ ps) start front file rest e l s =
     stretches-table ps (start + length p) (front ++ p) file rest e′ (length-append front p ∙ ap (λ (n : ℕ). n + length p) l) s in
     rw (first-offset start p ps rest hs hl, first-length start p ps rest hs hl, after-pair start p ps rest hs hl, t, ih)
 
-pub directory-assemble : (parts : List (List ℕ)) → 2 ≤ length parts → length parts ≤ 10 → length (assemble parts) < 65536 → directory (assemble parts) ≡ ok parts
+pub directory-assemble : (parts : List (List ℕ)) → 2 ≤ length parts → length parts ≤ 10 → length (assemble parts) < 65536 → directory (assemble parts) ≡ gives parts
 unfolding directory assemble
 directory-assemble parts low high small =
     let n : ℕ = length parts in
@@ -106,7 +106,7 @@ directory-assemble parts low high small =
 -- ---- an accepted file
 
 -- a value that a test let through
-pub cond-ok : {A : Type 0} (t : Bool) (o : Result A) (n : ℕ) (a : A) → cond t o (refused n) ≡ ok a → (t ≡ true) × (o ≡ ok a)
+pub cond-ok : {A : Type 0} (t : Bool) (o : Reply A) (n : ℕ) (a : A) → cond t o (refused n) ≡ gives a → (t ≡ true) × (o ≡ gives a)
 cond-ok true o n a e = (refl, e)
 cond-ok false o n a e = let z : _≡_ {A = ℕ} 0 1 = cc in absurd (omega arith)
 
@@ -136,15 +136,15 @@ chained-back (suc n) due file table hb hl h =
     let j : take m (drop due file) ++ drop (due + m) file ≡ drop due file = rw (← drop-drop m due file) (take-append-drop m (drop due file)) in
     rw (e, lp, g₁, g₂, tab, all, t₄) (omega arith, refl, j, ap suc len)
 
-pub assemble-directory : (file : List ℕ) (parts : List (List ℕ)) → Bytes file → directory file ≡ ok parts
+pub assemble-directory : (file : List ℕ) (parts : List (List ℕ)) → Bytes file → directory file ≡ gives parts
     → (assemble parts ≡ file) × (2 ≤ length parts) × (length parts ≤ 10) × Bytes (join parts)
 unfolding directory assemble
 assemble-directory file parts hb e =
     let n : ℕ = number 2 file in
     let ps : List (List ℕ) = stretches n file (drop 2 file) in
     let c : Bool = chained n (2 + 4 * n) (length file) (drop 2 file) in
-    let (fits, e₁) = cond-ok (tableFits file) (cond c (ok ps) (refused badOffsets)) 1 parts e in
-    let (h, e₂) = cond-ok c (ok ps) 2 parts e₁ in
+    let (fits, e₁) = cond-ok (tableFits file) (cond c (gives ps) (refused badOffsets)) 1 parts e in
+    let (h, e₂) = cond-ok c (gives ps) 2 parts e₁ in
     let p : ps ≡ parts = cc in
     let k : (leb 2 (length file) ≡ true) × (((leb 2 n ≡ true) × (leb n 10 ≡ true)) × (leb (2 + 4 * n) (length file) ≡ true)) = simp and-iff at fits in
     let l : 2 + 4 * n ≤ length file = leb-true (2 + 4 * n) (length file) (k .1 .1) in

@@ -14,11 +14,11 @@ use Rattle.record.specs.declared.Place.{Place}
 use Rattle.lists.specs.Tests.{every, isZero}
 use Rattle.query.specs.Rule.{blankCell, blankQuery, goodQuery, headSafe, noCell, noQuery}
 use Rattle.record.specs.Rule.{goodPlace, noPlace}
-use Rattle.refusals.specs.Refusals.{badQuery}
+use Rattle.refusals.specs.Refusals.{_>>=_, badQuery, gives, refused, Reply}
 use Rattle.format.specs.Bytes.{Bytes}
 use Rattle.format.specs.Format.{Reading, none, got, Format, Lawful, byte, sequence, via, pad}
 use Rattle.format.specs.Parts.{query}
-use Rattle.format.specs.File.{Result, ok, refused, _>>=_, complete, isVacant, placeWith, safeQuery, readPlace, noneLeft, readPlaces, join, putPlace, oneMore, upToFilled, shapedQuery}
+use Rattle.format.specs.File.{complete, isVacant, placeWith, safeQuery, readPlace, noneLeft, readPlaces, join, putPlace, oneMore, upToFilled, shapedQuery}
 use Rattle.lists.proofs.Tests.{and-left, and-right, and-both, and-iff, every-same}
 use Rattle.format.proofs.Arrays.{bytes-append}
 use Rattle.query.proofs.Shape.{blank-query}
@@ -53,16 +53,16 @@ pub query-part : (schema : List ℕ) (q : Query) → isVacant (query schema .put
 unfolding isVacant query via sequence byte
 query-part schema q = refl
 
-pub read-filled : (schema : List ℕ) → Narrow schema → (last : Bool) (p : Place) → sound schema p ≡ true → p .filled ≡ true → readPlace schema last (putPlace schema p) ≡ ok p
+pub read-filled : (schema : List ℕ) → Narrow schema → (last : Bool) (p : Place) → sound schema p ≡ true → p .filled ≡ true → readPlace schema last (putPlace schema p) ≡ gives p
 unfolding readPlace putPlace safeQuery _>>=_
 read-filled schema hn last p h e =
     let k : (goodPlace schema p ≡ true) × (shapedQuery (p .query) ≡ true) = and-iff (goodPlace schema p) (shapedQuery (p .query)) .0 h in
     let g : (goodQuery schema (p .query) ≡ true) × (headSafe schema (p .query) ≡ true) = and-iff (goodQuery schema (p .query)) (headSafe schema (p .query)) .0 (rw e at (k .0)) in
-    let w : complete badQuery (query schema .get (query schema .put (p .query))) ≡ ok (p .query) =
+    let w : complete badQuery (query schema .get (query schema .put (p .query))) ≡ gives (p .query) =
     complete-put badQuery (query schema) (query-lawful schema hn) (p .query) (query-good schema (p .query) (k .1) (g .0)) in
     rw (e, query-part schema (p .query), w) (rw (g .1))
 
-pub read-vacant : (schema : List ℕ) → readPlace schema false (255 ∷ []) ≡ ok noPlace
+pub read-vacant : (schema : List ℕ) → readPlace schema false (255 ∷ []) ≡ gives noPlace
 unfolding readPlace isVacant
 read-vacant schema = refl
 
@@ -77,26 +77,26 @@ vacant-part (b ∷ c ∷ bytes) h = let z : _≡_ {A = ℕ} 0 1 = cc in absurd (
 abbrev Read : List ℕ → Bool → List ℕ → Place → Type 0
 Read schema last part p = (sound schema p ≡ true) × (putPlace schema p ≡ part) × (last ≡ true → p .filled ≡ true)
 
-read-place : (schema : List ℕ) → Narrow schema → (last : Bool) (part : List ℕ) (p : Place) → Bytes part → readPlace schema last part ≡ ok p → Read schema last part p
+read-place : (schema : List ℕ) → Narrow schema → (last : Bool) (part : List ℕ) (p : Place) → Bytes part → readPlace schema last part ≡ gives p → Read schema last part p
 unfolding readPlace safeQuery putPlace
 read-place schema hn last part p hb e = vacancy (isVacant part) refl e
   where
-    vacant : (t : Bool) → last ≡ t → isVacant part ≡ true → cond t (refused badQuery) (ok noPlace) ≡ ok p → Read schema last part p
+    vacant : (t : Bool) → last ≡ t → isVacant part ≡ true → cond t (refused badQuery) (gives noPlace) ≡ gives p → Read schema last part p
     vacant true el ev e = absurd (not-ok e)
     vacant false el ev e =
         let same : noPlace ≡ p = cc in
         subst (Read schema last part) same (no-sound schema, sym (vacant-part part ev), λ l. sym el ∙ l)
 
-    filled : (complete badQuery (query schema .get part) >>= safeQuery schema) ≡ ok p → Read schema last part p
+    filled : (complete badQuery (query schema .get part) >>= safeQuery schema) ≡ gives p → Read schema last part p
     filled e =
         let (q, w, s) = bind-ok (complete badQuery (query schema .get part)) (safeQuery schema) p e in
-        let (safe, s₁) = cond-ok (headSafe schema q) (ok (placeWith q)) 6 p s in
+        let (safe, s₁) = cond-ok (headSafe schema q) (gives (placeWith q)) 6 p s in
         let same : placeWith q ≡ p = cc in
         let (good, put) = complete-get badQuery (query schema) (query-lawful schema hn) part q hb w in
         let (shape, rule) = good-query schema q good in
         subst (Read schema last part) same (and-both _ _ (and-both _ _ rule safe) shape, put, λ l. refl)
 
-    vacancy : (t : Bool) → isVacant part ≡ t → cond t (cond last (refused badQuery) (ok noPlace)) (complete badQuery (query schema .get part) >>= safeQuery schema) ≡ ok p
+    vacancy : (t : Bool) → isVacant part ≡ t → cond t (cond last (refused badQuery) (gives noPlace)) (complete badQuery (query schema .get part) >>= safeQuery schema) ≡ gives p
         → Read schema last part p
     vacancy true ev e = vacant last refl ev e
     vacancy false ev e = filled e
@@ -124,15 +124,15 @@ one-more p ps rest (part ∷ parts) last l e = go (p .filled)
     go true = ap suc e
     go false = rw (e, l)
 
-pub read-places : (schema : List ℕ) → Narrow schema → (parts : List (List ℕ)) (places : List Place) → Bytes (join parts) → readPlaces schema parts ≡ ok places
+pub read-places : (schema : List ℕ) → Narrow schema → (parts : List (List ℕ)) (places : List Place) → Bytes (join parts) → readPlaces schema parts ≡ gives places
     → AllRead schema parts places
 unfolding readPlaces every join
 read-places schema hn [] places hb e =
     let same : [] ≡ places = cc in
     subst (AllRead schema []) same (refl, refl, none-filled)
 read-places schema hn (part ∷ parts) places hb e =
-    let (p, e₁, e₂) = bind-ok (readPlace schema (noneLeft parts) part) (λ place. readPlaces schema parts >>= (λ places. ok (place ∷ places))) places e in
-    let (ps, e₃, e₄) = bind-ok (readPlaces schema parts) (λ places. ok (p ∷ places)) places e₂ in
+    let (p, e₁, e₂) = bind-ok (readPlace schema (noneLeft parts) part) (λ place. readPlaces schema parts >>= (λ places. gives (place ∷ places))) places e in
+    let (ps, e₃, e₄) = bind-ok (readPlaces schema parts) (λ places. gives (p ∷ places)) places e₂ in
     let same : p ∷ ps ≡ places = cc in
     let (b₁, b₂) = bytes-append part (join parts) hb in
     let (good, put, last) = read-place schema hn (noneLeft parts) part p b₁ e₁ in
@@ -162,22 +162,22 @@ unfolding upToFilled noneLeft
 some-left schema [] m e = absurd (omega arith)
 some-left schema (p ∷ ps) m e = refl
 
-read-cons : (schema : List ℕ) (p : Place) (ps : List Place) → readPlace schema (noneLeft (map (putPlace schema) ps)) (putPlace schema p) ≡ ok p
-    → readPlaces schema (map (putPlace schema) ps) ≡ ok ps → readPlaces schema (map (putPlace schema) (p ∷ ps)) ≡ ok (p ∷ ps)
+read-cons : (schema : List ℕ) (p : Place) (ps : List Place) → readPlace schema (noneLeft (map (putPlace schema) ps)) (putPlace schema p) ≡ gives p
+    → readPlaces schema (map (putPlace schema) ps) ≡ gives ps → readPlaces schema (map (putPlace schema) (p ∷ ps)) ≡ gives (p ∷ ps)
 unfolding readPlaces _>>=_
 read-cons schema p ps e₁ e₂ = rw (e₁, e₂)
 
-nil-read : (schema : List ℕ) → readPlaces schema [] ≡ ok []
+nil-read : (schema : List ℕ) → readPlaces schema [] ≡ gives []
 unfolding readPlaces
 nil-read schema = refl
 
-read-no : (schema : List ℕ) → readPlace schema false (putPlace schema noPlace) ≡ ok noPlace
+read-no : (schema : List ℕ) → readPlace schema false (putPlace schema noPlace) ≡ gives noPlace
 unfolding putPlace readPlace isVacant
 read-no schema = refl
 
 -- the places up to the last filled one are read back
 pub places-read : (schema : List ℕ) → Narrow schema → (places : List Place) → every (sound schema) places ≡ true
-    → readPlaces schema (map (putPlace schema) (take (upToFilled places) places)) ≡ ok (take (upToFilled places) places)
+    → readPlaces schema (map (putPlace schema) (take (upToFilled places) places)) ≡ gives (take (upToFilled places) places)
 unfolding every
 places-read schema hn [] h = rw lib.Seq.take-nil (nil-read schema)
 places-read schema hn (p ∷ ps) h =
@@ -186,17 +186,17 @@ places-read schema hn (p ∷ ps) h =
     good : sound schema p ≡ true
     good = and-left (sound schema p) (every (sound schema) ps) h
 
-    split : (t : Bool) → p .filled ≡ t → (k : ℕ) → upToFilled ps ≡ k → readPlaces schema (map (putPlace schema) (take (upToFilled ps) ps)) ≡ ok (take (upToFilled ps) ps)
-        → readPlaces schema (map (putPlace schema) (take (upToFilled (p ∷ ps)) (p ∷ ps))) ≡ ok (take (upToFilled (p ∷ ps)) (p ∷ ps))
+    split : (t : Bool) → p .filled ≡ t → (k : ℕ) → upToFilled ps ≡ k → readPlaces schema (map (putPlace schema) (take (upToFilled ps) ps)) ≡ gives (take (upToFilled ps) ps)
+        → readPlaces schema (map (putPlace schema) (take (upToFilled (p ∷ ps)) (p ∷ ps))) ≡ gives (take (upToFilled (p ∷ ps)) (p ∷ ps))
     split true f k ek ih =
         rw (upTo-filled p ps f)
         (read-cons schema p (take (upToFilled ps) ps) (read-filled schema hn (noneLeft (map (putPlace schema) (take (upToFilled ps) ps))) p good f) ih)
     split false f zero ek ih = rw (upTo-none p ps f ek) (nil-read schema)
     split false f (suc m) ek ih =
         let v : p ≡ noPlace = vacant-is schema p good f in
-        let e : readPlace schema (noneLeft (map (putPlace schema) (take (suc m) ps))) (putPlace schema p) ≡ ok p =
+        let e : readPlace schema (noneLeft (map (putPlace schema) (take (suc m) ps))) (putPlace schema p) ≡ gives p =
         ap (λ (t : Bool). readPlace schema t (putPlace schema p)) (some-left schema ps m ek) ∙ ap (λ (p : Place). readPlace schema false (putPlace schema p)) v
-        ∙ read-no schema ∙ ap ok (sym v) in
+        ∙ read-no schema ∙ ap gives (sym v) in
         rw (upTo-some p ps m f ek) (read-cons schema p (take (suc m) ps) e (rw ek at ih))
 
 -- those after the last filled one are blank

@@ -9,42 +9,43 @@ use Rattle.record.specs.declared.Answer.the-variants.{Done, Refused}
 use Rattle.record.specs.declared.Outcome.{Outcome}
 use Rattle.format.specs.Bytes.{Bytes}
 use Rattle.format.specs.Format.{Reading, none, got, Format, Lawful}
-use Rattle.format.specs.File.{Result, ok, refused, _>>=_, complete, outcomeOf}
+use Rattle.refusals.specs.Refusals.{Reply, gives, refused, _>>=_}
+use Rattle.format.specs.File.{complete, outcomeOf}
 
 -- a refusal is no value
-pub not-ok : {A : Type 0} {n : ℕ} {a : A} → refused n ≡ ok a → ⊥
+pub not-ok : {A : Type 0} {n : ℕ} {a : A} → refused n ≡ gives a → ⊥
 not-ok e = let z : _≡_ {A = ℕ} 0 1 = cc in omega arith
 
 -- what two steps give
-pub bind-ok : {A B : Type 0} (o : Result A) (next : A → Result B) (b : B) → (o >>= next) ≡ ok b → (a : A) × (o ≡ ok a) × (next a ≡ ok b)
+pub bind-ok : {A B : Type 0} (o : Reply A) (next : A → Reply B) (b : B) → (o >>= next) ≡ gives b → (a : A) × (o ≡ gives a) × (next a ≡ gives b)
 unfolding _>>=_
-bind-ok (ok a) next b e = (a, refl, e)
+bind-ok (gives a) next b e = (a, refl, e)
 bind-ok (refused n) next b e = absurd (not-ok e)
 
 -- what a part that is accepted reads
-pub complete-ok : {A : Type 0} (n : ℕ) (o : Reading A) (a : A) → complete n o ≡ ok a → o ≡ got a []
+pub complete-ok : {A : Type 0} (n : ℕ) (o : Reading A) (a : A) → complete n o ≡ gives a → o ≡ got a []
 unfolding complete
 complete-ok n none a e = absurd (not-ok e)
 complete-ok n (got b []) a e = let p : b ≡ a = cc in rw p
 complete-ok n (got b (x ∷ rest)) a e = absurd (not-ok e)
 
 -- a part that holds a good value and no more
-pub complete-put : {A : Type 0} (n : ℕ) (f : Format A) → Lawful f → (a : A) → f .good a ≡ true → complete n (f .get (f .put a)) ≡ ok a
+pub complete-put : {A : Type 0} (n : ℕ) (f : Format A) → Lawful f → (a : A) → f .good a ≡ true → complete n (f .get (f .put a)) ≡ gives a
 unfolding complete
 complete-put n f lf a h = let e : f .get (f .put a) ≡ got a [] = rw append-nil at (lf .get-put a [] h) in rw e
 
 -- what a part that is accepted holds
-pub complete-get : {A : Type 0} (n : ℕ) (f : Format A) → Lawful f → (part : List ℕ) (a : A) → Bytes part → complete n (f .get part) ≡ ok a → (f .good a ≡ true) × (f .put a ≡ part)
+pub complete-get : {A : Type 0} (n : ℕ) (f : Format A) → Lawful f → (part : List ℕ) (a : A) → Bytes part → complete n (f .get part) ≡ gives a → (f .good a ≡ true) × (f .put a ≡ part)
 complete-get n f lf part a hb e =
     let k : (f .good a ≡ true) × (f .put a ++ [] ≡ part) = lf .put-get part a [] hb (complete-ok n (f .get part) a e) in
     (k .0, rw append-nil at (k .1))
 
 -- an outcome that is done is that of an accepted file
-pub outcome-done : (x : Result Record) (o : Outcome) → o ≡ outcomeOf x → o .answer ≡ Done → x ≡ ok (o .«record»)
-outcome-done (ok r) o e a = cc
+pub outcome-done : (x : Reply Record) (o : Outcome) → o ≡ outcomeOf x → o .answer ≡ Done → x ≡ gives (o .«record»)
+outcome-done (gives r) o e a = cc
 outcome-done (refused n) o e a = let z : _≡_ {A = ℕ} 0 1 = cc in absurd (omega arith)
 
 -- and one that is refused that of a file refused so
-pub outcome-refused : (x : Result Record) (o : Outcome) (n : ℕ) → o ≡ outcomeOf x → o .answer ≡ Refused n → x ≡ refused n
-outcome-refused (ok r) o n e a = let z : _≡_ {A = ℕ} 0 1 = cc in absurd (omega arith)
+pub outcome-refused : (x : Reply Record) (o : Outcome) (n : ℕ) → o ≡ outcomeOf x → o .answer ≡ Refused n → x ≡ refused n
+outcome-refused (gives r) o n e a = let z : _≡_ {A = ℕ} 0 1 = cc in absurd (omega arith)
 outcome-refused (refused m) o n e a = cc

@@ -18,11 +18,11 @@ use Rattle.lists.specs.Tests.{every}
 use Rattle.record.specs.Rule.{goodPlace, goodRecord, noPlace}
 use Rattle.query.specs.Rule.{goodRelations, goodDependencies, goodQuery, headSafe, blankQuery}
 use Rattle.query.proofs.Good as good
-use Rattle.refusals.specs.Refusals.{badDependency, badRelations}
+use Rattle.refusals.specs.Refusals.{_>>=_, badDependency, badRelations, gives, refused, Reply}
 use Rattle.format.specs.Bytes.{Bytes}
 use Rattle.format.specs.Format.{Format, Lawful, pad}
 use Rattle.format.specs.Parts.{relations, dependencies, query}
-use Rattle.format.specs.File.{Result, ok, refused, _>>=_, complete, directory, join, assemble, readPlaces, recordWith, readParts, readAll, readFile, putPlace, upToFilled, partsOf, fileOf, shapedQuery, shaped}
+use Rattle.format.specs.File.{complete, directory, join, assemble, readPlaces, recordWith, readParts, readAll, readFile, putPlace, upToFilled, partsOf, fileOf, shapedQuery, shaped}
 use Rattle.lists.proofs.Tests.{and-left, and-right, and-both, and-iff, every-take, every-drop, every-both, every-join, every-weaken, every-replicate, every-append-is}
 use Rattle.lists.proofs.Loops.{replicate-drop}
 use Rattle.format.proofs.Arrays.{length-pad, bytes-append}
@@ -72,17 +72,17 @@ sound-good r k =
 
 -- ---- a record written and read back
 
-pub parts-read : (r : Record) → SoundRecord r → readAll (partsOf r) ≡ ok r
+pub parts-read : (r : Record) → SoundRecord r → readAll (partsOf r) ≡ gives r
 unfolding readAll partsOf readParts _>>=_
 parts-read r k =
-    let e₀ : complete badRelations (relations .get (relations .put (r .relations, r .widths))) ≡ ok (r .relations, r .widths) =
+    let e₀ : complete badRelations (relations .get (relations .put (r .relations, r .widths))) ≡ gives (r .relations, r .widths) =
     complete-put badRelations relations relations-lawful (r .relations, r .widths) (relations-good (r .relations) (r .widths) (k .widths-long) (k .relations)) in
-    let e₁ : complete badDependency (dependencies (schemaOf r) .get (dependencies (schemaOf r) .put (r .held, r .dependencies))) ≡ ok (r .held, r .dependencies) =
+    let e₁ : complete badDependency (dependencies (schemaOf r) .get (dependencies (schemaOf r) .put (r .held, r .dependencies))) ≡ gives (r .held, r .dependencies) =
     complete-put badDependency (dependencies (schemaOf r)) (dependencies-lawful (schemaOf r)) (r .held, r .dependencies)
     (dependencies-good (schemaOf r) (r .held) (r .dependencies) (k .dependencies-long) (k .dependencies)) in
     let e₂ = places-read (schemaOf r) (good-narrow (r .relations) (r .widths) (k .relations)) (r .places) (k .places) in
     let e₃ : pad 8 noPlace (take (upToFilled (r .places)) (r .places)) ≡ r .places = pad-places (schemaOf r) (r .places) (k .places) (k .places-long) in
-    rw (e₀, e₁, e₂) (λ i. ok (record { relations = r .relations; widths = r .widths; held = r .held; dependencies = r .dependencies; places = e₃ i }))
+    rw (e₀, e₁, e₂) (λ i. gives (record { relations = r .relations; widths = r .widths; held = r .held; dependencies = r .dependencies; places = e₃ i }))
 
 -- ---- an accepted file written back
 
@@ -108,7 +108,7 @@ take-places ps last =
 -- the record of good parts
 read-fields : (part0 part1 : List ℕ) (parts : List (List ℕ)) (rs : ℕ × List ℕ) (ds : ℕ × List Dependency) (ps : List Place)
     → Bytes part0 → Bytes part1 → Bytes (join parts) → length parts ≤ 8
-    → complete badRelations (relations .get part0) ≡ ok rs → complete badDependency (dependencies (take (rs .0) (rs .1)) .get part1) ≡ ok ds → readPlaces (take (rs .0) (rs .1)) parts ≡ ok ps
+    → complete badRelations (relations .get part0) ≡ gives rs → complete badDependency (dependencies (take (rs .0) (rs .1)) .get part1) ≡ gives ds → readPlaces (take (rs .0) (rs .1)) parts ≡ gives ps
     → SoundRecord (recordWith rs ds ps) × (partsOf (recordWith rs ds ps) ≡ part0 ∷ part1 ∷ parts)
 unfolding partsOf
 read-fields part0 part1 parts rs ds ps b₀ b₁ b few e₀ e₁ e₂ =
@@ -134,12 +134,12 @@ read-fields part0 part1 parts rs ds ps b₀ b₁ b few e₀ e₁ e₂ =
     )
 
 read-parts : (part0 part1 : List ℕ) (parts : List (List ℕ)) (r : Record) → Bytes part0 → Bytes part1 → Bytes (join parts) → length parts ≤ 8
-    → readParts part0 part1 parts ≡ ok r → SoundRecord r × (partsOf r ≡ part0 ∷ part1 ∷ parts)
+    → readParts part0 part1 parts ≡ gives r → SoundRecord r × (partsOf r ≡ part0 ∷ part1 ∷ parts)
 unfolding readParts
 read-parts part0 part1 parts r b₀ b₁ b few e =
-    let (rs, e₀, f₀) = bind-ok (complete badRelations (relations .get part0)) (λ rs. complete badDependency (dependencies (take (rs .0) (rs .1)) .get part1) >>= (λ ds. readPlaces (take (rs .0) (rs .1)) parts >>= (λ ps. ok (recordWith rs ds ps)))) r e in
-    let (ds, e₁, f₁) = bind-ok (complete badDependency (dependencies (take (rs .0) (rs .1)) .get part1)) (λ ds. readPlaces (take (rs .0) (rs .1)) parts >>= (λ ps. ok (recordWith rs ds ps))) r f₀ in
-    let (ps, e₂, f₂) = bind-ok (readPlaces (take (rs .0) (rs .1)) parts) (λ ps. ok (recordWith rs ds ps)) r f₁ in
+    let (rs, e₀, f₀) = bind-ok (complete badRelations (relations .get part0)) (λ rs. complete badDependency (dependencies (take (rs .0) (rs .1)) .get part1) >>= (λ ds. readPlaces (take (rs .0) (rs .1)) parts >>= (λ ps. gives (recordWith rs ds ps)))) r e in
+    let (ds, e₁, f₁) = bind-ok (complete badDependency (dependencies (take (rs .0) (rs .1)) .get part1)) (λ ds. readPlaces (take (rs .0) (rs .1)) parts >>= (λ ps. gives (recordWith rs ds ps))) r f₀ in
+    let (ps, e₂, f₂) = bind-ok (readPlaces (take (rs .0) (rs .1)) parts) (λ ps. gives (recordWith rs ds ps)) r f₁ in
     let same : recordWith rs ds ps ≡ r = cc in
     subst (λ (r : Record). SoundRecord r × (partsOf r ≡ part0 ∷ part1 ∷ parts)) {x = recordWith rs ds ps} same (read-fields part0 part1 parts rs ds ps b₀ b₁ b few e₀ e₁ e₂)
 
@@ -193,7 +193,7 @@ file-short r k =
 -- ---- the theorems
 
 -- a file has at least the count's two bytes, so its parts are split as the reader takes them
-split-parts : (parts : List (List ℕ)) (r : Record) → Bytes (join parts) → length parts ≤ 10 → readAll parts ≡ ok r → SoundRecord r × (partsOf r ≡ parts)
+split-parts : (parts : List (List ℕ)) (r : Record) → Bytes (join parts) → length parts ≤ 10 → readAll parts ≡ gives r → SoundRecord r × (partsOf r ≡ parts)
 unfolding readAll join
 split-parts [] r b few e = absurd (not-ok e)
 split-parts (part0 ∷ []) r b few e = absurd (not-ok e)
@@ -203,7 +203,7 @@ split-parts (part0 ∷ part1 ∷ parts) r b few e =
     read-parts part0 part1 parts r b₀ b₁ b₂ (omega arith) e
 
 -- An accepted file gives a good record, and written back it is the same bytes
-pub file-written-back : (file : List ℕ) (r : Record) → Bytes file → readFile file ≡ ok r → (goodRecord r ≡ true) × (shaped r ≡ true) × (fileOf r ≡ file)
+pub file-written-back : (file : List ℕ) (r : Record) → Bytes file → readFile file ≡ gives r → (goodRecord r ≡ true) × (shaped r ≡ true) × (fileOf r ≡ file)
 unfolding readFile fileOf
 file-written-back file r hb e =
     let (parts, e₀, e₁) = bind-ok (directory file) readAll r e in
@@ -213,12 +213,12 @@ file-written-back file r hb e =
     (good, long, ap assemble p ∙ same)
 
 -- A good record written and read back is the same record; every written file is accepted
-pub record-read-back : (r : Record) → goodRecord r ≡ true → shaped r ≡ true → readFile (fileOf r) ≡ ok r
+pub record-read-back : (r : Record) → goodRecord r ≡ true → shaped r ≡ true → readFile (fileOf r) ≡ gives r
 unfolding readFile fileOf _>>=_
 record-read-back r h s =
     let k : SoundRecord r = sound-record r h s in
     let few : length (partsOf r) ≤ 10 = parts-few r k in
-    let e : directory (assemble (partsOf r)) ≡ ok (partsOf r) = directory-assemble (partsOf r) (parts-two r) few (lt-of-le-of-lt (file-short r k) (lit≤ tt)) in
+    let e : directory (assemble (partsOf r)) ≡ gives (partsOf r) = directory-assemble (partsOf r) (parts-two r) few (lt-of-le-of-lt (file-short r k) (lit≤ tt)) in
     rw e (parts-read r k)
 
 -- No file is longer than 4,420 bytes

@@ -15,28 +15,17 @@ use Rattle.record.specs.View.{schemaOf}
 use Rattle.lists.specs.Tests.{between, every}
 use Rattle.query.specs.Rule.{headSafe}
 use Rattle.record.specs.Rule.{noPlace, blankRecord}
-use Rattle.refusals.specs.Refusals.{badDependency, badDirectory, badOffsets, badQuery, badRelations, unsafeHead}
+use Rattle.refusals.specs.Refusals.{badDependency, badDirectory, badOffsets, badQuery, badRelations, unsafeHead, Reply, refused, gives, _>>=_}
 use Rattle.format.specs.Bytes.{number, digits}
 use Rattle.format.specs.Format.{Reading, none, got, Format, pad}
 use Rattle.format.specs.Parts.{relations, dependencies, query}
 
 -- ---- the first fault decides
 
--- A value, or a refusal with its number
-pub data Result (A : Type 0) : Type 0 where
-  ok : A → Result A
-  refused : ℕ → Result A
-
-infixl 10 _>>=_
--- Go on with the value; a refusal stands
-unfoldable pub _>>=_ : {A B : Type 0} → Result A → (A → Result B) → Result B
-ok a >>= next = next a
-refused n >>= next = refused n
-
 -- A part that is to hold one value and no more: refused if the value is bad or the part too short, and refused if it is too long
-unfoldable pub complete : {A : Type 0} → ℕ → Reading A → Result A
+unfoldable pub complete : {A : Type 0} → ℕ → Reading A → Reply A
 complete n none = refused n
-complete n (got a []) = ok a
+complete n (got a []) = gives a
 complete n (got a (b ∷ rest)) = refused n
 
 -- ---- the directory
@@ -60,11 +49,11 @@ abbrev pub tableFits : List ℕ → Bool
 tableFits file = leb 2 (length file) && (between 2 10 (number 2 file) && leb (2 + 4 * number 2 file) (length file))
 
 -- The parts of a file. Refused: 1, the table does not fit; 2, a pair breaks the offset rule
-unfoldable pub directory : List ℕ → Result (List (List ℕ))
+unfoldable pub directory : List ℕ → Reply (List (List ℕ))
 directory file =
     cond (tableFits file)
     (cond (chained (number 2 file) (2 + 4 * number 2 file) (length file) (drop 2 file))
-    (ok (stretches (number 2 file) file (drop 2 file)))
+    (gives (stretches (number 2 file) file (drop 2 file)))
     (refused badOffsets))
     (refused badDirectory)
 
@@ -95,13 +84,13 @@ abbrev pub placeWith : Query → Place
 placeWith q = record { filled = true; query = q }
 
 -- A query whose head is safe. Refused: 6, a head variable in no row
-unfoldable pub safeQuery : List ℕ → Query → Result Place
-safeQuery schema q = cond (headSafe schema q) (ok (placeWith q)) (refused unsafeHead)
+unfoldable pub safeQuery : List ℕ → Query → Reply Place
+safeQuery schema q = cond (headSafe schema q) (gives (placeWith q)) (refused unsafeHead)
 
 -- A query part. Refused: 5, a bad query, another length, or a last part that is vacant; then 6
-unfoldable pub readPlace : List ℕ → Bool → List ℕ → Result Place
+unfoldable pub readPlace : List ℕ → Bool → List ℕ → Reply Place
 readPlace schema last part =
-    cond (isVacant part) (cond last (refused badQuery) (ok noPlace)) (complete badQuery (query schema .get part) >>= safeQuery schema)
+    cond (isVacant part) (cond last (refused badQuery) (gives noPlace)) (complete badQuery (query schema .get part) >>= safeQuery schema)
 
 -- Whether there is no part left
 unfoldable pub noneLeft : List (List ℕ) → Bool
@@ -109,12 +98,12 @@ noneLeft [] = true
 noneLeft (p ∷ ps) = false
 
 -- The query parts in file order
-unfoldable pub readPlaces : List ℕ → List (List ℕ) → Result (List Place)
-readPlaces schema [] = ok []
+unfoldable pub readPlaces : List ℕ → List (List ℕ) → Reply (List Place)
+readPlaces schema [] = gives []
 readPlaces schema (p ∷ ps) = do
   place ← readPlace schema (noneLeft ps) p
   places ← readPlaces schema ps
-  ok (place ∷ places)
+  gives (place ∷ places)
 
 -- The record of the given relations, dependencies and first places
 abbrev pub recordWith : ℕ × List ℕ → ℕ × List Dependency → List Place → Record
@@ -122,26 +111,26 @@ recordWith rs ds places =
     record { relations = rs .0; widths = rs .1; held = ds .0; dependencies = ds .1; places = pad 8 noPlace places }
 
 -- The parts in file order. Refused: 3, relations; 4, dependencies; 5 and 6, query parts
-unfoldable pub readParts : List ℕ → List ℕ → List (List ℕ) → Result Record
+unfoldable pub readParts : List ℕ → List ℕ → List (List ℕ) → Reply Record
 readParts part0 part1 parts = do
   rs ← complete badRelations (relations .get part0)
   ds ← complete badDependency (dependencies (take (rs .0) (rs .1)) .get part1)
   places ← readPlaces (take (rs .0) (rs .1)) parts
-  ok (recordWith rs ds places)
+  gives (recordWith rs ds places)
 
 -- All parts. The directory gives at least two
-unfoldable pub readAll : List (List ℕ) → Result Record
+unfoldable pub readAll : List (List ℕ) → Reply Record
 readAll [] = refused badDirectory
 readAll (part0 ∷ []) = refused badDirectory
 readAll (part0 ∷ part1 ∷ parts) = readParts part0 part1 parts
 
 -- The record of a file, or the first fault
-unfoldable pub readFile : List ℕ → Result Record
+unfoldable pub readFile : List ℕ → Reply Record
 readFile file = directory file >>= readAll
 
 -- A result as a call's outcome: a refused file gives the blank record
-abbrev pub outcomeOf : Result Record → Outcome
-outcomeOf (ok r) = record { answer = Done; «record» = r }
+abbrev pub outcomeOf : Reply Record → Outcome
+outcomeOf (gives r) = record { answer = Done; «record» = r }
 outcomeOf (refused n) = record { answer = Refused n; «record» = blankRecord }
 
 -- ---- writing

@@ -22,7 +22,7 @@ use Rattle.query.specs.View.{queryOf}
 use Rattle.lists.specs.Tests.{between, every}
 use Rattle.query.specs.Rule.{goodDependency, goodQuery, headSafe}
 use Rattle.record.specs.Rule.{goodPlace, goodRecord, noPlace, blankRecord}
-use Rattle.refusals.specs.Refusals.{badQuery, bufferTooShort, firstHolding}
+use Rattle.refusals.specs.Refusals.{_>>=_, badQuery, bufferTooShort, firstHolding, gives, refused, Reply}
 use Rattle.record.specs.Calls.{queryAt, concluded, broken, above, vacant, filled, withPlace, withDependency, emptyRecord, openRecord, addDependency, putQuery, dropQuery}
 use Rattle.lists.proofs.Tests.{and-left, and-right, and-both, every-set}
 use Rattle.record.proofs.Good.{good-record}
@@ -30,7 +30,7 @@ use Rattle.record.proofs.Meaning.{open-keeps, add-keeps, put-keeps, drop-keeps}
 use Rattle.lists.specs.Over.{over}
 use Rattle.format.specs.Bytes.{Bytes}
 use Rattle.format.specs.Parts.{query}
-use Rattle.format.specs.File.{Result, ok, refused, _>>=_, complete, isVacant, placeWith, safeQuery, readPlace, readFile, fileOf, shapedQuery, shaped}
+use Rattle.format.specs.File.{complete, isVacant, placeWith, safeQuery, readPlace, readFile, fileOf, shapedQuery, shaped}
 use Rattle.format.proofs.Directory.{cond-ok}
 use Rattle.format.proofs.Parts.{Narrow, query-lawful}
 use Rattle.format.proofs.Places.{read-filled}
@@ -59,30 +59,30 @@ Whole r = (goodRecord r ≡ true) × (shaped r ≡ true)
 
 -- The first bytes of a buffer with the file of such a record over them
 over-read : (r : Record) → Whole r → (out outAfter : List ℕ) (sizeAfter : ℕ) → outAfter ≡ over out 0 (fileOf r) → sizeAfter ≡ length (fileOf r)
-    → readFile (take sizeAfter outAfter) ≡ ok r
+    → readFile (take sizeAfter outAfter) ≡ gives r
 over-read r w out outAfter sizeAfter b n =
     let same : take sizeAfter outAfter ≡ fileOf r = rw (b, n) (take-at (fileOf r) (drop (0 + length (fileOf r)) out) (length (fileOf r)) refl) in
     ap readFile same ∙ record-read-back r (w .0) (w .1)
 
 fitted-read : (r : Record) → Whole r → (file : List ℕ) → fileOf r ≡ file → (fits : Bool) (out : List ℕ) (size : ℕ) (outAfter : List ℕ) (sizeAfter : ℕ)
-    → Wrote (cond fits (ok file) (refused bufferTooShort)) out size 0 outAfter sizeAfter → readFile (take sizeAfter outAfter) ≡ ok r
+    → Wrote (cond fits (gives file) (refused bufferTooShort)) out size 0 outAfter sizeAfter → readFile (take sizeAfter outAfter) ≡ gives r
 fitted-read r w file e true out size outAfter sizeAfter g = over-read r w out outAfter sizeAfter (g .1 ∙ ap (over out 0) (sym e)) (g .2 ∙ ap length (sym e))
 fitted-read r w file e false out size outAfter sizeAfter g = let z : _≡_ {A = ℕ} 0 10 = g .0 in absurd (omega arith)
 
-stored-left : (x : Result Record) → ((r : Record) → x ≡ ok r → Whole r) → FileLeft x (λ room. stored room x)
+stored-left : (x : Reply Record) → ((r : Record) → x ≡ gives r → Whole r) → FileLeft x (λ room. stored room x)
 stored-left x keeps r e out size outAfter sizeAfter g =
     fitted-read r (keeps r e) (fileOf r) refl (leb (length (fileOf r)) (length out)) out size outAfter sizeAfter
-    (subst (λ (y : Result (List ℕ)). Wrote y out size 0 outAfter sizeAfter) (goes-on e (λ r. fitted (length out) (fileOf r))) g)
+    (subst (λ (y : Reply (List ℕ)). Wrote y out size 0 outAfter sizeAfter) (goes-on e (λ r. fitted (length out) (fileOf r))) g)
 
 -- ---- the record after each call
 
 -- the record of a call that is done
-done-of : {A : Type 0} (a : Answer) (x y : A) → answered a x ≡ ok y → (a ≡ Done) × (x ≡ y)
+done-of : {A : Type 0} (a : Answer) (x y : A) → answered a x ≡ gives y → (a ≡ Done) × (x ≡ y)
 done-of Done x y e = (refl, cc)
 done-of (Refused n) x y e = absurd (not-ok e)
 
 -- A call whose record after it is good, and whole if it is done
-outcome-whole : (o : Outcome) (r : Record) → resultOf o ≡ ok r → (o .answer ≡ Done → Whole (o .«record»)) → Whole r
+outcome-whole : (o : Outcome) (r : Record) → resultOf o ≡ gives r → (o .answer ≡ Done → Whole (o .«record»)) → Whole r
 outcome-whole o r e keeps = let k = done-of (o .answer) (o .«record») r e in subst Whole (k .1) (keeps (k .0))
 
 concluded-shaped : (x : Option ℕ) (given after : Record) → concluded x given after .answer ≡ Done → (x ≡ none → shaped after ≡ true)
@@ -90,7 +90,7 @@ concluded-shaped : (x : Option ℕ) (given after : Record) → concluded x given
 concluded-shaped none given after e s = s refl
 concluded-shaped (some n) given after e s = let z : _≡_ {A = ℕ} 0 1 = cc in absurd (omega arith)
 
-read-whole : (file : List ℕ) → Bytes file → (r : Record) → readFile file ≡ ok r → Whole r
+read-whole : (file : List ℕ) → Bytes file → (r : Record) → readFile file ≡ gives r → Whole r
 read-whole file hb r e = let k = file-written-back file r hb e in (k .0, k .1)
 
 -- A record's arrays, one by one
@@ -146,7 +146,7 @@ module _ (r : Record) (w : Whole r) where
   drop-shaped place e = concluded-shaped (firstHolding (broken r ∷ above place ∷ vacant r place ∷ [])) r (withPlace r place noPlace) e (λ _. place-shaped place noPlace refl)
 
   -- A query part that is read
-  part-shaped : (part : List ℕ) (p : Place) → Bytes part → readPlace (schemaOf r) true part ≡ ok p → shapedQuery (p .query) ≡ true
+  part-shaped : (part : List ℕ) (p : Place) → Bytes part → readPlace (schemaOf r) true part ≡ gives p → shapedQuery (p .query) ≡ true
   unfolding readPlace safeQuery
   part-shaped part p hb e = go (isVacant part) e
     where
@@ -156,16 +156,16 @@ module _ (r : Record) (w : Whole r) where
       narrow : Narrow schema
       narrow = good-narrow (r .relations) (r .widths) (good-record r (w .0) .relations)
 
-      go : (t : Bool) → cond t (refused badQuery) (complete badQuery (query schema .get part) >>= safeQuery schema) ≡ ok p → shapedQuery (p .query) ≡ true
+      go : (t : Bool) → cond t (refused badQuery) (complete badQuery (query schema .get part) >>= safeQuery schema) ≡ gives p → shapedQuery (p .query) ≡ true
       go true e = absurd (not-ok e)
       go false e =
           let (q, g, s) = bind-ok (complete badQuery (query schema .get part)) (safeQuery schema) p e in
-          let (safe, s₁) = cond-ok (headSafe schema q) (ok (placeWith q)) 6 p s in
+          let (safe, s₁) = cond-ok (headSafe schema q) (gives (placeWith q)) 6 p s in
           let same : placeWith q ≡ p = cc in
           let (good, put) = complete-get badQuery (query schema) (query-lawful schema narrow) part q hb g in
           subst (λ (x : Place). shapedQuery (x .query) ≡ true) same (good-query schema q good .0)
 
-  put-whole : (place : ℕ) (part : List ℕ) → Bytes part → (after : Record) → putPart place part r ≡ ok after → Whole after
+  put-whole : (place : ℕ) (part : List ℕ) → Bytes part → (after : Record) → putPart place part r ≡ gives after → Whole after
   put-whole place part hb after e =
       let (low, e₁) = cond-ok (ltb place 8) (readPlace (schemaOf r) true part >>= λ p. resultOf (putQuery r place (p .query))) 7 after e in
       let (p, e₂, e₃) = bind-ok (readPlace (schemaOf r) true part) (λ p. resultOf (putQuery r place (p .query))) after e₁ in
@@ -176,14 +176,14 @@ module _ (r : Record) (w : Whole r) where
 pub write-left : WriteLeft
 write-left file hb r e out size outAfter sizeAfter g =
     fitted-read r (read-whole file hb r e) file (file-written-back file r hb e .2) (leb (length file) (length out)) out size outAfter sizeAfter
-    (subst (λ (y : Result (List ℕ)). Wrote y out size 0 outAfter sizeAfter) (goes-on e (λ _. fitted (length out) file)) g)
+    (subst (λ (y : Reply (List ℕ)). Wrote y out size 0 outAfter sizeAfter) (goes-on e (λ _. fitted (length out) file)) g)
 
 pub open-left : OpenLeft
 open-left widths =
     stored-left (resultOf (openRecord widths)) (λ r e. outcome-whole (openRecord widths) r e (λ a. (open-keeps widths a, open-shaped widths a)))
 
 -- A call on the record of a file
-after-read : (file : List ℕ) → Bytes file → (next : Record → Result Record) → ((r after : Record) → Whole r → next r ≡ ok after → Whole after)
+after-read : (file : List ℕ) → Bytes file → (next : Record → Reply Record) → ((r after : Record) → Whole r → next r ≡ gives after → Whole after)
     → FileLeft (readFile file >>= next) (λ room. stored room (readFile file >>= next))
 after-read file hb next keeps =
     stored-left (readFile file >>= next) (λ after e. let (r, e₁, e₂) = bind-ok (readFile file) next after e in keeps r after (read-whole file hb r e₁) e₂)
@@ -205,15 +205,15 @@ drop-left file hb place =
 pub reduce-left : ReduceLeft
 unfolding _>>=_
 reduce-left file source target r e clear out size count mapping outAfter sizeAfter countAfter mappingAfter g =
-    let (o, is, shape, same) = subst (λ (x : Result Record). Reducing x source target (g .result) (length out) (length mapping)) e (g .reducing) in
+    let (o, is, shape, same) = subst (λ (x : Reply Record). Reducing x source target (g .result) (length out) (length mapping)) e (g .reducing) in
     let fits : Bool = leb 192 (length mapping) && leb (length (fileOf (o .«record»))) (length out) in
-    let known : g .result ≡ cond fits (ok o) (refused bufferTooShort) = same ∙ rw (is .accepted clear) refl in
+    let known : g .result ≡ cond fits (gives o) (refused bufferTooShort) = same ∙ rw (is .accepted clear) refl in
     let w : Whole (o .«record») = (is .good clear, shape .0) in
-    (o, is, go o w fits (subst (λ (x : Result Reduced). ReductionGiven x out size count mapping 0 outAfter sizeAfter countAfter mappingAfter) known (g .given)))
+    (o, is, go o w fits (subst (λ (x : Reply Reduced). ReductionGiven x out size count mapping 0 outAfter sizeAfter countAfter mappingAfter) known (g .given)))
   where
     go : (o : Reduced) → Whole (o .«record») → (fits : Bool)
-        → ReductionGiven (cond fits (ok o) (refused bufferTooShort)) out size count mapping 0 outAfter sizeAfter countAfter mappingAfter
-        → readFile (take sizeAfter outAfter) ≡ ok (o .«record»)
+        → ReductionGiven (cond fits (gives o) (refused bufferTooShort)) out size count mapping 0 outAfter sizeAfter countAfter mappingAfter
+        → readFile (take sizeAfter outAfter) ≡ gives (o .«record»)
     go o w true k = over-read (o .«record») w out outAfter sizeAfter (k .1) (k .2)
     go o w false k = let z : _≡_ {A = ℕ} 0 10 = k .0 in absurd (omega arith)
 
@@ -225,15 +225,15 @@ judged-not (x ∷ xs) false n e = let z : _≡_ {A = ℕ} 0 1 = cc in omega arit
 
 pub compare-left : CompareLeft
 compare-left file hb p q r e clear said mapping part size mappingAfter partAfter sizeAfter g =
-    let (c, is, shape, pictures, same) = subst (λ (x : Result Record). Comparing x p q (g .result) (g .images) (length mapping) (length part)) e (g .comparing) in
-    let k = subst (λ (x : Result (ℕ × List ℕ)). Given x (g .images)) same (g .given) in
+    let (c, is, shape, pictures, same) = subst (λ (x : Reply Record). Comparing x p q (g .result) (g .images) (length mapping) (length part)) e (g .comparing) in
+    let k = subst (λ (x : Reply (ℕ × List ℕ)). Given x (g .images)) same (g .given) in
     go c is shape (g .images) k (c .verdict) refl
   where
-    Given : Result (ℕ × List ℕ) → List Cell → Type 0
+    Given : Reply (ℕ × List ℕ) → List Cell → Type 0
     Given x images = ComparisonGiven x images said mapping part size 0 0 mappingAfter partAfter sizeAfter
 
     -- a verdict that is given, with bytes
-    given-back : (n : ℕ) (bytes : List ℕ) (images : List Cell) (fits : Bool) → Given (cond fits (ok (n, bytes)) (refused bufferTooShort)) images
+    given-back : (n : ℕ) (bytes : List ℕ) (images : List Cell) (fits : Bool) → Given (cond fits (gives (n, bytes)) (refused bufferTooShort)) images
         → (n ≡ 0) × (take sizeAfter partAfter ≡ bytes)
     given-back n bytes images true k =
         (sym (k .1), rw (k .3, k .4) (take-at bytes (drop (0 + length bytes) part) (length bytes) refl))
@@ -241,11 +241,11 @@ compare-left file hb p q r e clear said mapping part size mappingAfter partAfter
 
     go : (c : Comparison) → Compared r p q c → ComparisonShape c → (images : List Cell) → Given (comparisonFits (length mapping) (length part) (schemaOf r) c) images
         → (v : Verdict) → c .verdict ≡ v
-        → (chased : Query) × (readPlace (schemaOf r) true (take sizeAfter partAfter) ≡ ok (placeWith chased)) × (queryOf (schemaOf r) chased ≡ chasedAt r p)
+        → (chased : Query) × (readPlace (schemaOf r) true (take sizeAfter partAfter) ≡ gives (placeWith chased)) × (queryOf (schemaOf r) chased ≡ chasedAt r p)
     go c is shape images k verdict.Apart a =
         let bytes = query (schemaOf r) .put (c .query) in
         let same = given-back 0 bytes images (leb 192 (length mapping) && leb (length bytes) (length part))
-        (subst (λ (x : Result (ℕ × List ℕ)). Given x images) (comparison-apart (length mapping) (length part) (schemaOf r) c a) k) .1 in
+        (subst (λ (x : Reply (ℕ × List ℕ)). Given x images) (comparison-apart (length mapping) (length part) (schemaOf r) c a) k) .1 in
         let good = read-whole file hb r e .0 in (
           c .query,
           ap (readPlace (schemaOf r) true) (same ∙ sym (query-part (schemaOf r) (c .query)))
@@ -255,10 +255,10 @@ compare-left file hb p q r e clear said mapping part size mappingAfter partAfter
         )
     go c is shape images k verdict.Contained a =
         let z = given-back 1 [] images (leb 192 (length mapping) && leb 0 (length part))
-        (subst (λ (x : Result (ℕ × List ℕ)). Given x images) (comparison-contained (length mapping) (length part) (schemaOf r) c a) k) .0 in absurd (omega arith)
+        (subst (λ (x : Reply (ℕ × List ℕ)). Given x images) (comparison-contained (length mapping) (length part) (schemaOf r) c a) k) .0 in absurd (omega arith)
     go c is shape images k verdict.Never a =
         let z = given-back 2 [] images (leb 192 (length mapping) && leb 0 (length part))
-        (subst (λ (x : Result (ℕ × List ℕ)). Given x images) (comparison-never (length mapping) (length part) (schemaOf r) c a) k) .0 in absurd (omega arith)
+        (subst (λ (x : Reply (ℕ × List ℕ)). Given x images) (comparison-never (length mapping) (length part) (schemaOf r) c a) k) .0 in absurd (omega arith)
     go c is shape images k (verdict.Refused n) a =
         let view = verdictOn (chasedAt r p .rows) (search.mappable (queryAt r q) (chasedAt r p)) in
         let v : view ≡ verdict.Refused n = ap (λ (x : Option ℕ). judged x view) (sym clear) ∙ sym (is .verdict) ∙ a in

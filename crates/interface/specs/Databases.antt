@@ -1,7 +1,8 @@
 -- Testing a database and evaluating a place on it, on files.
 use mathlib.Core.List.{List}
 use Prim.Native.Nat.{ℕ}
-use Rattle.format.specs.File.{Result, ok, refused, _>>=_, readFile}
+use Rattle.refusals.specs.Refusals.{Reply, gives, refused, _>>=_}
+use Rattle.format.specs.File.{readFile}
 use Rattle.database.specs.declared.Verdict.{Verdict}
 use Rattle.database.specs.declared.Verdict.the-variants as verdict
 use Rattle.database.specs.declared.Answered.{Answered}
@@ -17,22 +18,22 @@ pub record Tested : Type 0 where
   pub second : ℕ
 
 -- The verdict of a test, or its refusal
-abbrev pub verdictResult : Verdict → Result Tested
-verdictResult verdict.Obeys = ok (record { obeys = 1; dependency = 0; first = 0; second = 0 })
-verdictResult (verdict.Broken k i j) = ok (record { obeys = 0; dependency = k; first = i; second = j })
+abbrev pub verdictResult : Verdict → Reply Tested
+verdictResult verdict.Obeys = gives (record { obeys = 1; dependency = 0; first = 0; second = 0 })
+verdictResult (verdict.Broken k i j) = gives (record { obeys = 0; dependency = k; first = i; second = j })
 verdictResult (verdict.Refused n) = refused n
 
 -- The test of a database against the dependencies of the record of a file
-abbrev pub testedIn : List ℕ → List ℕ → Result Tested
+abbrev pub testedIn : List ℕ → List ℕ → Reply Tested
 testedIn file words = readFile file >>= λ r. verdictResult (tested r words)
 
 -- The count of answers, or the refusal
-abbrev pub countResult : Answered → Result ℕ
-countResult (answered.Count n) = ok n
+abbrev pub countResult : Answered → Reply ℕ
+countResult (answered.Count n) = gives n
 countResult (answered.Refused n) = refused n
 
 -- The count of the answers of a place of the record of a file, for a buffer with so much room
-abbrev pub evaluatedIn : List ℕ → ℕ → List ℕ → ℕ → Result ℕ
+abbrev pub evaluatedIn : List ℕ → ℕ → List ℕ → ℕ → Reply ℕ
 evaluatedIn file place words room = readFile file >>= λ r. countResult (evaluated r place words room)
 
 -- The buffer after it: a refused file leaves it as it was

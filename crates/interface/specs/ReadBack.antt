@@ -12,7 +12,8 @@ use Rattle.record.specs.View.{schemaOf}
 use Rattle.query.specs.View.{queryOf}
 use Rattle.record.specs.Calls.{openRecord, addDependency, dropQuery}
 use Rattle.format.specs.Bytes.{Bytes}
-use Rattle.format.specs.File.{Result, ok, _>>=_, placeWith, readPlace, readFile}
+use Rattle.refusals.specs.Refusals.{Reply, gives, _>>=_}
+use Rattle.format.specs.File.{placeWith, readPlace, readFile}
 use Rattle.comparison.specs.Comparison.{chasedAt, pairRefusal}
 use Rattle.reduction.specs.declared.Reduced.{Reduced}
 use Rattle.reduction.specs.Reduced.{reductionRefusal, IsReduced}
@@ -21,10 +22,10 @@ use Rattle.lent.specs.Records.{resultOf, copied, opened, added, putPart, filled
 use Rattle.verdicts.specs.Queries.{ReduceGives, CompareGives}
 
 -- A call with the record `after`, which wrote what `given` says of a buffer's room and returned 0: the bytes that it left are read as that record
-abbrev pub FileLeft : Result Record → (ℕ → Result (List ℕ)) → Type 0
+abbrev pub FileLeft : Reply Record → (ℕ → Reply (List ℕ)) → Type 0
 FileLeft after given =
-    (r : Record) → after ≡ ok r → (out : List ℕ) (size : ℕ) (outAfter : List ℕ) (sizeAfter : ℕ)
-    → Wrote (given (length out)) out size 0 outAfter sizeAfter → readFile (take sizeAfter outAfter) ≡ ok r
+    (r : Record) → after ≡ gives r → (out : List ℕ) (size : ℕ) (outAfter : List ℕ) (sizeAfter : ℕ)
+    → Wrote (given (length out)) out size 0 outAfter sizeAfter → readFile (take sizeAfter outAfter) ≡ gives r
 
 -- A file that is written back
 abbrev pub WriteLeft : Type 0
@@ -52,15 +53,15 @@ DropLeft = (file : List ℕ) → Bytes file → (place : ℕ) → FileLeft (read
 -- Reducing, once the places are not refused
 abbrev pub ReduceLeft : Type 0
 ReduceLeft =
-    (file : List ℕ) (source target : ℕ) (r : Record) → readFile file ≡ ok r → reductionRefusal r source target ≡ none
+    (file : List ℕ) (source target : ℕ) (r : Record) → readFile file ≡ gives r → reductionRefusal r source target ≡ none
     → (out : List ℕ) (size count : ℕ) (mapping outAfter : List ℕ) (sizeAfter countAfter : ℕ) (mappingAfter : List ℕ)
     → ReduceGives file source target out size count mapping 0 outAfter sizeAfter countAfter mappingAfter
-    → (o : Reduced) × IsReduced r source target o × (readFile (take sizeAfter outAfter) ≡ ok (o .«record»))
+    → (o : Reduced) × IsReduced r source target o × (readFile (take sizeAfter outAfter) ≡ gives (o .«record»))
 
 -- Comparing, once the places are not refused, where it said 0: the query part that it left is read as a query that stands for the first query, chased
 abbrev pub CompareLeft : Type 0
 CompareLeft =
-    (file : List ℕ) → Bytes file → (p q : ℕ) (r : Record) → readFile file ≡ ok r → pairRefusal r p q ≡ none
+    (file : List ℕ) → Bytes file → (p q : ℕ) (r : Record) → readFile file ≡ gives r → pairRefusal r p q ≡ none
     → (said : ℕ) (mapping part : List ℕ) (size : ℕ) (mappingAfter partAfter : List ℕ) (sizeAfter : ℕ)
     → CompareGives file p q said mapping part size 0 0 mappingAfter partAfter sizeAfter
-    → (chased : Query) × (readPlace (schemaOf r) true (take sizeAfter partAfter) ≡ ok (placeWith chased)) × (queryOf (schemaOf r) chased ≡ chasedAt r p)
+    → (chased : Query) × (readPlace (schemaOf r) true (take sizeAfter partAfter) ≡ gives (placeWith chased)) × (queryOf (schemaOf r) chased ≡ chasedAt r p)

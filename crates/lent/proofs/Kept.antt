@@ -6,7 +6,7 @@ use Prim.Native.Nat.{ℕ, _≤_, _<_}
 use native.Mathlib.Omega.{arith}
 use lib.ListN.{length}
 use borrow.Author.Tests.{lt-ltb, le-ltb}
-use Rattle.refusals.specs.Refusals.{noSuchPlace}
+use Rattle.refusals.specs.Refusals.{_>>=_, gives, noSuchPlace, refused, Reply}
 use Rattle.query.specs.declared.Query.{Query}
 use Rattle.query.specs.declared.Dependency.{Dependency}
 use Rattle.record.specs.declared.Place.{Place}
@@ -17,7 +17,7 @@ use Rattle.record.specs.View.{schemaOf}
 use Rattle.record.specs.Rule.{goodRecord}
 use Rattle.record.specs.Calls.{openRecord, addDependency, putQuery, dropQuery}
 use Rattle.record.proofs.Meaning.{open-keeps, add-keeps, put-keeps, drop-keeps}
-use Rattle.format.specs.File.{Result, ok, refused, _>>=_, readPlace}
+use Rattle.format.specs.File.{readPlace}
 use Rattle.decoder.specs.declared.PlaceRead.{PlaceRead}
 use Rattle.decoder.specs.internal.Read.{placeRead}
 use Rattle.lent.specs.Records.{resultOf, putPart}
@@ -25,7 +25,7 @@ use Rattle.lent.specs.internal.Steps.{Sound}
 
 -- A refused call promises nothing of its record
 pub refused-sound : (o : Outcome) (n : ℕ) → resultOf o ≡ refused n → Sound o
-refused-sound o n e a = let p : resultOf o ≡ ok (o .«record») = rw a in let z : _≡_ {A = ℕ} 0 1 = cc in absurd (omega arith)
+refused-sound o n e a = let p : resultOf o ≡ gives (o .«record») = rw a in let z : _≡_ {A = ℕ} 0 1 = cc in absurd (omega arith)
 
 pub open-sound : (widths : List ℕ) (o : Outcome) → o ≡ openRecord widths → Sound o
 open-sound widths o e = subst Sound (sym e) (open-keeps widths)
@@ -48,16 +48,16 @@ module _ (r : Record) (good : goodRecord r ≡ true) where
   unfolding _>>=_
   part-bad place part n h e = rw (lt-ltb place 8 h, e)
 
-  pub part-read : (place : ℕ) (part : List ℕ) (p : Place) → place < 8 → readPlace (schemaOf r) true part ≡ ok p
+  pub part-read : (place : ℕ) (part : List ℕ) (p : Place) → place < 8 → readPlace (schemaOf r) true part ≡ gives p
       → putPart place part r ≡ resultOf (putQuery r place (p .query))
   unfolding _>>=_
   part-read place part p h e = rw (lt-ltb place 8 h, e)
 
 -- What reading a query part tells
-pub place-accepted : (x : Result Place) (p : PlaceRead) → p ≡ placeRead x → p .answer ≡ Done → x ≡ ok (p .place)
-place-accepted (ok q) p e a = cc
+pub place-accepted : (x : Reply Place) (p : PlaceRead) → p ≡ placeRead x → p .answer ≡ Done → x ≡ gives (p .place)
+place-accepted (gives q) p e a = cc
 place-accepted (refused n) p e a = let z : _≡_ {A = ℕ} 0 1 = cc in absurd (omega arith)
 
-pub place-refused : (x : Result Place) (p : PlaceRead) (n : ℕ) → p ≡ placeRead x → p .answer ≡ Refused n → x ≡ refused n
-place-refused (ok q) p n e a = let z : _≡_ {A = ℕ} 0 1 = cc in absurd (omega arith)
+pub place-refused : (x : Reply Place) (p : PlaceRead) (n : ℕ) → p ≡ placeRead x → p .answer ≡ Refused n → x ≡ refused n
+place-refused (gives q) p n e a = let z : _≡_ {A = ℕ} 0 1 = cc in absurd (omega arith)
 place-refused (refused m) p n e a = cc

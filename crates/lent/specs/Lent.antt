@@ -5,25 +5,24 @@ use mathlib.Core.List.{List}
 use Prim.Native.Nat.{ℕ}
 use lib.Dec.{leb}
 use lib.ListN.{length}
-use Rattle.refusals.specs.Refusals.{bufferTooShort}
+use Rattle.refusals.specs.Refusals.{bufferTooShort, gives, refused, Reply}
 use Rattle.lists.specs.Over.{over}
-use Rattle.format.specs.File.{Result, ok, refused}
 
 -- The number that a call returns: 0 where it is accepted, else that of the refusal (SPECIFICATION, Refusals)
-abbrev pub numberIn : {A : Type 0} → Result A → ℕ
-numberIn (ok a) = 0
+abbrev pub numberIn : {A : Type 0} → Reply A → ℕ
+numberIn (gives a) = 0
 numberIn (refused n) = n
 
 -- What a call leaves in what it is lent: a value of its result, and what was there where it is refused
-abbrev pub leaves : {A B : Type 0} → Result A → (A → B) → B → B
-leaves (ok a) value before = value a
+abbrev pub leaves : {A B : Type 0} → Reply A → (A → B) → B → B
+leaves (gives a) value before = value a
 leaves (refused n) value before = before
 
 -- Bytes for a buffer with so much room. Refused: bufferTooShort, they are longer than it. Every call asks this last of all
-abbrev pub fitted : ℕ → List ℕ → Result (List ℕ)
-fitted room bytes = cond (leb (length bytes) room) (ok bytes) (refused bufferTooShort)
+abbrev pub fitted : ℕ → List ℕ → Reply (List ℕ)
+fitted room bytes = cond (leb (length bytes) room) (gives bytes) (refused bufferTooShort)
 
 -- What a call that gives bytes returns and leaves: the bytes over the start of the buffer, and their length
-abbrev pub Wrote : Result (List ℕ) → List ℕ → ℕ → ℕ → List ℕ → ℕ → Type 0
+abbrev pub Wrote : Reply (List ℕ) → List ℕ → ℕ → ℕ → List ℕ → ℕ → Type 0
 Wrote result buffer count number after countAfter =
     (number ≡ numberIn result) × (after ≡ leaves result (λ bytes. over buffer 0 bytes) buffer) × (countAfter ≡ leaves result length count)

@@ -8,9 +8,9 @@ use lib.Dec.{eqb, leb}
 use lib.ListN.{length, drop}
 use lib.Seq.{drop-drop}
 use borrow.Author.Tests.{eqb-true, eq-eqb, ne-eqb, lt-leb, le-leb, leb-true}
-use Rattle.refusals.specs.Refusals.{badDirectory, badOffsets}
+use Rattle.refusals.specs.Refusals.{badDirectory, badOffsets, gives, refused, Reply}
 use Rattle.format.specs.Bytes.{number}
-use Rattle.format.specs.File.{Result, ok, refused, chained, stretch, stretches, tableFits, directory}
+use Rattle.format.specs.File.{chained, stretch, stretches, tableFits, directory}
 use Rattle.reader.specs.declared.DirectoryRead.the-variants.{Parts, Broken}
 use Rattle.reader.specs.internal.Read.{directoryRead}
 use Rattle.lists.proofs.Tests.{and-iff}
@@ -110,7 +110,7 @@ module _ (file : List ℕ) where
         no-table (rw (← e, lt-leb (2 + 4 * n) (length file) h, and-false (leb 2 n && leb n 10)) (and-false (leb 2 (length file))))
 
     pub full-table : 2 ≤ n → n ≤ 10 → 2 + 4 * n ≤ length file → (t : Bool) → chained n (2 + 4 * n) (length file) (drop 2 file) ≡ t
-        → directory file ≡ cond t (ok (stretches n file (drop 2 file))) (refused badOffsets)
+        → directory file ≡ cond t (gives (stretches n file (drop 2 file))) (refused badOffsets)
     unfolding directory
     full-table low high fits t c =
         let l : leb 2 (length file) ≡ true = le-leb 2 (length file) (omega arith) in
@@ -122,7 +122,7 @@ pub record Accepted (file : List ℕ) (n : ℕ) : Type 0 where
   pub high : n ≤ 10
   pub fits : 2 + 4 * n ≤ length file
   pub chain : chained n (2 + 4 * n) (length file) (drop 2 file) ≡ true
-  pub parts : directory file ≡ ok (stretches n file (drop 2 file))
+  pub parts : directory file ≡ gives (stretches n file (drop 2 file))
 
 pub accepts : (file : List ℕ) (n : ℕ) → Parts n ≡ directoryRead (directory file) → Accepted file n
 unfolding directory
@@ -132,7 +132,7 @@ accepts file n h = fitting (tableFits file) refl h
     count = number 2 file
 
     chaining : tableFits file ≡ true → (t : Bool) → chained count (2 + 4 * count) (length file) (drop 2 file) ≡ t
-        → Parts n ≡ directoryRead (cond t (ok (stretches count file (drop 2 file))) (refused badOffsets)) → Accepted file n
+        → Parts n ≡ directoryRead (cond t (gives (stretches count file (drop 2 file))) (refused badOffsets)) → Accepted file n
     chaining f true c h =
         let e : count ≡ n = sym (length-stretches count file (drop 2 file)) ∙ sym (cc) in
         let k : (leb 2 (length file) ≡ true) × (((leb 2 count ≡ true) × (leb count 10 ≡ true)) × (leb (2 + 4 * count) (length file) ≡ true)) = simp and-iff at f in
@@ -147,11 +147,11 @@ accepts file n h = fitting (tableFits file) refl h
     chaining f false c h = let z : _≡_ {A = ℕ} 0 1 = cc in absurd (omega arith)
 
     fitting : (t : Bool) → tableFits file ≡ t
-        → Parts n ≡ directoryRead (cond t (cond (chained count (2 + 4 * count) (length file) (drop 2 file)) (ok (stretches count file (drop 2 file))) (refused badOffsets)) (refused badDirectory))
+        → Parts n ≡ directoryRead (cond t (cond (chained count (2 + 4 * count) (length file) (drop 2 file)) (gives (stretches count file (drop 2 file))) (refused badOffsets)) (refused badDirectory))
         → Accepted file n
     fitting true f h = chaining f (chained count (2 + 4 * count) (length file) (drop 2 file)) refl h
     fitting false f h = let z : _≡_ {A = ℕ} 0 1 = cc in absurd (omega arith)
 
-pub refuses : (o : Result (List (List ℕ))) (n : ℕ) → Broken n ≡ directoryRead o → o ≡ refused n
-refuses (ok parts) n h = let z : _≡_ {A = ℕ} 0 1 = cc in absurd (omega arith)
+pub refuses : (o : Reply (List (List ℕ))) (n : ℕ) → Broken n ≡ directoryRead o → o ≡ refused n
+refuses (gives parts) n h = let z : _≡_ {A = ℕ} 0 1 = cc in absurd (omega arith)
 refuses (refused m) n h = let e : m ≡ n = cc in rw e

@@ -13,10 +13,10 @@ ghost use mathlib.Core.Bool.{true};
 ghost use Prim.Native.Nat.{_+_, _-_, _*_, _≤_};
 ghost use lib.ListN.{length, take, drop};
 ghost use Rattle.query.specs.Rule.{goodRelations};
-ghost use Rattle.refusals.specs.Refusals.{badRelations, badDependency};
+ghost use Rattle.refusals.specs.Refusals.{badDependency, badRelations, refused};
 ghost use Rattle.format.specs.Bytes.{number};
 ghost use Rattle.format.specs.Parts.{relations, dependency, dependencies};
-ghost use Rattle.format.specs.File.{complete, refused, readPlaces, readAll, readFile, outcomeOf, directory, chained, stretch, stretches};
+ghost use Rattle.format.specs.File.{complete, readPlaces, readAll, readFile, outcomeOf, directory, chained, stretch, stretches};
 ghost use Rattle.reader.specs.internal.Read.{noRelations, relationsRead, dependencyRead, noDependencies, dependenciesRead, recordRead, directoryRead};
 
 // ---- part 0: relations

@@ -99,3 +99,9 @@ pub data Reply (A : Type 0) : Type 0 where
 abbrev pub reply : {A : Type 0} → Option ℕ → A → Reply A
 reply (some n) value = refused n
 reply none value = gives value
+
+infixl 10 _>>=_
+-- Go on with the value that is given; a refusal stands, so the first fault decides
+unfoldable pub _>>=_ : {A B : Type 0} → Reply A → (A → Reply B) → Reply B
+gives a >>= next = next a
+refused n >>= next = refused n

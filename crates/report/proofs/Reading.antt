@@ -9,7 +9,8 @@ use Rattle.record.specs.declared.Record.{Record}
 use Rattle.record.specs.declared.Answer.the-variants.{Done, Refused}
 use Rattle.record.specs.declared.Outcome.{Outcome}
 use Rattle.record.specs.Rule.{goodRecord}
-use Rattle.format.specs.File.{Result, ok, refused, readFile, outcomeOf}
+use Rattle.refusals.specs.Refusals.{Reply, gives, refused}
+use Rattle.format.specs.File.{readFile, outcomeOf}
 use Rattle.format.proofs.RoundTrip.{file-written-back}
 use Rattle.format.proofs.Arrays.{bytes-known}
 use Rattle.format.proofs.Results.{outcome-done, outcome-refused}
@@ -33,7 +34,7 @@ module _ (file : List ℕ) (o : Outcome) (e : o ≡ outcomeOf (readFile file)) w
   read-listing a before after end w =
       record {
         text = w .text;
-        listing = subst (λ (x : Result Record). ListingOf x (w .text)) (sym (outcome-done (readFile file) o e a)) (w .lines);
+        listing = subst (λ (x : Reply Record). ListingOf x (w .text)) (sym (outcome-done (readFile file) o e a)) (w .lines);
         written = w .written .buffer;
         length-returned = omega (arith, w .written .position);
         fits = omega (arith, w .written .position, over-fits before (w .text), ap (λ (l : List ℕ). length l) (w .written .buffer));
@@ -44,7 +45,7 @@ module _ (file : List ℕ) (o : Outcome) (e : o ≡ outcomeOf (readFile file)) w
   read-refused n a before after end w =
       record {
         text = refusedText n;
-        listing = subst (λ (x : Result Record). ListingOf x (refusedText n)) (sym (outcome-refused (readFile file) o n e a)) refl;
+        listing = subst (λ (x : Reply Record). ListingOf x (refusedText n)) (sym (outcome-refused (readFile file) o n e a)) refl;
         written = w .buffer;
         length-returned = omega (arith, w .position);
         fits = omega (arith, w .position, over-fits before (refusedText n), ap (λ (l : List ℕ). length l) (w .buffer));

@@ -8,7 +8,8 @@ use Rattle.lists.specs.Over.{over}
 use Rattle.record.specs.declared.Record.{Record}
 use Rattle.record.specs.View.{schemaOf, dependenciesOf}
 use Rattle.record.specs.Calls.{isFilled, queryAt}
-use Rattle.format.specs.File.{Result, ok, refused, readFile}
+use Rattle.refusals.specs.Refusals.{Reply, gives, refused}
+use Rattle.format.specs.File.{readFile}
 use Rattle.reduction.specs.Reduced.{Reduces}
 use Rattle.text.specs.Text.{passing, placeText, refusedText}
 use Rattle.theory.specs.Query as theory
@@ -31,8 +32,8 @@ abbrev pub filledPlaces : Record → List ℕ
 filledPlaces r = passing (isFilled r) 0 8
 
 -- The listing of what a file holds: the lines of each filled place, or `refused n`
-abbrev pub ListingOf : Result Record → List ℕ → Type 0
-ListingOf (ok r) text = AllLines r (filledPlaces r) text
+abbrev pub ListingOf : Reply Record → List ℕ → Type 0
+ListingOf (gives r) text = AllLines r (filledPlaces r) text
 ListingOf (refused n) text = text ≡ refusedText n
 
 -- The text is a listing of the file

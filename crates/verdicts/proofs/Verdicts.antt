@@ -10,7 +10,7 @@ use native.Mathlib.Omega.{arith}
 use lib.Dec.{leb}
 use lib.ListN.{length}
 use borrow.Author.Tests.{le-leb, lt-leb}
-use Rattle.refusals.specs.Refusals.{badRecord, bufferTooShort}
+use Rattle.refusals.specs.Refusals.{_>>=_, badRecord, bufferTooShort, gives, refused, Reply}
 use Rattle.record.specs.Calls.{queryAt}
 use Rattle.query.specs.declared.Cell.{Cell}
 use Rattle.query.specs.declared.Query.{Query}
@@ -23,7 +23,7 @@ use Rattle.record.proofs.Kept.{filled-place}
 use Rattle.lists.specs.Over.{over}
 use Rattle.format.specs.Format.{Reading, none, got}
 use Rattle.format.specs.Parts.{query}
-use Rattle.format.specs.File.{Result, ok, refused, _>>=_, placeWith, putPlace, readFile, fileOf}
+use Rattle.format.specs.File.{placeWith, putPlace, readFile, fileOf}
 use Rattle.lists.proofs.Over.{over-nil}
 use Rattle.writer.specs.declared.Written.the-variants as written
 use Rattle.mapping.specs.Mapped.{imagesOf}
@@ -51,12 +51,12 @@ use Rattle.mapping.specs.declared.Mapped.{Mapped}
 -- ---- what a comparison leaves
 
 module _ (images : List Cell) (said : ℕ) (mapping part : List ℕ) (size : ℕ) where
-  pub comparison-same : {x y : Result (ℕ × List ℕ)} → x ≡ y → (number said′ : ℕ) (mapping′ part′ : List ℕ) (size′ : ℕ)
+  pub comparison-same : {x y : Reply (ℕ × List ℕ)} → x ≡ y → (number said′ : ℕ) (mapping′ part′ : List ℕ) (size′ : ℕ)
       → ComparisonGiven y images said mapping part size number said′ mapping′ part′ size′ → ComparisonGiven x images said mapping part size number said′ mapping′ part′ size′
   comparison-same p number said′ mapping′ part′ size′ w =
-      subst (λ (z : Result (ℕ × List ℕ)). ComparisonGiven z images said mapping part size number said′ mapping′ part′ size′) (sym p) w
+      subst (λ (z : Reply (ℕ × List ℕ)). ComparisonGiven z images said mapping part size number said′ mapping′ part′ size′) (sym p) w
 
-  pub comparison-none : {x : Result (ℕ × List ℕ)} {n : ℕ} → x ≡ refused n → ComparisonGiven x images said mapping part size n said mapping part size
+  pub comparison-none : {x : Reply (ℕ × List ℕ)} {n : ℕ} → x ≡ refused n → ComparisonGiven x images said mapping part size n said mapping part size
   comparison-none {n = n} p = comparison-same p n said mapping part size (refl, refl, refl, refl, refl)
 
   module _ (code : ℕ) (bytes : List ℕ) where
@@ -66,7 +66,7 @@ module _ (images : List Cell) (said : ℕ) (mapping part : List ℕ) (size : ℕ
     fits-long : 192 ≤ length mapping → length part < length bytes → verdictFits (length mapping) (length part) (code, bytes) ≡ refused bufferTooShort
     fits-long h l = rw (le-leb 192 (length mapping) h, lt-leb (length bytes) (length part) l)
 
-    fits-both : 192 ≤ length mapping → length bytes ≤ length part → verdictFits (length mapping) (length part) (code, bytes) ≡ ok (code, bytes)
+    fits-both : 192 ≤ length mapping → length bytes ≤ length part → verdictFits (length mapping) (length part) (code, bytes) ≡ gives (code, bytes)
     fits-both h l = rw (le-leb 192 (length mapping) h, le-leb (length bytes) (length part) l)
 
     -- there is no room for a mapping
@@ -115,12 +115,12 @@ module _ (words room : ℕ) (schema : List ℕ) (c : Comparison) where
 -- ---- what a reduction leaves
 
 module _ (o : Reduced) (out : List ℕ) (size count : ℕ) (mapping : List ℕ) where
-  reduction-same : {x y : Result Reduced} → x ≡ y → (number : ℕ) (out′ : List ℕ) (size′ count′ : ℕ) (mapping′ : List ℕ)
+  reduction-same : {x y : Reply Reduced} → x ≡ y → (number : ℕ) (out′ : List ℕ) (size′ count′ : ℕ) (mapping′ : List ℕ)
       → ReductionGiven y out size count mapping number out′ size′ count′ mapping′ → ReductionGiven x out size count mapping number out′ size′ count′ mapping′
   reduction-same p number out′ size′ count′ mapping′ w =
-      subst (λ (z : Result Reduced). ReductionGiven z out size count mapping number out′ size′ count′ mapping′) (sym p) w
+      subst (λ (z : Reply Reduced). ReductionGiven z out size count mapping number out′ size′ count′ mapping′) (sym p) w
 
-  pub reduction-none : {x : Result Reduced} {n : ℕ} → x ≡ refused n → ReductionGiven x out size count mapping n out size count mapping
+  pub reduction-none : {x : Reply Reduced} {n : ℕ} → x ≡ refused n → ReductionGiven x out size count mapping n out size count mapping
   reduction-none {n = n} p = reduction-same p n out size count mapping (refl, refl, refl, refl, refl)
 
   pub reduction-refused : (n : ℕ) → o .answer ≡ Refused n → reductionFits (length out) (length mapping) o ≡ refused n
@@ -133,7 +133,7 @@ module _ (o : Reduced) (out : List ℕ) (size count : ℕ) (mapping : List ℕ) 
     reduction-short h = rw (done, lt-leb 192 (length mapping) h)
 
     module _ (h : 192 ≤ length mapping) where
-      roomy : (t : Bool) → leb (length (fileOf (o .«record»))) (length out) ≡ t → reductionFits (length out) (length mapping) o ≡ cond t (ok o) (refused bufferTooShort)
+      roomy : (t : Bool) → leb (length (fileOf (o .«record»))) (length out) ≡ t → reductionFits (length out) (length mapping) o ≡ cond t (gives o) (refused bufferTooShort)
       unfolding _>>=_
       roomy t e = rw (done, le-leb 192 (length mapping) h, e)
 
@@ -248,7 +248,7 @@ compared-sound r p q c is apart =
     unrefused (option.some n) v e = let z : _≡_ {A = ℕ} 0 1 = cc in absurd (omega arith)
 
 module _ (file : List ℕ) (source target : ℕ) (out : List ℕ) (size count : ℕ) (mapping : List ℕ) where
-  pub reduce-done : (r : Record) → readFile file ≡ ok r → (o : Reduced) → IsReduced r source target o → ReducedShape o
+  pub reduce-done : (r : Record) → readFile file ≡ gives r → (o : Reduced) → IsReduced r source target o → ReducedShape o
       → (number : ℕ) (out′ : List ℕ) (size′ count′ : ℕ) (mapping′ : List ℕ)
       → ReductionGiven (reductionFits (length out) (length mapping) o) out size count mapping number out′ size′ count′ mapping′
       → ReduceGives file source target out size count mapping number out′ size′ count′ mapping′
@@ -256,7 +256,7 @@ module _ (file : List ℕ) (source target : ℕ) (out : List ℕ) (size count : 
       record {
         result = reductionFits (length out) (length mapping) o;
         reducing =
-            subst (λ (x : Result Record). Reducing x source target (reductionFits (length out) (length mapping) o) (length out) (length mapping)) (sym e) (o, is, shape, refl);
+            subst (λ (x : Reply Record). Reducing x source target (reductionFits (length out) (length mapping) o) (length out) (length mapping)) (sym e) (o, is, shape, refl);
         given = w;
       }
 
@@ -264,12 +264,12 @@ module _ (file : List ℕ) (source target : ℕ) (out : List ℕ) (size count : 
   reduce-refused n e =
       record {
         result = refused n;
-        reducing = subst (λ (x : Result Record). Reducing x source target (refused n) (length out) (length mapping)) (sym e) refl;
+        reducing = subst (λ (x : Reply Record). Reducing x source target (refused n) (length out) (length mapping)) (sym e) refl;
         given = (refl, refl, refl, refl, refl);
       }
 
 module _ (file : List ℕ) (p q said : ℕ) (mapping part : List ℕ) (size : ℕ) where
-  pub compare-done : (r : Record) → readFile file ≡ ok r → (c : Comparison) → Compared r p q c → ComparisonShape c
+  pub compare-done : (r : Record) → readFile file ≡ gives r → (c : Comparison) → Compared r p q c → ComparisonShape c
       → (number said′ : ℕ) (mapping′ part′ : List ℕ) (size′ : ℕ)
       → ComparisonGiven (comparisonFits (length mapping) (length part) (schemaOf r) c) (c .images) said mapping part size number said′ mapping′ part′ size′
       → CompareGives file p q said mapping part size number said′ mapping′ part′ size′
@@ -278,7 +278,7 @@ module _ (file : List ℕ) (p q said : ℕ) (mapping part : List ℕ) (size : �
         result = comparisonFits (length mapping) (length part) (schemaOf r) c;
         images = c .images;
         comparing =
-            subst (λ (x : Result Record). Comparing x p q (comparisonFits (length mapping) (length part) (schemaOf r) c) (c .images) (length mapping) (length part)) (sym e)
+            subst (λ (x : Reply Record). Comparing x p q (comparisonFits (length mapping) (length part) (schemaOf r) c) (c .images) (length mapping) (length part)) (sym e)
             (c, is, shape, refl, refl);
         given = w;
       }
@@ -288,14 +288,14 @@ module _ (file : List ℕ) (p q said : ℕ) (mapping part : List ℕ) (size : �
       record {
         result = refused n;
         images = [];
-        comparing = subst (λ (x : Result Record). Comparing x p q (refused n) [] (length mapping) (length part)) (sym e) refl;
+        comparing = subst (λ (x : Reply Record). Comparing x p q (refused n) [] (length mapping) (length part)) (sym e) refl;
         given = (refl, refl, refl, refl, refl);
       }
 
 module _ (p q : ℕ) (words : List ℕ) (said : ℕ) where
-  pub check-done : {x : Result Record} {r : Record} → x ≡ ok r → (number said′ : ℕ) → CheckGiven (pairRefusal r p q) r p q words said number said′
+  pub check-done : {x : Reply Record} {r : Record} → x ≡ gives r → (number said′ : ℕ) → CheckGiven (pairRefusal r p q) r p q words said number said′
       → CheckGives x p q words said number said′
-  check-done e number said′ w = subst (λ (y : Result Record). CheckGives y p q words said number said′) (sym e) w
+  check-done e number said′ w = subst (λ (y : Reply Record). CheckGives y p q words said number said′) (sym e) w
 
-  pub check-unread : {x : Result Record} {n : ℕ} → x ≡ refused n → CheckGives x p q words said n said
-  check-unread {n = n} e = subst (λ (y : Result Record). CheckGives y p q words said n said) (sym e) (refl, refl)
+  pub check-unread : {x : Reply Record} {n : ℕ} → x ≡ refused n → CheckGives x p q words said n said
+  check-unread {n = n} e = subst (λ (y : Reply Record). CheckGives y p q words said n said) (sym e) (refl, refl)

@@ -8,7 +8,7 @@ use mathlib.Core.Option as option
 use Prim.Native.Nat.{ℕ}
 use lib.Dec.{eqb, leb}
 use lib.ListN.{length}
-use Rattle.refusals.specs.Refusals.{bufferTooShort}
+use Rattle.refusals.specs.Refusals.{_>>=_, bufferTooShort, gives, refused, Reply}
 use Rattle.record.specs.Calls.{queryAt}
 use Rattle.query.specs.declared.Entry.{Entry}
 use Rattle.query.specs.declared.Entry.the-variants.{Constant, Variable}
@@ -18,7 +18,7 @@ use Rattle.record.specs.View.{schemaOf}
 use Rattle.lists.specs.Over.{over}
 use Rattle.format.specs.Format.{Reading, none, got, gotIf, getTimes, putAll}
 use Rattle.format.specs.Parts.{entryFrom, query}
-use Rattle.format.specs.File.{Result, ok, refused, _>>=_, readFile, fileOf, shapedQuery, shaped}
+use Rattle.format.specs.File.{readFile, fileOf, shapedQuery, shaped}
 use Rattle.mapping.specs.Mapped.{imagesOf}
 use Rattle.comparison.specs.declared.Comparison.{Comparison}
 use Rattle.comparison.specs.declared.Verdict.{Verdict}
@@ -59,12 +59,12 @@ imagesIn words = getTimes getImage 96 words
 
 -- A reduction for buffers with so much room. Refused, after the refusals of the reduction itself: bufferTooShort, its file is longer than the one buffer,
 -- or the other has no room for a mapping. The file is that of the reduction `o`: nothing here says that all reductions of a place have files of one length
-abbrev pub reductionFits : ℕ → ℕ → Reduced → Result Reduced
+abbrev pub reductionFits : ℕ → ℕ → Reduced → Reply Reduced
 reductionFits room words o =
-    answered (o .answer) o >>= λ _. cond (leb 192 words && leb (length (fileOf (o .«record»))) room) (ok o) (refused bufferTooShort)
+    answered (o .answer) o >>= λ _. cond (leb 192 words && leb (length (fileOf (o .«record»))) room) (gives o) (refused bufferTooShort)
 
 -- What a reduction returns and leaves: the file of the record after it with its length, the count of replacements, and the mapping's words
-abbrev pub ReductionGiven : Result Reduced → List ℕ → ℕ → ℕ → List ℕ → ℕ → List ℕ → ℕ → ℕ → List ℕ → Type 0
+abbrev pub ReductionGiven : Reply Reduced → List ℕ → ℕ → ℕ → List ℕ → ℕ → List ℕ → ℕ → ℕ → List ℕ → Type 0
 ReductionGiven result out size count mapping number outAfter sizeAfter countAfter mappingAfter =
     (number ≡ numberIn result) × (outAfter ≡ leaves result (λ o. over out 0 (fileOf (o .«record»))) out)
     × (sizeAfter ≡ leaves result (λ o. length (fileOf (o .«record»))) size) × (countAfter ≡ leaves result (λ o. o .count) count)
@@ -75,35 +75,35 @@ abbrev pub ReducedShape : Reduced → Type 0
 ReducedShape o = (shaped (o .«record») ≡ true) × (length (o .images) ≡ 96)
 
 -- A reduction of a place of the record of a file: a refusal of the file, or what reducing promises. Which one is free, as "Reduction" says
-abbrev pub Reducing : Result Record → ℕ → ℕ → Result Reduced → ℕ → ℕ → Type 0
+abbrev pub Reducing : Reply Record → ℕ → ℕ → Reply Reduced → ℕ → ℕ → Type 0
 Reducing (refused n) source target result room words = result ≡ refused n
-Reducing (ok r) source target result room words = (o : Reduced) × IsReduced r source target o × ReducedShape o × (result ≡ reductionFits room words o)
+Reducing (gives r) source target result room words = (o : Reduced) × IsReduced r source target o × ReducedShape o × (result ≡ reductionFits room words o)
 
 -- What `spernevan_reduce` promises: some reduction of the source place, returned and left as above
 pub record ReduceGives (file : List ℕ) (source target : ℕ) (out : List ℕ) (size count : ℕ) (mapping : List ℕ) (number : ℕ) (outAfter : List ℕ) (sizeAfter countAfter : ℕ) (mappingAfter : List ℕ) : Type 0 where
-  pub result : Result Reduced
+  pub result : Reply Reduced
   pub reducing : Reducing (readFile file) source target result (length out) (length mapping)
   pub given : ReductionGiven result out size count mapping number outAfter sizeAfter countAfter mappingAfter
 
 -- ---- comparing
 
 -- A verdict's number with the bytes of the query that goes with it: 0 not contained, 1 contained by a mapping, 2 contained because the first chases to never
-abbrev pub verdictBytes : Verdict → List ℕ → Result (ℕ × List ℕ)
-verdictBytes verdict.Apart bytes = ok (0, bytes)
-verdictBytes verdict.Contained bytes = ok (1, [])
-verdictBytes verdict.Never bytes = ok (2, [])
+abbrev pub verdictBytes : Verdict → List ℕ → Reply (ℕ × List ℕ)
+verdictBytes verdict.Apart bytes = gives (0, bytes)
+verdictBytes verdict.Contained bytes = gives (1, [])
+verdictBytes verdict.Never bytes = gives (2, [])
 verdictBytes (verdict.Refused n) bytes = refused n
 
 -- A verdict for buffers with so much room. Refused: bufferTooShort, there is no room for a mapping or for the query's bytes
-abbrev pub verdictFits : ℕ → ℕ → ℕ × List ℕ → Result (ℕ × List ℕ)
-verdictFits words room found = cond (leb 192 words && leb (length (found .1)) room) (ok found) (refused bufferTooShort)
+abbrev pub verdictFits : ℕ → ℕ → ℕ × List ℕ → Reply (ℕ × List ℕ)
+verdictFits words room found = cond (leb 192 words && leb (length (found .1)) room) (gives found) (refused bufferTooShort)
 
 -- The verdict and bytes of a comparison, for buffers with so much room
-abbrev pub comparisonFits : ℕ → ℕ → List ℕ → Comparison → Result (ℕ × List ℕ)
+abbrev pub comparisonFits : ℕ → ℕ → List ℕ → Comparison → Reply (ℕ × List ℕ)
 comparisonFits words room schema c = verdictBytes (c .verdict) (query schema .put (c .query)) >>= verdictFits words room
 
 -- What a comparison returns and leaves: the verdict, the mapping's words, the bytes of the query with their length
-abbrev pub ComparisonGiven : Result (ℕ × List ℕ) → List Cell → ℕ → List ℕ → List ℕ → ℕ → ℕ → ℕ → List ℕ → List ℕ → ℕ → Type 0
+abbrev pub ComparisonGiven : Reply (ℕ × List ℕ) → List Cell → ℕ → List ℕ → List ℕ → ℕ → ℕ → ℕ → List ℕ → List ℕ → ℕ → Type 0
 ComparisonGiven result images said mapping part size number saidAfter mappingAfter partAfter sizeAfter =
     (number ≡ numberIn result) × (saidAfter ≡ leaves result (λ t. t .0) said)
     × (mappingAfter ≡ leaves result (λ _. over mapping 0 (wordsOf images)) mapping)
@@ -114,14 +114,14 @@ abbrev pub ComparisonShape : Comparison → Type 0
 ComparisonShape c = (shapedQuery (c .query) ≡ true) × (length (c .images) ≡ 96)
 
 -- A comparison of two places of the record of a file: a refusal of the file, or what comparing promises. Which mapping is free
-abbrev pub Comparing : Result Record → ℕ → ℕ → Result (ℕ × List ℕ) → List Cell → ℕ → ℕ → Type 0
+abbrev pub Comparing : Reply Record → ℕ → ℕ → Reply (ℕ × List ℕ) → List Cell → ℕ → ℕ → Type 0
 Comparing (refused n) p q result images words room = result ≡ refused n
-Comparing (ok r) p q result images words room =
+Comparing (gives r) p q result images words room =
     (c : Comparison) × Compared r p q c × ComparisonShape c × (images ≡ c .images) × (result ≡ comparisonFits words room (schemaOf r) c)
 
 -- What `spernevan_compare` promises: a comparison of the two places, returned and left as above
 pub record CompareGives (file : List ℕ) (p q said : ℕ) (mapping part : List ℕ) (size number saidAfter : ℕ) (mappingAfter partAfter : List ℕ) (sizeAfter : ℕ) : Type 0 where
-  pub result : Result (ℕ × List ℕ)
+  pub result : Reply (ℕ × List ℕ)
   pub images : List Cell
   pub comparing : Comparing (readFile file) p q result images (length mapping) (length part)
   pub given : ComparisonGiven result images said mapping part size number saidAfter mappingAfter partAfter sizeAfter
@@ -139,6 +139,6 @@ CheckGiven option.none r p q words said number saidAfter =
     (number ≡ 0) × (((saidAfter ≡ 1) × WordsMap r p q words) ⊎ ((saidAfter ≡ 0) × (WordsMap r p q words → ⊥)))
 
 -- What `spernevan_check` promises: a refusal of the file, then of the places, else the verdict
-abbrev pub CheckGives : Result Record → ℕ → ℕ → List ℕ → ℕ → ℕ → ℕ → Type 0
+abbrev pub CheckGives : Reply Record → ℕ → ℕ → List ℕ → ℕ → ℕ → ℕ → Type 0
 CheckGives (refused n) p q words said number saidAfter = (number ≡ n) × (saidAfter ≡ said)
-CheckGives (ok r) p q words said number saidAfter = CheckGiven (pairRefusal r p q) r p q words said number saidAfter
+CheckGives (gives r) p q words said number saidAfter = CheckGiven (pairRefusal r p q) r p q words said number saidAfter

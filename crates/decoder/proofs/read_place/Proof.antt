@@ -6,7 +6,7 @@ use mathlib.Core.List.{List, [], _∷_}
 use Prim.Native.Nat.{ℕ, _≤_}
 use native.Mathlib.Omega.{arith}
 use lib.ListN.{take}
-use Rattle.refusals.specs.Refusals.{badQuery, unsafeHead}
+use Rattle.refusals.specs.Refusals.{_>>=_, badQuery, gives, refused, Reply, unsafeHead}
 use Rattle.query.specs.declared.Query.{Query}
 use Rattle.record.specs.declared.Answer.the-variants.{Done}
 use Rattle.query.specs.Rule.{headSafe}
@@ -15,7 +15,7 @@ use Rattle.record.specs.Rule.{noPlace}
 use Rattle.format.specs.Bytes.{Bytes}
 use Rattle.format.specs.Format.{Reading, none, got}
 use Rattle.format.specs.Parts.{query}
-use Rattle.format.specs.File.{Result, ok, refused, _>>=_, complete, isVacant, placeWith, safeQuery, readPlace}
+use Rattle.format.specs.File.{complete, isVacant, placeWith, safeQuery, readPlace}
 use Rattle.format.proofs.Arrays.{bytes-known}
 use Rattle.format.proofs.Parts.{Narrow, query-lawful}
 use Rattle.format.proofs.Rules.{good-query, good-narrow}
@@ -32,7 +32,7 @@ module _ (schema part : List ℕ) (last : Bool) where
   unfolding readPlace
   vacant-last v l = rw (v, l)
 
-  vacant-place : isVacant part ≡ true → last ≡ false → readPlace schema last part ≡ ok noPlace
+  vacant-place : isVacant part ≡ true → last ≡ false → readPlace schema last part ≡ gives noPlace
   unfolding readPlace
   vacant-place v l = rw (v, l)
 
@@ -41,7 +41,7 @@ module _ (schema part : List ℕ) (last : Bool) where
     unfolding readPlace _>>=_
     bad-query n e = rw (v, e)
 
-    good-query-part : (q : Query) (t : Bool) → complete badQuery (query schema .get part) ≡ ok q → headSafe schema q ≡ t → readPlace schema last part ≡ cond t (ok (placeWith q)) (refused unsafeHead)
+    good-query-part : (q : Query) (t : Bool) → complete badQuery (query schema .get part) ≡ gives q → headSafe schema q ≡ t → readPlace schema last part ≡ cond t (gives (placeWith q)) (refused unsafeHead)
     unfolding readPlace _>>=_ safeQuery
     good-query-part q t e h = rw (v, e, h)
 
@@ -53,12 +53,12 @@ query-bad none r e g = refl
 query-bad (got q []) r e g = let t : r .good ≡ true = ap (λ (r : QueryRead). r .good) e in let z : _≡_ {A = ℕ} 0 1 = cc in absurd (omega arith)
 query-bad (got q (b ∷ rest)) r e g = refl
 
-query-some : (o : Result Query) (r : QueryRead) → r ≡ queryRead o → r .good ≡ true → o ≡ ok (r .query)
-query-some (ok q) r e g = ap (λ (r : QueryRead). ok (r .query)) (sym e)
+query-some : (o : Reply Query) (r : QueryRead) → r ≡ queryRead o → r .good ≡ true → o ≡ gives (r .query)
+query-some (gives q) r e g = ap (λ (r : QueryRead). gives (r .query)) (sym e)
 query-some (refused n) r e g = let t : r .good ≡ false = ap (λ (r : QueryRead). r .good) e in let z : _≡_ {A = ℕ} 0 1 = cc in absurd (omega arith)
 
 -- a query that was read keeps the limits of its sizes
-read-sizes : (schema part : List ℕ) (q : Query) → Narrow schema → Bytes part → complete badQuery (query schema .get part) ≡ ok q → (q .arity ≤ 8) × (q .size ≤ 12)
+read-sizes : (schema part : List ℕ) (q : Query) → Narrow schema → Bytes part → complete badQuery (query schema .get part) ≡ gives q → (q .arity ≤ 8) × (q .size ≤ 12)
 read-sizes schema part q narrow hb e =
     let (good, put) = complete-get badQuery (query schema) (query-lawful schema narrow) part q hb e in
     let g = stored.good-query schema q (good-query schema q good .1) in

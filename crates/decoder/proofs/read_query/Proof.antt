@@ -8,11 +8,11 @@ use native.Mathlib.Omega.{arith}
 use lib.Dec.{eqb, leb}
 use lib.ListN.{length, take, drop, length-drop}
 use lib.Seq.{drop-drop}
-use Rattle.refusals.specs.Refusals.{badQuery}
+use Rattle.refusals.specs.Refusals.{badQuery, gives}
 use Rattle.lists.specs.Tests.{between}
 use Rattle.format.specs.Format.{none, got, getByte}
 use Rattle.format.specs.Parts.{entries, rows, queryWith, query}
-use Rattle.format.specs.File.{ok, complete}
+use Rattle.format.specs.File.{complete}
 use Rattle.format.proofs.Parts.{headFits}
 use Rattle.decoder.specs.declared.ByteRead.{ByteRead}
 use Rattle.decoder.specs.declared.ByteRead.the-variants.{Byte}
@@ -77,7 +77,7 @@ accepts schema part arity size used front rs z eu ef g er b =
     let (e, k) = head-ends part arity size used front z eu ef g in
     let h = after-head schema part arity (z .arity-read) size (z .size-read) (front .cells) (drop (2 + 5 * used) part) e in
     let (all, w, r, c) = rows-some (complete badQuery (rows schema size .get (drop (2 + 5 * used) part))) rs er b in
-    let done : complete badQuery (query schema .get part) ≡ ok (queryWith (arity, (size, (front .cells, all)))) =
+    let done : complete badQuery (query schema .get part) ≡ gives (queryWith (arity, (size, (front .cells, all)))) =
     ap (complete badQuery) h ∙ complete-map-ok badQuery (λ rs. queryWith (arity, (size, (front .cells, rs)))) (rows schema size .get (drop (2 + 5 * used) part)) all w in
     (λ i. record { good = true; query = record { arity = arity; size = size; head = front .cells; relations = r i; cells = c i } }) ∙ sym (ap queryRead done)
 

@@ -11,7 +11,7 @@ use Rattle.query.specs.Rule.{noCell, noQuery}
 use Rattle.record.specs.Rule.{noPlace}
 use Rattle.format.specs.Format.{Reading, none, got}
 use Rattle.format.specs.Parts.{flat}
-use Rattle.format.specs.File.{Result, ok, refused}
+use Rattle.refusals.specs.Refusals.{Reply, gives, refused}
 use Rattle.decoder.specs.declared.ByteRead.{ByteRead}
 use Rattle.decoder.specs.declared.ByteRead.the-variants.{Byte, NoByte}
 use Rattle.decoder.specs.declared.EntryRead.{EntryRead}
@@ -41,8 +41,8 @@ abbrev pub noRowsRead : RowsRead
 noRowsRead = record { good = false; relations = replicate 12 0; cells = replicate 96 noCell }
 
 -- The rows that were read
-abbrev pub rowsRead : Result (List (ℕ × List Cell)) → RowsRead
-rowsRead (ok rs) = record { good = true; relations = map (λ r. r .0) rs; cells = flat rs }
+abbrev pub rowsRead : Reply (List (ℕ × List Cell)) → RowsRead
+rowsRead (gives rs) = record { good = true; relations = map (λ r. r .0) rs; cells = flat rs }
 rowsRead (refused n) = noRowsRead
 
 -- No query
@@ -50,11 +50,11 @@ abbrev pub noQueryRead : QueryRead
 noQueryRead = record { good = false; query = noQuery }
 
 -- The query that was read
-abbrev pub queryRead : Result Query → QueryRead
-queryRead (ok q) = record { good = true; query = q }
+abbrev pub queryRead : Reply Query → QueryRead
+queryRead (gives q) = record { good = true; query = q }
 queryRead (refused n) = noQueryRead
 
 -- The place that was read
-abbrev pub placeRead : Result Place → PlaceRead
-placeRead (ok p) = record { answer = Done; place = p }
+abbrev pub placeRead : Reply Place → PlaceRead
+placeRead (gives p) = record { answer = Done; place = p }
 placeRead (refused n) = record { answer = Refused n; place = noPlace }

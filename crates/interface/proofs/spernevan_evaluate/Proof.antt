@@ -3,7 +3,8 @@ use mathlib.Core.Path.{_≡_, sym, ap, _∙_}
 use lib.ListN.{length}
 use Rattle.database.specs.Calls.{evaluated, bufferThen}
 use Rattle.interface.specs.Databases.{countResult, evaluatedIn}
-use Rattle.format.specs.File.{ok, refused, readFile}
+use Rattle.refusals.specs.Refusals.{gives, refused}
+use Rattle.format.specs.File.{readFile}
 use Rattle.lent.proofs.Files.{read-done, read-refused, done-number, done-leaves, refused-number, refused-leaves}
 use Rattle.format.proofs.Results.{outcome-done, outcome-refused}
 use borrow.Author.Needs.{needs}
@@ -36,7 +37,7 @@ returns c =
     let s = c .before .before .before .before .before .before .before .before .before .before .before .before .before .before in
     let file = s .args .file .now in
     let buffer = s .args .answers .now in
-    let p : evaluatedIn file (s .args .place) (s .args .words .now) (length buffer) ≡ ok (c .before .done .given .0 .0) =
+    let p : evaluatedIn file (s .args .place) (s .args .words .now) (length buffer) ≡ gives (c .before .done .given .0 .0) =
     read-done file (c .before .before .before .before .before .before .before .before .before .before .read .result) (c .before .before .before .before .before .before .before .before .before .before .read .ensures) (λ r. countResult (evaluated r (s .args .place) (s .args .words .now) (length buffer))) (c .before .before .before .before .before .before .before .before .enum-told .given .1)
     ∙ ap countResult (sym (c .before .before .before .before .before .evaluate .ensures .0) ∙ c .before .done .given .1) in
     (done-number p, (c .before .before .before .before .before .evaluate .ensures .1 ∙ done-leaves (outcome-done (readFile file) (c .before .before .before .before .before .before .before .before .before .before .read .result) (c .before .before .before .before .before .before .before .before .before .before .read .ensures) (c .before .before .before .before .before .before .before .before .enum-told .given .1)) (λ r. bufferThen r (s .args .place) (s .args .words .now) buffer) buffer, done-leaves p (λ n. n) (s .args .count .now)))

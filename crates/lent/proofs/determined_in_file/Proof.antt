@@ -2,7 +2,7 @@
 use mathlib.Core.Path.{_≡_, sym, ap, _∙_}
 use Rattle.record.specs.Calls.{determinedColumns}
 use Rattle.lent.specs.Records.{columnsResult, determinedIn}
-use Rattle.format.specs.File.{ok, refused}
+use Rattle.refusals.specs.Refusals.{gives, refused}
 use Rattle.lent.proofs.Files.{read-done, read-refused, done-number, done-leaves, refused-number, refused-leaves}
 use borrow.Author.Needs.{needs}
 use Rattle.lent.proofs.determined_in_file.Statement.{statement}
@@ -29,7 +29,7 @@ enum-known-answer c = search needs
 returns : tie.Need-returns
 returns c =
     let s = c .before .before .before .before .before .before .before .before .before in
-    let p : determinedIn (s .args .file .now) (s .args .relation) (s .args .left) ≡ ok (c .before .found .given .0 .0, c .before .found .given .0 .1 .0) =
+    let p : determinedIn (s .args .file .now) (s .args .relation) (s .args .left) ≡ gives (c .before .found .given .0 .0, c .before .found .given .0 .1 .0) =
     read-done (s .args .file .now) (c .before .before .before .before .before .before .before .read .result) (c .before .before .before .before .before .before .before .read .ensures) (λ r. columnsResult (determinedColumns r (s .args .relation) (s .args .left))) (c .before .before .before .before .before .enum-told .given .1)
     ∙ ap columnsResult (sym (c .before .before .before .determined .ensures) ∙ c .before .found .given .1) in
     (done-number p, (done-leaves p (λ t. t .0) (s .args .columns .now), done-leaves p (λ t. t .1) (s .args .count .now)))

@@ -2,7 +2,8 @@ use borrow.Author.Needs.{needs}
 use mathlib.Core.Path.{sym, ap, _∙_}
 use mathlib.Core.List.{List}
 use Prim.Native.Nat.{ℕ}
-use Rattle.format.specs.File.{Result, _>>=_, directory, readAll, readFile, outcomeOf}
+use Rattle.refusals.specs.Refusals.{Reply, _>>=_}
+use Rattle.format.specs.File.{directory, readAll, readFile, outcomeOf}
 use Rattle.reader.proofs.Stretches.{accepts, refuses}
 use Rattle.reader.proofs.read.Statement.{statement}
 use Rattle.reader.proofs.read.Tie as tie
@@ -27,12 +28,12 @@ refusal-requires c κs = search needs
 returns : tie.Need-returns
 unfolding readFile _>>=_
 returns c =
-    c .read-parts .ensures ∙ sym (ap outcomeOf (ap (λ (o : Result (List (List ℕ))). o >>= readAll) (accepts (c .before .before .before .before .before .before .args .file .now) (c .before .before .n .given .0 .0) (sym (c .before .before .n .given .1) ∙ c .before .before .before .before .read-directory .ensures) .parts)))
+    c .read-parts .ensures ∙ sym (ap outcomeOf (ap (λ (o : Reply (List (List ℕ))). o >>= readAll) (accepts (c .before .before .before .before .before .before .args .file .now) (c .before .before .n .given .0 .0) (sym (c .before .before .n .given .1) ∙ c .before .before .before .before .read-directory .ensures) .parts)))
 
 returns-2 : tie.Need-returns-2
 unfolding readFile _>>=_
 returns-2 c =
-    c .refusal .ensures ∙ sym (ap outcomeOf (ap (λ (o : Result (List (List ℕ))). o >>= readAll) (refuses (directory (c .before .before .before .before .before .before .args .file .now)) (c .before .before .number .given .0 .0) (sym (c .before .before .number .given .1) ∙ c .before .before .before .before .read-directory .ensures))))
+    c .refusal .ensures ∙ sym (ap outcomeOf (ap (λ (o : Reply (List (List ℕ))). o >>= readAll) (refuses (directory (c .before .before .before .before .before .before .args .file .now)) (c .before .before .number .given .0 .0) (sym (c .before .before .number .given .1) ∙ c .before .before .before .before .read-directory .ensures))))
 
 pub read-spec : {M : Type 1} → statement M
 read-spec =

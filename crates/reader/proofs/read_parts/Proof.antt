@@ -9,14 +9,14 @@ use native.Mathlib.Omega.{arith}
 use lib.Dec.{ltb}
 use lib.ListN.{take, drop}
 use denote.Ref.{now}
-use Rattle.refusals.specs.Refusals.{badDependency, badRelations}
+use Rattle.refusals.specs.Refusals.{_>>=_, badDependency, badRelations, gives, refused, Reply}
 use Rattle.query.specs.declared.Dependency.{Dependency}
 use Rattle.record.specs.declared.Place.{Place}
 use Rattle.query.specs.Rule.{goodRelations}
 use Rattle.format.specs.Bytes.{number, Bytes}
 use Rattle.format.specs.Format.{Reading, none, got}
 use Rattle.format.specs.Parts.{relations, dependencies}
-use Rattle.format.specs.File.{Result, ok, refused, _>>=_, complete, stretch, stretches, readPlaces, recordWith, readParts, readAll, outcomeOf}
+use Rattle.format.specs.File.{complete, stretch, stretches, readPlaces, recordWith, readParts, readAll, outcomeOf}
 use Rattle.lists.proofs.Tests.{every-take, every-drop}
 use Rattle.format.proofs.Arrays.{bytes-known}
 use Rattle.format.proofs.Parts.{relations-lawful}
@@ -50,20 +50,20 @@ complete-refused m none n e = refl
 complete-refused m (got a []) n e = let z : _≡_ {A = ℕ} 0 1 = cc in absurd (omega arith)
 complete-refused m (got a (b ∷ rest)) n e = refl
 
-relations-bad : (o : Result (ℕ × List ℕ)) (r : RelationsRead) → r ≡ relationsRead o → r .good ≡ false → (n : ℕ) × (o ≡ refused n)
-relations-bad (ok rs) r e g = let t : r .good ≡ true = ap (λ (r : RelationsRead). r .good) e in let z : _≡_ {A = ℕ} 0 1 = cc in absurd (omega arith)
+relations-bad : (o : Reply (ℕ × List ℕ)) (r : RelationsRead) → r ≡ relationsRead o → r .good ≡ false → (n : ℕ) × (o ≡ refused n)
+relations-bad (gives rs) r e g = let t : r .good ≡ true = ap (λ (r : RelationsRead). r .good) e in let z : _≡_ {A = ℕ} 0 1 = cc in absurd (omega arith)
 relations-bad (refused n) r e g = (n, refl)
 
-relations-some : (o : Result (ℕ × List ℕ)) (r : RelationsRead) → r ≡ relationsRead o → r .good ≡ true → o ≡ ok (r .count, r .widths)
-relations-some (ok rs) r e g = ap (λ (r : RelationsRead). ok (r .count, r .widths)) (sym e)
+relations-some : (o : Reply (ℕ × List ℕ)) (r : RelationsRead) → r ≡ relationsRead o → r .good ≡ true → o ≡ gives (r .count, r .widths)
+relations-some (gives rs) r e g = ap (λ (r : RelationsRead). gives (r .count, r .widths)) (sym e)
 relations-some (refused n) r e g = let t : r .good ≡ false = ap (λ (r : RelationsRead). r .good) e in let z : _≡_ {A = ℕ} 0 1 = cc in absurd (omega arith)
 
-dependencies-bad : (o : Result (ℕ × List Dependency)) (r : DependenciesRead) → r ≡ dependenciesRead o → r .good ≡ false → (n : ℕ) × (o ≡ refused n)
-dependencies-bad (ok ds) r e g = let t : r .good ≡ true = ap (λ (r : DependenciesRead). r .good) e in let z : _≡_ {A = ℕ} 0 1 = cc in absurd (omega arith)
+dependencies-bad : (o : Reply (ℕ × List Dependency)) (r : DependenciesRead) → r ≡ dependenciesRead o → r .good ≡ false → (n : ℕ) × (o ≡ refused n)
+dependencies-bad (gives ds) r e g = let t : r .good ≡ true = ap (λ (r : DependenciesRead). r .good) e in let z : _≡_ {A = ℕ} 0 1 = cc in absurd (omega arith)
 dependencies-bad (refused n) r e g = (n, refl)
 
-dependencies-some : (o : Result (ℕ × List Dependency)) (r : DependenciesRead) → r ≡ dependenciesRead o → r .good ≡ true → o ≡ ok (r .held, r .dependencies)
-dependencies-some (ok ds) r e g = ap (λ (r : DependenciesRead). ok (r .held, r .dependencies)) (sym e)
+dependencies-some : (o : Reply (ℕ × List Dependency)) (r : DependenciesRead) → r ≡ dependenciesRead o → r .good ≡ true → o ≡ gives (r .held, r .dependencies)
+dependencies-some (gives ds) r e g = ap (λ (r : DependenciesRead). gives (r .held, r .dependencies)) (sym e)
 dependencies-some (refused n) r e g = let t : r .good ≡ false = ap (λ (r : DependenciesRead). r .good) e in let z : _≡_ {A = ℕ} 0 1 = cc in absurd (omega arith)
 
 -- ---- the parts by their results
@@ -73,18 +73,18 @@ module _ (part0 part1 : List ℕ) (parts : List (List ℕ)) where
   unfolding readParts _>>=_
   bad-relations-part w = rw w
 
-  module _ (rs : ℕ × List ℕ) (w₀ : complete badRelations (relations .get part0) ≡ ok rs) where
+  module _ (rs : ℕ × List ℕ) (w₀ : complete badRelations (relations .get part0) ≡ gives rs) where
     bad-dependencies-part : complete badDependency (dependencies (take (rs .0) (rs .1)) .get part1) ≡ refused badDependency → readParts part0 part1 parts ≡ refused badDependency
     unfolding readParts _>>=_
     bad-dependencies-part w = rw (w₀, w)
 
-    module _ (ds : ℕ × List Dependency) (w₁ : complete badDependency (dependencies (take (rs .0) (rs .1)) .get part1) ≡ ok ds) where
+    module _ (ds : ℕ × List Dependency) (w₁ : complete badDependency (dependencies (take (rs .0) (rs .1)) .get part1) ≡ gives ds) where
       parts-places : outcomeOf (readParts part0 part1 parts) ≡ recordRead rs ds (readPlaces (take (rs .0) (rs .1)) parts)
       unfolding readParts _>>=_
       parts-places = rw (w₀, w₁) (same (readPlaces (take (rs .0) (rs .1)) parts))
         where
-          same : (o : Result (List Place)) → outcomeOf (o >>= (λ ps. ok (recordWith rs ds ps))) ≡ recordRead rs ds o
-          same (ok ps) = refl
+          same : (o : Reply (List Place)) → outcomeOf (o >>= (λ ps. gives (recordWith rs ds ps))) ≡ recordRead rs ds o
+          same (gives ps) = refl
           same (refused m) = refl
 
 -- ---- the whole file, part by part

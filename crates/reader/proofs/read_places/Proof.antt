@@ -14,7 +14,8 @@ use Rattle.record.specs.declared.Outcome.{Outcome}
 use Rattle.record.specs.declared.Answer.the-variants.{Done, Refused}
 use Rattle.record.specs.Rule.{noPlace}
 use Rattle.lists.specs.Over.{over}
-use Rattle.format.specs.File.{Result, ok, refused, _>>=_, stretch, stretches, readPlace, noneLeft, readPlaces, outcomeOf}
+use Rattle.refusals.specs.Refusals.{Reply, gives, refused, _>>=_}
+use Rattle.format.specs.File.{stretch, stretches, readPlace, noneLeft, readPlaces, outcomeOf}
 use Rattle.lists.proofs.Over.{over-nil, over-set}
 use Rattle.format.proofs.Arrays.{pad-over}
 use Rattle.decoder.specs.declared.PlaceRead.{PlaceRead}
@@ -25,8 +26,8 @@ use Rattle.reader.proofs.read_places.Statement.{statement}
 use Rattle.reader.proofs.read_places.Tie as tie
 
 -- The record with the places read so far and the others laid over what follows them
-abbrev recordOver : ℕ × List ℕ → ℕ × List Dependency → List Place → ℕ → Result (List Place) → Outcome
-recordOver rs ds places i (ok ps) =
+abbrev recordOver : ℕ × List ℕ → ℕ × List Dependency → List Place → ℕ → Reply (List Place) → Outcome
+recordOver rs ds places i (gives ps) =
     record { answer = Done; «record» = record { relations = rs .0; widths = rs .1; held = ds .0; dependencies = ds .1; places = over places i ps } }
 recordOver rs ds places i (refused m) = outcomeOf (refused m)
 
@@ -38,8 +39,8 @@ record At (rs : ℕ × List ℕ) (ds : ℕ × List Dependency) (schema file : Li
   rest : recordRead rs ds (readPlaces schema (stretches (n - 2) file (drop 10 file))) ≡ recordOver rs ds places (k - 2) (readPlaces schema (stretches (n - k) file (tableAt file k)))
 
 module _ (rs : ℕ × List ℕ) (ds : ℕ × List Dependency) where
-  starts : (o : Result (List Place)) → recordRead rs ds o ≡ recordOver rs ds (replicate 8 noPlace) 0 o
-  starts (ok ps) =
+  starts : (o : Reply (List Place)) → recordRead rs ds o ≡ recordOver rs ds (replicate 8 noPlace) 0 o
+  starts (gives ps) =
       λ i. record { answer = Done; «record» = record { relations = rs .0; widths = rs .1; held = ds .0; dependencies = ds .1; places = pad-over 8 noPlace ps i } }
   starts (refused m) = refl
 
@@ -65,8 +66,8 @@ last-part n k file table h = go (n - (k + 1)) refl
     go (suc m) e = none-suc m file table ∙ sym (ne-eqb (k + 1) n (λ z. omega arith))
 
 -- one part more
-split : (schema : List ℕ) (p : List ℕ) (ps : List (List ℕ)) (place : Place) → readPlace schema (noneLeft ps) p ≡ ok place
-    → readPlaces schema (p ∷ ps) ≡ (readPlaces schema ps >>= (λ places. ok (place ∷ places)))
+split : (schema : List ℕ) (p : List ℕ) (ps : List (List ℕ)) (place : Place) → readPlace schema (noneLeft ps) p ≡ gives place
+    → readPlaces schema (p ∷ ps) ≡ (readPlaces schema ps >>= (λ places. gives (place ∷ places)))
 unfolding readPlaces _>>=_
 split schema p ps place e = rw e
 
@@ -74,20 +75,20 @@ split-refused : (schema : List ℕ) (p : List ℕ) (ps : List (List ℕ)) (m : �
 unfolding readPlaces _>>=_
 split-refused schema p ps m e = rw e
 
-stored : (rs : ℕ × List ℕ) (ds : ℕ × List Dependency) (places : List Place) (i : ℕ) (place : Place) (o : Result (List Place)) → i < length places
-    → recordOver rs ds places i (o >>= (λ ps. ok (place ∷ ps))) ≡ recordOver rs ds (set places i place) (suc i) o
+stored : (rs : ℕ × List ℕ) (ds : ℕ × List Dependency) (places : List Place) (i : ℕ) (place : Place) (o : Reply (List Place)) → i < length places
+    → recordOver rs ds places i (o >>= (λ ps. gives (place ∷ ps))) ≡ recordOver rs ds (set places i place) (suc i) o
 unfolding _>>=_
-stored rs ds places i place (ok ps) h =
+stored rs ds places i place (gives ps) h =
     λ j. record { answer = Done; «record» = record { relations = rs .0; widths = rs .1; held = ds .0; dependencies = ds .1; places = sym (over-set places i place ps h) j } }
 stored rs ds places i place (refused m) h = refl
 
 -- the place reader's answer
-place-some : (o : Result Place) (r : PlaceRead) → r ≡ placeRead o → r .answer ≡ Done → o ≡ ok (r .place)
-place-some (ok p) r e g = ap (λ (r : PlaceRead). ok (r .place)) (sym e)
+place-some : (o : Reply Place) (r : PlaceRead) → r ≡ placeRead o → r .answer ≡ Done → o ≡ gives (r .place)
+place-some (gives p) r e g = ap (λ (r : PlaceRead). gives (r .place)) (sym e)
 place-some (refused m) r e g = let t : r .answer ≡ Refused m = ap (λ (r : PlaceRead). r .answer) e in let z : _≡_ {A = ℕ} 0 1 = cc in absurd (omega arith)
 
-place-none : (o : Result Place) (r : PlaceRead) (m : ℕ) → r ≡ placeRead o → r .answer ≡ Refused m → o ≡ refused m
-place-none (ok p) r m e g = let t : r .answer ≡ Done = ap (λ (r : PlaceRead). r .answer) e in let z : _≡_ {A = ℕ} 0 1 = cc in absurd (omega arith)
+place-none : (o : Reply Place) (r : PlaceRead) (m : ℕ) → r ≡ placeRead o → r .answer ≡ Refused m → o ≡ refused m
+place-none (gives p) r m e g = let t : r .answer ≡ Done = ap (λ (r : PlaceRead). r .answer) e in let z : _≡_ {A = ℕ} 0 1 = cc in absurd (omega arith)
 place-none (refused l) r m e g = let t : r .answer ≡ Refused l = ap (λ (r : PlaceRead). r .answer) e in let s : l ≡ m = cc in rw s
 
 module _ (rs : ℕ × List ℕ) (ds : ℕ × List Dependency) (schema file : List ℕ) (n : ℕ) (places : List Place) (k : ℕ) (f : At rs ds schema file n places k) (h : k < n) (few : n ≤ 10)
