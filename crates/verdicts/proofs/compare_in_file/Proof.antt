@@ -38,7 +38,7 @@ returns : tie.Need-returns
 returns c =
     let a = c .before .before .before .before .before .before .before .before .before .before .before .before .before .before .before .before .before .before .args in
     compare-done (a .file .now) (a .p) (a .q) (a .verdict .now) (a .mapping .now) (a .part .now) (a .size .now) (c .before .before .before .before .before .before .before .before .before .before .before .before .before .before .read .result .«record»)
-    (outcome-done (readFile (a .file .now)) (c .before .before .before .before .before .before .before .before .before .before .before .before .before .before .read .result) (c .before .before .before .before .before .before .before .before .before .before .before .before .before .before .read .ensures) (c .before .before .before .before .before .before .before .before .before .before .before .before .enum-told .given .1)) (c .before .before .before .before .before .before .before .before .before .compare .result) (c .before .before .before .before .before .before .before .before .before .compare .ensures) (comparison-shaped (c .before .before .before .before .before .before .before .before .before .compare .result) _ (c .before .before .before .before .before .before .before .before .before .compare .gives)) _ _ _ _ _ (c .before .before .before .before .store-comparison .ensures)
+    (outcome-done (readFile (a .file .now)) (c .before .before .before .before .before .before .before .before .before .before .before .before .before .before .read .result) (c .before .before .before .before .before .before .before .before .before .before .before .before .before .before .read .ensures) (c .before .before .before .before .before .before .before .before .before .before .before .before .enum-told .given .1)) (c .before .before .before .before .before .before .before .before .before .compare .result) (c .before .before .before .before .before .before .before .before .before .compare .ensures) (comparison-shaped (c .before .before .before .before .before .before .before .before .before .compare .result) _ (c .before .before .before .before .before .before .before .before .before .compare .ok)) _ _ _ _ _ (c .before .before .before .before .store-comparison .ensures)
 
 returns-2 : tie.Need-returns-2
 returns-2 c =

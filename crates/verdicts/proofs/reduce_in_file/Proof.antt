@@ -33,7 +33,7 @@ returns : tie.Need-returns
 returns c =
     let a = c .before .before .before .before .before .before .before .before .before .before .before .before .before .before .before .before .before .args in
     reduce-done (a .file .now) (a .source) (a .target) (a .out .now) (a .size .now) (a .count .now) (a .mapping .now) (c .before .before .before .before .before .before .before .before .before .before .before .before .before .read .result .«record»)
-    (outcome-done (readFile (a .file .now)) (c .before .before .before .before .before .before .before .before .before .before .before .before .before .read .result) (c .before .before .before .before .before .before .before .before .before .before .before .before .before .read .ensures) (c .before .before .before .before .before .before .before .before .before .before .before .enum-told .given .1)) (c .before .before .before .before .before .before .before .before .before .reduce .result) (c .before .before .before .before .before .before .before .before .before .reduce .ensures) (reduced-shaped (c .before .before .before .before .before .before .before .before .before .reduce .result) _ (c .before .before .before .before .before .before .before .before .before .reduce .gives)) _ _ _ _ _ (c .before .before .before .before .store-reduction .ensures)
+    (outcome-done (readFile (a .file .now)) (c .before .before .before .before .before .before .before .before .before .before .before .before .before .read .result) (c .before .before .before .before .before .before .before .before .before .before .before .before .before .read .ensures) (c .before .before .before .before .before .before .before .before .before .before .before .enum-told .given .1)) (c .before .before .before .before .before .before .before .before .before .reduce .result) (c .before .before .before .before .before .before .before .before .before .reduce .ensures) (reduced-shaped (c .before .before .before .before .before .before .before .before .before .reduce .result) _ (c .before .before .before .before .before .before .before .before .before .reduce .ok)) _ _ _ _ _ (c .before .before .before .before .store-reduction .ensures)
 
 returns-2 : tie.Need-returns-2
 returns-2 c =
