@@ -1,2 +1,4 @@
--- The demands follow from the calls' contracts.
-pub mod Demands
+-- The demands from the calls' own contracts, a file each.
+pub mod Keeping
+pub mod Answering
+pub mod Shortening

@@ -1,2 +1,4 @@
--- The three demands.
-pub mod Demands
+-- The three demands (SPECIFICATION, The demands), a file each. src/ has the calls of which they are proved.
+pub mod Demand1
+pub mod Demand2
+pub mod Demand3

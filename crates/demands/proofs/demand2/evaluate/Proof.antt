@@ -1,8 +1,11 @@
--- `demands::evaluate` meets its contract: demand 2 on answers follows from what the evaluation promises. Assumes nothing.
+-- `demands::demand2::evaluate` meets its contract. Assumes nothing.
+use Rattle.demands.proofs.Answering.{evaluates}
 use borrow.Author.Needs.{needs}
-use Rattle.demands.proofs.Demands.{evaluates}
-use Rattle.demands.proofs.evaluate.Statement.{statement}
-use Rattle.demands.proofs.evaluate.Tie as tie
+use Rattle.demands.proofs.demand2.evaluate.Statement.{statement}
+use Rattle.demands.proofs.demand2.evaluate.Tie as tie
+use Rattle.demands.proofs.demand2.evaluate.Reads as reads
+use Rattle.demands.proofs.demand2.evaluate.Lts as lts
+use Rattle.database.proofs.evaluate.Reads as evaluate-reads
 
 evaluate-requires : tie.Need-evaluate-requires
 evaluate-requires c κs = search needs

@@ -1,25 +1,20 @@
--- The demands from the calls' own contracts. Assumes nothing.
+-- Demand 2 from the calls' own contracts. Assumes nothing.
 use mathlib.Core.Path.{_≡_, refl, sym, ap, _∙_}
 use mathlib.Core.Logic.{⊎-elim}
 use mathlib.Core.Bool.{Bool, true, false, not}
-use mathlib.Core.List.{List, [], _∷_}
+use mathlib.Core.List.{List, [], _∷_, _++_}
 use mathlib.Core.Option.{Option, none, some}
 use Prim.Native.Nat.{ℕ, _≤_, _<_}
 use lib.Dec.{ltb}
-use lib.ListN.{length, List·getD-eq-default}
+use lib.ListN.{length, take, drop, take-append-drop, List·getD-eq-default}
 use borrow.Author.Tests.{ltb-true, not-false}
 use native.Mathlib.Omega.{arith}
-use Rattle.refusals.specs.Refusals.{order, follows}
 use Rattle.record.specs.declared.Record.{Record}
-use Rattle.query.specs.View.{queryOf}
-use Rattle.record.specs.View.{schemaOf, dependenciesOf}
 use Rattle.record.specs.Calls.{isFilled, queryAt, above, vacant}
 use Rattle.comparison.specs.declared.Comparison.{Comparison}
 use Rattle.comparison.specs.declared.Verdict.{Verdict}
 use Rattle.comparison.specs.declared.Verdict.the-variants.{Never, Contained, Apart, Refused}
-use Rattle.comparison.specs.Comparison.{pairRefusal, verdictOn, judged, verdictOf, chasedAt, SaysContained, base, Compared}
-use Rattle.reduction.specs.declared.Reduced.{Reduced}
-use Rattle.reduction.specs.Reduced.{reductionRefusal, IsReduced}
+use Rattle.comparison.specs.Comparison.{pairRefusal, verdictOn, judged, chasedAt, SaysContained, Compared}
 use Rattle.theory.specs.Query as theory
 use Rattle.refusals.specs.Refusals.{badRecord, noSuchPlace, placeVacant}
 use Rattle.refusals.proofs.Refusals.{none-holds}
@@ -30,28 +25,16 @@ use Rattle.evaluation.specs.Evaluated.{answerWords}
 use Rattle.database.specs.declared.Answered.{Answered}
 use Rattle.database.specs.Calls.{unspelled, tooLong, evaluationRefused, placeAnswers, countUnless, wordsUnless, evaluated, bufferThen}
 use Rattle.database.proofs.Meaning.{place-ascending, place-answers}
-use Rattle.file.proofs.RoundTrip.{written-back, read-back}
 use Rattle.theory.specs.Search as search
-use Rattle.demands.specs.Demands.{AsksInOrder, Decides, Evaluates, Undoes, Shortens}
-
--- ---- demand 1
-
-pub asks-in-order : AsksInOrder
-unfolding follows
-asks-in-order =
-    record {
-      opens = λ widths. refl;
-      adds = λ r d. refl;
-      puts = λ r place q. refl;
-      drops = λ r place. refl;
-      determines = λ r relation left. refl;
-      compares = λ r p q. refl;
-      reduces = λ r source target. refl;
-      tests = λ r words. refl;
-      evaluates = λ r place words room. refl;
-    }
-
--- ---- demand 2
+use Rattle.record.specs.declared.Outcome.{Outcome}
+use Rattle.record.specs.declared.Answer.the-variants as answer
+use Rattle.format.specs.Bytes.{Bytes}
+use Rattle.format.specs.File.{readFile, outcomeOf, shaped}
+use Rattle.writer.specs.declared.Written.{Written}
+use Rattle.writer.specs.declared.Written.the-variants as variant
+use Rattle.writer.specs.Write.{written, afterWriting}
+use Rattle.file.proofs.RoundTrip.{written-back, read-back}
+use Rattle.demands.specs.Demand2.{Decides, Evaluates, WrittenBack, ReadBack}
 
 -- A verdict that is not a refusal and does not say contained is Apart
 apart-else : (v : Verdict) → ((n : ℕ) → v ≡ Refused n → ⊥) → (SaysContained v → ⊥) → v ≡ Apart
@@ -84,7 +67,6 @@ module _ (r : Record) (p q : ℕ) (c : Comparison) (compared : Compared r p q c)
   pub decides : Decides r p q c
   decides =
       record {
-        refused = λ n e. compared .verdict ∙ ap (λ (o : Option ℕ). judged o (verdictOn (chasedAt r p .rows) (search.mappable (queryAt r q) (chasedAt r p)))) e;
         exactly = λ accepted. (
           (λ says D sound obeys. compared .contained says D obeys),
           λ contained. says-else (c .verdict) (not-refused accepted) (λ e. let x = compared .apart e in x .no-answer (contained _ (x .sound) (x .obeys) _ (x .answer))),
@@ -122,7 +104,6 @@ evaluates r place words before after a is-a is-after =
     let n = length (placeAnswers r place words) in
     let found = answerWords (placeAnswers r place words) in
     record {
-      refused = λ m e. (is-a ∙ ap (λ (o : Option ℕ). countUnless o n) e, is-after ∙ ap (λ (o : Option ℕ). wordsUnless o found before) e);
       count = λ e. is-a ∙ ap (λ (o : Option ℕ). countUnless o n) e;
       written = λ e. is-after ∙ ap (λ (o : Option ℕ). wordsUnless o found before) e;
       ascends = place-ascending r place words;
@@ -131,26 +112,31 @@ evaluates r place words before after a is-a is-after =
           place-answers r place words (k .0) (filled-inside r place (k .2)) (k .2);
     }
 
-pub undoes : Undoes
-undoes = (written-back, read-back)
+-- ---- files
 
--- ---- demand 3
+module _ (file before after : List ℕ) (o : Outcome) (is : o ≡ outcomeOf (readFile file)) where
+  -- A file whose record is written back
+  pub written-again : (w : Written) → Bytes file → w ≡ written (o .«record») before → after ≡ afterWriting (o .«record») before → WrittenBack file before after w
+  written-again w bytes says left r reads room =
+      let same : o .«record» ≡ r = ap (λ (x : Outcome). x .«record») (is ∙ reads) in
+      let back = written-back file before r bytes reads room in
+      let buffer = left ∙ ap (λ (x : Record). afterWriting x before) same in (
+        says ∙ ap (λ (x : Record). written x before) same ∙ back .0,
+        sym (take-append-drop (length file) after) ∙ ap2 _++_ (ap (take (length file)) buffer ∙ back .1) (ap (drop (length file)) buffer ∙ back .2),
+      )
 
-pub shortens : (r : Record) (source target : ℕ) (o : Reduced) → IsReduced r source target o → Shortens r source target o
-shortens r source target o is =
-    record {
-      refused = is .refused;
-      done = is .accepted;
-      good = is .good;
-      shortest = λ accepted.
-          let x = is .reduces accepted in
-          record {
-            result = x .result;
-            mapping = x .mapping;
-            answers = x .answers;
-            rivals = λ R width same. x .minimal R (record { width = width; same = same });
-            count = x .counted;
-            few = x .count-le;
-          };
-      unchanged = is .unchanged;
-    }
+  -- A file that is refused
+  pub not-read : (w : Written) (n : ℕ) → o .answer ≡ answer.Refused n → WrittenBack file before after w
+  not-read w n says r reads room =
+      let done : answer.Done ≡ answer.Refused n = sym (ap (λ (x : Outcome). x .answer) (is ∙ reads)) ∙ says in
+      absurd (let z : _≡_ {A = ℕ} 0 1 = cc in omega arith)
+
+module _ (r : Record) (before : List ℕ) (o : Outcome) where
+  -- A record whose file is read back
+  pub read-again : shaped r ≡ true → (n : ℕ) → written r before ≡ variant.Length n → o ≡ outcomeOf (readFile (take n (afterWriting r before))) → ReadBack r before o
+  read-again shape n says is m writes =
+      let same : n ≡ m = cc in is ∙ read-back r before n shape says
+
+  -- A record that is refused
+  pub not-written : (n : ℕ) → written r before ≡ variant.Refused n → ReadBack r before o
+  not-written n says m writes = absurd (let z : _≡_ {A = ℕ} 0 1 = cc in omega arith)

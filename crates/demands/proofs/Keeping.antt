@@ -1,0 +1,172 @@
+-- Demand 1 from the calls' own contracts. Assumes nothing.
+use mathlib.Core.Path.{_≡_, refl, sym, ap, _∙_}
+use mathlib.Core.Bool.{Bool, true, false}
+use mathlib.Core.List.{List, [], _∷_, _++_}
+use mathlib.Core.Option.{Option, none, some}
+use Prim.Native.Nat.{ℕ}
+use lib.ListN.{length, drop, replicate}
+use native.Mathlib.Omega.{arith}
+use Rattle.refusals.specs.Refusals.{Condition, order, follows, firstHolding, Reply, refused, gives, reply}
+use Rattle.query.specs.declared.Cell.{Cell}
+use Rattle.query.specs.declared.Dependency.{Dependency}
+use Rattle.query.specs.declared.Query.{Query}
+use Rattle.query.specs.View.{entriesOf}
+use Rattle.record.specs.declared.Record.{Record}
+use Rattle.record.specs.declared.Answer.{Answer}
+use Rattle.record.specs.declared.Outcome.{Outcome}
+use Rattle.record.specs.declared.Columns.{Columns}
+use Rattle.record.specs.Calls.{concluded, openRecord, addDependency, putQuery, dropQuery, columnsAnswer, determinedColumns, queryAt}
+use Rattle.comparison.specs.declared.Comparison.{Comparison}
+use Rattle.comparison.specs.declared.Verdict.{Verdict}
+use Rattle.comparison.specs.declared.Verdict.the-variants as verdict
+use Rattle.comparison.specs.declared.Checked.{Checked}
+use Rattle.comparison.specs.declared.Checked.the-variants as checked
+use Rattle.comparison.specs.Comparison.{pairRefusal, pairConditions, verdictOn, judged, verdictOf, chasedAt, Compared, checkOf, CheckedMapping}
+use Rattle.reduction.specs.declared.Reduced.{Reduced}
+use Rattle.reduction.specs.Reduced.{reductionRefusal, reductionConditions, IsReduced, refusal}
+use Rattle.database.specs.declared.Verdict as tests
+use Rattle.database.specs.declared.Answered.{Answered}
+use Rattle.database.specs.Calls.{verdictUnless, tested, evaluationRefused, countUnless, wordsUnless, evaluated, bufferThen, placeAnswers}
+use Rattle.database.specs.Calls as database
+use Rattle.evaluation.specs.Evaluated.{answerWords}
+use Rattle.theory.specs.Query as theory
+use Rattle.theory.specs.Search as search
+use Rattle.theory.specs.Checking.{mapsTo}
+use Rattle.record.specs.View.{schemaOf, dependenciesOf}
+use Rattle.words.specs.Words.{rowsOf}
+use Rattle.words.specs.Testing.{firstBrokenFrom}
+use Rattle.demands.specs.Demand1.{InOrder, Keeps, determinedAt, refusalIn, columnsRefusal, verdictRefusal, checkRefusal, testRefusal, evaluationRefusal, OpenKeeps, AddKeeps, PutKeeps, DropKeeps, DeterminedKeeps, CompareKeeps, CheckKeeps, ReduceKeeps, TestKeeps, EvaluateKeeps}
+
+-- ---- every call
+
+module _ (conditions : List Condition) (numbers : List ℕ) (said : Option ℕ) (Unchanged Due : Type 0) where
+  -- What a call does, by what is found of its conditions
+  pub keeps : InOrder conditions numbers → said ≡ firstHolding conditions → ((n : ℕ) → firstHolding conditions ≡ some n → Unchanged)
+      → (firstHolding conditions ≡ none → Due) → Keeps conditions numbers said Unchanged Due
+  keeps ordered first turned-down accepted =
+      record { ordered = ordered; first = first; unchanged = λ n e. turned-down n (sym first ∙ e); due = λ e. accepted (sym first ∙ e) }
+
+-- ---- the calls on the record alone
+
+concluded-said : (f : Option ℕ) (given after : Record) → refusalIn (concluded f given after .answer) ≡ f
+concluded-said none given after = refl
+concluded-said (some n) given after = refl
+
+-- A call that hands back the record given, or leaves another
+concluded-keeps : (conditions : List Condition) → InOrder conditions order → (given after : Record) (o : Outcome)
+    → o ≡ concluded (firstHolding conditions) given after
+    → Keeps conditions order (refusalIn (o .answer)) (o .«record» ≡ given) (o .«record» ≡ after)
+concluded-keeps conditions ordered given after o e =
+    keeps conditions order _ _ _ ordered
+    (ap (λ (x : Outcome). refusalIn (x .answer)) e ∙ concluded-said (firstHolding conditions) given after)
+    (λ n f. ap (λ (x : Outcome). x .«record») (e ∙ ap (λ (y : Option ℕ). concluded y given after) f))
+    (λ f. ap (λ (x : Outcome). x .«record») (e ∙ ap (λ (y : Option ℕ). concluded y given after) f))
+
+pub open-keeps : (widths : List ℕ) (o : Outcome) → o ≡ openRecord widths → OpenKeeps widths o
+unfolding follows openRecord
+open-keeps widths o e = concluded-keeps _ refl _ _ o e
+
+pub add-keeps : (r : Record) (d : Dependency) (o : Outcome) → o ≡ addDependency r d → AddKeeps r d o
+unfolding follows addDependency
+add-keeps r d o e = concluded-keeps _ refl _ _ o e
+
+pub put-keeps : (r : Record) (place : ℕ) (q : Query) (o : Outcome) → o ≡ putQuery r place q → PutKeeps r place q o
+unfolding follows putQuery
+put-keeps r place q o e = concluded-keeps _ refl _ _ o e
+
+pub drop-keeps : (r : Record) (place : ℕ) (o : Outcome) → o ≡ dropQuery r place → DropKeeps r place o
+unfolding follows dropQuery
+drop-keeps r place o e = concluded-keeps _ refl _ _ o e
+
+columns-said : (f : Option ℕ) (cs : List ℕ) → columnsRefusal (columnsAnswer f cs) ≡ f
+columns-said none cs = refl
+columns-said (some n) cs = refl
+
+pub determined-keeps : (r : Record) (relation left : ℕ) (c : Columns) → c ≡ determinedColumns r relation left → DeterminedKeeps r relation left c
+unfolding follows determinedColumns
+determined-keeps r relation left c e =
+    keeps _ order _ _ _ refl (ap columnsRefusal e ∙ columns-said _ _) (λ n f. tt)
+    (λ f. e ∙ ap (λ (y : Option ℕ). columnsAnswer y (determinedAt r relation left)) f)
+
+-- ---- comparing, checking a mapping, reducing
+
+verdict-on : (rows : List (theory.Row theory.Entry)) (mapped : Bool) → verdictRefusal (verdictOn rows mapped) ≡ none
+verdict-on [] mapped = refl
+verdict-on (x ∷ xs) true = refl
+verdict-on (x ∷ xs) false = refl
+
+judged-said : (f : Option ℕ) (v : Verdict) → verdictRefusal v ≡ none → verdictRefusal (judged f v) ≡ f
+judged-said none v e = e
+judged-said (some n) v e = refl
+
+-- A refused verdict is no other
+refused-else : (v : Verdict) (n : ℕ) → v ≡ verdict.Refused n → ((v ≡ verdict.Contained → ⊥) × (v ≡ verdict.Apart → ⊥))
+refused-else v n e =
+    ((λ c. let z : _≡_ {A = ℕ} 0 1 = cc in omega arith), λ a. let z : _≡_ {A = ℕ} 0 1 = cc in omega arith)
+
+pub compare-keeps : (r : Record) (p q : ℕ) (c : Comparison) → Compared r p q c → CompareKeeps r p q c
+unfolding follows pairRefusal
+compare-keeps r p q c compared =
+    keeps _ order _ _ _ refl (ap verdictRefusal (compared .verdict) ∙ judged-said _ on (verdict-on (chasedAt r p .rows) _))
+    (λ n f.
+      let e = compared .verdict ∙ ap (λ (y : Option ℕ). judged y on) f in
+      let other = refused-else (c .verdict) n e in
+      (compared .no-mapping (other .0), compared .no-query (other .1)))
+    (λ f. compared)
+  where
+    on : Verdict
+    on = verdictOn (chasedAt r p .rows) (search.mappable (queryAt r q) (chasedAt r p))
+
+check-said : (f : Option ℕ) (b : Bool) (c : Checked) → checkOf c ≡ reply f b → checkRefusal c ≡ f
+check-said none b checked.Yes e = refl
+check-said none b checked.No e = refl
+check-said none b (checked.Refused n) e = let z : _≡_ {A = ℕ} 0 1 = cc in absurd (omega arith)
+check-said (some n) b checked.Yes e = let z : _≡_ {A = ℕ} 0 1 = cc in absurd (omega arith)
+check-said (some n) b checked.No e = let z : _≡_ {A = ℕ} 0 1 = cc in absurd (omega arith)
+check-said (some n) b (checked.Refused m) e = cc
+
+pub check-keeps : (r : Record) (p q : ℕ) (images : List Cell) (c : Checked) → CheckedMapping r p q images c → CheckKeeps r p q images c
+unfolding follows pairRefusal
+check-keeps r p q images c e =
+    keeps _ order _ _ _ refl (check-said _ _ c e) (λ n f. tt) (λ f. e ∙ ap (λ (y : Option ℕ). reply y (mapsTo (queryAt r q) (queryAt r p) (entriesOf images))) f)
+
+pub reduce-keeps : (r : Record) (source target : ℕ) (o : Reduced) → IsReduced r source target o → ReduceKeeps r source target o
+unfolding follows reductionRefusal
+reduce-keeps r source target o is =
+    keeps _ order _ _ _ refl (go (firstHolding (reductionConditions r source target)) refl)
+    (λ n f. let e = is .refused n f in (ap (λ (x : Reduced). x .«record») e, ap (λ (x : Reduced). x .images) e, ap (λ (x : Reduced). x .count) e)) (λ f. is)
+  where
+    go : (f : Option ℕ) → firstHolding (reductionConditions r source target) ≡ f → refusalIn (o .answer) ≡ firstHolding (reductionConditions r source target)
+    go none f = ap refusalIn (is .accepted f) ∙ sym f
+    go (some n) f = ap (λ (x : Reduced). refusalIn (x .answer)) (is .refused n f) ∙ sym f
+
+-- ---- databases
+
+found-said : (f : Option ℕ) (v : tests.Verdict) → testRefusal v ≡ none → testRefusal (verdictUnless f v) ≡ f
+found-said none v e = e
+found-said (some n) v e = refl
+
+verdict-none : (x : _) → testRefusal (database.verdictOf x) ≡ none
+verdict-none none = refl
+verdict-none (some found) = refl
+
+pub test-keeps : (r : Record) (words : List ℕ) (v : tests.Verdict) → v ≡ tested r words → TestKeeps r words v
+unfolding follows tested
+test-keeps r words v e =
+    let found = firstBrokenFrom 0 (dependenciesOf r) (rowsOf (schemaOf r) words) in
+    keeps _ order _ _ _ refl (ap testRefusal e ∙ found-said _ _ (verdict-none found)) (λ n f. tt)
+    (λ f. e ∙ ap (λ (y : Option ℕ). verdictUnless y (database.verdictOf found)) f)
+
+count-said : (f : Option ℕ) (n : ℕ) → evaluationRefusal (countUnless f n) ≡ f
+count-said none n = refl
+count-said (some m) n = refl
+
+pub evaluate-keeps : (r : Record) (place : ℕ) (words before after : List ℕ) (a : Answered)
+    → a ≡ evaluated r place words (length before) → after ≡ bufferThen r place words before → EvaluateKeeps r place words before after a
+unfolding follows evaluated bufferThen evaluationRefused
+evaluate-keeps r place words before after a is-a is-after =
+    let found = answerWords (placeAnswers r place words) in
+    keeps _ order _ _ _ refl (ap evaluationRefusal is-a ∙ count-said _ _)
+    (λ n f. is-after ∙ ap (λ (y : Option ℕ). wordsUnless y found before) f)
+    (λ f.
+      (is-a ∙ ap (λ (y : Option ℕ). countUnless y (length (placeAnswers r place words))) f, is-after ∙ ap (λ (y : Option ℕ). wordsUnless y found before) f))

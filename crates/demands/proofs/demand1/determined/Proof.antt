@@ -1,0 +1,17 @@
+-- `demands::demand1::determined` meets its contract. Assumes nothing.
+use Rattle.demands.proofs.Keeping.{determined-keeps}
+use borrow.Author.Needs.{needs}
+use Rattle.demands.proofs.demand1.determined.Statement.{statement}
+use Rattle.demands.proofs.demand1.determined.Tie as tie
+use Rattle.demands.proofs.demand1.determined.Reads as reads
+use Rattle.demands.proofs.demand1.determined.Lts as lts
+use Rattle.record.proofs.Record.determined.Reads as determined-reads
+
+determined-requires : tie.Need-determined-requires
+determined-requires c κs = search needs
+
+returns : tie.Need-returns
+returns c = determined-keeps (c .before .args .given) (c .before .args .relation) (c .before .args .left) (c .determined .result) (c .determined .ensures)
+
+pub determined-spec : {M : Type 1} → statement M
+determined-spec = tie.close (tie.spec determined-requires returns)

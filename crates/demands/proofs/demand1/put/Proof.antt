@@ -1,0 +1,17 @@
+-- `demands::demand1::put` meets its contract. Assumes nothing.
+use Rattle.demands.proofs.Keeping.{put-keeps}
+use borrow.Author.Needs.{needs}
+use Rattle.demands.proofs.demand1.put.Statement.{statement}
+use Rattle.demands.proofs.demand1.put.Tie as tie
+use Rattle.demands.proofs.demand1.put.Reads as reads
+use Rattle.demands.proofs.demand1.put.Lts as lts
+use Rattle.record.proofs.Record.put.Reads as put-reads
+
+put-requires : tie.Need-put-requires
+put-requires c κs = search needs
+
+returns : tie.Need-returns
+returns c = put-keeps (c .before .args .given) (c .before .args .place) (c .before .args .q) (c .put .result) (c .put .ensures)
+
+pub put-spec : {M : Type 1} → statement M
+put-spec = tie.close (tie.spec put-requires returns)

@@ -1,0 +1,17 @@
+-- `demands::demand2::compare` meets its contract. Assumes nothing.
+use Rattle.demands.proofs.Answering.{decides}
+use borrow.Author.Needs.{needs}
+use Rattle.demands.proofs.demand2.compare.Statement.{statement}
+use Rattle.demands.proofs.demand2.compare.Tie as tie
+use Rattle.demands.proofs.demand2.compare.Reads as reads
+use Rattle.demands.proofs.demand2.compare.Lts as lts
+use Rattle.comparison.proofs.compare.Reads as compare-reads
+
+compare-requires : tie.Need-compare-requires
+compare-requires c κs = search needs
+
+returns : tie.Need-returns
+returns c = decides (c .before .args .given) (c .before .args .p) (c .before .args .q) (c .compare .result) (c .compare .ensures)
+
+pub compare-spec : {M : Type 1} → statement M
+compare-spec = tie.close (tie.spec compare-requires returns)

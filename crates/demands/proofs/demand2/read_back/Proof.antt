@@ -1,0 +1,61 @@
+-- `demands::demand2::read_back` meets its contract. Assumes nothing.
+use mathlib.Core.Path.{sym, _∙_}
+use Rattle.file.proofs.Shapes.{record-shaped}
+use Rattle.demands.proofs.Answering.{read-again, not-written}
+use borrow.Author.Needs.{needs}
+use Rattle.demands.proofs.demand2.read_back.Statement.{statement}
+use Rattle.demands.proofs.demand2.read_back.Tie as tie
+use Rattle.demands.proofs.demand2.read_back.Reads as reads
+use Rattle.demands.proofs.demand2.read_back.Lts as lts
+use Rattle.file.proofs.read.Reads as read-reads
+use Rattle.writer.proofs.write.Reads as write-reads
+
+write-requires : tie.Need-write-requires
+write-requires c κs = search needs
+
+enum-known-written : tie.Need-enum-known-written
+enum-known-written c = search needs
+
+slice-reshare-prefix-read : tie.Need-slice-reshare-prefix-read
+slice-reshare-prefix-read c = search needs
+
+slice-aggregate-read : tie.Need-slice-aggregate-read
+slice-aggregate-read c = search needs
+
+read-requires : tie.Need-read-requires
+read-requires c κs = search needs
+
+enum-known-written-2 : tie.Need-enum-known-written-2
+enum-known-written-2 c = search needs
+
+same-length : tie.Need-same-length
+same-length c = search needs
+
+returns : tie.Need-returns
+returns c =
+    let s = c .before .before .before .before .before .before .before .before .before .before in
+    read-again (s .args .given) (s .args .buffer .now) (c .read .result) (record-shaped (s .args .given) _ (s .good .0)) _
+    (sym (c .before .before .before .before .before .before .before .write .ensures .0) ∙ c .before .before .before .written .given .1) (c .read .ensures)
+
+same-length-2 : tie.Need-same-length-2
+same-length-2 c = search needs
+
+returns-2 : tie.Need-returns-2
+returns-2 c =
+    let s = c .before .before .before .before .before .before .before .before in
+    not-written (s .args .given) (s .args .buffer .now) _ _ (sym (c .before .before .before .before .before .write .ensures .0) ∙ c .before .written2 .given .1)
+
+pub read-back-spec : {M : Type 1} → statement M
+read-back-spec =
+    tie.close
+    (tie.spec
+    write-requires
+    enum-known-written
+    slice-reshare-prefix-read
+    slice-aggregate-read
+    read-requires
+    enum-known-written-2
+    same-length
+    returns
+    same-length-2
+    returns-2)

@@ -1,0 +1,59 @@
+-- Demand 2: containment over all databases, the answers of conjunctive queries, and files that are written and read back.
+use mathlib.Core.Path.{_≡_}
+use mathlib.Core.Logic.{_↔_}
+use mathlib.Core.List.{List, _++_}
+use mathlib.Core.Option.{none}
+use Prim.Native.Nat.{ℕ, _≤_}
+use lib.ListN.{length, drop}
+use Rattle.query.specs.View.{queryOf}
+use Rattle.record.specs.declared.Record.{Record}
+use Rattle.record.specs.declared.Outcome.{Outcome}
+use Rattle.record.specs.declared.Answer.the-variants as answer
+use Rattle.record.specs.View.{schemaOf, dependenciesOf}
+use Rattle.record.specs.Calls.{queryAt}
+use Rattle.comparison.specs.declared.Comparison.{Comparison}
+use Rattle.comparison.specs.Comparison.{pairRefusal, SaysContained, base}
+use Rattle.words.specs.Words.{rowsOf}
+use Rattle.answers.specs.Ascending.{Ascending}
+use Rattle.evaluation.specs.Evaluated.{answerWords}
+use Rattle.database.specs.declared.Answered.{Answered}
+use Rattle.database.specs.declared.Answered.the-variants as answered
+use Rattle.database.specs.Calls.{evaluationRefused, placeAnswers}
+use Rattle.writer.specs.declared.Written.{Written}
+use Rattle.writer.specs.declared.Written.the-variants as written
+use Rattle.file.specs.RoundTrip.{Reads, Writes}
+use Rattle.theory.specs.Query.{_∈_}
+use Rattle.theory.specs.Answer.{Answer}
+use Rattle.theory.specs.Containment.{Contained, Counterexample, frozenRows, frozenHead}
+
+-- ---- containment
+
+-- A comparison says contained exactly when on every database that obeys the held dependencies each answer of p's query is an answer of q's; otherwise the
+-- query that it gives, read as a database, shows one on which this fails
+pub record Decides (r : Record) (p q : ℕ) (c : Comparison) : Type 0 where
+  pub exactly : pairRefusal r p q ≡ none → SaysContained (c .verdict) ↔ Contained (schemaOf r) (dependenciesOf r) (queryAt r p) (queryAt r q)
+  pub shown : pairRefusal r p q ≡ none → (SaysContained (c .verdict) → ⊥)
+      → Counterexample (schemaOf r) (dependenciesOf r) (queryAt r p) (queryAt r q)
+      (frozenRows base (queryOf (schemaOf r) (c .query))) (frozenHead base (queryOf (schemaOf r) (c .query)))
+
+-- ---- answers
+
+-- The answers that an evaluation counts and writes are those of the place's query on the rows that the words spell, ascending, so each once
+pub record Evaluates (r : Record) (place : ℕ) (words before after : List ℕ) (a : Answered) : Type 0 where
+  pub count : evaluationRefused r place words (length before) ≡ none → a ≡ answered.Count (length (placeAnswers r place words))
+  pub written : evaluationRefused r place words (length before) ≡ none
+      → after ≡ answerWords (placeAnswers r place words) ++ drop (length (answerWords (placeAnswers r place words))) before
+  pub ascends : Ascending (placeAnswers r place words)
+  pub exactly : evaluationRefused r place words (length before) ≡ none
+      → (t : List ℕ) → (t ∈ placeAnswers r place words) ↔ Answer (rowsOf (schemaOf r) words) (queryAt r place) t
+
+-- ---- files
+
+-- A file that reading accepts, read and written into a buffer with room for it: the same bytes, and those after them stay
+abbrev pub WrittenBack : List ℕ → List ℕ → List ℕ → Written → Type 0
+WrittenBack file before after w =
+    (r : Record) → Reads file r → length file ≤ length before → (w ≡ written.Length (length file)) × (after ≡ file ++ drop (length file) before)
+
+-- A record that writing accepts, written and read back: the same record
+abbrev pub ReadBack : Record → List ℕ → Outcome → Type 0
+ReadBack r before o = (n : ℕ) → Writes r before n → o ≡ record { answer = answer.Done; «record» = r }

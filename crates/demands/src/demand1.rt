@@ -1,0 +1,89 @@
+// Demand 1: every call keeps the order of refusals, hands back what it was given where it is refused, and otherwise leaves what is due.
+use comparison::Checked;
+use comparison::Comparison;
+use database::Answered;
+use database::Verdict;
+use query::Cell;
+use query::Dependency;
+use query::Query;
+use record::Columns;
+use record::Outcome;
+use record::Record;
+use reduction::Reduced;
+ghost use Rattle.demands.specs.Demand1.{OpenKeeps, AddKeeps, PutKeeps, DropKeeps, DeterminedKeeps, CompareKeeps, CheckKeeps, ReduceKeeps, TestKeeps, EvaluateKeeps};
+
+// ---- the record
+
+// Opens a record from relation widths.
+pub fn open(widths: &[u8]) -> Outcome
+    ensures { λ o. ⌜ OpenKeeps (now (widths .entry)) o ⌝ }
+{
+    Record::open(widths)
+}
+
+// Adds a dependency.
+pub fn add(given: Record, d: Dependency) -> Outcome
+    ensures { λ o. ⌜ AddKeeps given d o ⌝ }
+{
+    given.add_dependency(d)
+}
+
+// Puts a query into a vacant place.
+pub fn put(given: Record, place: usize, q: Query) -> Outcome
+    ensures { λ o. ⌜ PutKeeps given place q o ⌝ }
+{
+    given.put(place, q)
+}
+
+// Drops the query of a filled place.
+pub fn drop_query(given: Record, place: usize) -> Outcome
+    ensures { λ o. ⌜ DropKeeps given place o ⌝ }
+{
+    given.drop_query(place)
+}
+
+// The columns that a left set determines.
+pub fn determined(given: Record, relation: u8, left: u8) -> Columns
+    ensures { λ c. ⌜ DeterminedKeeps given relation left c ⌝ }
+{
+    given.determined(relation, left)
+}
+
+// ---- queries
+
+// Compares the queries of two places.
+pub fn compare(given: Record, p: usize, q: usize) -> Comparison
+    ensures { λ c. ⌜ CompareKeeps given p q c ⌝ }
+{
+    comparison::compare(given, p, q)
+}
+
+// Checks a mapping from the query of place q to that of place p.
+pub fn check(given: Record, p: usize, q: usize, images: [Cell; 96]) -> Checked
+    ensures { λ c. ⌜ CheckKeeps given p q images c ⌝ }
+{
+    comparison::check_mapping(given, p, q, images)
+}
+
+// Reduces the query of one place into another.
+pub fn reduce(given: Record, source: usize, target: usize) -> Reduced
+    ensures { λ o. ⌜ ReduceKeeps given source target o ⌝ }
+{
+    reduction::reduce(given, source, target)
+}
+
+// ---- databases
+
+// Tests a database against the dependencies.
+pub fn test(given: Record, words: &[u32]) -> Verdict
+    ensures { λ v. ⌜ TestKeeps given (now (words .entry)) v ⌝ }
+{
+    database::test(given, words)
+}
+
+// Evaluates the query of a place on a database.
+pub fn evaluate(given: Record, place: usize, words: &[u32], buffer: &mut [u32]) -> Answered
+    ensures { λ a. ⌜ EvaluateKeeps given place (now (words .entry)) (now (buffer .entry)) (now (buffer .exit)) a ⌝ }
+{
+    database::evaluate(given, place, words, buffer)
+}

@@ -1,0 +1,48 @@
+// Demand 2: containment is decided over all databases, answers are those of conjunctive queries, and files and records come back as they were.
+use comparison::Comparison;
+use database::Answered;
+use file::Written;
+use record::Answer;
+use record::Outcome;
+use record::Record;
+ghost use Rattle.demands.specs.Demand2.{Decides, Evaluates, WrittenBack, ReadBack};
+
+// Contained exactly when it is so on every database that obeys the dependencies; otherwise one is shown on which it is not.
+pub fn compare(given: Record, p: usize, q: usize) -> Comparison
+    ensures { λ c. ⌜ Decides given p q c ⌝ }
+{
+    comparison::compare(given, p, q)
+}
+
+// The answers are those of conjunctive queries over finite tables, ascending, each once.
+pub fn evaluate(given: Record, place: usize, words: &[u32], buffer: &mut [u32]) -> Answered
+    ensures { λ a. ⌜ Evaluates given place (now (words .entry)) (now (buffer .entry)) (now (buffer .exit)) a ⌝ }
+{
+    database::evaluate(given, place, words, buffer)
+}
+
+// A file that is read, and its record written: the same bytes.
+pub fn write_back(file: &[u8], buffer: &mut [u8]) -> Written
+    ensures { λ w. ⌜ WrittenBack (now (file .entry)) (now (buffer .entry)) (now (buffer .exit)) w ⌝ }
+{
+    let read = file::read(file);
+    let answer = read.answer;
+    match answer {
+        Answer::Done => file::write(read.record, buffer),
+        Answer::Refused(n) => Written::Refused(n),
+    }
+}
+
+// A record that is written, and its file read: the same record.
+pub fn read_back(given: Record, buffer: &mut [u8]) -> Outcome
+    ensures { λ o. ⌜ ReadBack given (now (buffer .entry)) o ⌝ }
+{
+    let written = file::write(given, buffer);
+    match written {
+        Written::Length(n) => file::read(&buffer[..n]),
+        Written::Refused(n) => Outcome {
+            answer: Answer::Refused(n),
+            record: given,
+        },
+    }
+}
