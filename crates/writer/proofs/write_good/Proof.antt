@@ -12,14 +12,14 @@ use Rattle.record.specs.Rule.{goodRecord}
 use Rattle.lists.specs.Over.{over}
 use Rattle.format.specs.File.{putPlace, fileOf}
 use Rattle.writer.specs.declared.Written.the-variants.{Length, Refused}
-use Rattle.writer.specs.internal.Pieces.{directoryBytes, partBytes}
+use Rattle.assembly.specs.internal.Pieces.{directoryBytes, partBytes}
 use Rattle.writer.specs.Write.{written, afterWriting}
 use Rattle.lists.proofs.Loops.{mapped-length}
 use Rattle.record.proofs.Good.{good-record}
 use Rattle.query.proofs.Relations.{relations-bounds}
 use Rattle.encoder.proofs.Stores.{Run, run-starts, run-turns}
 use Rattle.writer.proofs.Writing.{long-refused, fits-written}
-use Rattle.writer.proofs.RecordParts.{parts-long, file-split, file-long}
+use Rattle.assembly.proofs.RecordParts.{parts-long, file-split, file-long}
 use Rattle.writer.proofs.write_good.Statement.{statement}
 use Rattle.writer.proofs.write_good.Tie as tie
 

@@ -11,8 +11,8 @@ use lib.Seq.{take-suc, take-all, length-take-le}
 use Rattle.record.specs.declared.Place.{Place}
 use Rattle.format.proofs.Arrays.{pastPlace}
 use Rattle.format.specs.File.{oneMore, upToFilled}
-use Rattle.writer.proofs.up_to_filled.Statement.{statement}
-use Rattle.writer.proofs.up_to_filled.Tie as tie
+use Rattle.assembly.proofs.up_to_filled.Statement.{statement}
+use Rattle.assembly.proofs.up_to_filled.Tie as tie
 
 -- one place more at the end
 last-place : (ps : List Place) (p : Place) (t : Bool) → p .filled ≡ t → upToFilled (ps ++ (p ∷ [])) ≡ cond t (suc (length ps)) (upToFilled ps)

@@ -2,8 +2,8 @@ use borrow.Author.Needs.{needs}
 use native.Mathlib.Omega.{arith}
 use lib.ListN.{length-set}
 use Rattle.encoder.proofs.Stores.{three-stores}
-use Rattle.writer.proofs.put_dependency.Statement.{statement}
-use Rattle.writer.proofs.put_dependency.Tie as tie
+use Rattle.assembly.proofs.put_dependency.Statement.{statement}
+use Rattle.assembly.proofs.put_dependency.Tie as tie
 
 slice-write-buffer : tie.Need-slice-write-buffer
 slice-write-buffer c = search needs

@@ -10,10 +10,10 @@ use Rattle.query.specs.declared.Dependency.{Dependency}
 use Rattle.lists.specs.Over.{over}
 use Rattle.format.specs.Format.{putAll}
 use Rattle.format.proofs.Lengths.{length-putAll}
-use Rattle.writer.specs.internal.Pieces.{putDependency}
+use Rattle.assembly.specs.internal.Pieces.{putDependency}
 use Rattle.encoder.proofs.Stores.{Writing, writing-starts, writing-room, writing-turns, writing-ends, byte-and-run}
-use Rattle.writer.proofs.put_dependencies.Statement.{statement}
-use Rattle.writer.proofs.put_dependencies.Tie as tie
+use Rattle.assembly.proofs.put_dependencies.Statement.{statement}
+use Rattle.assembly.proofs.put_dependencies.Tie as tie
 
 -- The dependency that an index past the end would give
 abbrev past : Dependency

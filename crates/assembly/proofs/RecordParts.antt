@@ -16,7 +16,7 @@ use Rattle.format.specs.File.{tableOf, join, assemble, putPlace, upToFilled, pa
 use Rattle.format.proofs.Numbers.{length-digits}
 use Rattle.format.proofs.Directory.{length-table}
 use Rattle.format.proofs.Lengths.{length-putAll, length-relations}
-use Rattle.writer.specs.internal.Pieces.{putDependency, dependencyBytes, directoryBytes, partBytes}
+use Rattle.assembly.specs.internal.Pieces.{putDependency, dependencyBytes, directoryBytes, partBytes}
 use Rattle.record.proofs.Good.{good-record}
 use Rattle.query.proofs.Relations.{relations-bounds}
 

@@ -10,8 +10,8 @@ use Rattle.format.specs.Format.{byte, sequence, padded, putAll}
 use Rattle.format.specs.Parts.{relations}
 use Rattle.format.proofs.Lengths.{length-putAll}
 use Rattle.encoder.proofs.Stores.{Writing, writing-starts, writing-room, writing-turns, writing-ends, byte-and-run}
-use Rattle.writer.proofs.put_relations.Statement.{statement}
-use Rattle.writer.proofs.put_relations.Tie as tie
+use Rattle.assembly.proofs.put_relations.Statement.{statement}
+use Rattle.assembly.proofs.put_relations.Tie as tie
 
 -- The bytes of a width
 abbrev one : ℕ → List ℕ

@@ -9,8 +9,8 @@ use Rattle.format.specs.File.{tableOf, putPlace}
 use Rattle.format.proofs.Directory.{length-table}
 use Rattle.format.proofs.Lengths.{take-short}
 use Rattle.encoder.proofs.Stores.{Run, run-starts, run-turns, word-run}
-use Rattle.writer.proofs.put_directory.Statement.{statement}
-use Rattle.writer.proofs.put_directory.Tie as tie
+use Rattle.assembly.proofs.put_directory.Statement.{statement}
+use Rattle.assembly.proofs.put_directory.Tie as tie
 
 -- ---- the run after each store
 run-1 : (c : tie.After-put-word) → Run (c .before .before .before .args .buffer .now) 0 ([] ++ digits 2 (c .before .before .before .args .n + 2)) (c .put-word .last .0) 2

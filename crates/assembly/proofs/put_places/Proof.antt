@@ -13,8 +13,8 @@ use Rattle.format.specs.File.{join, putPlace}
 use Rattle.lists.proofs.Tests.{every-getD}
 use Rattle.format.proofs.Arrays.{pastPlace}
 use Rattle.encoder.proofs.Stores.{Writing, writing-starts, writing-room, writing-turns, writing-ends}
-use Rattle.writer.proofs.put_places.Statement.{statement}
-use Rattle.writer.proofs.put_places.Tie as tie
+use Rattle.assembly.proofs.put_places.Statement.{statement}
+use Rattle.assembly.proofs.put_places.Tie as tie
 
 joined : (f : Place → List ℕ) (ps : List Place) → join (map f ps) ≡ putAll f ps
 unfolding join putAll

@@ -16,9 +16,9 @@ use Rattle.lists.proofs.Tests.{every-getD}
 use Rattle.format.proofs.Arrays.{pastPlace}
 use Rattle.format.proofs.Numbers.{length-digits}
 use Rattle.format.proofs.Directory.{length-table}
-use Rattle.writer.proofs.FirstPlaces.{parts-next, parts-end}
-use Rattle.writer.proofs.put_table.Statement.{statement}
-use Rattle.writer.proofs.put_table.Tie as tie
+use Rattle.assembly.proofs.FirstPlaces.{parts-next, parts-end}
+use Rattle.assembly.proofs.put_table.Statement.{statement}
+use Rattle.assembly.proofs.put_table.Tie as tie
 
 -- The parts from place k on
 abbrev partsFrom : List ℕ → List Place → ℕ → ℕ → List (List ℕ)

@@ -7,14 +7,14 @@ use lib.ListN.{length, take}
 use Rattle.record.specs.View.{schemaOf}
 use Rattle.format.specs.Parts.{relations}
 use Rattle.format.specs.File.{join, putPlace}
-use Rattle.writer.specs.internal.Pieces.{dependencyBytes}
+use Rattle.assembly.specs.internal.Pieces.{dependencyBytes}
 use Rattle.lists.proofs.Loops.{mapped-length}
 use Rattle.record.proofs.Good.{good-record}
 use Rattle.query.proofs.Relations.{relations-bounds}
 use Rattle.encoder.proofs.Stores.{Run, run-starts, run-turns}
-use Rattle.writer.proofs.RecordParts.{first-long, second-long, parts-long}
-use Rattle.writer.proofs.put_parts.Statement.{statement}
-use Rattle.writer.proofs.put_parts.Tie as tie
+use Rattle.assembly.proofs.RecordParts.{first-long, second-long, parts-long}
+use Rattle.assembly.proofs.put_parts.Statement.{statement}
+use Rattle.assembly.proofs.put_parts.Tie as tie
 
 -- ---- what holds at each place, proved where it first does
 widths-long : (c : tie.Start) → length (c .args .given .widths) ≡ 8

@@ -10,9 +10,9 @@ use Rattle.record.specs.Rule.{goodPlace}
 use Rattle.format.specs.File.{join, putPlace}
 use Rattle.lists.proofs.Tests.{every-getD}
 use Rattle.format.proofs.Arrays.{pastPlace}
-use Rattle.writer.proofs.FirstPlaces.{parts-next, parts-end}
-use Rattle.writer.proofs.places_length.Statement.{statement}
-use Rattle.writer.proofs.places_length.Tie as tie
+use Rattle.assembly.proofs.FirstPlaces.{parts-next, parts-end}
+use Rattle.assembly.proofs.places_length.Statement.{statement}
+use Rattle.assembly.proofs.places_length.Tie as tie
 
 next : (schema : List ℕ) (places : List Place) (n k : ℕ) → n ≤ length places → k < n
     → length (join (map (putPlace schema) (drop k (take n places)))) ≡ length (putPlace schema (getD places k pastPlace)) + length (join (map (putPlace schema) (drop (k + 1) (take n places))))

@@ -1,4 +1,4 @@
--- The bytes that the writer's functions write, piece by piece.
+-- The bytes that the functions write, piece by piece.
 use mathlib.Core.List.{List, [], _∷_, _++_, map}
 use Prim.Native.Nat.{ℕ, _+_, _*_}
 use lib.ListN.{take}
