@@ -1,22 +1,23 @@
 -- What reading a file tells, and what a result leaves in what a call is lent. Assumes nothing.
 use mathlib.Core.Path.{_≡_, refl, sym, ap, subst, _∙_}
-use mathlib.Core.Bool.{Bool, true, false, cond, _&&_}
+use mathlib.Core.Bool.{true}
 use mathlib.Core.List.{List}
 use Prim.Native.Nat.{ℕ, _<_}
-use native.Mathlib.Omega.{arith}
 use lib.ListN.{length, getD}
-use Rattle.refusals.specs.Refusals.{_>>=_, badRecord, bufferTooShort, gives, refused, Reply}
+use borrow.Author.Tests.{le-leb, lt-leb}
+use Rattle.refusals.specs.Refusals.{_>>=_, gives, refused, Reply}
 use Rattle.record.specs.declared.Record.{Record}
 use Rattle.record.specs.declared.Answer.the-variants.{Done, Refused}
 use Rattle.record.specs.declared.Outcome.{Outcome}
 use Rattle.record.specs.Rule.{goodRecord}
-use Rattle.lists.specs.Over.{over}
 use Rattle.format.specs.File.{readFile, outcomeOf, fileOf}
 use Rattle.format.proofs.RoundTrip.{sound-record, file-written-back}
 use Rattle.format.proofs.Arrays.{bytes-known}
 use Rattle.format.proofs.Results.{outcome-done, outcome-refused}
 use Rattle.writer.specs.declared.Written.the-variants as written
-use Rattle.lent.specs.Lent.{numberIn, leaves, Wrote}
+use Rattle.writer.specs.Write.{written, afterWriting}
+use Rattle.writer.proofs.Writing.{fits-written, long-refused, written-fits, refused-long}
+use Rattle.lent.specs.Lent.{numberIn, leaves, fitted, Wrote}
 use Rattle.lent.specs.Records.{resultOf, stored, copied}
 
 -- ---- results
@@ -54,19 +55,19 @@ wrote-none {number = number} p out n = wrote-same p out n number out n (refl, re
 
 -- ---- a record that is written
 
-pub written-wrote : (good fits : Bool) (file out after : List ℕ) (n m : ℕ) → good ≡ true
-    → cond good (cond fits (written.Length (length file)) (written.Refused bufferTooShort)) (written.Refused badRecord) ≡ written.Length m
-    → after ≡ cond (good && fits) (over out 0 file) out → Wrote (cond fits (gives file) (refused bufferTooShort)) out n 0 after m
-written-wrote true true file out after n m g w b = (refl, b, cc)
-written-wrote true false file out after n m g w b = let z : _≡_ {A = ℕ} 0 1 = cc in absurd (omega arith)
-written-wrote false fits file out after n m g w b = let z : _≡_ {A = ℕ} 0 1 = cc in absurd (omega arith)
+module _ (r : Record) (out after : List ℕ) (b : after ≡ afterWriting r out) (n : ℕ) where
+  -- its file and the length
+  pub written-wrote : (m : ℕ) → written r out ≡ written.Length m → Wrote (fitted (length out) (fileOf r)) out n 0 after m
+  written-wrote m w =
+      let (good, fits, long) = written-fits r out m w in
+      rw (le-leb (length (fileOf r)) (length out) fits) (refl, b ∙ sym (fits-written r out good fits .1), long)
 
-pub unwritten-wrote : (good fits : Bool) (file out after : List ℕ) (n number : ℕ) → good ≡ true
-    → cond good (cond fits (written.Length (length file)) (written.Refused bufferTooShort)) (written.Refused badRecord) ≡ written.Refused number
-    → after ≡ cond (good && fits) (over out 0 file) out → Wrote (cond fits (gives file) (refused bufferTooShort)) out n number after n
-unwritten-wrote true false file out after n number g w b = (cc, b, refl)
-unwritten-wrote true true file out after n number g w b = let z : _≡_ {A = ℕ} 0 1 = cc in absurd (omega arith)
-unwritten-wrote false fits file out after n number g w b = let z : _≡_ {A = ℕ} 0 1 = cc in absurd (omega arith)
+  -- or nothing, where there is no room
+  pub unwritten-wrote : (number : ℕ) → goodRecord r ≡ true → written r out ≡ written.Refused number
+      → Wrote (fitted (length out) (fileOf r)) out n number after n
+  unwritten-wrote number good w =
+      let (long, short) = refused-long r out number good w in
+      rw (lt-leb (length (fileOf r)) (length out) long) (short, b ∙ sym (long-refused r out good long .1), refl)
 
 -- ---- a call's record
 

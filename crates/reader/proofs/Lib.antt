@@ -1,3 +1,2 @@
 -- Laws that several functions cite.
-pub mod Dependencies
 pub mod Stretches

@@ -1,8 +1,8 @@
 // The record of a file. The directory names the parts; each part is read as the very stretch of the file that its pair names.
-use decoder::ByteRead;
-use decoder::read_byte;
 use decoder::read_place;
-use decoder::word16;
+use parsing::read_dependencies;
+use parsing::read_relations;
+use parsing::word16;
 use query::Dependency;
 use record::Answer;
 use record::Outcome;
@@ -13,138 +13,10 @@ ghost use mathlib.Core.Bool.{true};
 ghost use Prim.Native.Nat.{_+_, _-_, _*_, _≤_};
 ghost use lib.ListN.{length, take, drop};
 ghost use Rattle.query.specs.Rule.{goodRelations};
-ghost use Rattle.refusals.specs.Refusals.{badDependency, badRelations, refused};
+ghost use Rattle.refusals.specs.Refusals.{refused};
 ghost use Rattle.format.specs.Bytes.{number};
-ghost use Rattle.format.specs.Parts.{relations, dependency, dependencies};
-ghost use Rattle.format.specs.File.{complete, readPlaces, readAll, readFile, outcomeOf, directory, chained, stretch, stretches};
-ghost use Rattle.reader.specs.internal.Read.{noRelations, relationsRead, dependencyRead, noDependencies, dependenciesRead, recordRead, directoryRead};
-
-// ---- part 0: relations
-
-// The count of relations and their widths.
-pub struct RelationsRead {
-    pub good: bool,
-    pub count: u8,
-    pub widths: [u8; 8],
-}
-
-// No relations.
-fn no_relations() -> RelationsRead
-    ensures { λ r. ⌜ r ≡ noRelations ⌝ }
-{
-    RelationsRead {
-        good: false,
-        count: 0,
-        widths: [0; 8],
-    }
-}
-
-// Part 0: the count of relations, then a width byte each. A part that is too short or has a bad byte is told in the loop, one that is too long after it.
-fn read_relations(part: &[u8]) -> RelationsRead
-    ensures { λ r. ⌜ r ≡ relationsRead (complete badRelations (relations .get (now (part .entry)))) ⌝ }
-{
-    let ByteRead::Byte(count) = read_byte(part, 0, 1, 8) else {
-        return no_relations();
-    };
-    let n = count as usize;
-    let mut widths = [0; 8];
-    for i in 0..n {
-        let ByteRead::Byte(width) = read_byte(part, 1 + i, 1, 8) else {
-            return no_relations();
-        };
-        widths[i] = width;
-    }
-    if 1 + n < part.len() {
-        return no_relations();
-    }
-    RelationsRead {
-        good: true,
-        count,
-        widths,
-    }
-}
-
-// ---- part 1: dependencies
-
-// A dependency, or none.
-pub enum DependencyRead {
-    Found(Dependency),
-    NoDependency,
-}
-
-// The dependency at a position: relation, left set and right column, a byte each.
-fn read_dependency(part: &[u8], at: usize, count: u8, widths: [u8; 8]) -> DependencyRead
-    requires { ⌜ goodRelations count widths ≡ true ⌝ }
-    ensures { λ r. ⌜ r ≡ dependencyRead (dependency (take count widths) .get (drop at (now (part .entry)))) ⌝ }
-{
-    if part.len() < at {
-        return DependencyRead::NoDependency;
-    }
-    if part.len() - at < 3 {
-        return DependencyRead::NoDependency;
-    }
-    let d = Dependency {
-        relation: part[at],
-        left: part[at + 1],
-        right: part[at + 2],
-    };
-    if limits::dependency_good(count, widths, d) {
-        return DependencyRead::Found(d);
-    }
-    DependencyRead::NoDependency
-}
-
-// The number of dependencies and the dependencies.
-pub struct DependenciesRead {
-    pub good: bool,
-    pub held: u8,
-    pub dependencies: [Dependency; 32],
-}
-
-// No dependencies.
-fn no_dependencies() -> DependenciesRead
-    ensures { λ r. ⌜ r ≡ noDependencies ⌝ }
-{
-    DependenciesRead {
-        good: false,
-        held: 0,
-        dependencies: [Dependency {
-            relation: 0,
-            left: 0,
-            right: 0,
-        }; 32],
-    }
-}
-
-// Part 1: the count of dependencies, then 3 bytes each. A part that is too short or has a bad dependency is told in the loop, one that is too long after it.
-fn read_dependencies(part: &[u8], count: u8, widths: [u8; 8]) -> DependenciesRead
-    requires { ⌜ goodRelations count widths ≡ true ⌝ }
-    ensures { λ r. ⌜ r ≡ dependenciesRead (complete badDependency (dependencies (take count widths) .get (now (part .entry)))) ⌝ }
-{
-    let ByteRead::Byte(held) = read_byte(part, 0, 0, 32) else {
-        return no_dependencies();
-    };
-    let n = held as usize;
-    let mut dependencies = [Dependency {
-        relation: 0,
-        left: 0,
-        right: 0,
-    }; 32];
-    for i in 0..n {
-        let DependencyRead::Found(d) = read_dependency(part, 1 + 3 * i, count, widths) else {
-            return no_dependencies();
-        };
-        dependencies[i] = d;
-    }
-    if 1 + 3 * n < part.len() {
-        return no_dependencies();
-    }
-    DependenciesRead {
-        good: true,
-        held,
-        dependencies,
-    }
-}
+ghost use Rattle.format.specs.File.{readPlaces, readAll, readFile, outcomeOf, directory, chained, stretch, stretches};
+ghost use Rattle.reader.specs.internal.Read.{recordRead, directoryRead};
 
 // ---- the directory
 

@@ -18,7 +18,7 @@ use Rattle.format.specs.Parts.{entryFrom}
 use Rattle.format.proofs.Formats.{not-got, gotIf-true, mapReading-got, andThen-got}
 use Rattle.format.proofs.Lengths.{length-putAll}
 use Rattle.encoder.proofs.Stores.{Writing, writing-starts, writing-room, writing-turns, writing-ends}
-use Rattle.decoder.proofs.Filling.{Filling, filling-starts, filling-turns, filling-fails, filling-ends}
+use Rattle.format.proofs.Filling.{Filling, filling-starts, filling-turns, filling-fails, filling-ends}
 use Rattle.verdicts.specs.declared.ImageRead.{ImageRead}
 use Rattle.verdicts.specs.declared.ImageRead.the-variants.{Image, NoImage}
 use Rattle.verdicts.specs.Queries.{entryWords, wordsOf, isImage, getImage, imagesIn}

@@ -1,7 +1,7 @@
 -- What reducing, comparing and checking a mapping leave. Assumes nothing.
 use mathlib.Core.Path.{_≡_, refl, sym, ap, subst, _∙_}
 use mathlib.Core.Logic.{_⊎_, inl, inr, ⊎-elim}
-use mathlib.Core.Bool.{Bool, true, false, cond, _&&_}
+use mathlib.Core.Bool.{Bool, true, false, cond}
 use mathlib.Core.List.{List, [], _∷_}
 use mathlib.Core.Option.{Option}
 use mathlib.Core.Option as option
@@ -10,7 +10,7 @@ use native.Mathlib.Omega.{arith}
 use lib.Dec.{leb}
 use lib.ListN.{length}
 use borrow.Author.Tests.{le-leb, lt-leb}
-use Rattle.refusals.specs.Refusals.{_>>=_, badRecord, bufferTooShort, gives, refused, Reply}
+use Rattle.refusals.specs.Refusals.{_>>=_, bufferTooShort, gives, refused, Reply}
 use Rattle.record.specs.Calls.{queryAt}
 use Rattle.query.specs.declared.Cell.{Cell}
 use Rattle.query.specs.declared.Query.{Query}
@@ -26,6 +26,8 @@ use Rattle.format.specs.Parts.{query}
 use Rattle.format.specs.File.{placeWith, putPlace, readFile, fileOf}
 use Rattle.lists.proofs.Over.{over-nil}
 use Rattle.writer.specs.declared.Written.the-variants as written
+use Rattle.writer.specs.Write.{written, afterWriting}
+use Rattle.writer.proofs.Writing.{fits-written, long-refused, written-fits, refused-long}
 use Rattle.mapping.specs.Mapped.{imagesOf}
 use Rattle.comparison.proofs.Checks.{checked-refused, checked-decided}
 use Rattle.comparison.specs.declared.Checked.{Checked}
@@ -137,38 +139,21 @@ module _ (o : Reduced) (out : List ℕ) (size count : ℕ) (mapping : List ℕ) 
       unfolding _>>=_
       roomy t e = rw (done, le-leb 192 (length mapping) h, e)
 
-      from : (good fits : Bool) (n : ℕ) (out′ : List ℕ) (mapping′ : List ℕ) → good ≡ true → leb (length (fileOf (o .«record»))) (length out) ≡ fits
-          → cond good (cond fits (written.Length (length (fileOf (o .«record»)))) (written.Refused bufferTooShort)) (written.Refused badRecord) ≡ written.Length n
-          → out′ ≡ cond (good && fits) (over out 0 (fileOf (o .«record»))) out → mapping′ ≡ over mapping 0 (wordsOf (o .images))
-          → ReductionGiven (reductionFits (length out) (length mapping) o) out size count mapping 0 out′ n (o .count) mapping′
-      from true true n out′ mapping′ g f w b m = reduction-same (roomy true f) 0 out′ n (o .count) mapping′ (refl, b, cc, refl, m)
-      from true false n out′ mapping′ g f w b m = let z : _≡_ {A = ℕ} 0 1 = cc in absurd (omega arith)
-      from false fits n out′ mapping′ g f w b m = let z : _≡_ {A = ℕ} 0 1 = cc in absurd (omega arith)
-
       -- its file is written
-      pub reduction-stored : (n : ℕ) (out′ : List ℕ) (mapping′ : List ℕ) → goodRecord (o .«record») ≡ true
-          → cond (goodRecord (o .«record»))
-          (cond (leb (length (fileOf (o .«record»))) (length out)) (written.Length (length (fileOf (o .«record»)))) (written.Refused bufferTooShort)) (written.Refused badRecord) ≡ written.Length n
-          → out′ ≡ cond (goodRecord (o .«record») && leb (length (fileOf (o .«record»))) (length out)) (over out 0 (fileOf (o .«record»))) out
+      pub reduction-stored : (n : ℕ) (out′ : List ℕ) (mapping′ : List ℕ) → written (o .«record») out ≡ written.Length n → out′ ≡ afterWriting (o .«record») out
           → mapping′ ≡ over mapping 0 (wordsOf (o .images))
           → ReductionGiven (reductionFits (length out) (length mapping) o) out size count mapping 0 out′ n (o .count) mapping′
-      reduction-stored n out′ mapping′ g w b m = from (goodRecord (o .«record»)) (leb (length (fileOf (o .«record»))) (length out)) n out′ mapping′ g refl w b m
-
-      from-long : (good fits : Bool) (n : ℕ) (out′ : List ℕ) → good ≡ true → leb (length (fileOf (o .«record»))) (length out) ≡ fits
-          → cond good (cond fits (written.Length (length (fileOf (o .«record»)))) (written.Refused bufferTooShort)) (written.Refused badRecord) ≡ written.Refused n
-          → out′ ≡ cond (good && fits) (over out 0 (fileOf (o .«record»))) out
-          → ReductionGiven (reductionFits (length out) (length mapping) o) out size count mapping n out′ size count mapping
-      from-long true false n out′ g f w b = reduction-same (roomy false f) n out′ size count mapping (cc, b, refl, refl, refl)
-      from-long true true n out′ g f w b = let z : _≡_ {A = ℕ} 0 1 = cc in absurd (omega arith)
-      from-long false fits n out′ g f w b = let z : _≡_ {A = ℕ} 0 1 = cc in absurd (omega arith)
+      reduction-stored n out′ mapping′ w b m =
+          let (good, fits, long) = written-fits (o .«record») out n w in
+          reduction-same (roomy true (le-leb _ _ fits)) 0 out′ n (o .count) mapping′
+          (refl, b ∙ sym (fits-written (o .«record») out good fits .1), long, refl, m)
 
       -- or too long
-      pub reduction-long : (n : ℕ) (out′ : List ℕ) → goodRecord (o .«record») ≡ true
-          → cond (goodRecord (o .«record»))
-          (cond (leb (length (fileOf (o .«record»))) (length out)) (written.Length (length (fileOf (o .«record»)))) (written.Refused bufferTooShort)) (written.Refused badRecord) ≡ written.Refused n
-          → out′ ≡ cond (goodRecord (o .«record») && leb (length (fileOf (o .«record»))) (length out)) (over out 0 (fileOf (o .«record»))) out
-          → ReductionGiven (reductionFits (length out) (length mapping) o) out size count mapping n out′ size count mapping
-      reduction-long n out′ g w b = from-long (goodRecord (o .«record»)) (leb (length (fileOf (o .«record»))) (length out)) n out′ g refl w b
+      pub reduction-long : (n : ℕ) (out′ : List ℕ) → goodRecord (o .«record») ≡ true → written (o .«record») out ≡ written.Refused n
+          → out′ ≡ afterWriting (o .«record») out → ReductionGiven (reductionFits (length out) (length mapping) o) out size count mapping n out′ size count mapping
+      reduction-long n out′ good w b =
+          let (long, short) = refused-long (o .«record») out n good w in
+          reduction-same (roomy false (lt-leb _ _ long)) n out′ size count mapping (short, b ∙ sym (long-refused (o .«record») out good long .1), refl, refl, refl)
 
 -- A reduction's record is good
 pub reduced-sound : (r : Record) (source target : ℕ) (o : Reduced) → IsReduced r source target o → SoundReduction o

@@ -1,3 +1,2 @@
--- Laws that several functions cite.
-pub mod FirstPlaces
-pub mod RecordParts
+-- What writing answers.
+pub mod Writing

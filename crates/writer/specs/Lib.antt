@@ -1,3 +1,2 @@
--- What writing a record promises (Write). `internal` is this crate's own.
+-- What writing a record promises.
 pub mod Write
-pub mod internal

@@ -1,21 +1,39 @@
--- What writing a record promises.
-use mathlib.Core.Bool.{cond, _&&_}
-use mathlib.Core.List.{List}
+-- What writing a record answers: what it asks, in the order of SPECIFICATION, Refusals, and the buffer after it.
+use mathlib.Core.List.{List, [], _∷_}
+use mathlib.Core.Option.{Option, none, some}
 use Prim.Native.Nat.{ℕ}
-use lib.Dec.{leb}
+use lib.Dec.{ltb}
 use lib.ListN.{length}
-use Rattle.refusals.specs.Refusals.{badRecord, bufferTooShort}
+use Rattle.refusals.specs.Refusals.{Condition, firstHolding, bufferTooShort}
 use Rattle.record.specs.declared.Record.{Record}
-use Rattle.record.specs.Rule.{goodRecord}
+use Rattle.record.specs.Calls.{broken}
 use Rattle.lists.specs.Over.{over}
 use Rattle.format.specs.File.{fileOf}
 use Rattle.writer.specs.declared.Written.{Written}
 use Rattle.writer.specs.declared.Written.the-variants.{Length, Refused}
 
--- What writing a record into a buffer answers: 14, the record breaks its rule; 10, the file is longer than the buffer; else the file's length
-abbrev pub written : Record → List ℕ → Written
-written r buffer = cond (goodRecord r) (cond (leb (length (fileOf r)) (length buffer)) (Length (length (fileOf r))) (Refused bufferTooShort)) (Refused badRecord)
+-- What writing asks, with so much room: 14; 10 where the file is longer
+abbrev pub writeConditions : Record → ℕ → List Condition
+writeConditions r room = broken r ∷ (ltb room (length (fileOf r)), bufferTooShort) ∷ []
 
--- The buffer after writing: the file over it, bytes after the file unchanged; on a refusal all bytes unchanged
-abbrev pub afterWriting : Record → List ℕ → List ℕ
-afterWriting r buffer = cond (goodRecord r && leb (length (fileOf r)) (length buffer)) (over buffer 0 (fileOf r)) buffer
+-- The refusal of writing
+unfoldable pub writingRefused : Record → ℕ → Option ℕ
+writingRefused r room = firstHolding (writeConditions r room)
+
+-- The length of the file, or the refusal that comes first
+abbrev pub lengthUnless : Option ℕ → ℕ → Written
+lengthUnless none n = Length n
+lengthUnless (some number) n = Refused number
+
+-- The buffer with the file over its start and the bytes after it as they were, or all bytes as they were where the call is refused
+abbrev pub fileUnless : Option ℕ → List ℕ → List ℕ → List ℕ
+fileUnless none file buffer = over buffer 0 file
+fileUnless (some number) file buffer = buffer
+
+-- Writing a record into a buffer: the refusal, or the file's length
+unfoldable pub written : Record → List ℕ → Written
+written r buffer = lengthUnless (writingRefused r (length buffer)) (length (fileOf r))
+
+-- The buffer after it
+unfoldable pub afterWriting : Record → List ℕ → List ℕ
+afterWriting r buffer = fileUnless (writingRefused r (length buffer)) (fileOf r) buffer

@@ -20,8 +20,9 @@ use Rattle.format.proofs.Arrays.{bytes-known}
 use Rattle.format.proofs.Parts.{Narrow, query-lawful}
 use Rattle.format.proofs.Rules.{good-query, good-narrow}
 use Rattle.format.proofs.Results.{complete-get}
-use Rattle.decoder.specs.declared.QueryRead.{QueryRead}
-use Rattle.decoder.specs.internal.Read.{queryRead, placeRead}
+use Rattle.parsing.specs.declared.QueryRead.{QueryRead}
+use Rattle.parsing.specs.internal.Read.{queryRead}
+use Rattle.decoder.specs.internal.Read.{placeRead}
 use Rattle.decoder.proofs.read_place.Statement.{statement}
 use Rattle.decoder.proofs.read_place.Tie as tie
 

@@ -1,9 +1,5 @@
 -- `store` writes the file of a record and its length. Assumes nothing.
 use mathlib.Core.Path.{sym, _∙_}
-use lib.ListN.{length}
-use lib.Dec.{leb}
-use Rattle.record.specs.Rule.{goodRecord}
-use Rattle.format.specs.File.{fileOf}
 use Rattle.lent.proofs.Files.{written-wrote, unwritten-wrote}
 use borrow.Author.Needs.{needs}
 use Rattle.lent.proofs.store.Statement.{statement}
@@ -24,10 +20,8 @@ same-length c = search needs
 returns : tie.Need-returns
 returns c =
     let s = c .before .before .before .before .before .before .before .before in
-    let r = s .args .given in
-    let out = s .args .out .now in
-    written-wrote (goodRecord r) (leb (length (fileOf r)) (length out)) (fileOf r) out _ (s .args .size .now) _ (s .pre)
-    (sym (c .before .before .before .before .before .write-good .ensures .0) ∙ c .before .written .given .1) (c .before .before .before .before .before .write-good .ensures .1)
+    let w = c .before .before .before .before .before .write-good .ensures in
+    written-wrote (s .args .given) (s .args .out .now) _ (w .1) (s .args .size .now) _ (sym (w .0) ∙ c .before .written .given .1)
 
 same-length-2 : tie.Need-same-length-2
 same-length-2 c = search needs
@@ -35,10 +29,8 @@ same-length-2 c = search needs
 returns-2 : tie.Need-returns-2
 returns-2 c =
     let s = c .before .before .before .before .before .before .before .before in
-    let r = s .args .given in
-    let out = s .args .out .now in
-    unwritten-wrote (goodRecord r) (leb (length (fileOf r)) (length out)) (fileOf r) out _ (s .args .size .now) _ (s .pre)
-    (sym (c .before .before .before .before .before .write-good .ensures .0) ∙ c .before .written2 .given .1) (c .before .before .before .before .before .write-good .ensures .1)
+    let w = c .before .before .before .before .before .write-good .ensures in
+    unwritten-wrote (s .args .given) (s .args .out .now) _ (w .1) (s .args .size .now) _ (s .pre) (sym (w .0) ∙ c .before .written2 .given .1)
 
 pub store-spec : {M : Type 1} → statement M
 store-spec =

@@ -22,9 +22,10 @@ use Rattle.format.proofs.Arrays.{bytes-known}
 use Rattle.format.proofs.Parts.{relations-lawful}
 use Rattle.format.proofs.Rules.{good-relations}
 use Rattle.format.proofs.Results.{complete-get}
-use Rattle.reader.specs.declared.RelationsRead.{RelationsRead}
-use Rattle.reader.specs.declared.DependenciesRead.{DependenciesRead}
-use Rattle.reader.specs.internal.Read.{relationsRead, dependenciesRead, recordRead}
+use Rattle.parsing.specs.declared.RelationsRead.{RelationsRead}
+use Rattle.parsing.specs.declared.DependenciesRead.{DependenciesRead}
+use Rattle.parsing.specs.internal.Read.{relationsRead, dependenciesRead}
+use Rattle.reader.specs.internal.Read.{recordRead}
 use Rattle.reader.proofs.Stretches.{tableAt, stretches-cons, stretch-fits}
 use Rattle.reader.proofs.read_parts.Statement.{statement}
 use Rattle.reader.proofs.read_parts.Tie as tie

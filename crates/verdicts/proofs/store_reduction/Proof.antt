@@ -38,18 +38,24 @@ same-length-2 c = search needs
 
 returns-2 : tie.Need-returns-2
 returns-2 c =
-    let a = c .before .before .before .before .before .before .before .before .before .before .before .before .before .before .before .before .before .before .args in
-    reduction-stored (a .reduced) (a .out .now) (a .size .now) (a .count .now) (a .mapping .now) (c .before .before .before .before .before .before .before .before .before .before .before .before .before .before .enum-told .given .1) (c .before .before .before .before .before .before .before .before .before .before .before .before .before .if1 .left) _ _ _ (c .before .before .before .before .before .before .before .before .before .before .before .before .before .before .before .before .before .before .pre (c .before .before .before .before .before .before .before .before .before .before .before .before .before .before .enum-told .given .1))
-    (sym (c .before .before .before .before .before .before .before .before .before .write-good .ensures .0) ∙ c .before .before .before .before .before .written .given .1) (c .before .before .before .before .before .before .before .before .before .write-good .ensures .1) (c .before .before .put-mapping .ensures)
+    let told = c .before .before .before .before .before .before .before .before .before .before .before .before .before .before in
+    let a = told .before .before .before .before .args in
+    let w = c .before .before .before .before .before .before .before .before .before .write-good .ensures in
+    reduction-stored (a .reduced) (a .out .now) (a .size .now) (a .count .now) (a .mapping .now) (told .enum-told .given .1)
+    (c .before .before .before .before .before .before .before .before .before .before .before .before .before .if1 .left) _ _ _ (sym (w .0) ∙ c .before .before .before .before .before .written .given .1) (w .1)
+    (c .before .before .put-mapping .ensures)
 
 same-length-3 : tie.Need-same-length-3
 same-length-3 c = search needs
 
 returns-3 : tie.Need-returns-3
 returns-3 c =
-    let a = c .before .before .before .before .before .before .before .before .before .before .before .before .before .before .args in
-    reduction-long (a .reduced) (a .out .now) (a .size .now) (a .count .now) (a .mapping .now) (c .before .before .before .before .before .before .before .before .before .before .enum-told .given .1) (c .before .before .before .before .before .before .before .before .before .if1 .left) _ _ (c .before .before .before .before .before .before .before .before .before .before .before .before .before .before .pre (c .before .before .before .before .before .before .before .before .before .before .enum-told .given .1))
-    (sym (c .before .before .before .before .before .write-good .ensures .0) ∙ c .before .written2 .given .1) (c .before .before .before .before .before .write-good .ensures .1)
+    let told = c .before .before .before .before .before .before .before .before .before .before in
+    let start = told .before .before .before .before in
+    let a = start .args in
+    let w = c .before .before .before .before .before .write-good .ensures in
+    reduction-long (a .reduced) (a .out .now) (a .size .now) (a .count .now) (a .mapping .now) (told .enum-told .given .1)
+    (c .before .before .before .before .before .before .before .before .before .if1 .left) _ _ (start .pre (told .enum-told .given .1)) (sym (w .0) ∙ c .before .written2 .given .1) (w .1)
 
 returns-4 : tie.Need-returns-4
 returns-4 c =

@@ -1,27 +1,17 @@
 -- `write` refuses a record that breaks its rule, and writes a good one.
 -- Assumes nothing.
-use mathlib.Core.Path.{_≡_, refl, sym, _∙_}
-use mathlib.Core.Bool.{false}
-use mathlib.Core.List.{List}
-use Prim.Native.Nat.{ℕ}
+use mathlib.Core.Path.{sym, _∙_}
 use borrow.Author.Needs.{needs}
 use borrow.Author.Tests.{not-true, not-false}
-use Rattle.refusals.specs.Refusals.{badRecord}
-use Rattle.record.specs.declared.Record.{Record}
-use Rattle.record.specs.Rule.{goodRecord}
-use Rattle.writer.specs.declared.Written.the-variants.{Refused}
-use Rattle.writer.specs.Write.{written, afterWriting}
+use Rattle.writer.proofs.Writing.{bad-refused}
 use Rattle.writer.proofs.write.Statement.{statement}
 use Rattle.writer.proofs.write.Tie as tie
-
-broken : (r : Record) (buffer : List ℕ) → goodRecord r ≡ false → (Refused badRecord ≡ written r buffer) × (buffer ≡ afterWriting r buffer)
-broken r buffer e = (rw e refl, rw e refl)
 
 is-good-requires : tie.Need-is-good-requires
 is-good-requires c κs = search needs
 
 returns : tie.Need-returns
-returns c = broken _ _ (sym (c .before .is-good .ensures) ∙ not-true _ (c .if1 .taken))
+returns c = bad-refused _ _ (sym (c .before .is-good .ensures) ∙ not-true _ (c .if1 .taken))
 
 write-good-requires : tie.Need-write-good-requires
 write-good-requires c κs = sym (c .before .before .is-good .ensures) ∙ not-false _ (c .before .if1 .left)

@@ -1,11 +1,9 @@
 use borrow.Author.Needs.{needs}
-use borrow.Author.Tests.{le-leb, lt-leb}
 use mathlib.Core.Path.{_≡_, sym, ap, refl, _∙_}
-use mathlib.Core.Bool.{true, false}
+use mathlib.Core.Bool.{true}
 use mathlib.Core.List.{List, [], _++_, map}
 use Prim.Native.Nat.{ℕ, _+_, _*_, _≤_, _<_}
 use native.Mathlib.Omega.{arith}
-use lib.Dec.{leb}
 use lib.ListN.{length, take}
 use Rattle.refusals.specs.Refusals.{bufferTooShort}
 use Rattle.record.specs.declared.Record.{Record}
@@ -14,26 +12,23 @@ use Rattle.record.specs.Rule.{goodRecord}
 use Rattle.lists.specs.Over.{over}
 use Rattle.format.specs.File.{putPlace, fileOf}
 use Rattle.writer.specs.declared.Written.the-variants.{Length, Refused}
-use Rattle.writer.specs.internal.Pieces.{directoryBytes, partBytes}
+use Rattle.assembly.specs.internal.Pieces.{directoryBytes, partBytes}
 use Rattle.writer.specs.Write.{written, afterWriting}
 use Rattle.lists.proofs.Loops.{mapped-length}
 use Rattle.record.proofs.Good.{good-record}
 use Rattle.query.proofs.Relations.{relations-bounds}
 use Rattle.encoder.proofs.Stores.{Run, run-starts, run-turns}
-use Rattle.writer.proofs.RecordParts.{parts-long, file-split, file-long}
+use Rattle.writer.proofs.Writing.{long-refused, fits-written}
+use Rattle.assembly.proofs.RecordParts.{parts-long, file-split, file-long}
 use Rattle.writer.proofs.write_good.Statement.{statement}
 use Rattle.writer.proofs.write_good.Tie as tie
 
 module _ (r : Record) (good : goodRecord r ≡ true) (buffer : List ℕ) (size : ℕ) (es : size ≡ length (fileOf r)) where
   refused : length buffer < size → (Refused bufferTooShort ≡ written r buffer) × (buffer ≡ afterWriting r buffer)
-  refused h =
-      let t : leb (length (fileOf r)) (length buffer) ≡ false = lt-leb (length (fileOf r)) (length buffer) (omega arith) in
-      rw (good, t) (refl, refl)
+  refused h = long-refused r buffer good (omega arith)
 
   done : (after : List ℕ) → size ≤ length buffer → after ≡ over buffer 0 (fileOf r) → (Length size ≡ written r buffer) × (after ≡ afterWriting r buffer)
-  done after h e =
-      let t : leb (length (fileOf r)) (length buffer) ≡ true = le-leb (length (fileOf r)) (length buffer) (omega arith) in
-      rw (good, t) (ap Length es, e)
+  done after h e = let w = fits-written r buffer good (omega arith) in (ap Length es ∙ w .0, e ∙ w .1)
 
 -- ---- what holds at each place, proved where it first does
 widths-long : (c : tie.Start) → length (c .args .given .widths) ≡ 8

@@ -1,0 +1,3 @@
+-- Laws that several functions cite.
+pub mod FirstPlaces
+pub mod RecordParts

@@ -1,0 +1,120 @@
+use borrow.Author.Needs.{needs}
+use mathlib.Core.Path.{_≡_, refl}
+use mathlib.Core.List.{List, [], _++_, map}
+use Prim.Native.Nat.{ℕ, _+_, _*_, _^_, _≤_, _<_}
+use native.Mathlib.Omega.{arith}
+use lib.ListN.{length, take}
+use Rattle.record.specs.View.{schemaOf}
+use Rattle.format.specs.Parts.{relations}
+use Rattle.format.specs.File.{join, putPlace}
+use Rattle.assembly.specs.internal.Pieces.{dependencyBytes}
+use Rattle.lists.proofs.Loops.{mapped-length}
+use Rattle.record.proofs.Good.{good-record}
+use Rattle.query.proofs.Relations.{relations-bounds}
+use Rattle.encoder.proofs.Stores.{Run, run-starts, run-turns}
+use Rattle.assembly.proofs.RecordParts.{first-long, second-long, parts-long}
+use Rattle.assembly.proofs.put_parts.Statement.{statement}
+use Rattle.assembly.proofs.put_parts.Tie as tie
+
+-- ---- what holds at each place, proved where it first does
+widths-long : (c : tie.Start) → length (c .args .given .widths) ≡ 8
+widths-long c = search (mapped-length, needs)
+
+list-long : (c : tie.Start) → length (c .args .given .dependencies) ≡ 32
+list-long c = search (mapped-length, needs)
+
+-- The bytes of each part
+abbrev relationBytes : tie.Start → List ℕ
+relationBytes c = relations .put (c .args .given .relations, c .args .given .widths)
+
+abbrev listBytes : tie.Start → List ℕ
+listBytes c = dependencyBytes (c .args .given .held) (c .args .given .dependencies)
+
+abbrev placeBytes : tie.Start → List ℕ
+placeBytes c = join (map (putPlace (schemaOf (c .args .given))) (take (c .args .n) (c .args .given .places)))
+
+-- Where the second part starts, and the third
+abbrev second : tie.Start → ℕ
+second c = c .args .start + 1 + c .args .given .relations
+
+abbrev third : tie.Start → ℕ
+third c = second c + 1 + 3 * c .args .given .held
+
+relations-long : (c : tie.Start) → length (relationBytes c) ≡ 1 + c .args .given .relations
+relations-long c = first-long (c .args .given) (c .pre .0) (widths-long c) (list-long c)
+
+dependencies-long : (c : tie.Start) → length (listBytes c) ≡ 1 + 3 * c .args .given .held
+dependencies-long c = second-long (c .args .given) (c .pre .0) (widths-long c) (list-long c)
+
+room : (c : tie.Start) → third c + length (placeBytes c) ≤ length (c .args .buffer .now)
+room c = omega (arith, parts-long (c .args .given) (c .pre .0) (widths-long c) (list-long c) (c .args .n), c .pre .1 .1)
+
+short : (c : tie.Start) → length (c .args .buffer .now) < 2 ^ 63
+short c = search needs
+
+first-run : (c : tie.After-put-relations) → Run (c .before .before .before .before .before .before .args .buffer .now) (c .before .before .before .before .before .before .args .start) ([] ++ relationBytes (c .before .before .before .before .before .before)) (c .put-relations .last .0) (second (c .before .before .before .before .before .before))
+first-run c =
+    run-turns (run-starts (c .before .before .before .before .before .before .args .buffer .now) (c .before .before .before .before .before .before .args .start)) (relationBytes (c .before .before .before .before .before .before)) (c .put-relations .last .0) (second (c .before .before .before .before .before .before)) (omega (arith, relations-long (c .before .before .before .before .before .before), room (c .before .before .before .before .before .before))) (c .put-relations .ensures) (omega (arith, relations-long (c .before .before .before .before .before .before)))
+
+second-run : (c : tie.After-put-dependencies) → Run (c .before .before .before .before .before .before .before .before .before .before .args .buffer .now) (c .before .before .before .before .before .before .before .before .before .before .args .start) ([] ++ relationBytes (c .before .before .before .before .before .before .before .before .before .before) ++ listBytes (c .before .before .before .before .before .before .before .before .before .before)) (c .put-dependencies .last .0) (third (c .before .before .before .before .before .before .before .before .before .before))
+second-run c =
+    run-turns (first-run (c .before .before .before .before)) (listBytes (c .before .before .before .before .before .before .before .before .before .before)) (c .put-dependencies .last .0) (third (c .before .before .before .before .before .before .before .before .before .before)) (omega (arith, dependencies-long (c .before .before .before .before .before .before .before .before .before .before), room (c .before .before .before .before .before .before .before .before .before .before))) (c .put-dependencies .ensures) (omega (arith, dependencies-long (c .before .before .before .before .before .before .before .before .before .before)))
+
+third-run : (c : tie.After-put-places) → Run (c .before .before .before .before .before .before .before .before .before .before .before .before .before .before .args .buffer .now) (c .before .before .before .before .before .before .before .before .before .before .before .before .before .before .args .start) ([] ++ relationBytes (c .before .before .before .before .before .before .before .before .before .before .before .before .before .before) ++ listBytes (c .before .before .before .before .before .before .before .before .before .before .before .before .before .before) ++ placeBytes (c .before .before .before .before .before .before .before .before .before .before .before .before .before .before)) (c .put-places .last .0) (third (c .before .before .before .before .before .before .before .before .before .before .before .before .before .before) + length (placeBytes (c .before .before .before .before .before .before .before .before .before .before .before .before .before .before)))
+third-run c = run-turns (second-run (c .before .before .before .before)) (placeBytes (c .before .before .before .before .before .before .before .before .before .before .before .before .before .before)) (c .put-places .last .0) (third (c .before .before .before .before .before .before .before .before .before .before .before .before .before .before) + length (placeBytes (c .before .before .before .before .before .before .before .before .before .before .before .before .before .before))) (room (c .before .before .before .before .before .before .before .before .before .before .before .before .before .before)) (c .put-places .ensures) refl
+
+-- ---- the needs
+add-first : tie.Need-add-first
+add-first c = omega (arith, room (c .before .before .before .before), short (c .before .before .before .before))
+
+cast-first : tie.Need-cast-first
+cast-first c = search needs
+
+add-first-2 : tie.Need-add-first-2
+add-first-2 c = omega (arith, room (c .before .before .before .before), short (c .before .before .before .before))
+
+add-second : tie.Need-add-second
+add-second c = omega (arith, room (c .before .before .before .before), short (c .before .before .before .before))
+
+cast-second : tie.Need-cast-second
+cast-second c = search needs
+
+mul-second : tie.Need-mul-second
+mul-second c = omega (arith, room (c .before .before .before .before), short (c .before .before .before .before))
+
+add-second-2 : tie.Need-add-second-2
+add-second-2 c = omega (arith, room (c .before .before .before .before), short (c .before .before .before .before))
+
+put-relations-requires : tie.Need-put-relations-requires
+put-relations-requires c κs = (relations-bounds (c .before .before .before .before .before .args .given .relations) (c .before .before .before .before .before .args .given .widths) (good-record (c .before .before .before .before .before .args .given) (c .before .before .before .before .before .pre .0) .relations) .1, omega (arith, room (c .before .before .before .before .before)))
+
+put-dependencies-requires : tie.Need-put-dependencies-requires
+put-dependencies-requires c κs = (good-record (c .before .before .before .before .before .before .before .before .before .args .given) (c .before .before .before .before .before .before .before .before .before .pre .0) .held, omega (arith, first-run (c .before .before .before) .long, room (c .before .before .before .before .before .before .before .before .before)))
+
+put-places-requires : tie.Need-put-places-requires
+put-places-requires c κs =
+    let parts = good-record (c .before .before .before .before .before .before .before .before .before .before .before .before .before .args .given) (c .before .before .before .before .before .before .before .before .before .before .before .before .before .pre .0) in
+    (parts .relations, (parts .places, (c .before .before .before .before .before .before .before .before .before .before .before .before .before .pre .1 .0, omega (arith, second-run (c .before .before .before) .long, room (c .before .before .before .before .before .before .before .before .before .before .before .before .before)))))
+
+same-length : tie.Need-same-length
+same-length c = third-run (c .before .before) .long
+
+returns : tie.Need-returns
+returns c = third-run (c .before .before) .written
+
+pub put-parts-spec : {M : Type 1} → statement M
+put-parts-spec =
+    tie.close
+    (tie.spec
+    add-first
+    cast-first
+    add-first-2
+    add-second
+    cast-second
+    mul-second
+    add-second-2
+    put-relations-requires
+    put-dependencies-requires
+    put-places-requires
+    same-length
+    returns)

@@ -1,8 +1,0 @@
--- Laws that several functions cite.
-pub mod Words
-pub mod Positions
-pub mod Filling
-pub mod Counted
-pub mod RowLaws
-pub mod ReadingRows
-pub mod QueryLaws

@@ -1,0 +1,8 @@
+-- Laws that several functions cite.
+pub mod Words
+pub mod Positions
+pub mod Counted
+pub mod RowLaws
+pub mod ReadingRows
+pub mod QueryLaws
+pub mod Dependencies

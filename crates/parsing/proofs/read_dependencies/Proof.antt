@@ -1,0 +1,209 @@
+use borrow.Author.Needs.{needs}
+use mathlib.Core.Path.{_≡_, sym, ap, refl, _∙_}
+use mathlib.Core.Bool.{true}
+use mathlib.Core.List.{List}
+use Prim.Native.Nat.{ℕ, _+_, _*_, _-_, _≤_, _<_}
+use native.Mathlib.Omega.{arith}
+use lib.Dec.{leb}
+use lib.ListN.{length, take, drop, set, replicate, length-set}
+use lib.Seq.{drop-drop}
+use borrow.Author.Tests.{leb-true}
+use Rattle.refusals.specs.Refusals.{badDependency}
+use Rattle.query.specs.declared.Dependency.{Dependency}
+use Rattle.lists.specs.Tests.{between}
+use Rattle.query.specs.Rule.{blankDependency, noDependency}
+use Rattle.format.specs.Format.{Reading, got, mapReading, getByte, byte, padded}
+use Rattle.format.specs.Parts.{dependency, dependencies}
+use Rattle.format.specs.File.{complete}
+use Rattle.parsing.specs.declared.ByteRead.{ByteRead}
+use Rattle.parsing.specs.declared.ByteRead.the-variants.{Byte, NoByte}
+use Rattle.parsing.specs.declared.DependencyRead.{DependencyRead}
+use Rattle.parsing.specs.declared.DependencyRead.the-variants.{Found, NoDependency}
+use Rattle.parsing.specs.internal.Read.{byteRead}
+use Rattle.parsing.specs.internal.Read.{dependencyRead, noDependencies, dependenciesRead}
+use Rattle.parsing.proofs.Dependencies.{dependency-read, dependency-none}
+use Rattle.format.proofs.Filling.{Filling, filling-starts, filling-turns, filling-fails, filling-ends}
+use Rattle.parsing.proofs.Counted.{byte-read, byte-none, no-low, sequence-none, sequence-got, complete-none, complete-fails, complete-ends, complete-long}
+use Rattle.parsing.proofs.read_dependencies.Statement.{statement}
+use Rattle.parsing.proofs.read_dependencies.Tie as tie
+
+-- The dependencies after the count, as the format reads them
+Held : List ℕ → List ℕ → ℕ → Reading (List Dependency)
+Held schema part n = padded 32 noDependency blankDependency n (dependency schema) .get (drop 1 part)
+
+-- What the count says of the whole part
+abbrev Head : List ℕ → List ℕ → ℕ → Type 0
+Head schema part n = dependencies schema .get part ≡ mapReading (λ ds. (n, ds)) (Held schema part n)
+
+-- What has been read of the dependencies
+abbrev At : List ℕ → List ℕ → ℕ → List Dependency → ℕ → Type 0
+At schema part n ds i = Filling (dependency schema .get) (Held schema part n) n ds i (drop (1 + 3 * i) part)
+
+begins : (schema part : List ℕ) (n : ℕ) → Byte n ≡ byteRead (getByte (between 0 32) part) → (n ≤ 32) × Head schema part n × At schema part n (replicate 32 noDependency) 0
+unfolding dependencies byte padded Held
+begins schema part n h =
+    let (t, e) = byte-read (λ n. leb n 32) part 0 n (rw no-low at h) in (
+      leb-true n 32 t,
+      sequence-got (byte (λ n. leb n 32)) (λ n. padded 32 noDependency blankDependency n (dependency schema)) part n (drop 1 part) e,
+      filling-starts (dependency schema .get) 32 noDependency n (drop 1 part),
+    )
+
+goes-on : (schema part : List ℕ) (n : ℕ) (ds : List Dependency) (i : ℕ) (r : DependencyRead) (d : Dependency) → At schema part n ds i → i < n → i < length ds
+    → r ≡ dependencyRead (dependency schema .get (drop (1 + 3 * i) part)) → r ≡ Found d → At schema part n (set ds i d) (i + 1)
+goes-on schema part n ds i r d f h l p q =
+    let e : dependency schema .get (drop (1 + 3 * i) part) ≡ got d (drop 3 (drop (1 + 3 * i) part)) = dependency-read schema (drop (1 + 3 * i) part) d (sym q ∙ p) in
+    let k : 1 + 3 * i + 3 ≡ 1 + 3 * (i + 1) = omega arith in
+    let m : drop 3 (drop (1 + 3 * i) part) ≡ drop (1 + 3 * (i + 1)) part = drop-drop 3 (1 + 3 * i) part ∙ ap (λ (j : ℕ). drop j part) k in
+    filling-turns f d (drop (1 + 3 * (i + 1)) part) h l (e ∙ ap (λ (rest : List ℕ). got d rest) m)
+
+no-count : (schema part : List ℕ) (r : ByteRead) → r ≡ byteRead (getByte (between 0 32) part) → r ≡ NoByte → noDependencies ≡ dependenciesRead (complete badDependency (dependencies schema .get part))
+unfolding dependencies byte
+no-count schema part r p q =
+    sym (ap dependenciesRead (complete-none badDependency (dependencies schema .get part)
+    (sequence-none (byte (λ n. leb n 32)) (λ n. padded 32 noDependency blankDependency n (dependency schema)) part
+    (byte-none (getByte (λ n. leb n 32) part) (rw no-low at (sym q ∙ p))))))
+
+fails : (schema part : List ℕ) (n : ℕ) (ds : List Dependency) (i : ℕ) (r : DependencyRead) → Head schema part n → At schema part n ds i → i < n
+    → r ≡ dependencyRead (dependency schema .get (drop (1 + 3 * i) part)) → r ≡ NoDependency → noDependencies ≡ dependenciesRead (complete badDependency (dependencies schema .get part))
+fails schema part n ds i r hd f h p q =
+    sym (ap dependenciesRead (complete-fails badDependency (λ ds. (n, ds)) (Held schema part n) (dependencies schema .get part) hd
+    (filling-fails f h (dependency-none (dependency schema .get (drop (1 + 3 * i) part)) (sym q ∙ p)))))
+
+-- the whole reading, after the last turn
+ended : (schema part : List ℕ) (n : ℕ) (ds : List Dependency) (i : ℕ) → At schema part n ds i → i ≤ n → n ≤ i → Held schema part n ≡ got ds (drop (1 + 3 * n) part)
+ended schema part n ds i f h l = let e : i ≡ n = omega arith in filling-ends f l ∙ ap (λ (k : ℕ). got ds (drop (1 + 3 * k) part)) e
+
+too-long : (schema part : List ℕ) (n : ℕ) (ds : List Dependency) (i : ℕ) → Head schema part n → At schema part n ds i → i ≤ n → n ≤ i → 1 + 3 * n < length part
+    → noDependencies ≡ dependenciesRead (complete badDependency (dependencies schema .get part))
+too-long schema part n ds i hd f h l t =
+    sym (ap dependenciesRead (complete-long badDependency (λ ds. (n, ds)) (Held schema part n) (dependencies schema .get part) hd ds part (1 + 3 * n) (ended schema part n ds i f h l) t))
+
+accepted : (schema part : List ℕ) (n : ℕ) (ds : List Dependency) (i : ℕ) → Head schema part n → At schema part n ds i → i ≤ n → n ≤ i → length part ≤ 1 + 3 * n
+    → record { good = true; held = n; dependencies = ds } ≡ dependenciesRead (complete badDependency (dependencies schema .get part))
+accepted schema part n ds i hd f h l t =
+    sym (ap dependenciesRead (complete-ends badDependency (λ ds. (n, ds)) (Held schema part n) (dependencies schema .get part) hd ds part (1 + 3 * n) (ended schema part n ds i f h l) t))
+
+abbrev Inv-loop : tie.InvT-loop
+Inv-loop part count widths held n dependencies₀ i₀ dependencies i =
+    (i ≤ n) × (n ≤ 32) × (length dependencies ≡ 32) × Head (take count widths) part n × At (take count widths) part n dependencies i
+
+abbrev μ-loop : tie.MeasureT-loop
+μ-loop part count widths held n dependencies₀ i₀ dependencies i = n - i
+
+read-byte-requires : tie.Need-read-byte-requires Inv-loop μ-loop
+read-byte-requires c κs = search needs
+
+enum-known-held : tie.Need-enum-known-held Inv-loop μ-loop
+enum-known-held c = search needs
+
+enum-told : tie.Need-enum-told Inv-loop μ-loop
+enum-told c = search needs
+
+no-dependencies-requires : tie.Need-no-dependencies-requires Inv-loop μ-loop
+no-dependencies-requires c κs = search needs
+
+returns : tie.Need-returns Inv-loop μ-loop
+returns c =
+    c .no-dependencies .ensures ∙ no-count (take (c .before .before .before .before .before .args .count) (c .before .before .before .before .before .args .widths)) (c .before .before .before .before .before .args .part .now) (c .before .before .before .read-byte .result) (c .before .before .before .read-byte .ensures) (c .before .enum-told .given .1)
+
+cast-n : tie.Need-cast-n Inv-loop μ-loop
+cast-n c = search needs
+
+loop-holds : tie.Need-loop-holds Inv-loop μ-loop
+loop-holds c =
+    let (few, hd, f) = begins (take (c .before .before .before .before .before .args .count) (c .before .before .before .before .before .args .widths)) (c .before .before .before .before .before .args .part .now) (c .before .held .given .0 .0) (sym (c .before .held .given .1) ∙ c .before .before .before .read-byte .ensures) in
+    (omega arith, few, refl, hd, f)
+
+mul-read-dependency : tie.Need-mul-read-dependency Inv-loop μ-loop
+mul-read-dependency c = search needs
+
+add-read-dependency : tie.Need-add-read-dependency Inv-loop μ-loop
+add-read-dependency c = search needs
+
+read-dependency-requires : tie.Need-read-dependency-requires Inv-loop μ-loop
+read-dependency-requires c κs = search needs
+
+enum-known-d : tie.Need-enum-known-d Inv-loop μ-loop
+enum-known-d c = search needs
+
+enum-told-2 : tie.Need-enum-told-2 Inv-loop μ-loop
+enum-told-2 c = search needs
+
+no-dependencies-requires-2 : tie.Need-no-dependencies-requires-2 Inv-loop μ-loop
+no-dependencies-requires-2 c κs = search needs
+
+returns-2 : tie.Need-returns-2 Inv-loop μ-loop
+returns-2 c =
+    c .no-dependencies2 .ensures
+    ∙ fails (take (c .before .before .before .before .before .before .before .before .before .before .before .args .count) (c .before .before .before .before .before .before .before .before .before .before .before .args .widths)) (c .before .before .before .before .before .before .before .before .before .before .before .args .part .now) (c .before .before .before .before .before .before .before .held .given .0 .0) (c .before .before .before .before .before .loop .dependencies) (c .before .before .before .before .before .loop .i) (c .before .before .before .read-dependency .result) (c .before .before .before .before .before .loop .inv .3) (c .before .before .before .before .before .loop .inv .4) (c .before .before .before .before .loop-test .taken)
+    (c .before .before .before .read-dependency .ensures) (c .before .enum-told2 .given .1)
+
+mul-dependencies : tie.Need-mul-dependencies Inv-loop μ-loop
+mul-dependencies c = search needs
+
+array-set-from-dependencies : tie.Need-array-set-from-dependencies Inv-loop μ-loop
+array-set-from-dependencies c = search needs
+
+add-i : tie.Need-add-i Inv-loop μ-loop
+add-i c = search needs
+
+loop-less : tie.Need-loop-less Inv-loop μ-loop
+loop-less c = search needs
+
+loop-again : tie.Need-loop-again Inv-loop μ-loop
+loop-again c = (
+  search needs,
+  c .before .before .before .before .before .loop .inv .1,
+  length-set (c .before .before .before .before .before .loop .dependencies) (c .before .before .before .before .before .loop .i) (c .before .d .given .0 .0) ∙ c .before .before .before .before .before .loop .inv .2,
+  c .before .before .before .before .before .loop .inv .3,
+  goes-on _ _ _ (c .before .before .before .before .before .loop .dependencies) (c .before .before .before .before .before .loop .i) (c .before .before .before .read-dependency .result) (c .before .d .given .0 .0) (c .before .before .before .before .before .loop .inv .4) (c .before .before .before .before .loop-test .taken)
+      (omega arith) (c .before .before .before .read-dependency .ensures) (c .before .d .given .1),
+)
+
+mul-if1 : tie.Need-mul-if1 Inv-loop μ-loop
+mul-if1 c = search needs
+
+add-if1 : tie.Need-add-if1 Inv-loop μ-loop
+add-if1 c = search needs
+
+no-dependencies-requires-3 : tie.Need-no-dependencies-requires-3 Inv-loop μ-loop
+no-dependencies-requires-3 c κs = search needs
+
+returns-3 : tie.Need-returns-3 Inv-loop μ-loop
+returns-3 c =
+    c .no-dependencies3 .ensures ∙ too-long (take (c .before .before .before .before .before .before .before .before .before .args .count) (c .before .before .before .before .before .before .before .before .before .args .widths)) (c .before .before .before .before .before .before .before .before .before .args .part .now) (c .before .before .before .before .before .held .given .0 .0) (c .before .before .before .loop .dependencies) (c .before .before .before .loop .i) (c .before .before .before .loop .inv .3) (c .before .before .before .loop .inv .4) (c .before .before .before .loop .inv .0) (c .before .before .loop-test .left) (c .before .if1 .taken)
+
+returns-4 : tie.Need-returns-4 Inv-loop μ-loop
+returns-4 c =
+    accepted (take (c .before .before .before .before .before .before .before .before .args .count) (c .before .before .before .before .before .before .before .before .args .widths)) (c .before .before .before .before .before .before .before .before .args .part .now) (c .before .before .before .before .held .given .0 .0) (c .before .before .loop .dependencies) (c .before .before .loop .i) (c .before .before .loop .inv .3) (c .before .before .loop .inv .4) (c .before .before .loop .inv .0) (c .before .loop-test .left) (c .if1 .left)
+
+pub read-dependencies-spec : {M : Type 1} → statement M
+read-dependencies-spec =
+    tie.close
+    (tie.spec
+    Inv-loop
+    μ-loop
+    read-byte-requires
+    enum-known-held
+    enum-told
+    no-dependencies-requires
+    returns
+    cast-n
+    loop-holds
+    mul-read-dependency
+    add-read-dependency
+    read-dependency-requires
+    enum-known-d
+    enum-told-2
+    no-dependencies-requires-2
+    returns-2
+    mul-dependencies
+    array-set-from-dependencies
+    add-i
+    loop-less
+    loop-again
+    mul-if1
+    add-if1
+    no-dependencies-requires-3
+    returns-3
+    returns-4)

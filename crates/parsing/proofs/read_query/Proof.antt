@@ -1,0 +1,193 @@
+use borrow.Author.Needs.{needs}
+use borrow.Author.Tests.{not-true, not-false, leb-true}
+use mathlib.Core.Path.{_≡_, sym, ap, _∙_}
+use mathlib.Core.Bool.{true, false, cond}
+use mathlib.Core.List.{List}
+use Prim.Native.Nat.{ℕ, _+_, _*_, _-_, _≤_}
+use native.Mathlib.Omega.{arith}
+use lib.Dec.{eqb, leb}
+use lib.ListN.{length, take, drop, length-drop}
+use lib.Seq.{drop-drop}
+use Rattle.refusals.specs.Refusals.{badQuery, gives}
+use Rattle.lists.specs.Tests.{between}
+use Rattle.format.specs.Format.{none, got, getByte}
+use Rattle.format.specs.Parts.{entries, rows, queryWith, query}
+use Rattle.format.specs.File.{complete}
+use Rattle.format.proofs.Parts.{headFits}
+use Rattle.parsing.specs.declared.ByteRead.{ByteRead}
+use Rattle.parsing.specs.declared.ByteRead.the-variants.{Byte}
+use Rattle.parsing.specs.declared.CellsRead.{CellsRead}
+use Rattle.parsing.specs.declared.RowsRead.{RowsRead}
+use Rattle.parsing.specs.internal.Read.{byteRead, cellsRead, rowsRead, noQueryRead, queryRead}
+use Rattle.parsing.proofs.Counted.{byte-read, byte-none, no-low, complete-none}
+use Rattle.parsing.proofs.RowLaws.{byte-bounds, cells-bad, cells-good, entries-bounds}
+use Rattle.parsing.proofs.QueryLaws.{no-arity, no-size, no-head, after-head, complete-map-ok, complete-map-refused, rows-bad, rows-some}
+use Rattle.parsing.proofs.read_query.Statement.{statement}
+use Rattle.parsing.proofs.read_query.Tie as tie
+
+-- What the first two bytes say
+record Sizes (part : List ℕ) (arity size : ℕ) : Type 0 where
+  arity-read : getByte (λ n. leb n 8) part ≡ got arity (drop 1 part)
+  size-read : getByte (λ n. leb n 12) (drop 1 part) ≡ got size (drop 2 part)
+  arity-fits : arity ≤ 8
+  size-fits : size ≤ 12
+  long : 2 ≤ length part
+
+first : (part : List ℕ) (r : ByteRead) (arity : ℕ) → r ≡ byteRead (getByte (between 0 8) part) → r ≡ Byte arity → (leb arity 8 ≡ true) × (getByte (λ n. leb n 8) part ≡ got arity (drop 1 part))
+first part r arity e q = byte-read (λ n. leb n 8) part 0 arity (rw no-low at (sym q ∙ e))
+
+sizes : (part : List ℕ) (r r′ : ByteRead) (arity size : ℕ) → r ≡ byteRead (getByte (between 0 8) part) → r ≡ Byte arity
+    → r′ ≡ byteRead (getByte (between 0 12) (drop 1 part)) → r′ ≡ Byte size → Sizes part arity size
+sizes part r r′ arity size e q e′ q′ =
+    let (ta, ea) = first part r arity e q in
+    let (ts, es) = byte-read (λ n. leb n 12) part 1 size (rw no-low at (sym q′ ∙ e′)) in
+    let l : 1 ≤ length (drop 1 part) = byte-bounds (λ n. leb n 12) (drop 1 part) size (drop 2 part) es .1 in
+    let m : length (drop 1 part) ≡ length part - 1 = length-drop 1 part in
+    record { arity-read = ea; size-read = es; arity-fits = leb-true arity 8 ta; size-fits = leb-true size 12 ts; long = omega arith }
+
+refuses : (schema part : List ℕ) → query schema .get part ≡ none → noQueryRead ≡ queryRead (complete badQuery (query schema .get part))
+refuses schema part e = sym (ap queryRead (complete-none badQuery (query schema .get part) e))
+
+-- where the head's entries end
+head-ends : (part : List ℕ) (arity size used : ℕ) (front : CellsRead) → Sizes part arity size → used ≡ cond (eqb size 0) 0 arity
+    → front ≡ cellsRead (entries used .get (drop 2 part)) → front .good ≡ true
+    → (entries (cond (eqb size 0) 0 arity) .get (drop 2 part) ≡ got (front .cells) (drop (2 + 5 * used) part)) × (2 + 5 * used ≤ length part)
+head-ends part arity size used front z eu ef g =
+    let (rest, e) = cells-good (entries used .get (drop 2 part)) front ef g in
+    let fits : used ≤ 8 = rw eu (headFits size arity (z .arity-fits)) in
+    let (l, d, k) = entries-bounds used (drop 2 part) (front .cells) rest fits e in
+    let m : length (drop 2 part) ≡ length part - 2 = length-drop 2 part in
+    let d′ : rest ≡ drop (2 + 5 * used) part = sym d ∙ drop-drop (5 * used) 2 part in
+    (rw (← eu) (e ∙ ap (λ (t : List ℕ). got (front .cells) t) d′), omega (arith, z .long))
+
+bad-rows : (schema part : List ℕ) (arity size used : ℕ) (front : CellsRead) (rs : RowsRead) → Sizes part arity size → used ≡ cond (eqb size 0) 0 arity
+    → front ≡ cellsRead (entries used .get (drop 2 part)) → front .good ≡ true
+    → rs ≡ rowsRead (complete badQuery (rows schema size .get (drop (2 + 5 * used) part))) → rs .good ≡ false → noQueryRead ≡ queryRead (complete badQuery (query schema .get part))
+bad-rows schema part arity size used front rs z eu ef g er b =
+    let (e, k) = head-ends part arity size used front z eu ef g in
+    let h = after-head schema part arity (z .arity-read) size (z .size-read) (front .cells) (drop (2 + 5 * used) part) e in
+    let (n, w) = rows-bad (complete badQuery (rows schema size .get (drop (2 + 5 * used) part))) rs er b in
+    sym (ap queryRead (ap (complete badQuery) h ∙ complete-map-refused badQuery (λ rs. queryWith (arity, (size, (front .cells, rs)))) (rows schema size .get (drop (2 + 5 * used) part)) n w))
+
+accepts : (schema part : List ℕ) (arity size used : ℕ) (front : CellsRead) (rs : RowsRead) → Sizes part arity size → used ≡ cond (eqb size 0) 0 arity
+    → front ≡ cellsRead (entries used .get (drop 2 part)) → front .good ≡ true
+    → rs ≡ rowsRead (complete badQuery (rows schema size .get (drop (2 + 5 * used) part))) → rs .good ≡ true
+    → record { good = true; query = record { arity = arity; size = size; head = front .cells; relations = rs .relations; cells = rs .cells } } ≡ queryRead (complete badQuery (query schema .get part))
+accepts schema part arity size used front rs z eu ef g er b =
+    let (e, k) = head-ends part arity size used front z eu ef g in
+    let h = after-head schema part arity (z .arity-read) size (z .size-read) (front .cells) (drop (2 + 5 * used) part) e in
+    let (all, w, r, c) = rows-some (complete badQuery (rows schema size .get (drop (2 + 5 * used) part))) rs er b in
+    let done : complete badQuery (query schema .get part) ≡ gives (queryWith (arity, (size, (front .cells, all)))) =
+    ap (complete badQuery) h ∙ complete-map-ok badQuery (λ rs. queryWith (arity, (size, (front .cells, rs)))) (rows schema size .get (drop (2 + 5 * used) part)) all w in
+    (λ i. record { good = true; query = record { arity = arity; size = size; head = front .cells; relations = r i; cells = c i } }) ∙ sym (ap queryRead done)
+
+read-byte-requires : tie.Need-read-byte-requires
+read-byte-requires c κs = search needs
+
+enum-known-arity : tie.Need-enum-known-arity
+enum-known-arity c = search needs
+
+enum-told : tie.Need-enum-told
+enum-told c = search needs
+
+no-query-read-requires : tie.Need-no-query-read-requires
+no-query-read-requires c κs = search needs
+
+returns : tie.Need-returns
+returns c =
+    c .no-query-read .ensures ∙ refuses (take (c .before .before .before .before .before .args .count) (c .before .before .before .before .before .args .widths)) (c .before .before .before .before .before .args .part .now) (no-arity (take (c .before .before .before .before .before .args .count) (c .before .before .before .before .before .args .widths)) (c .before .before .before .before .before .args .part .now) (byte-none (getByte (λ n. leb n 8) (c .before .before .before .before .before .args .part .now)) (rw no-low at (sym (c .before .enum-told .given .1) ∙ c .before .before .before .read-byte .ensures))))
+
+read-byte-requires-2 : tie.Need-read-byte-requires-2
+read-byte-requires-2 c κs = search needs
+
+enum-known-size : tie.Need-enum-known-size
+enum-known-size c = search needs
+
+enum-told-2 : tie.Need-enum-told-2
+enum-told-2 c = search needs
+
+no-query-read-requires-2 : tie.Need-no-query-read-requires-2
+no-query-read-requires-2 c κs = search needs
+
+returns-2 : tie.Need-returns-2
+returns-2 c =
+    let (t, ea) = first (c .before .before .before .before .before .before .before .before .before .args .part .now) (c .before .before .before .before .before .before .before .read-byte .result) (c .before .before .before .before .before .arity .given .0 .0) (c .before .before .before .before .before .before .before .read-byte .ensures) (c .before .before .before .before .before .arity .given .1) in
+    c .no-query-read2 .ensures ∙ refuses (take (c .before .before .before .before .before .before .before .before .before .args .count) (c .before .before .before .before .before .before .before .before .before .args .widths)) (c .before .before .before .before .before .before .before .before .before .args .part .now) (no-size (take (c .before .before .before .before .before .before .before .before .before .args .count) (c .before .before .before .before .before .before .before .before .before .args .widths)) (c .before .before .before .before .before .before .before .before .before .args .part .now) (c .before .before .before .before .before .arity .given .0 .0) ea (byte-none (getByte (λ n. leb n 12) (drop 1 (c .before .before .before .before .before .before .before .before .before .args .part .now))) (rw no-low at (sym (c .before .enum-told2 .given .1) ∙ c .before .before .before .read-byte2 .ensures))))
+
+head-in-use-requires : tie.Need-head-in-use-requires
+head-in-use-requires c κs = search needs
+
+read-entries-requires : tie.Need-read-entries-requires
+read-entries-requires c κs =
+    let z = (sizes (c .before .before .before .before .before .before .before .before .before .before .args .part .now) (c .before .before .before .before .before .before .before .before .read-byte .result) (c .before .before .before .before .read-byte2 .result) (c .before .before .before .before .before .before .arity .given .0 .0) (c .before .before .size .given .0 .0) (c .before .before .before .before .before .before .before .before .read-byte .ensures) (c .before .before .before .before .before .before .arity .given .1) (c .before .before .before .before .read-byte2 .ensures) (c .before .before .size .given .1)) in
+    (z .long, rw (c .head-in-use .ensures) (headFits (c .before .before .size .given .0 .0) (c .before .before .before .before .before .before .arity .given .0 .0) (z .arity-fits)))
+
+no-query-read-requires-3 : tie.Need-no-query-read-requires-3
+no-query-read-requires-3 c κs = search needs
+
+returns-3 : tie.Need-returns-3
+returns-3 c =
+    let z = (sizes (c .before .before .before .before .before .before .before .before .before .before .before .before .before .before .args .part .now) (c .before .before .before .before .before .before .before .before .before .before .before .before .read-byte .result) (c .before .before .before .before .before .before .before .before .read-byte2 .result) (c .before .before .before .before .before .before .before .before .before .before .arity .given .0 .0) (c .before .before .before .before .before .before .size .given .0 .0) (c .before .before .before .before .before .before .before .before .before .before .before .before .read-byte .ensures) (c .before .before .before .before .before .before .before .before .before .before .arity .given .1) (c .before .before .before .before .before .before .before .before .read-byte2 .ensures) (c .before .before .before .before .before .before .size .given .1)) in
+    let e = cells-bad (entries (c .before .before .before .before .head-in-use .result) .get (drop 2 (c .before .before .before .before .before .before .before .before .before .before .before .before .before .before .args .part .now))) (c .before .before .before .read-entries .result) (c .before .before .before .read-entries .ensures) (not-true (c .before .before .before .read-entries .result .good) (c .before .if1 .taken)) in
+    c .no-query-read3 .ensures ∙ refuses (take (c .before .before .before .before .before .before .before .before .before .before .before .before .before .before .args .count) (c .before .before .before .before .before .before .before .before .before .before .before .before .before .before .args .widths)) (c .before .before .before .before .before .before .before .before .before .before .before .before .before .before .args .part .now) (no-head (take (c .before .before .before .before .before .before .before .before .before .before .before .before .before .before .args .count) (c .before .before .before .before .before .before .before .before .before .before .before .before .before .before .args .widths)) (c .before .before .before .before .before .before .before .before .before .before .before .before .before .before .args .part .now) (c .before .before .before .before .before .before .before .before .before .before .arity .given .0 .0) (z .arity-read) (c .before .before .before .before .before .before .size .given .0 .0) (z .size-read) (rw (← c .before .before .before .before .head-in-use .ensures) e))
+
+mul-read-rows : tie.Need-mul-read-rows
+mul-read-rows c =
+    let z = (sizes (c .before .before .before .before .before .before .before .before .before .before .before .before .before .args .part .now) (c .before .before .before .before .before .before .before .before .before .before .before .read-byte .result) (c .before .before .before .before .before .before .before .read-byte2 .result) (c .before .before .before .before .before .before .before .before .before .arity .given .0 .0) (c .before .before .before .before .before .size .given .0 .0) (c .before .before .before .before .before .before .before .before .before .before .before .read-byte .ensures) (c .before .before .before .before .before .before .before .before .before .arity .given .1) (c .before .before .before .before .before .before .before .read-byte2 .ensures) (c .before .before .before .before .before .size .given .1)) in
+    let ends = head-ends (c .before .before .before .before .before .before .before .before .before .before .before .before .before .args .part .now) (c .before .before .before .before .before .before .before .before .before .arity .given .0 .0) (c .before .before .before .before .before .size .given .0 .0) (c .before .before .before .head-in-use .result) (c .before .before .read-entries .result) z (c .before .before .before .head-in-use .ensures) (c .before .before .read-entries .ensures) (not-false (c .before .before .read-entries .result .good) (c .if1 .left)) .1 in
+    omega arith
+
+add-read-rows : tie.Need-add-read-rows
+add-read-rows c =
+    let z = (sizes (c .before .before .before .before .before .before .before .before .before .before .before .before .before .args .part .now) (c .before .before .before .before .before .before .before .before .before .before .before .read-byte .result) (c .before .before .before .before .before .before .before .read-byte2 .result) (c .before .before .before .before .before .before .before .before .before .arity .given .0 .0) (c .before .before .before .before .before .size .given .0 .0) (c .before .before .before .before .before .before .before .before .before .before .before .read-byte .ensures) (c .before .before .before .before .before .before .before .before .before .arity .given .1) (c .before .before .before .before .before .before .before .read-byte2 .ensures) (c .before .before .before .before .before .size .given .1)) in
+    let ends = head-ends (c .before .before .before .before .before .before .before .before .before .before .before .before .before .args .part .now) (c .before .before .before .before .before .before .before .before .before .arity .given .0 .0) (c .before .before .before .before .before .size .given .0 .0) (c .before .before .before .head-in-use .result) (c .before .before .read-entries .result) z (c .before .before .before .head-in-use .ensures) (c .before .before .read-entries .ensures) (not-false (c .before .before .read-entries .result .good) (c .if1 .left)) .1 in
+    omega arith
+
+cast-read-rows : tie.Need-cast-read-rows
+cast-read-rows c = search needs
+
+read-rows-requires : tie.Need-read-rows-requires
+read-rows-requires c κs =
+    let z = (sizes (c .before .before .before .before .before .before .before .before .before .before .before .before .before .args .part .now) (c .before .before .before .before .before .before .before .before .before .before .before .read-byte .result) (c .before .before .before .before .before .before .before .read-byte2 .result) (c .before .before .before .before .before .before .before .before .before .arity .given .0 .0) (c .before .before .before .before .before .size .given .0 .0) (c .before .before .before .before .before .before .before .before .before .before .before .read-byte .ensures) (c .before .before .before .before .before .before .before .before .before .arity .given .1) (c .before .before .before .before .before .before .before .read-byte2 .ensures) (c .before .before .before .before .before .size .given .1)) in
+    let ends = head-ends (c .before .before .before .before .before .before .before .before .before .before .before .before .before .args .part .now) (c .before .before .before .before .before .before .before .before .before .arity .given .0 .0) (c .before .before .before .before .before .size .given .0 .0) (c .before .before .before .head-in-use .result) (c .before .before .read-entries .result) z (c .before .before .before .head-in-use .ensures) (c .before .before .read-entries .ensures) (not-false (c .before .before .read-entries .result .good) (c .if1 .left)) .1 in
+    (c .before .before .before .before .before .before .before .before .before .before .before .before .before .pre, (ends, z .size-fits))
+
+no-query-read-requires-4 : tie.Need-no-query-read-requires-4
+no-query-read-requires-4 c κs = search needs
+
+returns-4 : tie.Need-returns-4
+returns-4 c =
+    c .no-query-read4 .ensures
+    ∙ bad-rows (take (c .before .before .before .before .before .before .before .before .before .before .before .before .before .before .before .before .before .args .count) (c .before .before .before .before .before .before .before .before .before .before .before .before .before .before .before .before .before .args .widths)) (c .before .before .before .before .before .before .before .before .before .before .before .before .before .before .before .before .before .args .part .now) (c .before .before .before .before .before .before .before .before .before .before .before .before .before .arity .given .0 .0) (c .before .before .before .before .before .before .before .before .before .size .given .0 .0) (c .before .before .before .before .before .before .before .head-in-use .result) (c .before .before .before .before .before .before .read-entries .result) (c .before .before .before .read-rows .result)
+    (sizes (c .before .before .before .before .before .before .before .before .before .before .before .before .before .before .before .before .before .args .part .now) (c .before .before .before .before .before .before .before .before .before .before .before .before .before .before .before .read-byte .result) (c .before .before .before .before .before .before .before .before .before .before .before .read-byte2 .result) (c .before .before .before .before .before .before .before .before .before .before .before .before .before .arity .given .0 .0) (c .before .before .before .before .before .before .before .before .before .size .given .0 .0) (c .before .before .before .before .before .before .before .before .before .before .before .before .before .before .before .read-byte .ensures) (c .before .before .before .before .before .before .before .before .before .before .before .before .before .arity .given .1) (c .before .before .before .before .before .before .before .before .before .before .before .read-byte2 .ensures) (c .before .before .before .before .before .before .before .before .before .size .given .1)) (c .before .before .before .before .before .before .before .head-in-use .ensures) (c .before .before .before .before .before .before .read-entries .ensures) (not-false (c .before .before .before .before .before .before .read-entries .result .good) (c .before .before .before .before .if1 .left)) (c .before .before .before .read-rows .ensures) (not-true (c .before .before .before .read-rows .result .good) (c .before .if2 .taken))
+
+returns-5 : tie.Need-returns-5
+returns-5 c =
+    accepts (take (c .before .before .before .before .before .before .before .before .before .before .before .before .before .before .before .before .before .before .before .args .count) (c .before .before .before .before .before .before .before .before .before .before .before .before .before .before .before .before .before .before .before .args .widths)) (c .before .before .before .before .before .before .before .before .before .before .before .before .before .before .before .before .before .before .before .args .part .now) (c .before .before .before .before .before .before .before .before .before .before .before .before .before .before .before .arity .given .0 .0) (c .before .before .before .before .before .before .before .before .before .before .before .size .given .0 .0) (c .before .before .before .before .before .before .before .before .before .head-in-use .result) (c .before .before .before .before .before .before .before .before .read-entries .result) (c .before .before .before .before .before .read-rows .result)
+    (sizes (c .before .before .before .before .before .before .before .before .before .before .before .before .before .before .before .before .before .before .before .args .part .now) (c .before .before .before .before .before .before .before .before .before .before .before .before .before .before .before .before .before .read-byte .result) (c .before .before .before .before .before .before .before .before .before .before .before .before .before .read-byte2 .result) (c .before .before .before .before .before .before .before .before .before .before .before .before .before .before .before .arity .given .0 .0) (c .before .before .before .before .before .before .before .before .before .before .before .size .given .0 .0) (c .before .before .before .before .before .before .before .before .before .before .before .before .before .before .before .before .before .read-byte .ensures) (c .before .before .before .before .before .before .before .before .before .before .before .before .before .before .before .arity .given .1) (c .before .before .before .before .before .before .before .before .before .before .before .before .before .read-byte2 .ensures) (c .before .before .before .before .before .before .before .before .before .before .before .size .given .1)) (c .before .before .before .before .before .before .before .before .before .head-in-use .ensures) (c .before .before .before .before .before .before .before .before .read-entries .ensures) (not-false (c .before .before .before .before .before .before .before .before .read-entries .result .good) (c .before .before .before .before .before .before .if1 .left)) (c .before .before .before .before .before .read-rows .ensures) (not-false (c .before .before .before .before .before .read-rows .result .good) (c .before .before .before .if2 .left))
+
+pub read-query-spec : {M : Type 1} → statement M
+read-query-spec =
+    tie.close
+    (tie.spec
+    read-byte-requires
+    enum-known-arity
+    enum-told
+    no-query-read-requires
+    returns
+    read-byte-requires-2
+    enum-known-size
+    enum-told-2
+    no-query-read-requires-2
+    returns-2
+    head-in-use-requires
+    read-entries-requires
+    no-query-read-requires-3
+    returns-3
+    mul-read-rows
+    add-read-rows
+    cast-read-rows
+    read-rows-requires
+    no-query-read-requires-4
+    returns-4
+    returns-5)

@@ -1,0 +1,189 @@
+use borrow.Author.Needs.{needs}
+use mathlib.Core.Path.{_≡_, sym, ap, refl, _∙_}
+use mathlib.Core.Bool.{true}
+use mathlib.Core.List.{List}
+use Prim.Native.Nat.{ℕ, _+_, _-_, _≤_, _<_}
+use native.Mathlib.Omega.{arith}
+use lib.Dec.{leb}
+use lib.ListN.{length, drop, set, replicate, length-set}
+use borrow.Author.Tests.{leb-true}
+use Rattle.refusals.specs.Refusals.{badRelations}
+use Rattle.lists.specs.Tests.{between, isZero}
+use Rattle.format.specs.Format.{Reading, got, mapReading, getByte, byte, padded}
+use Rattle.format.specs.Parts.{relations}
+use Rattle.format.specs.File.{complete}
+use Rattle.lists.proofs.Tests.{and-iff}
+use Rattle.parsing.specs.declared.ByteRead.{ByteRead}
+use Rattle.parsing.specs.declared.ByteRead.the-variants.{Byte, NoByte}
+use Rattle.parsing.specs.internal.Read.{byteRead}
+use Rattle.parsing.specs.internal.Read.{noRelations, relationsRead}
+use Rattle.format.proofs.Filling.{Filling, filling-starts, filling-turns, filling-fails, filling-ends}
+use Rattle.parsing.proofs.Counted.{byte-read, byte-none, sequence-none, sequence-got, complete-none, complete-fails, complete-ends, complete-long}
+use Rattle.parsing.proofs.read_relations.Statement.{statement}
+use Rattle.parsing.proofs.read_relations.Tie as tie
+
+-- The widths after the count, as the format reads them
+Widths : List ℕ → ℕ → Reading (List ℕ)
+Widths part n = padded 8 0 isZero n (byte (between 1 8)) .get (drop 1 part)
+
+-- What the count says of the whole part
+abbrev Head : List ℕ → ℕ → Type 0
+Head part n = relations .get part ≡ mapReading (λ ws. (n, ws)) (Widths part n)
+
+-- What has been read of the widths
+abbrev At : List ℕ → ℕ → List ℕ → ℕ → Type 0
+At part n widths i = Filling (getByte (between 1 8)) (Widths part n) n widths i (drop (1 + i) part)
+
+begins : (part : List ℕ) (n : ℕ) → Byte n ≡ byteRead (getByte (between 1 8) part) → (n ≤ 8) × Head part n × At part n (replicate 8 0) 0
+unfolding relations byte padded Widths
+begins part n h =
+    let (t, e) = byte-read (between 1 8) part 0 n h in
+    let k : (leb 1 n ≡ true) × (leb n 8 ≡ true) = simp and-iff at t in (
+      leb-true n 8 (k .1),
+      sequence-got (byte (between 1 8)) (λ n. padded 8 0 isZero n (byte (between 1 8))) part n (drop 1 part) e,
+      filling-starts (getByte (between 1 8)) 8 0 n (drop 1 part),
+    )
+
+goes-on : (part : List ℕ) (n : ℕ) (widths : List ℕ) (i : ℕ) (r : ByteRead) (w : ℕ) → At part n widths i → i < n → i < length widths
+    → r ≡ byteRead (getByte (between 1 8) (drop (1 + i) part)) → r ≡ Byte w → At part n (set widths i w) (i + 1)
+goes-on part n widths i r w f h l p q =
+    let (t, e) = byte-read (between 1 8) part (1 + i) w (sym q ∙ p) in
+    let k : 1 + i + 1 ≡ 1 + (i + 1) = omega arith in
+    filling-turns f w (drop (1 + (i + 1)) part) h l (e ∙ rw k)
+
+no-count : (part : List ℕ) (r : ByteRead) → r ≡ byteRead (getByte (between 1 8) part) → r ≡ NoByte → noRelations ≡ relationsRead (complete badRelations (relations .get part))
+unfolding relations byte
+no-count part r p q =
+    sym (ap relationsRead (complete-none badRelations (relations .get part)
+    (sequence-none (byte (between 1 8)) (λ n. padded 8 0 isZero n (byte (between 1 8))) part (byte-none (getByte (between 1 8) part) (sym q ∙ p)))))
+
+fails : (part : List ℕ) (n : ℕ) (widths : List ℕ) (i : ℕ) (r : ByteRead) → Head part n → At part n widths i → i < n
+    → r ≡ byteRead (getByte (between 1 8) (drop (1 + i) part)) → r ≡ NoByte → noRelations ≡ relationsRead (complete badRelations (relations .get part))
+fails part n widths i r hd f h p q =
+    sym (ap relationsRead (complete-fails badRelations (λ ws. (n, ws)) (Widths part n) (relations .get part) hd (filling-fails f h (byte-none (getByte (between 1 8) (drop (1 + i) part)) (sym q ∙ p)))))
+
+-- the whole reading, after the last turn
+ended : (part : List ℕ) (n : ℕ) (widths : List ℕ) (i : ℕ) → At part n widths i → i ≤ n → n ≤ i → Widths part n ≡ got widths (drop (1 + n) part)
+ended part n widths i f h l = let e : i ≡ n = omega arith in filling-ends f l ∙ ap (λ (k : ℕ). got widths (drop (1 + k) part)) e
+
+too-long : (part : List ℕ) (n : ℕ) (widths : List ℕ) (i : ℕ) → Head part n → At part n widths i → i ≤ n → n ≤ i → 1 + n < length part
+    → noRelations ≡ relationsRead (complete badRelations (relations .get part))
+too-long part n widths i hd f h l t =
+    sym (ap relationsRead (complete-long badRelations (λ ws. (n, ws)) (Widths part n) (relations .get part) hd widths part (1 + n) (ended part n widths i f h l) t))
+
+accepted : (part : List ℕ) (n : ℕ) (widths : List ℕ) (i : ℕ) → Head part n → At part n widths i → i ≤ n → n ≤ i → length part ≤ 1 + n
+    → record { good = true; count = n; widths = widths } ≡ relationsRead (complete badRelations (relations .get part))
+accepted part n widths i hd f h l t =
+    sym (ap relationsRead (complete-ends badRelations (λ ws. (n, ws)) (Widths part n) (relations .get part) hd widths part (1 + n) (ended part n widths i f h l) t))
+
+abbrev Inv-loop : tie.InvT-loop
+Inv-loop part count n widths₀ i₀ widths i = (i ≤ n) × (n ≤ 8) × (length widths ≡ 8) × Head part n × At part n widths i
+
+abbrev μ-loop : tie.MeasureT-loop
+μ-loop part count n widths₀ i₀ widths i = n - i
+
+read-byte-requires : tie.Need-read-byte-requires Inv-loop μ-loop
+read-byte-requires c κs = search needs
+
+enum-known-count : tie.Need-enum-known-count Inv-loop μ-loop
+enum-known-count c = search needs
+
+enum-told : tie.Need-enum-told Inv-loop μ-loop
+enum-told c = search needs
+
+no-relations-requires : tie.Need-no-relations-requires Inv-loop μ-loop
+no-relations-requires c κs = search needs
+
+returns : tie.Need-returns Inv-loop μ-loop
+returns c =
+    c .no-relations .ensures ∙ no-count (c .before .before .before .before .before .args .part .now) (c .before .before .before .read-byte .result) (c .before .before .before .read-byte .ensures) (c .before .enum-told .given .1)
+
+cast-n : tie.Need-cast-n Inv-loop μ-loop
+cast-n c = search needs
+
+loop-holds : tie.Need-loop-holds Inv-loop μ-loop
+loop-holds c =
+    let (few, hd, f) = begins (c .before .before .before .before .before .args .part .now) (c .before .count .given .0 .0) (sym (c .before .count .given .1) ∙ c .before .before .before .read-byte .ensures) in
+    (omega arith, few, refl, hd, f)
+
+add-read-byte : tie.Need-add-read-byte Inv-loop μ-loop
+add-read-byte c = search needs
+
+read-byte-requires-2 : tie.Need-read-byte-requires-2 Inv-loop μ-loop
+read-byte-requires-2 c κs = search needs
+
+enum-known-width : tie.Need-enum-known-width Inv-loop μ-loop
+enum-known-width c = search needs
+
+enum-told-2 : tie.Need-enum-told-2 Inv-loop μ-loop
+enum-told-2 c = search needs
+
+no-relations-requires-2 : tie.Need-no-relations-requires-2 Inv-loop μ-loop
+no-relations-requires-2 c κs = search needs
+
+returns-2 : tie.Need-returns-2 Inv-loop μ-loop
+returns-2 c =
+    c .no-relations2 .ensures
+    ∙ fails _ _ (c .before .before .before .before .before .loop .widths) (c .before .before .before .before .before .loop .i) (c .before .before .before .read-byte2 .result) (c .before .before .before .before .before .loop .inv .3) (c .before .before .before .before .before .loop .inv .4) (c .before .before .before .before .loop-test .taken)
+    (c .before .before .before .read-byte2 .ensures) (c .before .enum-told2 .given .1)
+
+array-write-widths : tie.Need-array-write-widths Inv-loop μ-loop
+array-write-widths c = search needs
+
+add-i : tie.Need-add-i Inv-loop μ-loop
+add-i c = search needs
+
+loop-less : tie.Need-loop-less Inv-loop μ-loop
+loop-less c = search needs
+
+loop-again : tie.Need-loop-again Inv-loop μ-loop
+loop-again c = (
+  search needs,
+  c .before .before .before .before .before .loop .inv .1,
+  length-set (c .before .before .before .before .before .loop .widths) (c .before .before .before .before .before .loop .i) (c .before .width .given .0 .0) ∙ c .before .before .before .before .before .loop .inv .2,
+  c .before .before .before .before .before .loop .inv .3,
+  goes-on _ _ (c .before .before .before .before .before .loop .widths) (c .before .before .before .before .before .loop .i) (c .before .before .before .read-byte2 .result) (c .before .width .given .0 .0) (c .before .before .before .before .before .loop .inv .4) (c .before .before .before .before .loop-test .taken)
+      (omega arith) (c .before .before .before .read-byte2 .ensures) (c .before .width .given .1),
+)
+
+add-if1 : tie.Need-add-if1 Inv-loop μ-loop
+add-if1 c = search needs
+
+no-relations-requires-3 : tie.Need-no-relations-requires-3 Inv-loop μ-loop
+no-relations-requires-3 c κs = search needs
+
+returns-3 : tie.Need-returns-3 Inv-loop μ-loop
+returns-3 c =
+    c .no-relations3 .ensures ∙ too-long _ _ (c .before .before .before .loop .widths) (c .before .before .before .loop .i) (c .before .before .before .loop .inv .3) (c .before .before .before .loop .inv .4) (c .before .before .before .loop .inv .0) (c .before .before .loop-test .left) (c .before .if1 .taken)
+
+returns-4 : tie.Need-returns-4 Inv-loop μ-loop
+returns-4 c =
+    accepted _ _ (c .before .before .loop .widths) (c .before .before .loop .i) (c .before .before .loop .inv .3) (c .before .before .loop .inv .4) (c .before .before .loop .inv .0) (c .before .loop-test .left) (c .if1 .left)
+
+pub read-relations-spec : {M : Type 1} → statement M
+read-relations-spec =
+    tie.close
+    (tie.spec
+    Inv-loop
+    μ-loop
+    read-byte-requires
+    enum-known-count
+    enum-told
+    no-relations-requires
+    returns
+    cast-n
+    loop-holds
+    add-read-byte
+    read-byte-requires-2
+    enum-known-width
+    enum-told-2
+    no-relations-requires-2
+    returns-2
+    array-write-widths
+    add-i
+    loop-less
+    loop-again
+    add-if1
+    no-relations-requires-3
+    returns-3
+    returns-4)

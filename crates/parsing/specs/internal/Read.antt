@@ -1,0 +1,79 @@
+-- The answers of this crate's functions: the format's readings and results as values of the code's structs and enums.
+use mathlib.Core.Bool.{true, false}
+use mathlib.Core.List.{List, map}
+use Prim.Native.Nat.{ℕ}
+use lib.ListN.{replicate}
+use Rattle.query.specs.declared.Cell.{Cell}
+use Rattle.query.specs.declared.Query.{Query}
+use Rattle.query.specs.declared.Dependency.{Dependency}
+use Rattle.query.specs.Rule.{noCell, noQuery, noDependency}
+use Rattle.format.specs.Format.{Reading, none, got}
+use Rattle.format.specs.Parts.{flat}
+use Rattle.refusals.specs.Refusals.{Reply, gives, refused}
+use Rattle.parsing.specs.declared.ByteRead.{ByteRead}
+use Rattle.parsing.specs.declared.ByteRead.the-variants.{Byte, NoByte}
+use Rattle.parsing.specs.declared.EntryRead.{EntryRead}
+use Rattle.parsing.specs.declared.EntryRead.the-variants.{Read, NoEntry}
+use Rattle.parsing.specs.declared.CellsRead.{CellsRead}
+use Rattle.parsing.specs.declared.RowsRead.{RowsRead}
+use Rattle.parsing.specs.declared.QueryRead.{QueryRead}
+use Rattle.parsing.specs.declared.RelationsRead.{RelationsRead}
+use Rattle.parsing.specs.declared.DependencyRead.{DependencyRead}
+use Rattle.parsing.specs.declared.DependencyRead.the-variants.{Found, NoDependency}
+use Rattle.parsing.specs.declared.DependenciesRead.{DependenciesRead}
+
+-- A byte that was read
+abbrev pub byteRead : Reading ℕ → ByteRead
+byteRead none = NoByte
+byteRead (got b rest) = Byte b
+
+-- An entry that was read
+abbrev pub entryRead : Reading Cell → EntryRead
+entryRead none = NoEntry
+entryRead (got c rest) = Read (c .entry)
+
+-- The cells of some entries that were read
+abbrev pub cellsRead : Reading (List Cell) → CellsRead
+cellsRead none = record { good = false; cells = replicate 8 noCell }
+cellsRead (got cells rest) = record { good = true; cells = cells }
+
+-- No rows
+abbrev pub noRowsRead : RowsRead
+noRowsRead = record { good = false; relations = replicate 12 0; cells = replicate 96 noCell }
+
+-- The rows that were read
+abbrev pub rowsRead : Reply (List (ℕ × List Cell)) → RowsRead
+rowsRead (gives rs) = record { good = true; relations = map (λ r. r .0) rs; cells = flat rs }
+rowsRead (refused n) = noRowsRead
+
+-- No query
+abbrev pub noQueryRead : QueryRead
+noQueryRead = record { good = false; query = noQuery }
+
+-- The query that was read
+abbrev pub queryRead : Reply Query → QueryRead
+queryRead (gives q) = record { good = true; query = q }
+queryRead (refused n) = noQueryRead
+
+-- No relations
+abbrev pub noRelations : RelationsRead
+noRelations = record { good = false; count = 0; widths = replicate 8 0 }
+
+-- The relations of part 0
+abbrev pub relationsRead : Reply (ℕ × List ℕ) → RelationsRead
+relationsRead (gives rs) = record { good = true; count = rs .0; widths = rs .1 }
+relationsRead (refused n) = noRelations
+
+-- A dependency that was read
+abbrev pub dependencyRead : Reading Dependency → DependencyRead
+dependencyRead none = NoDependency
+dependencyRead (got d rest) = Found d
+
+-- No dependencies
+abbrev pub noDependencies : DependenciesRead
+noDependencies = record { good = false; held = 0; dependencies = replicate 32 noDependency }
+
+-- The dependencies of part 1
+abbrev pub dependenciesRead : Reply (ℕ × List Dependency) → DependenciesRead
+dependenciesRead (gives ds) = record { good = true; held = ds .0; dependencies = ds .1 }
+dependenciesRead (refused n) = noDependencies

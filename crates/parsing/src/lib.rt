@@ -1,0 +1,382 @@
+// What the parts of a file hold, read off bytes: numbers, then the query of a query part, the relations of part 0 and the dependencies of part 1.
+use query::Cell;
+use query::Dependency;
+use query::Entry;
+use query::Query;
+ghost use mathlib.Core.Path.{_≡_};
+ghost use mathlib.Core.Bool.{true};
+ghost use Prim.Native.Nat.{_+_, _≤_, _<_};
+ghost use lib.ListN.{length, take, drop};
+ghost use Rattle.lists.specs.Tests.{between};
+ghost use Rattle.query.specs.Rule.{goodRelations};
+ghost use Rattle.refusals.specs.Refusals.{badDependency, badQuery, badRelations};
+ghost use Rattle.format.specs.Bytes.{number};
+ghost use Rattle.format.specs.Format.{getByte};
+ghost use Rattle.format.specs.Parts.{entry, entries, rows, query, relations, dependency, dependencies};
+ghost use Rattle.format.specs.File.{complete};
+ghost use Rattle.parsing.specs.internal.Read.{byteRead, entryRead, cellsRead, noRowsRead, rowsRead, noQueryRead, queryRead};
+ghost use Rattle.parsing.specs.internal.Read.{noRelations, relationsRead, dependencyRead, noDependencies, dependenciesRead};
+
+// ---- numbers and bytes
+
+// A byte as a wider number.
+fn wide(b: u8) -> u32
+    ensures { λ r. ⌜ (r ≡ b) × (r < 256) ⌝ }
+{
+    b as u32
+}
+
+// The 16 bits at a position.
+pub fn word16(s: &[u8], at: usize) -> u32
+    requires { ⌜ at + 2 ≤ length (now s) ⌝ }
+    ensures { λ r. ⌜ (r ≡ number 2 (drop at (now (s .entry)))) × (r < 65536) ⌝ }
+{
+    let low = wide(s[at]);
+    let high = wide(s[at + 1]);
+    low + 256 * high
+}
+
+// The 32 bits at a position.
+fn word32(s: &[u8], at: usize) -> u32
+    requires { ⌜ at + 4 ≤ length (now s) ⌝ }
+    ensures { λ r. ⌜ r ≡ number 4 (drop at (now (s .entry))) ⌝ }
+{
+    let low = word16(s, at);
+    let high = word16(s, at + 2);
+    low + 65536 * high
+}
+
+// A byte within limits, or none.
+pub enum ByteRead {
+    Byte(u8),
+    NoByte,
+}
+
+// The byte at a position, if there is one and it is within limits.
+pub fn read_byte(s: &[u8], at: usize, low: u8, high: u8) -> ByteRead
+    ensures { λ r. ⌜ r ≡ byteRead (getByte (between low high) (drop at (now (s .entry)))) ⌝ }
+{
+    if s.len() <= at {
+        return ByteRead::NoByte;
+    }
+    let b = s[at];
+    if b < low {
+        return ByteRead::NoByte;
+    }
+    if high < b {
+        return ByteRead::NoByte;
+    }
+    ByteRead::Byte(b)
+}
+
+// ---- entries
+
+// An entry, or none.
+pub enum EntryRead {
+    Read(Entry),
+    NoEntry,
+}
+
+// The entry at a position: a byte (0 constant, 1 variable) and 32 bits.
+fn read_entry(s: &[u8], at: usize) -> EntryRead
+    ensures { λ r. ⌜ r ≡ entryRead (entry .get (drop at (now (s .entry)))) ⌝ }
+{
+    if s.len() < at {
+        return EntryRead::NoEntry;
+    }
+    if s.len() - at < 5 {
+        return EntryRead::NoEntry;
+    }
+    let tag = s[at];
+    let n = word32(s, at + 1);
+    if tag == 0 {
+        if 2147483647 < n {
+            return EntryRead::NoEntry;
+        }
+        return EntryRead::Read(Entry::Constant(n));
+    }
+    if tag == 1 {
+        if 95 < n {
+            return EntryRead::NoEntry;
+        }
+        return EntryRead::Read(Entry::Variable(n as u8));
+    }
+    EntryRead::NoEntry
+}
+
+// Entries in 8 cells.
+pub struct CellsRead {
+    pub good: bool,
+    pub cells: [Cell; 8],
+}
+
+// The n entries from a position on.
+fn read_entries(s: &[u8], at: usize, n: usize) -> CellsRead
+    requires { ⌜ at ≤ length (now s) ⌝ }
+    requires { ⌜ n ≤ 8 ⌝ }
+    ensures { λ r. ⌜ r ≡ cellsRead (entries n .get (drop at (now (s .entry)))) ⌝ }
+{
+    let mut cells = [Cell {
+        entry: Entry::Constant(0),
+    }; 8];
+    for i in 0..n {
+        match read_entry(s, at + 5 * i) {
+            EntryRead::Read(e) => {
+                cells[i] = Cell { entry: e };
+            }
+            EntryRead::NoEntry => {
+                return CellsRead {
+                    good: false,
+                    cells: [Cell {
+                        entry: Entry::Constant(0),
+                    }; 8],
+                };
+            }
+        }
+    }
+    CellsRead { good: true, cells }
+}
+
+// ---- rows
+
+// The relations and cells of some rows.
+pub struct RowsRead {
+    pub good: bool,
+    pub relations: [u8; 12],
+    pub cells: [Cell; 96],
+}
+
+// No rows.
+fn no_rows() -> RowsRead
+    ensures { λ r. ⌜ r ≡ noRowsRead ⌝ }
+{
+    RowsRead {
+        good: false,
+        relations: [0; 12],
+        cells: [Cell {
+            entry: Entry::Constant(0),
+        }; 96],
+    }
+}
+
+// The rows from a position to the end of the part: for each the relation byte and one entry a column, which are stored where they belong.
+fn read_rows(part: &[u8], start: usize, size: usize, count: u8, widths: [u8; 8]) -> RowsRead
+    requires { ⌜ goodRelations count widths ≡ true ⌝ }
+    requires { ⌜ start ≤ length (now part) ⌝ }
+    requires { ⌜ size ≤ 12 ⌝ }
+    ensures { λ r. ⌜ r ≡ rowsRead (complete badQuery (rows (take count widths) size .get (drop start (now (part .entry))))) ⌝ }
+{
+    let mut relations = [0; 12];
+    let mut cells = [Cell {
+        entry: Entry::Constant(0),
+    }; 96];
+    let mut at = start;
+    for r in 0..size {
+        if part.len() <= at {
+            return no_rows();
+        }
+        let relation = part[at];
+        if count <= relation {
+            return no_rows();
+        }
+        let width = widths[relation as usize] as usize;
+        for i in 0..width {
+            match read_entry(part, at + 1 + 5 * i) {
+                EntryRead::Read(e) => {
+                    cells[8 * r + i] = Cell { entry: e };
+                }
+                EntryRead::NoEntry => {
+                    return no_rows();
+                }
+            }
+        }
+        relations[r] = relation;
+        at = at + 1 + 5 * width;
+    }
+    if at < part.len() {
+        return no_rows();
+    }
+    RowsRead {
+        good: true,
+        relations,
+        cells,
+    }
+}
+
+// ---- query parts
+
+// A query.
+pub struct QueryRead {
+    pub good: bool,
+    pub query: Query,
+}
+
+// No query.
+fn no_query_read() -> QueryRead
+    ensures { λ r. ⌜ r ≡ noQueryRead ⌝ }
+{
+    QueryRead {
+        good: false,
+        query: query::no_query(),
+    }
+}
+
+// A part that is a query: head length, row count, head entries, then rows.
+pub fn read_query(part: &[u8], count: u8, widths: [u8; 8]) -> QueryRead
+    requires { ⌜ goodRelations count widths ≡ true ⌝ }
+    ensures { λ r. ⌜ r ≡ queryRead (complete badQuery (query (take count widths) .get (now (part .entry)))) ⌝ }
+{
+    let ByteRead::Byte(arity) = read_byte(part, 0, 0, 8) else {
+        return no_query_read();
+    };
+    let ByteRead::Byte(size) = read_byte(part, 1, 0, 12) else {
+        return no_query_read();
+    };
+    let used = limits::head_in_use(arity, size);
+    let front = read_entries(part, 2, used);
+    if !front.good {
+        return no_query_read();
+    }
+    let rows = read_rows(part, 2 + 5 * used, size as usize, count, widths);
+    if !rows.good {
+        return no_query_read();
+    }
+    let head = front.cells;
+    let relations = rows.relations;
+    let cells = rows.cells;
+    let query = Query {
+        arity,
+        size,
+        head,
+        relations,
+        cells,
+    };
+    QueryRead { good: true, query }
+}
+
+// ---- part 0: relations
+
+// The count of relations and their widths.
+pub struct RelationsRead {
+    pub good: bool,
+    pub count: u8,
+    pub widths: [u8; 8],
+}
+
+// No relations.
+fn no_relations() -> RelationsRead
+    ensures { λ r. ⌜ r ≡ noRelations ⌝ }
+{
+    RelationsRead {
+        good: false,
+        count: 0,
+        widths: [0; 8],
+    }
+}
+
+// Part 0: the count of relations, then a width byte each. A part that is too short or has a bad byte is told in the loop, one that is too long after it.
+pub fn read_relations(part: &[u8]) -> RelationsRead
+    ensures { λ r. ⌜ r ≡ relationsRead (complete badRelations (relations .get (now (part .entry)))) ⌝ }
+{
+    let ByteRead::Byte(count) = read_byte(part, 0, 1, 8) else {
+        return no_relations();
+    };
+    let n = count as usize;
+    let mut widths = [0; 8];
+    for i in 0..n {
+        let ByteRead::Byte(width) = read_byte(part, 1 + i, 1, 8) else {
+            return no_relations();
+        };
+        widths[i] = width;
+    }
+    if 1 + n < part.len() {
+        return no_relations();
+    }
+    RelationsRead {
+        good: true,
+        count,
+        widths,
+    }
+}
+
+// ---- part 1: dependencies
+
+// A dependency, or none.
+pub enum DependencyRead {
+    Found(Dependency),
+    NoDependency,
+}
+
+// The dependency at a position: relation, left set and right column, a byte each.
+fn read_dependency(part: &[u8], at: usize, count: u8, widths: [u8; 8]) -> DependencyRead
+    requires { ⌜ goodRelations count widths ≡ true ⌝ }
+    ensures { λ r. ⌜ r ≡ dependencyRead (dependency (take count widths) .get (drop at (now (part .entry)))) ⌝ }
+{
+    if part.len() < at {
+        return DependencyRead::NoDependency;
+    }
+    if part.len() - at < 3 {
+        return DependencyRead::NoDependency;
+    }
+    let d = Dependency {
+        relation: part[at],
+        left: part[at + 1],
+        right: part[at + 2],
+    };
+    if limits::dependency_good(count, widths, d) {
+        return DependencyRead::Found(d);
+    }
+    DependencyRead::NoDependency
+}
+
+// The number of dependencies and the dependencies.
+pub struct DependenciesRead {
+    pub good: bool,
+    pub held: u8,
+    pub dependencies: [Dependency; 32],
+}
+
+// No dependencies.
+fn no_dependencies() -> DependenciesRead
+    ensures { λ r. ⌜ r ≡ noDependencies ⌝ }
+{
+    DependenciesRead {
+        good: false,
+        held: 0,
+        dependencies: [Dependency {
+            relation: 0,
+            left: 0,
+            right: 0,
+        }; 32],
+    }
+}
+
+// Part 1: the count of dependencies, then 3 bytes each. A part that is too short or has a bad dependency is told in the loop, one that is too long after it.
+pub fn read_dependencies(part: &[u8], count: u8, widths: [u8; 8]) -> DependenciesRead
+    requires { ⌜ goodRelations count widths ≡ true ⌝ }
+    ensures { λ r. ⌜ r ≡ dependenciesRead (complete badDependency (dependencies (take count widths) .get (now (part .entry)))) ⌝ }
+{
+    let ByteRead::Byte(held) = read_byte(part, 0, 0, 32) else {
+        return no_dependencies();
+    };
+    let n = held as usize;
+    let mut dependencies = [Dependency {
+        relation: 0,
+        left: 0,
+        right: 0,
+    }; 32];
+    for i in 0..n {
+        let DependencyRead::Found(d) = read_dependency(part, 1 + 3 * i, count, widths) else {
+            return no_dependencies();
+        };
+        dependencies[i] = d;
+    }
+    if 1 + 3 * n < part.len() {
+        return no_dependencies();
+    }
+    DependenciesRead {
+        good: true,
+        held,
+        dependencies,
+    }
+}

@@ -1,2 +1,0 @@
--- What functions of this crate alone cite.
-pub mod Pieces
