@@ -2,10 +2,10 @@
 -- Assumes nothing.
 use mathlib.Core.Path.{sym}
 use borrow.Author.Tests.{lt-ltb, le-ltb}
-use Rattle.testing.proofs.earlier.Statement.{statement}
-use Rattle.testing.proofs.earlier.Tie as tie
-use Rattle.testing.proofs.earlier.Reads as reads
-use Rattle.testing.proofs.earlier.Lts as lts
+use Rattle.leaders.proofs.earlier.Statement.{statement}
+use Rattle.leaders.proofs.earlier.Tie as tie
+use Rattle.leaders.proofs.earlier.Reads as reads
+use Rattle.leaders.proofs.earlier.Lts as lts
 
 returns : tie.Need-returns
 returns c = sym (simp (lt-ltb _ _ (c .if1 .taken)))

@@ -14,9 +14,9 @@ use Rattle.chains.proofs.Chains.{last-le, last-none, last-key}
 use Rattle.words.specs.Words.{spanAt}
 use Rattle.words.specs.Testing.{agreeRows}
 use Rattle.words.proofs.Obeys.{agree-all}
-use Rattle.testing.specs.internal.Hash.{bucketOf}
-use Rattle.testing.specs.internal.Table.{keyOf, Table}
-use Rattle.testing.proofs.Hashes.{hash-agree}
+use Rattle.leaders.specs.internal.Hash.{bucketOf}
+use Rattle.leaders.specs.internal.Table.{keyOf, Table}
+use Rattle.leaders.proofs.Hashes.{hash-agree}
 
 module _ (width : ℕ) (words : List ℕ) (d : Dependency) (heads links offsets : List ℕ) (count at b : ℕ) where
   -- the node is the end of the chain or of the row's bucket, and no leader from there on agrees with the row

@@ -19,14 +19,14 @@ use Rattle.words.specs.Testing.{agreeRows, firstPairFrom}
 use Rattle.words.specs.internal.Found.{From}
 use Rattle.words.proofs.Spelling.{next-row}
 use Rattle.words.proofs.Obeys.{agree-true, agree-all}
-use Rattle.testing.specs.internal.Hash.{bucketOf}
-use Rattle.testing.specs.internal.Table.{keyOf}
+use Rattle.leaders.specs.internal.Hash.{bucketOf}
+use Rattle.leaders.specs.internal.Table.{keyOf}
 use Rattle.words.specs.Broken.{nthRow}
-use Rattle.testing.specs.internal.Walked.{Placed, Member, Room, Walked, earlierOf, Skips}
-use Rattle.testing.specs.declared.Position.{Position}
-use Rattle.testing.specs.declared.Walk.{Walk}
-use Rattle.testing.proofs.Hashes.{span-value}
-use Rattle.testing.proofs.Leading.{groups-start, groups-other, groups-member, groups-full, groups-new, pairs-skip}
+use Rattle.leaders.specs.internal.Walked.{Placed, Member, Room, Walked, earlierOf, Skips}
+use Rattle.leaders.specs.declared.Position.{Position}
+use Rattle.leaders.specs.declared.Walk.{Walk}
+use Rattle.leaders.proofs.Hashes.{span-value}
+use Rattle.leaders.proofs.Leading.{groups-start, groups-other, groups-member, groups-full, groups-new, pairs-skip}
 
 -- there are no more rows than words
 rows-few : (schema : List ℕ) (due : ℕ) (words : List ℕ) → length (rowsFrom schema due words) ≤ length words

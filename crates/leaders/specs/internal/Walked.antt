@@ -10,10 +10,10 @@ use Rattle.query.specs.declared.Dependency.{Dependency}
 use Rattle.words.specs.Words.{rowsOf}
 use Rattle.words.specs.Testing.{firstPairFrom}
 use Rattle.words.specs.internal.Found.{From}
-use Rattle.testing.specs.internal.Table.{Table}
-use Rattle.testing.specs.internal.Groups.{Groups}
-use Rattle.testing.specs.declared.Position.{Position}
-use Rattle.testing.specs.declared.Walk.{Walk}
+use Rattle.leaders.specs.internal.Table.{Table}
+use Rattle.leaders.specs.internal.Groups.{Groups}
+use Rattle.leaders.specs.declared.Position.{Position}
+use Rattle.leaders.specs.declared.Walk.{Walk}
 
 -- The row at `at` is the row at position n, or the words end at `at` and there are no more than n rows
 pub record Placed (schema words : List ℕ) (at n : ℕ) : Type 0 where

@@ -10,7 +10,7 @@ use Rattle.theory.specs.Database.{Agree}
 use Rattle.query.specs.View.{columnsFrom, columnsOf}
 use Rattle.words.specs.Words.{spanAt}
 use Rattle.words.proofs.Columns.{columns-short, columns-set, columns-clear}
-use Rattle.testing.specs.internal.Hash.{hashFrom}
+use Rattle.leaders.specs.internal.Hash.{hashFrom}
 
 -- rows with the same values in the columns have the same hash
 pub hash-agree : (cs : List ℕ) (h : ℕ) (r s : Row ℕ) → Agree 0 cs r s → hashFrom cs h r ≡ hashFrom cs h s

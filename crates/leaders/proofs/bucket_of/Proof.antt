@@ -8,11 +8,11 @@ use native.Mathlib.Omega.{arith}
 use lib.ListN.{getD}
 use Rattle.query.specs.View.{columnsOf}
 use Rattle.words.specs.Words.{spanAt}
-use Rattle.testing.specs.internal.Hash.{hashFrom}
-use Rattle.testing.proofs.Hashes.{hashAt, hash-start, hash-skip, hash-mix, hash-end}
+use Rattle.leaders.specs.internal.Hash.{hashFrom}
+use Rattle.leaders.proofs.Hashes.{hashAt, hash-start, hash-skip, hash-mix, hash-end}
 use borrow.Author.Needs.{needs}
-use Rattle.testing.proofs.bucket_of.Statement.{statement}
-use Rattle.testing.proofs.bucket_of.Tie as tie
+use Rattle.leaders.proofs.bucket_of.Statement.{statement}
+use Rattle.leaders.proofs.bucket_of.Tie as tie
 
 abbrev Inv-loop : tie.InvT-loop
 Inv-loop words width a buckets h₀ left₀ c₀ h left c = (c ≤ width) × (h < 4294967296) × (hashAt width words a 0 left₀ 0 ≡ hashAt width words a c left h)

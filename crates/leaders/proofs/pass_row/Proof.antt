@@ -4,16 +4,16 @@ use mathlib.Core.Path.{_≡_, subst}
 use Prim.Native.Nat.{ℕ, _≤_, _-_, _+_, _<_}
 use native.Mathlib.Omega.{arith}
 use lib.ListN.{length, getD}
-use Rattle.testing.specs.internal.Table.{Led}
-use Rattle.testing.specs.declared.Leader.{Leader}
-use Rattle.testing.proofs.Passing.{member-room, walked-same, walked-differ, walked-full, walked-new}
+use Rattle.leaders.specs.internal.Table.{Led}
+use Rattle.leaders.specs.declared.Leader.{Leader}
+use Rattle.leaders.proofs.Passing.{member-room, walked-same, walked-differ, walked-full, walked-new}
 use borrow.Author.Needs.{needs}
-use Rattle.testing.proofs.pass_row.Statement.{statement}
-use Rattle.testing.proofs.pass_row.Tie as tie
+use Rattle.leaders.proofs.pass_row.Statement.{statement}
+use Rattle.leaders.proofs.pass_row.Tie as tie
 use Rattle.chains.proofs.push.Reads as push-reads
-use Rattle.testing.proofs.bucket_of.Reads as bucket-of-reads
-use Rattle.testing.proofs.earlier.Reads as earlier-reads
-use Rattle.testing.proofs.leader_of.Reads as leader-of-reads
+use Rattle.leaders.proofs.bucket_of.Reads as bucket-of-reads
+use Rattle.leaders.proofs.earlier.Reads as earlier-reads
+use Rattle.leaders.proofs.leader_of.Reads as leader-of-reads
 
 cast-index : tie.Need-cast-index
 cast-index c = search needs

@@ -4,10 +4,10 @@ use mathlib.Core.Path.{_≡_, sym, _∙_}
 use Prim.Native.Nat.{suc, _≤_, _-_, _<_}
 use native.Mathlib.Omega.{arith}
 use lib.ListN.{getD}
-use Rattle.testing.proofs.Following.{Following, follow-start, link-le, follow-next}
+use Rattle.leaders.proofs.Following.{Following, follow-start, link-le, follow-next}
 use borrow.Author.Needs.{needs}
-use Rattle.testing.proofs.leader_of.Statement.{statement}
-use Rattle.testing.proofs.leader_of.Tie as tie
+use Rattle.leaders.proofs.leader_of.Statement.{statement}
+use Rattle.leaders.proofs.leader_of.Tie as tie
 use Rattle.words.proofs.agrees_at.Reads as agrees-at-reads
 
 abbrev Inv-loop : tie.InvT-loop

@@ -13,7 +13,7 @@ use Rattle.theory.specs.Database.{Database, Dependency, Agree}
 use Rattle.theory.specs.Chase.{orElse, mapFound, firstPassing, firstPair}
 use Rattle.words.specs.Testing.{numberedFrom, breaksWith, firstPairFrom}
 use Rattle.words.proofs.Obeys.{kept-breaks}
-use Rattle.testing.specs.internal.Groups.{Keeps, Groups}
+use Rattle.leaders.specs.internal.Groups.{Keeps, Groups}
 use Rattle.words.specs.Broken.{nthRow}
 
 module _ (d : Dependency) (D : Database) where

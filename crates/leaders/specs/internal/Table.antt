@@ -9,9 +9,9 @@ use Rattle.query.specs.declared.Dependency.{Dependency}
 use Rattle.chains.specs.Chains.{Chained}
 use Rattle.words.specs.Words.{spanAt}
 use Rattle.words.specs.Testing.{agreeRows}
-use Rattle.testing.specs.internal.Hash.{bucketOf}
-use Rattle.testing.specs.declared.Leader.{Leader}
-use Rattle.testing.specs.declared.Leader.the-variants as leader
+use Rattle.leaders.specs.internal.Hash.{bucketOf}
+use Rattle.leaders.specs.declared.Leader.{Leader}
+use Rattle.leaders.specs.declared.Leader.the-variants as leader
 
 -- The bucket of leader s
 abbrev pub keyOf : ℕ → List ℕ → Dependency → ℕ → List ℕ → ℕ → ℕ

@@ -5,13 +5,13 @@ use mathlib.Core.Logic.{⊎-elim}
 use Prim.Native.Nat.{_-_, _+_, _<_}
 use native.Mathlib.Omega.{arith}
 use lib.ListN.{length}
-use Rattle.testing.specs.internal.Walked.{Placed, Walked}
-use Rattle.testing.proofs.Passing.{placed-start, placed-next, walked-start, walked-other, walked-cast, walked-end}
+use Rattle.leaders.specs.internal.Walked.{Placed, Walked}
+use Rattle.leaders.proofs.Passing.{placed-start, placed-next, walked-start, walked-other, walked-cast, walked-end}
 use borrow.Author.Needs.{needs}
-use Rattle.testing.proofs.skip.Statement.{statement}
-use Rattle.testing.proofs.skip.Tie as tie
+use Rattle.leaders.proofs.skip.Statement.{statement}
+use Rattle.leaders.proofs.skip.Tie as tie
 use Rattle.chains.proofs.clear.Reads as clear-reads
-use Rattle.testing.proofs.pass_row.Reads as pass-row-reads
+use Rattle.leaders.proofs.pass_row.Reads as pass-row-reads
 use Rattle.words.proofs.next.Reads as next-reads
 
 abbrev Inv-loop : tie.InvT-loop
