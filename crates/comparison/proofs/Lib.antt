@@ -3,3 +3,4 @@ pub mod Pairs
 pub mod Verdicts
 pub mod Answers
 pub mod Checks
+pub mod Meaning

@@ -95,7 +95,7 @@ contained-apart e = let z : _≡_ {A = ℕ} 0 1 = cc in omega arith
 refused-contained : (n : ℕ) → Refused n ≡ Contained → ⊥
 refused-contained n e = let z : _≡_ {A = ℕ} 0 1 = cc in omega arith
 
-refused-apart : (n : ℕ) → Refused n ≡ Apart → ⊥
+pub refused-apart : (n : ℕ) → Refused n ≡ Apart → ⊥
 refused-apart n e = let z : _≡_ {A = ℕ} 0 1 = cc in omega arith
 
 -- ---- the cases

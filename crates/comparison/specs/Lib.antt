@@ -1,3 +1,4 @@
--- What comparing two places and checking a mapping promise. Below `internal`: what the functions behind them do.
+-- What comparing two places and checking a mapping promise (Comparison), and what that comes to (Meaning). Below `internal`: what the functions behind them do.
 pub mod Comparison
+pub mod Meaning
 pub mod internal

@@ -1,3 +1,4 @@
--- What the calls on a database answer.
+-- What the calls on a database answer (Calls), and what that comes to (Meaning). `internal` is this crate's own.
 pub mod Calls
 pub mod Meaning
+pub mod internal

@@ -1,7 +1,7 @@
 // The calls of SPECIFICATION for programs in other languages, on numbers, bytes and words: a record is the bytes of its file, in and out.
 // Each returns 0, or the number of the refusal, which leaves every buffer and number that it is lent as it was.
 use database::Answered;
-use database::Verdict;
+use database::Conformance;
 use record::Answer;
 ghost use mathlib.Core.Path.{_≡_};
 ghost use lib.ListN.{length};
@@ -165,21 +165,21 @@ pub extern "C" fn spernevan_test(
             let given = outcome.record;
             let found = database::test(given, words);
             match found {
-                Verdict::Obeys => {
+                Conformance::Obeys => {
                     *obeys = 1;
                     *dependency = 0;
                     *first = 0;
                     *second = 0;
                     0
                 }
-                Verdict::Broken(k, i, j) => {
+                Conformance::Broken(k, i, j) => {
                     *obeys = 0;
                     *dependency = k;
                     *first = i;
                     *second = j;
                     0
                 }
-                Verdict::Refused(n) => n,
+                Conformance::Refused(n) => n,
             }
         }
         Answer::Refused(n) => n,

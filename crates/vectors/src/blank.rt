@@ -112,9 +112,9 @@ fn determined(relation: u8, left: u8) -> u8 {
 fn test(words: &[u32]) -> u8 {
     let found = database::test(blank_record(), words);
     match found {
-        database::Verdict::Obeys => 0,
-        database::Verdict::Broken(_, _, _) => 0,
-        database::Verdict::Refused(n) => n,
+        database::Conformance::Obeys => 0,
+        database::Conformance::Broken(_, _, _) => 0,
+        database::Conformance::Refused(n) => n,
     }
 }
 

@@ -12,12 +12,12 @@ use Rattle.words.specs.Words.{spellsRows, rowsOf}
 use Rattle.words.specs.Testing.{firstPairFrom}
 use Rattle.words.specs.internal.Found.{pairOf, From}
 use Rattle.words.proofs.Search.{pair-found, pair-later, pair-other, pair-end}
-use Rattle.testing.specs.internal.Walked.{Room, Skips}
-use Rattle.testing.proofs.Passing.{rest-all, skips-on}
+use Rattle.leaders.specs.internal.Walked.{Room, Skips}
+use Rattle.leaders.proofs.Passing.{rest-all, skips-on}
 use borrow.Author.Needs.{needs}
 use Rattle.testing.proofs.first_pair.Statement.{statement}
 use Rattle.testing.proofs.first_pair.Tie as tie
-use Rattle.testing.proofs.skip.Reads as skip-reads
+use Rattle.leaders.proofs.skip.Reads as skip-reads
 use Rattle.words.proofs.first_partner.Reads as first-partner-reads
 use Rattle.words.proofs.next.Reads as next-reads
 

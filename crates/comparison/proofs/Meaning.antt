@@ -1,0 +1,106 @@
+-- The statements of `specs/Meaning`. Assumes nothing.
+use mathlib.Core.Path.{_≡_, refl, sym, _∙_}
+use mathlib.Core.Logic.{_⊎_, inl, inr, ⊎-elim}
+use mathlib.Core.List.{List}
+use mathlib.Core.Option.{Option, none, some}
+use Prim.Native.Nat.{ℕ}
+use native.Mathlib.Omega.{arith}
+use Rattle.theory.specs.Answer.{IsMapping}
+use Rattle.query.specs.declared.Cell.{Cell}
+use Rattle.query.specs.View.{imagesOf}
+use Rattle.query.specs.Meaning.{Sized}
+use Rattle.query.proofs.Meaning.{stored-unique}
+use Rattle.record.specs.declared.Record.{Record}
+use Rattle.record.specs.View.{schemaOf}
+use Rattle.record.specs.Calls.{queryAt}
+use Rattle.comparison.specs.declared.Verdict.{Verdict}
+use Rattle.comparison.specs.declared.Verdict.the-variants as verdict
+use Rattle.comparison.specs.declared.Comparison.{Comparison}
+use Rattle.comparison.specs.declared.Checked.{Checked}
+use Rattle.comparison.specs.declared.Checked.the-variants.{Yes, No, Refused}
+use Rattle.comparison.specs.Comparison.{pairRefusal, verdictOf, Compared, CheckedMapping}
+use Rattle.comparison.specs.Meaning.{CheckMeans, CheckDenies, ComparedOnce}
+use Rattle.comparison.proofs.Checks.{checked-refused, checked-decided}
+use Rattle.comparison.proofs.Verdicts.{queries, refused-apart}
+
+-- ---- checking a mapping
+
+-- The answers of a check are different
+yes-no : Yes ≡ No → ⊥
+yes-no e = let z : _≡_ {A = ℕ} 0 1 = cc in omega arith
+
+yes-refused : (n : ℕ) → Yes ≡ Refused n → ⊥
+yes-refused n e = let z : _≡_ {A = ℕ} 0 1 = cc in omega arith
+
+no-refused : (n : ℕ) → No ≡ Refused n → ⊥
+no-refused n e = let z : _≡_ {A = ℕ} 0 1 = cc in omega arith
+
+module _ (r : Record) (p q : ℕ) (images : List Cell) (c : Checked) (is : CheckedMapping r p q images c) where
+  says-yes : c ≡ Yes → (pairRefusal r p q ≡ none) × IsMapping (queryAt r q) (queryAt r p) (imagesOf images)
+  says-yes y = go (pairRefusal r p q) refl
+    where
+      go : (o : Option ℕ) → pairRefusal r p q ≡ o → (pairRefusal r p q ≡ none) × IsMapping (queryAt r q) (queryAt r p) (imagesOf images)
+      go none e =
+          ⊎-elim (λ (h : (c ≡ Yes) × IsMapping (queryAt r q) (queryAt r p) (imagesOf images)). (e, h .1))
+          (λ (h : (c ≡ No) × (IsMapping (queryAt r q) (queryAt r p) (imagesOf images) → ⊥)). absurd (yes-no (sym y ∙ h .0)))
+          (checked-decided r p q images c is e)
+      go (some n) e = absurd (yes-refused n (sym y ∙ checked-refused r p q images c is n e))
+
+  says-no : c ≡ No → (pairRefusal r p q ≡ none) × (IsMapping (queryAt r q) (queryAt r p) (imagesOf images) → ⊥)
+  says-no y = go (pairRefusal r p q) refl
+    where
+      go : (o : Option ℕ) → pairRefusal r p q ≡ o → (pairRefusal r p q ≡ none) × (IsMapping (queryAt r q) (queryAt r p) (imagesOf images) → ⊥)
+      go none e =
+          ⊎-elim (λ (h : (c ≡ Yes) × IsMapping (queryAt r q) (queryAt r p) (imagesOf images)). absurd (yes-no (sym (h .0) ∙ y)))
+          (λ (h : (c ≡ No) × (IsMapping (queryAt r q) (queryAt r p) (imagesOf images) → ⊥)). (e, h .1))
+          (checked-decided r p q images c is e)
+      go (some n) e = absurd (no-refused n (sym y ∙ checked-refused r p q images c is n e))
+
+  is-yes : (pairRefusal r p q ≡ none) × IsMapping (queryAt r q) (queryAt r p) (imagesOf images) → c ≡ Yes
+  is-yes both =
+      ⊎-elim (λ (h : (c ≡ Yes) × IsMapping (queryAt r q) (queryAt r p) (imagesOf images)). h .0)
+      (λ (h : (c ≡ No) × (IsMapping (queryAt r q) (queryAt r p) (imagesOf images) → ⊥)). absurd (h .1 (both .1)))
+      (checked-decided r p q images c is (both .0))
+
+  is-no : (pairRefusal r p q ≡ none) × (IsMapping (queryAt r q) (queryAt r p) (imagesOf images) → ⊥) → c ≡ No
+  is-no both =
+      ⊎-elim (λ (h : (c ≡ Yes) × IsMapping (queryAt r q) (queryAt r p) (imagesOf images)). absurd (both .1 (h .1)))
+      (λ (h : (c ≡ No) × (IsMapping (queryAt r q) (queryAt r p) (imagesOf images) → ⊥)). h .0)
+      (checked-decided r p q images c is (both .0))
+
+pub check-means : CheckMeans
+check-means r p q images c is = (says-yes r p q images c is, is-yes r p q images c is)
+
+pub check-denies : CheckDenies
+check-denies r p q images c is = (says-no r p q images c is, is-no r p q images c is)
+
+-- ---- comparing
+
+-- Whether a verdict is that the queries are apart
+apart-or-not : (v : Verdict) → (v ≡ verdict.Apart) ⊎ (v ≡ verdict.Apart → ⊥)
+apart-or-not verdict.Never = inr (λ e. let z : _≡_ {A = ℕ} 0 1 = cc in omega arith)
+apart-or-not verdict.Contained = inr (λ e. let z : _≡_ {A = ℕ} 0 1 = cc in omega arith)
+apart-or-not verdict.Apart = inl refl
+apart-or-not (verdict.Refused n) = inr (refused-apart n)
+
+-- Apart is never said of places that are refused
+apart-accepted : (r : Record) (p q : ℕ) → verdictOf r p q ≡ verdict.Apart → pairRefusal r p q ≡ none
+apart-accepted r p q h = go (pairRefusal r p q) refl
+  where
+    go : (o : Option ℕ) → pairRefusal r p q ≡ o → pairRefusal r p q ≡ none
+    go none e = e
+    go (some n) e = absurd (refused-apart n (sym (rw e) ∙ h))
+
+pub compared-once : ComparedOnce
+compared-once r p q c d sized-c sized-d is is′ =
+    let same : c .verdict ≡ d .verdict = is .verdict ∙ sym (is′ .verdict) in (
+      same,
+      ⊎-elim
+          (λ (a : c .verdict ≡ verdict.Apart).
+          let b : d .verdict ≡ verdict.Apart = sym same ∙ a in
+          let known = queries r p q (apart-accepted r p q (sym (is .verdict) ∙ a)) in
+          stored-unique (schemaOf r) (known .narrow) (c .query) (d .query) sized-c sized-d (is .chased a .1) (is′ .chased b .1)
+          (is .chased a .0 ∙ sym (is′ .chased b .0)))
+          (λ (a : c .verdict ≡ verdict.Apart → ⊥). is .no-query a ∙ sym (is′ .no-query (λ b. a (same ∙ b))))
+          (apart-or-not (c .verdict)),
+    )

@@ -1,0 +1,35 @@
+-- What the promises of the two calls come to. Each statement is proved in `proofs/Meaning`.
+use mathlib.Core.Path.{_≡_}
+use mathlib.Core.Logic.{_↔_}
+use mathlib.Core.List.{List}
+use mathlib.Core.Option.{none}
+use Prim.Native.Nat.{ℕ}
+use Rattle.theory.specs.Answer.{IsMapping}
+use Rattle.query.specs.declared.Cell.{Cell}
+use Rattle.query.specs.View.{imagesOf}
+use Rattle.query.specs.Meaning.{Sized}
+use Rattle.record.specs.declared.Record.{Record}
+use Rattle.record.specs.Calls.{queryAt}
+use Rattle.comparison.specs.declared.Comparison.{Comparison}
+use Rattle.comparison.specs.declared.Checked.{Checked}
+use Rattle.comparison.specs.declared.Checked.the-variants as checked
+use Rattle.comparison.specs.Comparison.{pairRefusal, Compared, CheckedMapping}
+
+-- Checking says yes exactly when the two places are not refused and the images are a mapping from q's query to p's, both as they are stored. A mapping takes
+-- each variable that q's query does not have to constant 0
+abbrev pub CheckMeans : Type 0
+CheckMeans =
+    (r : Record) (p q : ℕ) (images : List Cell) (c : Checked) → CheckedMapping r p q images c
+    → (c ≡ checked.Yes) ↔ ((pairRefusal r p q ≡ none) × IsMapping (queryAt r q) (queryAt r p) (imagesOf images))
+
+-- It says no exactly when they are not refused and the images are no such mapping
+abbrev pub CheckDenies : Type 0
+CheckDenies =
+    (r : Record) (p q : ℕ) (images : List Cell) (c : Checked) → CheckedMapping r p q images c
+    → (c ≡ checked.No) ↔ ((pairRefusal r p q ≡ none) × (IsMapping (queryAt r q) (queryAt r p) (imagesOf images) → ⊥))
+
+-- Two comparisons of the same places, with arrays as long as their types say, have the same verdict and the same query
+abbrev pub ComparedOnce : Type 0
+ComparedOnce =
+    (r : Record) (p q : ℕ) (c d : Comparison) → Sized (c .query) → Sized (d .query) → Compared r p q c → Compared r p q d
+    → (c .verdict ≡ d .verdict) × (c .query ≡ d .query)

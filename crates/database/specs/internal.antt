@@ -1,0 +1,2 @@
+-- What the private function promises.
+pub mod Answering
