@@ -1,11 +1,4 @@
 // The calls on the blank record, which no file stands for: they are made on the record itself, below the interface.
-use crate::buffers::BYTE;
-use crate::buffers::WORD;
-use crate::buffers::untouched;
-use crate::buffers::words_untouched;
-use crate::numbers::Fields;
-use crate::numbers::list;
-use crate::numbers::number;
 use comparison::Checked;
 use database::Answered;
 use query::Cell;
@@ -15,6 +8,15 @@ use query::no_query;
 use record::Answer;
 use record::Columns;
 use record::calls::blank_record;
+use vector::buffers::BYTE;
+use vector::buffers::WORD;
+use vector::buffers::untouched;
+use vector::buffers::words_untouched;
+use vector::numbers::Fields;
+use vector::numbers::amount;
+use vector::numbers::byte;
+use vector::numbers::list;
+use vector::numbers::number;
 use writer::Written;
 
 // The number of an answer.
@@ -134,34 +136,28 @@ fn evaluate(place: usize, words: &[u32], room: usize) -> u8 {
     }
 }
 
-// A byte among the inputs.
-fn byte(v: &[u32], f: Fields, k: usize) -> u8 {
-    (number(v, f.inputs, k) % 256) as u8
-}
-
-// A place or a length among the inputs.
-fn input(v: &[u32], f: Fields, k: usize) -> usize {
-    number(v, f.inputs, k) as usize
-}
-
 // The number with which a call on the blank record is refused. The chase has no call of its own: reducing begins with it.
 fn called(v: &[u32], f: Fields) -> u8 {
     match number(v, 0, 0) {
-        1 => write(input(v, f, 0)),
-        3 => add(byte(v, f, 0), byte(v, f, 1), byte(v, f, 2)),
-        4 => put(input(v, f, 0)),
-        5 => drop_place(input(v, f, 0)),
-        6 => reduce(input(v, f, 0), input(v, f, 1)),
-        7 => compare(input(v, f, 0), input(v, f, 1)),
-        8 => check(input(v, f, 0), input(v, f, 1)),
-        9 => determined(byte(v, f, 0), byte(v, f, 1)),
+        1 => write(amount(v, f.inputs, 0)),
+        3 => add(
+            byte(v, f.inputs, 0),
+            byte(v, f.inputs, 1),
+            byte(v, f.inputs, 2),
+        ),
+        4 => put(amount(v, f.inputs, 0)),
+        5 => drop_place(amount(v, f.inputs, 0)),
+        6 => reduce(amount(v, f.inputs, 0), amount(v, f.inputs, 1)),
+        7 => compare(amount(v, f.inputs, 0), amount(v, f.inputs, 1)),
+        8 => check(amount(v, f.inputs, 0), amount(v, f.inputs, 1)),
+        9 => determined(byte(v, f.inputs, 0), byte(v, f.inputs, 1)),
         10 => test(list(v, f.second)),
         11 => evaluate(
-            input(v, f, 0),
+            amount(v, f.inputs, 0),
             list(v, f.second),
-            number(v, f.room, 0) as usize,
+            amount(v, f.room, 0),
         ),
-        12 => reduce(input(v, f, 0), 0),
+        12 => reduce(amount(v, f.inputs, 0), 0),
         _ => 255,
     }
 }

@@ -1,26 +1,26 @@
 // Each call of the engine on the inputs of a vector, and whether it answers as the vector tells.
 // A vector's first list is the file of its record; the buffers that are lent hold a pattern, so that what a call leaves alone is seen.
-use crate::buffers::BYTE;
-use crate::buffers::SIZE;
-use crate::buffers::WORD;
-use crate::buffers::answered;
-use crate::buffers::begins;
-use crate::buffers::first;
-use crate::buffers::first_words;
-use crate::buffers::no_mapping;
-use crate::buffers::untouched;
-use crate::buffers::words_begin;
-use crate::buffers::words_untouched;
-use crate::numbers::Fields;
-use crate::numbers::list;
-use crate::numbers::number;
-use crate::reduced::kept;
-use crate::reduced::query_at;
-
-// A number of a vector that is a byte.
-fn byte(n: u32) -> u8 {
-    (n % 256) as u8
-}
+use query::Query;
+use record::Record;
+use vector::buffers::BYTE;
+use vector::buffers::SIZE;
+use vector::buffers::WORD;
+use vector::buffers::answered;
+use vector::buffers::begins;
+use vector::buffers::first;
+use vector::buffers::first_words;
+use vector::buffers::left_alone;
+use vector::buffers::no_mapping;
+use vector::buffers::untouched;
+use vector::buffers::words_begin;
+use vector::buffers::words_untouched;
+use vector::numbers::Fields;
+use vector::numbers::amount;
+use vector::numbers::byte;
+use vector::numbers::list;
+use vector::numbers::number;
+use vector::numbers::other_place;
+use vector::reduced::kept;
 
 // ---- files
 
@@ -39,7 +39,7 @@ pub fn read(v: &[u32], f: Fields, file: &[u8]) -> bool {
 // Writing into a buffer of the length that the vector has.
 pub fn write(v: &[u32], f: Fields, file: &[u8]) -> bool {
     let refusal = number(v, f.refusal, 0);
-    let room = number(v, f.inputs, 0) as usize;
+    let room = amount(v, f.inputs, 0);
     if 8192 < room {
         return false;
     }
@@ -52,7 +52,7 @@ pub fn write(v: &[u32], f: Fields, file: &[u8]) -> bool {
     if refusal != 0 {
         return true;
     }
-    size == number(v, f.told, 0) as usize
+    size == amount(v, f.told, 0)
 }
 
 // ---- the record
@@ -67,9 +67,9 @@ pub fn open(v: &[u32], f: Fields, widths: &[u8], told: &[u8]) -> bool {
 
 // Adding a dependency.
 pub fn add(v: &[u32], f: Fields, file: &[u8], told: &[u8]) -> bool {
-    let relation = byte(number(v, f.inputs, 0));
-    let left = byte(number(v, f.inputs, 1));
-    let right = byte(number(v, f.inputs, 2));
+    let relation = byte(v, f.inputs, 0);
+    let left = byte(v, f.inputs, 1);
+    let right = byte(v, f.inputs, 2);
     let mut out = [BYTE; 8192];
     let mut size = SIZE;
     let answer = interface::spernevan_add(file, relation, left, right, &mut out, &mut size);
@@ -78,7 +78,7 @@ pub fn add(v: &[u32], f: Fields, file: &[u8], told: &[u8]) -> bool {
 
 // Putting a query, which is the second list.
 pub fn put(v: &[u32], f: Fields, file: &[u8], query: &[u8], told: &[u8]) -> bool {
-    let place = number(v, f.inputs, 0) as usize;
+    let place = amount(v, f.inputs, 0);
     let mut out = [BYTE; 8192];
     let mut size = SIZE;
     let answer = interface::spernevan_put(file, place, query, &mut out, &mut size);
@@ -87,7 +87,7 @@ pub fn put(v: &[u32], f: Fields, file: &[u8], query: &[u8], told: &[u8]) -> bool
 
 // Dropping a place.
 pub fn drop_place(v: &[u32], f: Fields, file: &[u8], told: &[u8]) -> bool {
-    let place = number(v, f.inputs, 0) as usize;
+    let place = amount(v, f.inputs, 0);
     let mut out = [BYTE; 8192];
     let mut size = SIZE;
     let answer = interface::spernevan_drop(file, place, &mut out, &mut size);
@@ -97,8 +97,8 @@ pub fn drop_place(v: &[u32], f: Fields, file: &[u8], told: &[u8]) -> bool {
 // Determined columns.
 pub fn determined(v: &[u32], f: Fields, file: &[u8]) -> bool {
     let refusal = number(v, f.refusal, 0);
-    let relation = byte(number(v, f.inputs, 0));
-    let left = byte(number(v, f.inputs, 1));
+    let relation = byte(v, f.inputs, 0);
+    let left = byte(v, f.inputs, 1);
     let mut columns = BYTE;
     let mut count = BYTE;
     let answer = interface::spernevan_determined(file, relation, left, &mut columns, &mut count);
@@ -132,15 +132,17 @@ fn with(file: &[u8], place: usize, query: &[u8], out: &mut [u8; 8192]) -> usize 
     size
 }
 
-// A place that is neither of two.
-fn other_place(p: usize, q: usize) -> usize {
-    if p != 0 && q != 0 {
-        return 0;
+// The query of a place, that of place 0 past the last.
+fn query_at(given: Record, place: usize) -> Query {
+    let places = given.places;
+    if 8 <= place {
+        let first = places[0];
+        let q = first.query;
+        return q;
     }
-    if p != 1 && q != 1 {
-        return 1;
-    }
-    2
+    let p = places[place];
+    let q = p.query;
+    q
 }
 
 // The chased query of place p, as a comparison with the never query gives it: no query but one that chases to never is contained in never.
@@ -191,20 +193,6 @@ fn maps_to_chased(file: &[u8], p: usize, q: usize, mapping: &[u32]) -> bool {
 
 // ---- queries
 
-// Whether a refused call left all that it was lent: bytes with their number, a number and a mapping.
-fn left_alone(out: &[u8; 8192], size: usize, told: u8, mapping: &[u32; 8192]) -> bool {
-    if size != SIZE {
-        return false;
-    }
-    if told != BYTE {
-        return false;
-    }
-    if !untouched(out, 0) {
-        return false;
-    }
-    words_untouched(mapping, 0)
-}
-
 // Whether a file is another one with a result of reduction put at a place. The result's rows are as many as told, and chased is the chased query.
 fn holds_result(result: &[u8], file: &[u8], target: usize, rows: u32, chased: &[u8]) -> bool {
     let mut out = [BYTE; 8192];
@@ -244,8 +232,8 @@ fn maps_to_result(
 // Reducing.
 pub fn reduce(v: &[u32], f: Fields, file: &[u8], chased: &[u8]) -> bool {
     let refusal = number(v, f.refusal, 0);
-    let source = number(v, f.inputs, 0) as usize;
-    let target = number(v, f.inputs, 1) as usize;
+    let source = amount(v, f.inputs, 0);
+    let target = amount(v, f.inputs, 1);
     let rows = number(v, f.told, 1);
     let mut out = [BYTE; 8192];
     let mut size = SIZE;
@@ -282,8 +270,8 @@ pub fn reduce(v: &[u32], f: Fields, file: &[u8], chased: &[u8]) -> bool {
 // Comparing.
 pub fn compare(v: &[u32], f: Fields, file: &[u8], told: &[u8]) -> bool {
     let refusal = number(v, f.refusal, 0);
-    let p = number(v, f.inputs, 0) as usize;
-    let q = number(v, f.inputs, 1) as usize;
+    let p = amount(v, f.inputs, 0);
+    let q = amount(v, f.inputs, 1);
     let mut verdict = BYTE;
     let mut mapping = [WORD; 8192];
     let mut part = [BYTE; 8192];
@@ -321,8 +309,8 @@ pub fn compare(v: &[u32], f: Fields, file: &[u8], told: &[u8]) -> bool {
 // Checking a mapping.
 pub fn check(v: &[u32], f: Fields, file: &[u8]) -> bool {
     let refusal = number(v, f.refusal, 0);
-    let p = number(v, f.inputs, 0) as usize;
-    let q = number(v, f.inputs, 1) as usize;
+    let p = amount(v, f.inputs, 0);
+    let q = amount(v, f.inputs, 1);
     let mut verdict = BYTE;
     let answer = interface::spernevan_check(file, p, q, list(v, f.second), &mut verdict);
     if answer as u32 != refusal {
@@ -337,7 +325,7 @@ pub fn check(v: &[u32], f: Fields, file: &[u8]) -> bool {
 // The chase of a place's query: the count is that of a reduction, the query what a comparison gives.
 pub fn chase(v: &[u32], f: Fields, file: &[u8], told: &[u8]) -> bool {
     let refusal = number(v, f.refusal, 0);
-    let p = number(v, f.inputs, 0) as usize;
+    let p = amount(v, f.inputs, 0);
     let k = other_place(p, p);
     let mut copy = [0u8; 8192];
     let n = without(file, k, &mut copy);
@@ -392,16 +380,16 @@ pub fn test(v: &[u32], f: Fields, file: &[u8]) -> bool {
         return obeys == BYTE && dependency == SIZE && i == SIZE && j == SIZE;
     }
     obeys as u32 == number(v, f.told, 0)
-        && dependency == number(v, f.told, 1) as usize
-        && i == number(v, f.told, 2) as usize
-        && j == number(v, f.told, 3) as usize
+        && dependency == amount(v, f.told, 1)
+        && i == amount(v, f.told, 2)
+        && j == amount(v, f.told, 3)
 }
 
 // Evaluating a place on a database, which is the second list, into a buffer of the length that the vector has.
 pub fn evaluate(v: &[u32], f: Fields, file: &[u8]) -> bool {
     let refusal = number(v, f.refusal, 0);
-    let place = number(v, f.inputs, 0) as usize;
-    let room = number(v, f.room, 0) as usize;
+    let place = amount(v, f.inputs, 0);
+    let room = amount(v, f.room, 0);
     if 8192 < room {
         return false;
     }
@@ -420,7 +408,7 @@ pub fn evaluate(v: &[u32], f: Fields, file: &[u8]) -> bool {
     if refusal != 0 {
         return count == SIZE && words_untouched(&answers, 0);
     }
-    if count != number(v, f.told, 0) as usize {
+    if count != amount(v, f.told, 0) {
         return false;
     }
     let told = list(v, f.third);
