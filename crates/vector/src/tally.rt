@@ -29,7 +29,7 @@ pub fn unread(tally: &mut [u64; 112], line: u64, why: &[u8]) {
 }
 
 // Counts a vector that was tried.
-pub fn tried(tally: &mut [u64; 112], call: usize) {
+fn tried(tally: &mut [u64; 112], call: usize) {
     if 12 < call {
         return;
     }
@@ -37,7 +37,7 @@ pub fn tried(tally: &mut [u64; 112], call: usize) {
 }
 
 // Counts a wrong vector, and keeps its line if there is room.
-pub fn wrong(tally: &mut [u64; 112], call: usize, line: u64) {
+fn wrong(tally: &mut [u64; 112], call: usize, line: u64) {
     if 12 < call {
         return;
     }
@@ -49,22 +49,66 @@ pub fn wrong(tally: &mut [u64; 112], call: usize, line: u64) {
     }
 }
 
-// Writes a call's name.
-fn tell_name(call: usize) {
+// What comes of a line.
+pub enum Verdict {
+    Right,
+    Wrong,
+    Malformed,
+    TooLong,
+}
+
+// Counts what came of a line.
+pub fn count(tally: &mut [u64; 112], told: Verdict, call: usize, line: u64) {
+    match told {
+        Verdict::Right => tried(tally, call),
+        Verdict::Wrong => {
+            tried(tally, call);
+            wrong(tally, call, line);
+        }
+        Verdict::Malformed => unread(tally, line, b" is no vector\n"),
+        Verdict::TooLong => unread(tally, line, b" is too long\n"),
+    }
+}
+
+// Writes the name of a call on a file or on the record alone.
+fn tell_first_name(call: usize) {
     match call {
         0 => tell(b"read"),
         1 => tell(b"write"),
         2 => tell(b"open"),
         3 => tell(b"add"),
-        4 => tell(b"put"),
+        _ => tell(b"put"),
+    }
+}
+
+// Writes the name of one of the next calls.
+fn tell_next_name(call: usize) {
+    match call {
         5 => tell(b"drop"),
         6 => tell(b"reduce"),
         7 => tell(b"compare"),
-        8 => tell(b"check"),
+        _ => tell(b"check"),
+    }
+}
+
+// Writes the name of one of the last calls.
+fn tell_last_name(call: usize) {
+    match call {
         9 => tell(b"determined"),
         10 => tell(b"test"),
         11 => tell(b"evaluate"),
         _ => tell(b"chase"),
+    }
+}
+
+// Writes a call's name.
+fn tell_name(call: usize) {
+    if call < 5 {
+        tell_first_name(call);
+    } else if call < 9 {
+        tell_next_name(call);
+    } else {
+        tell_last_name(call);
     }
 }
 

@@ -1,6 +1,6 @@
 // A vector: whether it can be read, and whether the engine agrees with it.
-use crate::blank::blank;
 use crate::calls;
+use unexported::blank::blank;
 use vector::buffers::first;
 use vector::form::fits;
 use vector::form::is_blank;
@@ -10,14 +10,7 @@ use vector::numbers::copy_bytes;
 use vector::numbers::fields_of;
 use vector::numbers::list;
 use vector::numbers::number;
-
-// What comes of a line.
-pub enum Verdict {
-    Right,
-    Wrong,
-    Malformed,
-    TooLong,
-}
+use vector::tally::Verdict;
 
 // Whether the engine agrees with a vector. The lists of bytes come as they are.
 fn agrees(v: &[u32], f: Fields, file: &[u8], query: &[u8], told: &[u8]) -> bool {

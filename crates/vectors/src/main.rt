@@ -1,10 +1,8 @@
 // Compares the engine with test vectors of the independent implementation, read on standard input: a vector a line, the format in reference/README.md.
 // Writes for each call how many vectors were tried and how many were wrong, with the numbers of the first lines that were; a line that can't be read is named.
-mod blank; // blank.rt: the calls on the blank record
 mod calls; // calls.rt: each call on a vector's inputs, compared with its answer
 mod judge; // judge.rt: whether a vector can be read, and whether the engine agrees with it
 
-use crate::judge::Verdict;
 use crate::judge::judge;
 use libc::STDIN_FILENO;
 use vector::buffers::first_numbers;
@@ -15,11 +13,11 @@ use vector::numbers::line_start;
 use vector::numbers::number;
 use vector::numbers::step;
 use vector::numbers::stored;
+use vector::tally::Verdict;
+use vector::tally::count;
 use vector::tally::more;
 use vector::tally::tell_all;
-use vector::tally::tried;
 use vector::tally::unread;
-use vector::tally::wrong;
 ghost use Rattle.vector.specs.Scan.{Within};
 
 // What a line comes to whose last number is stored.
@@ -38,15 +36,7 @@ fn verdict(numbers: &[u32; 65536], s: Scan) -> Verdict {
 fn take_line(numbers: &[u32; 65536], tally: &mut [u64; 112], s: Scan) {
     let told = verdict(numbers, s);
     let call = number(first_numbers(numbers, 1), 0, 0) as usize;
-    match told {
-        Verdict::Right => tried(tally, call),
-        Verdict::Wrong => {
-            tried(tally, call);
-            wrong(tally, call, s.line);
-        }
-        Verdict::Malformed => unread(tally, s.line, b" is no vector\n"),
-        Verdict::TooLong => unread(tally, s.line, b" is too long\n"),
-    }
+    count(tally, told, call, s.line);
 }
 
 // Takes a byte of the input.

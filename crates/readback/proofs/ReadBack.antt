@@ -47,7 +47,7 @@ use Rattle.reduction.specs.declared.Reduced.{Reduced}
 use Rattle.lent.specs.Lent.{fitted, Wrote}
 use Rattle.lent.specs.Records.{answered, resultOf, stored, putPart}
 use Rattle.verdicts.specs.Queries.{ReductionGiven, Reducing, comparisonFits, ComparisonGiven, ComparisonShape, Comparing}
-use Rattle.interface.specs.ReadBack.{FileLeft, WriteLeft, OpenLeft, AddLeft, PutLeft, DropLeft, ReduceLeft, CompareLeft}
+use Rattle.readback.specs.ReadBack.{FileLeft, WriteLeft, OpenLeft, AddLeft, PutLeft, DropLeft, ReduceLeft, CompareLeft}
 use Rattle.lent.proofs.Files.{goes-on}
 use Rattle.verdicts.proofs.Verdicts.{query-part, comparison-apart, comparison-contained, comparison-never, compared-sound}
 

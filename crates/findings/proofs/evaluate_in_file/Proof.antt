@@ -1,15 +1,15 @@
--- `spernevan_evaluate` gives the answers and their count, once the file is read. Assumes nothing.
+-- `evaluate_in_file` gives the answers and their count, once the file is read. Assumes nothing.
 use mathlib.Core.Path.{_≡_, sym, ap, _∙_}
 use lib.ListN.{length}
 use Rattle.database.specs.Calls.{evaluated, bufferThen}
-use Rattle.interface.specs.Databases.{countResult, evaluatedIn}
+use Rattle.findings.specs.Databases.{countResult, evaluatedIn}
 use Rattle.refusals.specs.Refusals.{gives, refused}
 use Rattle.format.specs.File.{readFile}
 use Rattle.lent.proofs.Files.{read-done, read-refused, done-number, done-leaves, refused-number, refused-leaves}
 use Rattle.format.proofs.Results.{outcome-done, outcome-refused}
 use borrow.Author.Needs.{needs}
-use Rattle.interface.proofs.spernevan_evaluate.Statement.{statement}
-use Rattle.interface.proofs.spernevan_evaluate.Tie as tie
+use Rattle.findings.proofs.evaluate_in_file.Statement.{statement}
+use Rattle.findings.proofs.evaluate_in_file.Tie as tie
 
 read-requires : tie.Need-read-requires
 read-requires c κs = search needs
@@ -64,8 +64,8 @@ returns-3 c =
     read-refused file (c .before .before .before .read .result) (c .before .before .before .read .ensures) (λ r. countResult (evaluated r (s .args .place) (s .args .words .now) (length buffer))) _ (c .before .answer .given .1) in
     (refused-number p, (refused-leaves (outcome-refused (readFile file) (c .before .before .before .read .result) _ (c .before .before .before .read .ensures) (c .before .answer .given .1)) (λ r. bufferThen r (s .args .place) (s .args .words .now) buffer) buffer, refused-leaves p (λ n. n) (s .args .count .now)))
 
-pub spernevan-evaluate-spec : {M : Type 1} → statement M
-spernevan-evaluate-spec =
+pub evaluate-in-file-spec : {M : Type 1} → statement M
+evaluate-in-file-spec =
     tie.close
     (tie.spec
     read-requires

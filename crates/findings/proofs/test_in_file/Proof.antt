@@ -1,12 +1,12 @@
--- `spernevan_test` gives what the test says, once the file is read. Assumes nothing.
+-- `test_in_file` gives what the test says, once the file is read. Assumes nothing.
 use mathlib.Core.Path.{_≡_, sym, ap, _∙_}
 use Rattle.database.specs.Calls.{tested}
-use Rattle.interface.specs.Databases.{verdictResult, testedIn}
+use Rattle.findings.specs.Databases.{verdictResult, testedIn}
 use Rattle.refusals.specs.Refusals.{gives, refused}
 use Rattle.lent.proofs.Files.{read-done, read-refused, done-number, done-leaves, refused-number, refused-leaves}
 use borrow.Author.Needs.{needs}
-use Rattle.interface.proofs.spernevan_test.Statement.{statement}
-use Rattle.interface.proofs.spernevan_test.Tie as tie
+use Rattle.findings.proofs.test_in_file.Statement.{statement}
+use Rattle.findings.proofs.test_in_file.Tie as tie
 
 read-requires : tie.Need-read-requires
 read-requires c κs = search needs
@@ -60,8 +60,8 @@ returns-4 c =
     read-refused (s .args .file .now) (c .before .before .before .read .result) (c .before .before .before .read .ensures) (λ r. verdictResult (tested r (s .args .words .now))) _ (c .before .answer .given .1) in
     (refused-number p, (refused-leaves p (λ t. t .obeys) (s .args .obeys .now), (refused-leaves p (λ t. t .dependency) (s .args .dependency .now), (refused-leaves p (λ t. t .first) (s .args .first .now), refused-leaves p (λ t. t .second) (s .args .second .now)))))
 
-pub spernevan-test-spec : {M : Type 1} → statement M
-spernevan-test-spec =
+pub test-in-file-spec : {M : Type 1} → statement M
+test-in-file-spec =
     tie.close
     (tie.spec
     read-requires
