@@ -1,15 +1,18 @@
 // The calls of SPECIFICATION for programs in other languages, on numbers, bytes and words: a record is the bytes of its file, in and out.
 // Each returns 0, or the number of the refusal, which leaves every buffer and number that it is lent as it was.
+<<<<<<< HEAD
 use database::Answered;
 use database::Conformance;
 use record::Answer;
+=======
+>>>>>>> h2
 ghost use mathlib.Core.Path.{_≡_};
 ghost use lib.ListN.{length};
 ghost use Rattle.format.specs.File.{readFile};
 ghost use Rattle.lent.specs.Lent.{numberIn, leaves, Wrote};
 ghost use Rattle.lent.specs.Records.{copied, opened, added, filled, dropped, determinedIn};
 ghost use Rattle.verdicts.specs.Queries.{ReduceGives, CompareGives, CheckGives};
-ghost use Rattle.interface.specs.Databases.{testedIn, evaluatedIn, answersIn};
+ghost use Rattle.findings.specs.Databases.{testedIn, evaluatedIn, answersIn};
 
 // ---- files
 
@@ -158,6 +161,7 @@ pub extern "C" fn spernevan_test(
     ensures { λ _. ⌜ now (first .exit) ≡ leaves (testedIn (now (file .entry)) (now (words .entry))) (λ t. t .first) (now (first .entry)) ⌝ }
     ensures { λ _. ⌜ now (second .exit) ≡ leaves (testedIn (now (file .entry)) (now (words .entry))) (λ t. t .second) (now (second .entry)) ⌝ }
 {
+<<<<<<< HEAD
     let outcome = file::read(file);
     let answer = outcome.answer;
     match answer {
@@ -184,6 +188,9 @@ pub extern "C" fn spernevan_test(
         }
         Answer::Refused(n) => n,
     }
+=======
+    findings::test_in_file(file, words, obeys, dependency, first, second)
+>>>>>>> h2
 }
 
 // Evaluates the query of a place on a database.
@@ -199,20 +206,5 @@ pub extern "C" fn spernevan_evaluate(
     ensures { λ _. ⌜ now (answers .exit) ≡ answersIn (now (file .entry)) place (now (words .entry)) (now (answers .entry)) ⌝ }
     ensures { λ _. ⌜ now (count .exit) ≡ leaves (evaluatedIn (now (file .entry)) place (now (words .entry)) (length (now (answers .entry)))) (λ n. n) (now (count .entry)) ⌝ }
 {
-    let outcome = file::read(file);
-    let answer = outcome.answer;
-    match answer {
-        Answer::Done => {
-            let given = outcome.record;
-            let done = database::evaluate(given, place, words, answers);
-            match done {
-                Answered::Count(n) => {
-                    *count = n;
-                    0
-                }
-                Answered::Refused(n) => n,
-            }
-        }
-        Answer::Refused(n) => n,
-    }
+    findings::evaluate_in_file(file, place, words, answers, count)
 }

@@ -1,58 +1,52 @@
 // Each call of the engine on the inputs of a vector, and whether it answers as the vector tells.
 // A vector's first list is the file of its record; the buffers that are lent hold a pattern, so that what a call leaves alone is seen.
-use crate::buffers::BYTE;
-use crate::buffers::SIZE;
-use crate::buffers::WORD;
-use crate::buffers::answered;
-use crate::buffers::begins;
-use crate::buffers::first;
-use crate::buffers::first_words;
-use crate::buffers::no_mapping;
-use crate::buffers::untouched;
-use crate::buffers::words_begin;
-use crate::buffers::words_untouched;
-use crate::numbers::Fields;
-use crate::numbers::list;
-use crate::numbers::number;
-use crate::reduced::kept;
-use crate::reduced::query_at;
-
-// A number of a vector that is a byte.
-fn byte(n: u32) -> u8 {
-    (n % 256) as u8
-}
+use unexported::stored::arity_in;
+use unexported::stored::kept_in;
+use vector::buffers::BYTE;
+use vector::buffers::SIZE;
+use vector::buffers::WORD;
+use vector::buffers::answered;
+use vector::buffers::first;
+use vector::buffers::first_words;
+use vector::buffers::no_mapping;
+use vector::numbers::Fields;
+use vector::numbers::amount;
+use vector::numbers::byte;
+use vector::numbers::list;
+use vector::numbers::number;
+use vector::numbers::other_place;
+use vector::told::answers_told;
+use vector::told::chase_told;
+use vector::told::check_told;
+use vector::told::columns_told;
+use vector::told::comparison_told;
+use vector::told::file_told;
+use vector::told::length_told;
+use vector::told::number_told;
+use vector::told::reduction_told;
+use vector::told::test_told;
 
 // ---- files
 
 // Reading; the record is seen by writing it back.
 pub fn read(v: &[u32], f: Fields, file: &[u8]) -> bool {
-    let refusal = number(v, f.refusal, 0);
-    if interface::spernevan_read(file) as u32 != refusal {
-        return false;
-    }
+    let read = interface::spernevan_read(file);
     let mut out = [BYTE; 8192];
     let mut size = SIZE;
     let answer = interface::spernevan_write(file, &mut out, &mut size);
-    answered(answer, &out, size, refusal, file)
+    number_told(v, f, read) && file_told(v, f, answer, &out, size, file)
 }
 
 // Writing into a buffer of the length that the vector has.
 pub fn write(v: &[u32], f: Fields, file: &[u8]) -> bool {
-    let refusal = number(v, f.refusal, 0);
-    let room = number(v, f.inputs, 0) as usize;
+    let room = amount(v, f.inputs, 0);
     if 8192 < room {
         return false;
     }
     let mut out = [BYTE; 8192];
     let mut size = SIZE;
     let answer = interface::spernevan_write(file, &mut out[0..room], &mut size);
-    if !answered(answer, &out, size, refusal, file) {
-        return false;
-    }
-    if refusal != 0 {
-        return true;
-    }
-    size == number(v, f.told, 0) as usize
+    file_told(v, f, answer, &out, size, file) && length_told(v, f, answer, size)
 }
 
 // ---- the record
@@ -62,53 +56,46 @@ pub fn open(v: &[u32], f: Fields, widths: &[u8], told: &[u8]) -> bool {
     let mut out = [BYTE; 8192];
     let mut size = SIZE;
     let answer = interface::spernevan_open(widths, &mut out, &mut size);
-    answered(answer, &out, size, number(v, f.refusal, 0), told)
+    file_told(v, f, answer, &out, size, told)
 }
 
 // Adding a dependency.
 pub fn add(v: &[u32], f: Fields, file: &[u8], told: &[u8]) -> bool {
-    let relation = byte(number(v, f.inputs, 0));
-    let left = byte(number(v, f.inputs, 1));
-    let right = byte(number(v, f.inputs, 2));
+    let relation = byte(v, f.inputs, 0);
+    let left = byte(v, f.inputs, 1);
+    let right = byte(v, f.inputs, 2);
     let mut out = [BYTE; 8192];
     let mut size = SIZE;
     let answer = interface::spernevan_add(file, relation, left, right, &mut out, &mut size);
-    answered(answer, &out, size, number(v, f.refusal, 0), told)
+    file_told(v, f, answer, &out, size, told)
 }
 
 // Putting a query, which is the second list.
 pub fn put(v: &[u32], f: Fields, file: &[u8], query: &[u8], told: &[u8]) -> bool {
-    let place = number(v, f.inputs, 0) as usize;
+    let place = amount(v, f.inputs, 0);
     let mut out = [BYTE; 8192];
     let mut size = SIZE;
     let answer = interface::spernevan_put(file, place, query, &mut out, &mut size);
-    answered(answer, &out, size, number(v, f.refusal, 0), told)
+    file_told(v, f, answer, &out, size, told)
 }
 
 // Dropping a place.
 pub fn drop_place(v: &[u32], f: Fields, file: &[u8], told: &[u8]) -> bool {
-    let place = number(v, f.inputs, 0) as usize;
+    let place = amount(v, f.inputs, 0);
     let mut out = [BYTE; 8192];
     let mut size = SIZE;
     let answer = interface::spernevan_drop(file, place, &mut out, &mut size);
-    answered(answer, &out, size, number(v, f.refusal, 0), told)
+    file_told(v, f, answer, &out, size, told)
 }
 
 // Determined columns.
 pub fn determined(v: &[u32], f: Fields, file: &[u8]) -> bool {
-    let refusal = number(v, f.refusal, 0);
-    let relation = byte(number(v, f.inputs, 0));
-    let left = byte(number(v, f.inputs, 1));
+    let relation = byte(v, f.inputs, 0);
+    let left = byte(v, f.inputs, 1);
     let mut columns = BYTE;
     let mut count = BYTE;
     let answer = interface::spernevan_determined(file, relation, left, &mut columns, &mut count);
-    if answer as u32 != refusal {
-        return false;
-    }
-    if refusal != 0 {
-        return columns == BYTE && count == BYTE;
-    }
-    columns as u32 == number(v, f.told, 0) && count as u32 == number(v, f.told, 1)
+    columns_told(v, f, answer, columns, count)
 }
 
 // ---- copies of a record
@@ -132,24 +119,12 @@ fn with(file: &[u8], place: usize, query: &[u8], out: &mut [u8; 8192]) -> usize 
     size
 }
 
-// A place that is neither of two.
-fn other_place(p: usize, q: usize) -> usize {
-    if p != 0 && q != 0 {
-        return 0;
-    }
-    if p != 1 && q != 1 {
-        return 1;
-    }
-    2
-}
-
 // The chased query of place p, as a comparison with the never query gives it: no query but one that chases to never is contained in never.
 // Returns its length, 0 if there is none.
 fn chased(file: &[u8], p: usize, out: &mut [u8; 8192]) -> usize {
-    let outcome = file::read(file);
-    let stored = query_at(outcome.record, p);
+    let arity = arity_in(file, p);
     let k = other_place(p, p);
-    let never = [stored.arity, 0];
+    let never = [arity, 0];
     let mut copy = [0u8; 8192];
     let n = with(file, k, &never, &mut copy);
     let mut verdict = BYTE;
@@ -165,7 +140,7 @@ fn chased(file: &[u8], p: usize, out: &mut [u8; 8192]) -> usize {
         &mut size,
     );
     if verdict == 2 {
-        out[0] = stored.arity;
+        out[0] = arity;
         out[1] = 0;
         return 2;
     }
@@ -191,20 +166,6 @@ fn maps_to_chased(file: &[u8], p: usize, q: usize, mapping: &[u32]) -> bool {
 
 // ---- queries
 
-// Whether a refused call left all that it was lent: bytes with their number, a number and a mapping.
-fn left_alone(out: &[u8; 8192], size: usize, told: u8, mapping: &[u32; 8192]) -> bool {
-    if size != SIZE {
-        return false;
-    }
-    if told != BYTE {
-        return false;
-    }
-    if !untouched(out, 0) {
-        return false;
-    }
-    words_untouched(mapping, 0)
-}
-
 // Whether a file is another one with a result of reduction put at a place. The result's rows are as many as told, and chased is the chased query.
 fn holds_result(result: &[u8], file: &[u8], target: usize, rows: u32, chased: &[u8]) -> bool {
     let mut out = [BYTE; 8192];
@@ -215,13 +176,7 @@ fn holds_result(result: &[u8], file: &[u8], target: usize, rows: u32, chased: &[
     }
     let mut copy = [0u8; 8192];
     let n = with(file, target, chased, &mut copy);
-    let found = file::read(result);
-    let due = file::read(first(&copy, n));
-    kept(
-        query_at(found.record, target),
-        query_at(due.record, target),
-        rows,
-    )
+    kept_in(result, first(&copy, n), target, rows)
 }
 
 // Whether the words are a mapping from the source query to the result, or none if the result is never.
@@ -235,17 +190,13 @@ fn maps_to_result(
     if rows == 0 {
         return no_mapping(mapping);
     }
-    if !words_untouched(mapping, 192) {
-        return false;
-    }
     maps(result, target, source, first_words(mapping, 192))
 }
 
 // Reducing.
 pub fn reduce(v: &[u32], f: Fields, file: &[u8], chased: &[u8]) -> bool {
-    let refusal = number(v, f.refusal, 0);
-    let source = number(v, f.inputs, 0) as usize;
-    let target = number(v, f.inputs, 1) as usize;
+    let source = amount(v, f.inputs, 0);
+    let target = amount(v, f.inputs, 1);
     let rows = number(v, f.told, 1);
     let mut out = [BYTE; 8192];
     let mut size = SIZE;
@@ -260,30 +211,21 @@ pub fn reduce(v: &[u32], f: Fields, file: &[u8], chased: &[u8]) -> bool {
         &mut count,
         &mut mapping,
     );
-    if answer as u32 != refusal {
+    if !reduction_told(v, f, answer, &out, size, count, &mapping) {
         return false;
     }
-    if refusal != 0 {
-        return left_alone(&out, size, count, &mapping);
-    }
-    if count as u32 != number(v, f.told, 0) {
-        return false;
-    }
-    if !untouched(&out, size) {
-        return false;
+    if answer != 0 {
+        return true;
     }
     let result = first(&out, size);
-    if !holds_result(result, file, target, rows, chased) {
-        return false;
-    }
-    maps_to_result(result, source, target, rows, &mapping)
+    holds_result(result, file, target, rows, chased)
+        && maps_to_result(result, source, target, rows, &mapping)
 }
 
 // Comparing.
 pub fn compare(v: &[u32], f: Fields, file: &[u8], told: &[u8]) -> bool {
-    let refusal = number(v, f.refusal, 0);
-    let p = number(v, f.inputs, 0) as usize;
-    let q = number(v, f.inputs, 1) as usize;
+    let p = amount(v, f.inputs, 0);
+    let q = amount(v, f.inputs, 1);
     let mut verdict = BYTE;
     let mut mapping = [WORD; 8192];
     let mut part = [BYTE; 8192];
@@ -297,82 +239,63 @@ pub fn compare(v: &[u32], f: Fields, file: &[u8], told: &[u8]) -> bool {
         &mut part,
         &mut size,
     );
-    if answer as u32 != refusal {
-        return false;
-    }
-    if refusal != 0 {
-        return left_alone(&part, size, verdict, &mapping);
-    }
-    if verdict as u32 != number(v, f.told, 0) {
-        return false;
-    }
-    if !answered(answer, &part, size, 0, told) {
+    if !comparison_told(v, f, answer, verdict, &mapping, &part, size, told) {
         return false;
     }
     if verdict != 1 {
-        return no_mapping(&mapping);
-    }
-    if !words_untouched(&mapping, 192) {
-        return false;
+        return true;
     }
     maps_to_chased(file, p, q, first_words(&mapping, 192))
 }
 
 // Checking a mapping.
 pub fn check(v: &[u32], f: Fields, file: &[u8]) -> bool {
-    let refusal = number(v, f.refusal, 0);
-    let p = number(v, f.inputs, 0) as usize;
-    let q = number(v, f.inputs, 1) as usize;
+    let p = amount(v, f.inputs, 0);
+    let q = amount(v, f.inputs, 1);
     let mut verdict = BYTE;
     let answer = interface::spernevan_check(file, p, q, list(v, f.second), &mut verdict);
-    if answer as u32 != refusal {
-        return false;
-    }
-    if refusal != 0 {
-        return verdict == BYTE;
-    }
-    verdict as u32 == number(v, f.told, 0)
+    check_told(v, f, answer, verdict)
 }
 
-// The chase of a place's query: the count is that of a reduction, the query what a comparison gives.
-pub fn chase(v: &[u32], f: Fields, file: &[u8], told: &[u8]) -> bool {
-    let refusal = number(v, f.refusal, 0);
-    let p = number(v, f.inputs, 0) as usize;
+// The number of replacements in the chase of a place's query, as a reduction into a vacant place counts them, and what that reduction returns.
+fn replaced(file: &[u8], p: usize, count: &mut u8) -> u8 {
     let k = other_place(p, p);
     let mut copy = [0u8; 8192];
     let n = without(file, k, &mut copy);
     let mut out = [BYTE; 8192];
     let mut size = SIZE;
-    let mut count = BYTE;
     let mut mapping = [WORD; 8192];
-    let answer = interface::spernevan_reduce(
+    interface::spernevan_reduce(
         first(&copy, n),
         p,
         k,
         &mut out,
         &mut size,
-        &mut count,
+        count,
         &mut mapping,
-    );
-    if answer as u32 != refusal {
+    )
+}
+
+// The chase of a place's query: the count is that of a reduction, the query what a comparison gives.
+pub fn chase(v: &[u32], f: Fields, file: &[u8], told: &[u8]) -> bool {
+    let p = amount(v, f.inputs, 0);
+    let mut count = BYTE;
+    let answer = replaced(file, p, &mut count);
+    if !number_told(v, f, answer) {
         return false;
     }
-    if refusal != 0 {
+    if answer != 0 {
         return true;
     }
-    if count as u32 != number(v, f.told, 0) {
-        return false;
-    }
-    let mut part = [0u8; 8192];
+    let mut part = [BYTE; 8192];
     let m = chased(file, p, &mut part);
-    m == told.len() && begins(&part, told)
+    chase_told(v, f, count, &part, m, told)
 }
 
 // ---- databases
 
 // Testing a database, which is the second list.
 pub fn test(v: &[u32], f: Fields, file: &[u8]) -> bool {
-    let refusal = number(v, f.refusal, 0);
     let mut obeys = BYTE;
     let mut dependency = SIZE;
     let mut i = SIZE;
@@ -385,23 +308,13 @@ pub fn test(v: &[u32], f: Fields, file: &[u8]) -> bool {
         &mut i,
         &mut j,
     );
-    if answer as u32 != refusal {
-        return false;
-    }
-    if refusal != 0 {
-        return obeys == BYTE && dependency == SIZE && i == SIZE && j == SIZE;
-    }
-    obeys as u32 == number(v, f.told, 0)
-        && dependency == number(v, f.told, 1) as usize
-        && i == number(v, f.told, 2) as usize
-        && j == number(v, f.told, 3) as usize
+    test_told(v, f, answer, obeys, dependency, i, j)
 }
 
 // Evaluating a place on a database, which is the second list, into a buffer of the length that the vector has.
 pub fn evaluate(v: &[u32], f: Fields, file: &[u8]) -> bool {
-    let refusal = number(v, f.refusal, 0);
-    let place = number(v, f.inputs, 0) as usize;
-    let room = number(v, f.room, 0) as usize;
+    let place = amount(v, f.inputs, 0);
+    let room = amount(v, f.room, 0);
     if 8192 < room {
         return false;
     }
@@ -414,15 +327,5 @@ pub fn evaluate(v: &[u32], f: Fields, file: &[u8]) -> bool {
         &mut answers[0..room],
         &mut count,
     );
-    if answer as u32 != refusal {
-        return false;
-    }
-    if refusal != 0 {
-        return count == SIZE && words_untouched(&answers, 0);
-    }
-    if count != number(v, f.told, 0) as usize {
-        return false;
-    }
-    let told = list(v, f.third);
-    words_begin(&answers, told) && words_untouched(&answers, told.len())
+    answers_told(v, f, answer, &answers, count)
 }

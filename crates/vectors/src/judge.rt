@@ -1,88 +1,16 @@
 // A vector: whether it can be read, and whether the engine agrees with it.
-use crate::blank::blank;
-use crate::buffers::first;
 use crate::calls;
-use crate::numbers::BYTES;
-use crate::numbers::Fields;
-use crate::numbers::are_bytes;
-use crate::numbers::copy_bytes;
-use crate::numbers::fields_of;
-use crate::numbers::list;
-use crate::numbers::number;
-
-// What comes of a line.
-pub enum Verdict {
-    Right,
-    Wrong,
-    Malformed,
-    TooLong,
-}
-
-// Whether a list has to be one of bytes: the second of put, the third of all but evaluate.
-fn bytes_due(call: u32, second: bool) -> bool {
-    if second {
-        return call == 4;
-    }
-    call != 11
-}
-
-// Whether a list is one of bytes where it has to be.
-fn list_good(numbers: &[u32], call: u32, second: bool) -> bool {
-    if !bytes_due(call, second) {
-        return true;
-    }
-    are_bytes(numbers)
-}
-
-// Whether the numbers are a vector: a call, its fields and nothing after them, the bytes below 256.
-fn well_formed(v: &[u32], f: Fields) -> bool {
-    let call = number(v, 0, 0);
-    if 12 < call {
-        return false;
-    }
-    if f.end != v.len() {
-        return false;
-    }
-    if !are_bytes(list(v, 1)) {
-        return false;
-    }
-    if !list_good(list(v, f.second), call, true) {
-        return false;
-    }
-    if !list_good(list(v, f.third), call, false) {
-        return false;
-    }
-    if call == 3 {
-        return number(v, f.inputs, 0) < 256
-            && number(v, f.inputs, 1) < 256
-            && number(v, f.inputs, 2) < 256;
-    }
-    if call == 9 {
-        return number(v, f.inputs, 0) < 256 && number(v, f.inputs, 1) < 256;
-    }
-    true
-}
-
-// Whether the lists of bytes and the lengths of lent buffers of a vector fit the buffers here.
-fn fits(v: &[u32], f: Fields) -> bool {
-    let call = number(v, 0, 0);
-    if BYTES < list(v, 1).len() {
-        return false;
-    }
-    if call == 4 && BYTES < list(v, f.second).len() {
-        return false;
-    }
-    if BYTES < list(v, f.third).len() {
-        return false;
-    }
-    if call == 1 {
-        return number(v, f.inputs, 0) as usize <= BYTES;
-    }
-    if call == 11 {
-        return number(v, f.room, 0) as usize <= BYTES;
-    }
-    true
-}
+use unexported::blank::blank;
+use vector::buffers::first;
+use vector::form::fits;
+use vector::form::is_blank;
+use vector::form::well_formed;
+use vector::numbers::Fields;
+use vector::numbers::copy_bytes;
+use vector::numbers::fields_of;
+use vector::numbers::list;
+use vector::numbers::number;
+use vector::tally::Verdict;
 
 // Whether the engine agrees with a vector. The lists of bytes come as they are.
 fn agrees(v: &[u32], f: Fields, file: &[u8], query: &[u8], told: &[u8]) -> bool {
@@ -101,12 +29,6 @@ fn agrees(v: &[u32], f: Fields, file: &[u8], query: &[u8], told: &[u8]) -> bool 
         11 => calls::evaluate(v, f, file),
         _ => calls::chase(v, f, file, told),
     }
-}
-
-// Whether a vector's record is the blank one.
-fn is_blank(v: &[u32]) -> bool {
-    let call = number(v, 0, 0);
-    call != 0 && call != 2 && list(v, 1).len() == 0
 }
 
 // Whether the engine agrees with a vector that fits.

@@ -1,30 +1,24 @@
 // Compares the engine with test vectors of the independent implementation, read on standard input: a vector a line, the format in reference/README.md.
 // Writes for each call how many vectors were tried and how many were wrong, with the numbers of the first lines that were; a line that can't be read is named.
-mod blank; // blank.rt: the calls on the blank record
-mod buffers; // buffers.rt: whether a lent buffer holds what it should
 mod calls; // calls.rt: each call on a vector's inputs, compared with its answer
 mod judge; // judge.rt: whether a vector can be read, and whether the engine agrees with it
-mod numbers; // numbers.rt: a line as numbers, and the fields among them
-mod reduced; // reduced.rt: whether a reduced query has rows of the chased one
-mod tally; // tally.rt: what is counted and written
 
-use crate::buffers::first_numbers;
-use crate::judge::Verdict;
 use crate::judge::judge;
-use crate::numbers::MALFORMED;
-use crate::numbers::Scan;
-use crate::numbers::TOO_LONG;
-use crate::numbers::line_start;
-use crate::numbers::number;
-use crate::numbers::step;
-use crate::numbers::stored;
-use crate::tally::more;
-use crate::tally::tell_all;
-use crate::tally::tried;
-use crate::tally::unread;
-use crate::tally::wrong;
 use libc::STDIN_FILENO;
-ghost use Rattle.vectors.specs.Scan.{Within};
+use vector::buffers::first_numbers;
+use vector::numbers::MALFORMED;
+use vector::numbers::Scan;
+use vector::numbers::TOO_LONG;
+use vector::numbers::line_start;
+use vector::numbers::number;
+use vector::numbers::step;
+use vector::numbers::stored;
+use vector::tally::Verdict;
+use vector::tally::count;
+use vector::tally::more;
+use vector::tally::tell_all;
+use vector::tally::unread;
+ghost use Rattle.vector.specs.Scan.{Within};
 
 // What a line comes to whose last number is stored.
 fn verdict(numbers: &[u32; 65536], s: Scan) -> Verdict {
@@ -42,15 +36,7 @@ fn verdict(numbers: &[u32; 65536], s: Scan) -> Verdict {
 fn take_line(numbers: &[u32; 65536], tally: &mut [u64; 112], s: Scan) {
     let told = verdict(numbers, s);
     let call = number(first_numbers(numbers, 1), 0, 0) as usize;
-    match told {
-        Verdict::Right => tried(tally, call),
-        Verdict::Wrong => {
-            tried(tally, call);
-            wrong(tally, call, s.line);
-        }
-        Verdict::Malformed => unread(tally, s.line, b" is no vector\n"),
-        Verdict::TooLong => unread(tally, s.line, b" is too long\n"),
-    }
+    count(tally, told, call, s.line);
 }
 
 // Takes a byte of the input.

@@ -1,0 +1,2 @@
+-- What testing and evaluation come to on files (Databases).
+pub mod Databases

@@ -1,2 +1,0 @@
--- A file that a call leaves is read back (ReadBack).
-pub mod ReadBack

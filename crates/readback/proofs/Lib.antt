@@ -1,0 +1,2 @@
+-- The statements, proved (ReadBack).
+pub mod ReadBack
