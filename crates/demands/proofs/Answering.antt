@@ -29,11 +29,13 @@ use Rattle.theory.specs.Search as search
 use Rattle.record.specs.declared.Outcome.{Outcome}
 use Rattle.record.specs.declared.Answer.the-variants as answer
 use Rattle.format.specs.Bytes.{Bytes}
-use Rattle.format.specs.File.{readFile, outcomeOf, shaped}
+use Rattle.format.specs.File.{readFile, outcomeOf, fileOf, shaped}
 use Rattle.writer.specs.declared.Written.{Written}
 use Rattle.writer.specs.declared.Written.the-variants as variant
 use Rattle.writer.specs.Write.{written, afterWriting}
 use Rattle.file.proofs.RoundTrip.{written-back, read-back}
+use Rattle.writer.proofs.Writing.{fits-written, written-fits}
+use Rattle.lists.proofs.Over.{over-length}
 use Rattle.demands.specs.Demand2.{Decides, Evaluates, WrittenBack, ReadBack}
 
 -- A verdict that is not a refusal and does not say contained is Apart
@@ -122,7 +124,9 @@ module _ (file before after : List ℕ) (o : Outcome) (is : o ≡ outcomeOf (rea
       let back = written-back file before r bytes reads room in
       let buffer = left ∙ ap (λ (x : Record). afterWriting x before) same in (
         says ∙ ap (λ (x : Record). written x before) same ∙ back .0,
-        sym (take-append-drop (length file) after) ∙ ap2 _++_ (ap (take (length file)) buffer ∙ back .1) (ap (drop (length file)) buffer ∙ back .2),
+        sym (take-append-drop (length file) after) 
+        ∙ ap (λ (l : List ℕ). l ++ drop (length file) after) (ap (take (length file)) buffer ∙ back .1)
+        ∙ ap (λ (l : List ℕ). file ++ l) (ap (drop (length file)) buffer ∙ back .2),
       )
 
   -- A file that is refused
@@ -131,12 +135,19 @@ module _ (file before after : List ℕ) (o : Outcome) (is : o ≡ outcomeOf (rea
       let done : answer.Done ≡ answer.Refused n = sym (ap (λ (x : Outcome). x .answer) (is ∙ reads)) ∙ says in
       absurd (let z : _≡_ {A = ℕ} 0 1 = cc in omega arith)
 
-module _ (r : Record) (before : List ℕ) (o : Outcome) where
+module _ (r : Record) (before after : List ℕ) (o : Outcome) where
   -- A record whose file is read back
-  pub read-again : shaped r ≡ true → (n : ℕ) → written r before ≡ variant.Length n → o ≡ outcomeOf (readFile (take n (afterWriting r before))) → ReadBack r before o
-  read-again shape n says is m writes =
-      let same : n ≡ m = cc in is ∙ read-back r before n shape says
+  pub read-again : shaped r ≡ true → (n : ℕ) → written r before ≡ variant.Length n → after ≡ afterWriting r before
+      → o ≡ outcomeOf (readFile (take n after)) → ReadBack r before o
+  read-again shape n says left is m writes = is ∙ ap (λ (l : List ℕ). outcomeOf (readFile (take n l))) left ∙ read-back r before n shape says
 
   -- A record that is refused
   pub not-written : (n : ℕ) → written r before ≡ variant.Refused n → ReadBack r before o
   not-written n says m writes = absurd (let z : _≡_ {A = ℕ} 0 1 = cc in omega arith)
+
+-- What is written lies in the buffer
+pub inside : (r : Record) (before after : List ℕ) (n : ℕ) → written r before ≡ variant.Length n → after ≡ afterWriting r before → n ≤ length after
+inside r before after n says left =
+    let (good, fits, long) = written-fits r before n says in
+    let kept : length after ≡ length before = ap length (left ∙ sym (fits-written r before good fits .1)) ∙ over-length before 0 (fileOf r) fits in
+    omega (arith, fits, long, kept)

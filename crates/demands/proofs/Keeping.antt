@@ -24,10 +24,9 @@ use Rattle.comparison.specs.declared.Checked.the-variants as checked
 use Rattle.comparison.specs.Comparison.{pairRefusal, pairConditions, verdictOn, judged, verdictOf, chasedAt, Compared, checkOf, CheckedMapping}
 use Rattle.reduction.specs.declared.Reduced.{Reduced}
 use Rattle.reduction.specs.Reduced.{reductionRefusal, reductionConditions, IsReduced, refusal}
-use Rattle.database.specs.declared.Verdict as tests
+use Rattle.database.specs.declared.Conformance.{Conformance}
 use Rattle.database.specs.declared.Answered.{Answered}
-use Rattle.database.specs.Calls.{verdictUnless, tested, evaluationRefused, countUnless, wordsUnless, evaluated, bufferThen, placeAnswers}
-use Rattle.database.specs.Calls as database
+use Rattle.database.specs.Calls.{testOf, testUnless, tested, evaluationRefused, countUnless, wordsUnless, evaluated, bufferThen, placeAnswers}
 use Rattle.evaluation.specs.Evaluated.{answerWords}
 use Rattle.theory.specs.Query as theory
 use Rattle.theory.specs.Search as search
@@ -35,7 +34,13 @@ use Rattle.theory.specs.Checking.{mapsTo}
 use Rattle.record.specs.View.{schemaOf, dependenciesOf}
 use Rattle.words.specs.Words.{rowsOf}
 use Rattle.words.specs.Testing.{firstBrokenFrom}
-use Rattle.demands.specs.Demand1.{InOrder, Keeps, determinedAt, refusalIn, columnsRefusal, verdictRefusal, checkRefusal, testRefusal, evaluationRefusal, OpenKeeps, AddKeeps, PutKeeps, DropKeeps, DeterminedKeeps, CompareKeeps, CheckKeeps, ReduceKeeps, TestKeeps, EvaluateKeeps}
+use Rattle.words.specs.Broken.{violationOf}
+use Rattle.words.specs.declared.Violation.{Violation}
+use Rattle.words.specs.declared.Violation.the-variants as violation
+use Rattle.format.specs.File.{fileOf}
+use Rattle.writer.specs.declared.Written.{Written}
+use Rattle.writer.specs.Write.{writingRefused, lengthUnless, fileUnless, written, afterWriting}
+use Rattle.demands.specs.Demand1.{InOrder, Keeps, determinedAt, refusalIn, columnsRefusal, verdictRefusal, checkRefusal, testRefusal, evaluationRefusal, writingRefusal, OpenKeeps, AddKeeps, PutKeeps, DropKeeps, DeterminedKeeps, CompareKeeps, CheckKeeps, ReduceKeeps, TestKeeps, EvaluateKeeps, WriteKeeps}
 
 -- ---- every call
 
@@ -142,20 +147,20 @@ reduce-keeps r source target o is =
 
 -- ---- databases
 
-found-said : (f : Option ℕ) (v : tests.Verdict) → testRefusal v ≡ none → testRefusal (verdictUnless f v) ≡ f
+found-said : (f : Option ℕ) (v : Conformance) → testRefusal v ≡ none → testRefusal (testUnless f v) ≡ f
 found-said none v e = e
 found-said (some n) v e = refl
 
-verdict-none : (x : _) → testRefusal (database.verdictOf x) ≡ none
-verdict-none none = refl
-verdict-none (some found) = refl
+test-none : (x : Violation) → testRefusal (testOf x) ≡ none
+test-none violation.Absent = refl
+test-none (violation.At k i j) = refl
 
-pub test-keeps : (r : Record) (words : List ℕ) (v : tests.Verdict) → v ≡ tested r words → TestKeeps r words v
+pub test-keeps : (r : Record) (words : List ℕ) (v : Conformance) → v ≡ tested r words → TestKeeps r words v
 unfolding follows tested
 test-keeps r words v e =
-    let found = firstBrokenFrom 0 (dependenciesOf r) (rowsOf (schemaOf r) words) in
-    keeps _ order _ _ _ refl (ap testRefusal e ∙ found-said _ _ (verdict-none found)) (λ n f. tt)
-    (λ f. e ∙ ap (λ (y : Option ℕ). verdictUnless y (database.verdictOf found)) f)
+    let found = violationOf (firstBrokenFrom 0 (dependenciesOf r) (rowsOf (schemaOf r) words)) in
+    keeps _ order _ _ _ refl (ap testRefusal e ∙ found-said _ _ (test-none found)) (λ n f. tt)
+    (λ f. e ∙ ap (λ (y : Option ℕ). testUnless y (testOf found)) f)
 
 count-said : (f : Option ℕ) (n : ℕ) → evaluationRefusal (countUnless f n) ≡ f
 count-said none n = refl
@@ -170,3 +175,17 @@ evaluate-keeps r place words before after a is-a is-after =
     (λ n f. is-after ∙ ap (λ (y : Option ℕ). wordsUnless y found before) f)
     (λ f.
       (is-a ∙ ap (λ (y : Option ℕ). countUnless y (length (placeAnswers r place words))) f, is-after ∙ ap (λ (y : Option ℕ). wordsUnless y found before) f))
+
+-- ---- files
+
+length-said : (f : Option ℕ) (n : ℕ) → writingRefusal (lengthUnless f n) ≡ f
+length-said none n = refl
+length-said (some m) n = refl
+
+pub write-keeps : (r : Record) (before after : List ℕ) (w : Written) → w ≡ written r before → after ≡ afterWriting r before → WriteKeeps r before after w
+unfolding follows written afterWriting writingRefused
+write-keeps r before after w is-w is-after =
+    keeps _ order _ _ _ refl (ap writingRefusal is-w ∙ length-said _ _)
+    (λ n f. is-after ∙ ap (λ (y : Option ℕ). fileUnless y (fileOf r) before) f)
+    (λ f.
+      (is-w ∙ ap (λ (y : Option ℕ). lengthUnless y (length (fileOf r))) f, is-after ∙ ap (λ (y : Option ℕ). fileUnless y (fileOf r) before) f))

@@ -30,14 +30,20 @@ use Rattle.comparison.specs.declared.Checked.the-variants as checked
 use Rattle.comparison.specs.Comparison.{pairConditions, Compared, checkOf}
 use Rattle.reduction.specs.declared.Reduced.{Reduced}
 use Rattle.reduction.specs.Reduced.{reductionConditions, IsReduced}
-use Rattle.database.specs.declared.Verdict as tests
-use Rattle.database.specs.declared.Verdict.the-variants as test
+use Rattle.database.specs.declared.Conformance.{Conformance}
+use Rattle.database.specs.declared.Conformance.the-variants as test
 use Rattle.database.specs.declared.Answered.{Answered}
 use Rattle.database.specs.declared.Answered.the-variants as answered
-use Rattle.database.specs.Calls.{testConditions, verdictOf, evaluationConditions, placeAnswers}
+use Rattle.database.specs.Calls.{testConditions, testOf, evaluationConditions, placeAnswers}
 use Rattle.words.specs.Words.{rowsOf}
 use Rattle.words.specs.Testing.{firstBrokenFrom}
+use Rattle.words.specs.Broken.{violationOf}
 use Rattle.evaluation.specs.Evaluated.{answerWords}
+use Rattle.lists.specs.Over.{over}
+use Rattle.format.specs.File.{fileOf}
+use Rattle.writer.specs.declared.Written.{Written}
+use Rattle.writer.specs.declared.Written.the-variants as written
+use Rattle.writer.specs.Write.{writeConditions}
 use Rattle.theory.specs.Checking.{mapsTo}
 use Rattle.theory.specs.Determined.{determined}
 
@@ -88,7 +94,7 @@ checkRefusal checked.No = none
 checkRefusal (checked.Refused n) = some n
 
 -- A test of a database
-abbrev pub testRefusal : tests.Verdict → Option ℕ
+abbrev pub testRefusal : Conformance → Option ℕ
 testRefusal test.Obeys = none
 testRefusal (test.Broken k i j) = none
 testRefusal (test.Refused n) = some n
@@ -97,6 +103,11 @@ testRefusal (test.Refused n) = some n
 abbrev pub evaluationRefusal : Answered → Option ℕ
 evaluationRefusal (answered.Count n) = none
 evaluationRefusal (answered.Refused n) = some n
+
+-- Writing
+abbrev pub writingRefusal : Written → Option ℕ
+writingRefusal (written.Length n) = none
+writingRefusal (written.Refused n) = some n
 
 -- ---- the calls on the record alone
 
@@ -150,9 +161,9 @@ ReduceKeeps r source target o =
 -- ---- databases
 
 -- Testing a database
-abbrev pub TestKeeps : Record → List ℕ → tests.Verdict → Type 0
+abbrev pub TestKeeps : Record → List ℕ → Conformance → Type 0
 TestKeeps r words v =
-    Keeps (testConditions r words) order (testRefusal v) Nothing (v ≡ verdictOf (firstBrokenFrom 0 (dependenciesOf r) (rowsOf (schemaOf r) words)))
+    Keeps (testConditions r words) order (testRefusal v) Nothing (v ≡ testOf (violationOf (firstBrokenFrom 0 (dependenciesOf r) (rowsOf (schemaOf r) words))))
 
 -- Evaluating a place
 abbrev pub EvaluateKeeps : Record → ℕ → List ℕ → List ℕ → List ℕ → Answered → Type 0
@@ -160,3 +171,11 @@ EvaluateKeeps r place words before after a =
     Keeps (evaluationConditions r place words (length before)) order (evaluationRefusal a) (after ≡ before)
     ((a ≡ answered.Count (length (placeAnswers r place words)))
     × (after ≡ answerWords (placeAnswers r place words) ++ drop (length (answerWords (placeAnswers r place words))) before))
+
+-- ---- files
+
+-- Writing a record into a buffer
+abbrev pub WriteKeeps : Record → List ℕ → List ℕ → Written → Type 0
+WriteKeeps r before after w =
+    Keeps (writeConditions r (length before)) order (writingRefusal w) (after ≡ before)
+    ((w ≡ written.Length (length (fileOf r))) × (after ≡ over before 0 (fileOf r)))

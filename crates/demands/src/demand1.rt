@@ -2,7 +2,8 @@
 use comparison::Checked;
 use comparison::Comparison;
 use database::Answered;
-use database::Verdict;
+use database::Conformance;
+use file::Written;
 use query::Cell;
 use query::Dependency;
 use query::Query;
@@ -10,7 +11,7 @@ use record::Columns;
 use record::Outcome;
 use record::Record;
 use reduction::Reduced;
-ghost use Rattle.demands.specs.Demand1.{OpenKeeps, AddKeeps, PutKeeps, DropKeeps, DeterminedKeeps, CompareKeeps, CheckKeeps, ReduceKeeps, TestKeeps, EvaluateKeeps};
+ghost use Rattle.demands.specs.Demand1.{OpenKeeps, AddKeeps, PutKeeps, DropKeeps, DeterminedKeeps, CompareKeeps, CheckKeeps, ReduceKeeps, TestKeeps, EvaluateKeeps, WriteKeeps};
 
 // ---- the record
 
@@ -75,7 +76,7 @@ pub fn reduce(given: Record, source: usize, target: usize) -> Reduced
 // ---- databases
 
 // Tests a database against the dependencies.
-pub fn test(given: Record, words: &[u32]) -> Verdict
+pub fn test(given: Record, words: &[u32]) -> Conformance
     ensures { λ v. ⌜ TestKeeps given (now (words .entry)) v ⌝ }
 {
     database::test(given, words)
@@ -86,4 +87,13 @@ pub fn evaluate(given: Record, place: usize, words: &[u32], buffer: &mut [u32]) 
     ensures { λ a. ⌜ EvaluateKeeps given place (now (words .entry)) (now (buffer .entry)) (now (buffer .exit)) a ⌝ }
 {
     database::evaluate(given, place, words, buffer)
+}
+
+// ---- files
+
+// Writes a record into a lent buffer.
+pub fn write(given: Record, buffer: &mut [u8]) -> Written
+    ensures { λ w. ⌜ WriteKeeps given (now (buffer .entry)) (now (buffer .exit)) w ⌝ }
+{
+    file::write(given, buffer)
 }

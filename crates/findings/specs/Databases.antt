@@ -1,16 +1,10 @@
 -- Testing a database and evaluating a place on it, on files.
 use mathlib.Core.List.{List}
 use Prim.Native.Nat.{ℕ}
-<<<<<<< HEAD
 use Rattle.refusals.specs.Refusals.{Reply, gives, refused, _>>=_}
 use Rattle.format.specs.File.{readFile}
-use Rattle.database.specs.declared.Verdict.{Verdict}
-use Rattle.database.specs.declared.Verdict.the-variants as verdict
-=======
-use Rattle.format.specs.File.{Result, ok, refused, _>>=_, readFile}
 use Rattle.database.specs.declared.Conformance.{Conformance}
 use Rattle.database.specs.declared.Conformance.the-variants as said
->>>>>>> h4
 use Rattle.database.specs.declared.Answered.{Answered}
 use Rattle.database.specs.declared.Answered.the-variants as answered
 use Rattle.database.specs.Calls.{tested, evaluated, bufferThen}
@@ -23,27 +17,15 @@ pub record Tested : Type 0 where
   pub first : ℕ
   pub second : ℕ
 
-<<<<<<< HEAD
--- The verdict of a test, or its refusal
-abbrev pub verdictResult : Verdict → Reply Tested
-verdictResult verdict.Obeys = gives (record { obeys = 1; dependency = 0; first = 0; second = 0 })
-verdictResult (verdict.Broken k i j) = gives (record { obeys = 0; dependency = k; first = i; second = j })
-verdictResult (verdict.Refused n) = refused n
-
--- The test of a database against the dependencies of the record of a file
-abbrev pub testedIn : List ℕ → List ℕ → Reply Tested
-testedIn file words = readFile file >>= λ r. verdictResult (tested r words)
-=======
 -- What a test says, or its refusal
-abbrev pub testResult : Conformance → Result Tested
-testResult said.Obeys = ok (record { obeys = 1; dependency = 0; first = 0; second = 0 })
-testResult (said.Broken k i j) = ok (record { obeys = 0; dependency = k; first = i; second = j })
+abbrev pub testResult : Conformance → Reply Tested
+testResult said.Obeys = gives (record { obeys = 1; dependency = 0; first = 0; second = 0 })
+testResult (said.Broken k i j) = gives (record { obeys = 0; dependency = k; first = i; second = j })
 testResult (said.Refused n) = refused n
 
 -- The test of a database against the dependencies of the record of a file
-abbrev pub testedIn : List ℕ → List ℕ → Result Tested
+abbrev pub testedIn : List ℕ → List ℕ → Reply Tested
 testedIn file words = readFile file >>= λ r. testResult (tested r words)
->>>>>>> h4
 
 -- The count of answers, or the refusal
 abbrev pub countResult : Answered → Reply ℕ

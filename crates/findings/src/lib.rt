@@ -1,7 +1,7 @@
 // Testing a database and evaluating a place on it, on files. Each returns 0, or the number of the refusal, which leaves every buffer and number that it is
 // lent as it was.
 use database::Answered;
-use database::Verdict;
+use database::Conformance;
 use record::Answer;
 ghost use mathlib.Core.Path.{_≡_};
 ghost use lib.ListN.{length};
@@ -30,21 +30,21 @@ pub fn test_in_file(
             let given = outcome.record;
             let found = database::test(given, words);
             match found {
-                Verdict::Obeys => {
+                Conformance::Obeys => {
                     *obeys = 1;
                     *dependency = 0;
                     *first = 0;
                     *second = 0;
                     0
                 }
-                Verdict::Broken(k, i, j) => {
+                Conformance::Broken(k, i, j) => {
                     *obeys = 0;
                     *dependency = k;
                     *first = i;
                     *second = j;
                     0
                 }
-                Verdict::Refused(n) => n,
+                Conformance::Refused(n) => n,
             }
         }
         Answer::Refused(n) => n,

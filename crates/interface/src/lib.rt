@@ -1,11 +1,5 @@
 // The calls of SPECIFICATION for programs in other languages, on numbers, bytes and words: a record is the bytes of its file, in and out.
 // Each returns 0, or the number of the refusal, which leaves every buffer and number that it is lent as it was.
-<<<<<<< HEAD
-use database::Answered;
-use database::Conformance;
-use record::Answer;
-=======
->>>>>>> h2
 ghost use mathlib.Core.Path.{_≡_};
 ghost use lib.ListN.{length};
 ghost use Rattle.format.specs.File.{readFile};
@@ -161,36 +155,7 @@ pub extern "C" fn spernevan_test(
     ensures { λ _. ⌜ now (first .exit) ≡ leaves (testedIn (now (file .entry)) (now (words .entry))) (λ t. t .first) (now (first .entry)) ⌝ }
     ensures { λ _. ⌜ now (second .exit) ≡ leaves (testedIn (now (file .entry)) (now (words .entry))) (λ t. t .second) (now (second .entry)) ⌝ }
 {
-<<<<<<< HEAD
-    let outcome = file::read(file);
-    let answer = outcome.answer;
-    match answer {
-        Answer::Done => {
-            let given = outcome.record;
-            let found = database::test(given, words);
-            match found {
-                Conformance::Obeys => {
-                    *obeys = 1;
-                    *dependency = 0;
-                    *first = 0;
-                    *second = 0;
-                    0
-                }
-                Conformance::Broken(k, i, j) => {
-                    *obeys = 0;
-                    *dependency = k;
-                    *first = i;
-                    *second = j;
-                    0
-                }
-                Conformance::Refused(n) => n,
-            }
-        }
-        Answer::Refused(n) => n,
-    }
-=======
     findings::test_in_file(file, words, obeys, dependency, first, second)
->>>>>>> h2
 }
 
 // Evaluates the query of a place on a database.

@@ -1,17 +1,8 @@
 -- `test_in_file` gives what the test says, once the file is read. Assumes nothing.
 use mathlib.Core.Path.{_≡_, sym, ap, _∙_}
 use Rattle.database.specs.Calls.{tested}
-<<<<<<< HEAD:crates/interface/proofs/spernevan_test/Proof.antt
-<<<<<<< HEAD
-use Rattle.interface.specs.Databases.{verdictResult, testedIn}
-=======
-use Rattle.findings.specs.Databases.{verdictResult, testedIn}
->>>>>>> h2:crates/findings/proofs/test_in_file/Proof.antt
+use Rattle.findings.specs.Databases.{testResult, testedIn}
 use Rattle.refusals.specs.Refusals.{gives, refused}
-=======
-use Rattle.interface.specs.Databases.{testResult, testedIn}
-use Rattle.format.specs.File.{ok, refused}
->>>>>>> h4
 use Rattle.lent.proofs.Files.{read-done, read-refused, done-number, done-leaves, refused-number, refused-leaves}
 use borrow.Author.Needs.{needs}
 use Rattle.findings.proofs.test_in_file.Statement.{statement}
@@ -41,29 +32,17 @@ enum-known-answer c = search needs
 returns : tie.Need-returns
 returns c =
     let s = c .before .before .before .before .before .before .before .before .before in
-<<<<<<< HEAD
     let p : testedIn (s .args .file .now) (s .args .words .now) ≡ gives (record { obeys = 1; dependency = 0; first = 0; second = 0 }) =
-    read-done (s .args .file .now) (c .before .before .before .before .before .before .read .result) (c .before .before .before .before .before .before .read .ensures) (λ r. verdictResult (tested r (s .args .words .now))) (c .before .before .before .before .enum-told .given .1)
-    ∙ ap verdictResult (sym (c .before .before .test .ensures) ∙ c .enum-told2 .given .1) in
-=======
-    let p : testedIn (s .args .file .now) (s .args .words .now) ≡ ok (record { obeys = 1; dependency = 0; first = 0; second = 0 }) =
     read-done (s .args .file .now) (c .before .before .before .before .before .before .read .result) (c .before .before .before .before .before .before .read .ensures) (λ r. testResult (tested r (s .args .words .now))) (c .before .before .before .before .enum-told .given .1)
     ∙ ap testResult (sym (c .before .before .test .ensures) ∙ c .enum-told2 .given .1) in
->>>>>>> h4
     (done-number p, (done-leaves p (λ t. t .obeys) (s .args .obeys .now), (done-leaves p (λ t. t .dependency) (s .args .dependency .now), (done-leaves p (λ t. t .first) (s .args .first .now), done-leaves p (λ t. t .second) (s .args .second .now)))))
 
 returns-2 : tie.Need-returns-2
 returns-2 c =
     let s = c .before .before .before .before .before .before .before .before .before .before in
-<<<<<<< HEAD
     let p : testedIn (s .args .file .now) (s .args .words .now) ≡ gives (record { obeys = 0; dependency = c .before .found .given .0 .0; first = c .before .found .given .0 .1 .0; second = c .before .found .given .0 .1 .1 .0 }) =
-    read-done (s .args .file .now) (c .before .before .before .before .before .before .before .read .result) (c .before .before .before .before .before .before .before .read .ensures) (λ r. verdictResult (tested r (s .args .words .now))) (c .before .before .before .before .before .enum-told .given .1)
-    ∙ ap verdictResult (sym (c .before .before .before .test .ensures) ∙ c .before .found .given .1) in
-=======
-    let p : testedIn (s .args .file .now) (s .args .words .now) ≡ ok (record { obeys = 0; dependency = c .before .found .given .0 .0; first = c .before .found .given .0 .1 .0; second = c .before .found .given .0 .1 .1 .0 }) =
     read-done (s .args .file .now) (c .before .before .before .before .before .before .before .read .result) (c .before .before .before .before .before .before .before .read .ensures) (λ r. testResult (tested r (s .args .words .now))) (c .before .before .before .before .before .enum-told .given .1)
     ∙ ap testResult (sym (c .before .before .before .test .ensures) ∙ c .before .found .given .1) in
->>>>>>> h4
     (done-number p, (done-leaves p (λ t. t .obeys) (s .args .obeys .now), (done-leaves p (λ t. t .dependency) (s .args .dependency .now), (done-leaves p (λ t. t .first) (s .args .first .now), done-leaves p (λ t. t .second) (s .args .second .now)))))
 
 returns-3 : tie.Need-returns-3

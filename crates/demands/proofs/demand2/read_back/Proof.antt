@@ -1,7 +1,8 @@
 -- `demands::demand2::read_back` meets its contract. Assumes nothing.
 use mathlib.Core.Path.{sym, _∙_}
+use lib.ListN.{length-take-le}
 use Rattle.file.proofs.Shapes.{record-shaped}
-use Rattle.demands.proofs.Answering.{read-again, not-written}
+use Rattle.demands.proofs.Answering.{read-again, not-written, inside}
 use borrow.Author.Needs.{needs}
 use Rattle.demands.proofs.demand2.read_back.Statement.{statement}
 use Rattle.demands.proofs.demand2.read_back.Tie as tie
@@ -17,10 +18,14 @@ enum-known-written : tie.Need-enum-known-written
 enum-known-written c = search needs
 
 slice-reshare-prefix-read : tie.Need-slice-reshare-prefix-read
-slice-reshare-prefix-read c = search needs
+slice-reshare-prefix-read c =
+    let s = c .before .before .before .before .before .before .before .before in
+    inside (s .args .given) (s .args .buffer .now) _ _ (sym (c .before .before .before .before .before .write .ensures .0) ∙ c .before .written .given .1) (c .before .before .before .before .before .write .ensures .1)
 
 slice-aggregate-read : tie.Need-slice-aggregate-read
-slice-aggregate-read c = search needs
+slice-aggregate-read c =
+    let s = c .before .before .before .before .before .before .before .before .before in
+    sym (length-take-le _ _ (inside (s .args .given) (s .args .buffer .now) _ _ (sym (c .before .before .before .before .before .before .write .ensures .0) ∙ c .before .before .written .given .1) (c .before .before .before .before .before .before .write .ensures .1)))
 
 read-requires : tie.Need-read-requires
 read-requires c κs = search needs
@@ -34,8 +39,8 @@ same-length c = search needs
 returns : tie.Need-returns
 returns c =
     let s = c .before .before .before .before .before .before .before .before .before .before in
-    read-again (s .args .given) (s .args .buffer .now) (c .read .result) (record-shaped (s .args .given) _ (s .good .0)) _
-    (sym (c .before .before .before .before .before .before .before .write .ensures .0) ∙ c .before .before .before .written .given .1) (c .read .ensures)
+    read-again (s .args .given) (s .args .buffer .now) _ (c .read .result) (record-shaped (s .args .given) _ (s .good .0)) _
+    (sym (c .before .before .before .before .before .before .before .write .ensures .0) ∙ c .before .before .before .written .given .1) (c .before .before .before .before .before .before .before .write .ensures .1) (c .read .ensures)
 
 same-length-2 : tie.Need-same-length-2
 same-length-2 c = search needs
@@ -43,7 +48,7 @@ same-length-2 c = search needs
 returns-2 : tie.Need-returns-2
 returns-2 c =
     let s = c .before .before .before .before .before .before .before .before in
-    not-written (s .args .given) (s .args .buffer .now) _ _ (sym (c .before .before .before .before .before .write .ensures .0) ∙ c .before .written2 .given .1)
+    not-written (s .args .given) (s .args .buffer .now) _ _ _ (sym (c .before .before .before .before .before .write .ensures .0) ∙ c .before .written2 .given .1)
 
 pub read-back-spec : {M : Type 1} → statement M
 read-back-spec =
