@@ -149,5 +149,5 @@ module _ (r : Record) (before after : List ℕ) (o : Outcome) where
 pub inside : (r : Record) (before after : List ℕ) (n : ℕ) → written r before ≡ variant.Length n → after ≡ afterWriting r before → n ≤ length after
 inside r before after n says left =
     let (good, fits, long) = written-fits r before n says in
-    let kept : length after ≡ length before = ap length (left ∙ sym (fits-written r before good fits .1)) ∙ over-length before 0 (fileOf r) fits in
+    let kept : length after ≡ length before = ap length (left ∙ sym (fits-written r before good fits .1)) ∙ over-length before (fileOf r) 0 (omega (arith, fits)) in
     omega (arith, fits, long, kept)

@@ -1,6 +1,6 @@
 -- `demands::demand2::read_back` meets its contract. Assumes nothing.
 use mathlib.Core.Path.{sym, _∙_}
-use lib.ListN.{length-take-le}
+use lib.Seq.{length-take-le}
 use Rattle.file.proofs.Shapes.{record-shaped}
 use Rattle.demands.proofs.Answering.{read-again, not-written, inside}
 use borrow.Author.Needs.{needs}
@@ -48,7 +48,7 @@ same-length-2 c = search needs
 returns-2 : tie.Need-returns-2
 returns-2 c =
     let s = c .before .before .before .before .before .before .before .before in
-    not-written (s .args .given) (s .args .buffer .now) _ _ _ (sym (c .before .before .before .before .before .write .ensures .0) ∙ c .before .written2 .given .1)
+    not-written (s .args .given) (s .args .buffer .now) (s .args .buffer .now) _ _ (sym (c .before .before .before .before .before .write .ensures .0) ∙ c .before .written2 .given .1)
 
 pub read-back-spec : {M : Type 1} → statement M
 read-back-spec =
