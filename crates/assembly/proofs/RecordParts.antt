@@ -9,11 +9,11 @@ use lib.Seq.{length-take-le}
 use Rattle.record.specs.declared.Record.{Record}
 use Rattle.record.specs.View.{schemaOf}
 use Rattle.record.specs.Rule.{goodRecord}
-use Rattle.format.specs.Bytes.{digits}
+use Rattle.format.specs.Bytes.{bytesOf}
 use Rattle.format.specs.Format.{putAll, byte, sequence, padded}
 use Rattle.format.specs.Parts.{relations, dependency, dependencies}
 use Rattle.format.specs.File.{tableOf, join, assemble, putPlace, upToFilled, partsOf, fileOf}
-use Rattle.format.proofs.Numbers.{length-digits}
+use Rattle.format.proofs.Numbers.{length-bytes}
 use Rattle.format.proofs.Directory.{length-table}
 use Rattle.format.proofs.Lengths.{length-putAll, length-relations}
 use Rattle.assembly.specs.internal.Pieces.{putDependency, dependencyBytes, directoryBytes, partBytes}
@@ -57,11 +57,11 @@ module _ (r : Record) (good : goodRecord r ≡ true) where
         let few : length ps ≡ n = length-map (take n (r .places)) (putPlace (schemaOf r)) ∙ length-take-le n (r .places) l in
         let start : ℕ = 2 + 4 * (n + 2) in
         let table : List ℕ = tableOf (start + (1 + r .relations) + (1 + 3 * r .held)) ps in
-        let d₁ : List ℕ = digits 2 (n + 2) in
-        let d₂ : List ℕ = digits 2 start in
-        let d₃ : List ℕ = digits 2 (1 + r .relations) in
-        let d₄ : List ℕ = digits 2 (start + (1 + r .relations)) in
-        let d₅ : List ℕ = digits 2 (1 + 3 * r .held) in
+        let d₁ : List ℕ = bytesOf 2 (n + 2) in
+        let d₂ : List ℕ = bytesOf 2 start in
+        let d₃ : List ℕ = bytesOf 2 (1 + r .relations) in
+        let d₄ : List ℕ = bytesOf 2 (start + (1 + r .relations)) in
+        let d₅ : List ℕ = bytesOf 2 (1 + 3 * r .held) in
         let dir : length (d₁ ++ d₂ ++ d₃ ++ d₄ ++ d₅ ++ table) ≡ start =
         omega (
           arith,
@@ -70,11 +70,11 @@ module _ (r : Record) (good : goodRecord r ≡ true) where
           length-append (d₁ ++ d₂ ++ d₃) d₄,
           length-append (d₁ ++ d₂) d₃,
           length-append d₁ d₂,
-          length-digits 2 (n + 2),
-          length-digits 2 start,
-          length-digits 2 (1 + r .relations),
-          length-digits 2 (start + (1 + r .relations)),
-          length-digits 2 (1 + 3 * r .held),
+          length-bytes 2 (n + 2),
+          length-bytes 2 start,
+          length-bytes 2 (1 + r .relations),
+          length-bytes 2 (start + (1 + r .relations)),
+          length-bytes 2 (1 + 3 * r .held),
           length-table (start + (1 + r .relations) + (1 + 3 * r .held)) ps,
         ) in
         (dir, omega (arith, ap length (file-split n e l), length-append (d₁ ++ d₂ ++ d₃ ++ d₄ ++ d₅ ++ table) (partBytes r n), dir, parts-long n, eo))

@@ -7,9 +7,9 @@ use native.Mathlib.Omega.{arith}
 use lib.ListN.{length, getD, drop, set, length-append, drop-of-length-le}
 use lib.Seq.{sets-eq, drop-cons}
 use Rattle.lists.specs.Over.{over}
-use Rattle.format.specs.Bytes.{digits}
+use Rattle.format.specs.Bytes.{bytesOf}
 use Rattle.format.specs.Format.{putAll}
-use Rattle.format.proofs.Numbers.{length-digits}
+use Rattle.format.proofs.Numbers.{length-bytes}
 use Rattle.lists.proofs.Over.{over-nil, over-set, over-over, over-length}
 
 pub two-stores : (d : List ℕ) (at a b : ℕ) → at + 2 ≤ length d → set (set d at a) (at + 1) b ≡ over d at (a ∷ b ∷ [])
@@ -100,5 +100,5 @@ run-turns {before} {start} {done} {buffer} {at} r more next to room e t =
 
 -- 16 bits more
 pub word-run : {before : List ℕ} {start : ℕ} {done buffer : List ℕ} {at : ℕ} → Run before start done buffer at → (v : ℕ) (next : List ℕ) → at + 2 ≤ length before
-    → next ≡ over buffer at (digits 2 v) → Run before start (done ++ digits 2 v) next (at + 2)
-word-run r v next room e = run-turns r (digits 2 v) next _ (rw (length-digits 2 v) room) e (rw (length-digits 2 v))
+    → next ≡ over buffer at (bytesOf 2 v) → Run before start (done ++ bytesOf 2 v) next (at + 2)
+word-run r v next room e = run-turns r (bytesOf 2 v) next _ (rw (length-bytes 2 v) room) e (rw (length-bytes 2 v))

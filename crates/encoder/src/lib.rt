@@ -11,7 +11,7 @@ ghost use lib.ListN.{length, take, drop, getD};
 ghost use Rattle.lists.specs.Over.{over};
 ghost use Rattle.query.specs.Rule.{goodRelations};
 ghost use Rattle.record.specs.Rule.{goodPlace};
-ghost use Rattle.format.specs.Bytes.{digits};
+ghost use Rattle.format.specs.Bytes.{bytesOf};
 ghost use Rattle.format.specs.Format.{putAll};
 ghost use Rattle.format.specs.Parts.{putEntry, entries, row, chunk, query};
 ghost use Rattle.format.specs.File.{putPlace};
@@ -22,7 +22,7 @@ ghost use Rattle.encoder.specs.internal.Lengths.{rowsLength};
 // 16 bits at a position.
 pub fn put_word(buffer: &mut [u8], at: usize, n: usize)
     requires { ⌜ at + 2 ≤ length (now buffer) ⌝ }
-    ensures { λ _. ⌜ now (buffer .exit) ≡ over (now (buffer .entry)) at (digits 2 n) ⌝ }
+    ensures { λ _. ⌜ now (buffer .exit) ≡ over (now (buffer .entry)) at (bytesOf 2 n) ⌝ }
 {
     buffer[at] = (n % 256) as u8;
     buffer[at + 1] = (n / 256 % 256) as u8;
@@ -31,7 +31,7 @@ pub fn put_word(buffer: &mut [u8], at: usize, n: usize)
 // A byte and 32 bits at a position.
 fn put_tagged(buffer: &mut [u8], at: usize, tag: u8, n: u32)
     requires { ⌜ at + 5 ≤ length (now buffer) ⌝ }
-    ensures { λ _. ⌜ now (buffer .exit) ≡ over (now (buffer .entry)) at (tag ∷ digits 4 n) ⌝ }
+    ensures { λ _. ⌜ now (buffer .exit) ≡ over (now (buffer .entry)) at (tag ∷ bytesOf 4 n) ⌝ }
 {
     buffer[at] = tag;
     buffer[at + 1] = (n % 256) as u8;

@@ -10,24 +10,24 @@ use lib.Seq.{take-at, drop-at, length-take-le, drop-drop, take-add, drop-length}
 use borrow.Author.Tests.{eqb-true, eq-eqb, leb-true, le-leb}
 use Rattle.lists.specs.Tests.{between, every}
 use Rattle.refusals.specs.Refusals.{badOffsets, gives, refused, Reply}
-use Rattle.format.specs.Bytes.{number, digits, Bytes}
+use Rattle.format.specs.Bytes.{number, bytesOf, Bytes}
 use Rattle.format.specs.File.{chained, stretches, tableFits, directory, tableOf, join, assemble}
 use Rattle.lists.proofs.Tests.{and-left, and-right, and-both, and-iff, every-take, every-drop}
 use Rattle.format.proofs.Arrays.{bytes-append}
-use Rattle.format.proofs.Numbers.{number-digits, digits-number, length-digits}
+use Rattle.format.proofs.Numbers.{number-bytes, bytes-number, length-bytes}
 
 pub length-table : (start : ℕ) (parts : List (List ℕ)) → length (tableOf start parts) ≡ 4 * length parts
 unfolding tableOf
 length-table start [] = refl
 length-table start (p ∷ ps) =
     let ih : length (tableOf (start + length p) ps) ≡ 4 * length ps = length-table (start + length p) ps in
-    let e : length (digits 2 start ++ digits 2 (length p) ++ tableOf (start + length p) ps) ≡ 2 + 2 + length (tableOf (start + length p) ps) =
-    simp (length-append, length-digits) in
+    let e : length (bytesOf 2 start ++ bytesOf 2 (length p) ++ tableOf (start + length p) ps) ≡ 2 + 2 + length (tableOf (start + length p) ps) =
+    simp (length-append, length-bytes) in
     rw e (omega arith)
 
 pub length-assemble : (parts : List (List ℕ)) → length (assemble parts) ≡ 2 + 4 * length parts + length (join parts)
 unfolding assemble
-length-assemble parts = simp (length-append, length-digits, length-table)
+length-assemble parts = simp (length-append, length-bytes, length-table)
 
 -- ---- an assembled file
 
@@ -36,25 +36,25 @@ module _ (start : ℕ) (p : List ℕ) (ps : List (List ℕ)) (rest : List ℕ) (
   more : List ℕ
   more = tableOf (start + length p) ps ++ rest
 
-  table-split : tableOf start (p ∷ ps) ++ rest ≡ digits 2 start ++ (digits 2 (length p) ++ more)
+  table-split : tableOf start (p ∷ ps) ++ rest ≡ bytesOf 2 start ++ (bytesOf 2 (length p) ++ more)
   unfolding tableOf more
   table-split =
-      append-assoc (digits 2 start ++ digits 2 (length p)) (tableOf (start + length p) ps) rest ∙ append-assoc (digits 2 start) (digits 2 (length p)) more
+      append-assoc (bytesOf 2 start ++ bytesOf 2 (length p)) (tableOf (start + length p) ps) rest ∙ append-assoc (bytesOf 2 start) (bytesOf 2 (length p)) more
 
   first-offset : number 2 (tableOf start (p ∷ ps) ++ rest) ≡ start
-  first-offset = rw table-split (number-digits 2 start (digits 2 (length p) ++ more) (omega arith))
+  first-offset = rw table-split (number-bytes 2 start (bytesOf 2 (length p) ++ more) (omega arith))
 
-  after-offset : drop 2 (tableOf start (p ∷ ps) ++ rest) ≡ digits 2 (length p) ++ more
-  after-offset = rw table-split (drop-at (digits 2 start) (digits 2 (length p) ++ more) 2 (length-digits 2 start))
+  after-offset : drop 2 (tableOf start (p ∷ ps) ++ rest) ≡ bytesOf 2 (length p) ++ more
+  after-offset = rw table-split (drop-at (bytesOf 2 start) (bytesOf 2 (length p) ++ more) 2 (length-bytes 2 start))
 
   first-length : number 2 (drop 2 (tableOf start (p ∷ ps) ++ rest)) ≡ length p
-  first-length = rw after-offset (number-digits 2 (length p) more (omega arith))
+  first-length = rw after-offset (number-bytes 2 (length p) more (omega arith))
 
   after-pair : drop 4 (tableOf start (p ∷ ps) ++ rest) ≡ tableOf (start + length p) ps ++ rest
   unfolding more
   after-pair =
       sym (drop-drop 2 2 (tableOf start (p ∷ ps) ++ rest)) ∙ ap (λ (t : List ℕ). drop 2 t) after-offset
-      ∙ drop-at (digits 2 (length p)) more 2 (length-digits 2 (length p))
+      ∙ drop-at (bytesOf 2 (length p)) more 2 (length-bytes 2 (length p))
 
 -- the table of parts that stand at the file's end
 chained-table : (parts : List (List ℕ)) (start : ℕ) (file rest : List ℕ) → length file ≡ start + length (join parts) → length file < 65536
@@ -88,19 +88,19 @@ unfolding directory assemble
 directory-assemble parts low high small =
     let n : ℕ = length parts in
     let table : List ℕ = tableOf (2 + 4 * n) parts ++ join parts in
-    let e : digits 2 n ++ tableOf (2 + 4 * n) parts ++ join parts ≡ digits 2 n ++ table = append-assoc (digits 2 n) (tableOf (2 + 4 * n) parts) (join parts) in
-    let l : length (digits 2 n ++ table) ≡ 2 + 4 * n + length (join parts) = rw (← e) (length-assemble parts) in
-    let c : number 2 (digits 2 n ++ table) ≡ n = number-digits 2 n table (omega arith) in
-    let d : drop 2 (digits 2 n ++ table) ≡ table = drop-at (digits 2 n) table 2 (length-digits 2 n) in
-    let s : length (digits 2 n ++ table) < 65536 = rw e at small in
-    let t₁ : leb 2 (length (digits 2 n ++ table)) ≡ true = le-leb 2 (length (digits 2 n ++ table)) (omega arith) in
+    let e : bytesOf 2 n ++ tableOf (2 + 4 * n) parts ++ join parts ≡ bytesOf 2 n ++ table = append-assoc (bytesOf 2 n) (tableOf (2 + 4 * n) parts) (join parts) in
+    let l : length (bytesOf 2 n ++ table) ≡ 2 + 4 * n + length (join parts) = rw (← e) (length-assemble parts) in
+    let c : number 2 (bytesOf 2 n ++ table) ≡ n = number-bytes 2 n table (omega arith) in
+    let d : drop 2 (bytesOf 2 n ++ table) ≡ table = drop-at (bytesOf 2 n) table 2 (length-bytes 2 n) in
+    let s : length (bytesOf 2 n ++ table) < 65536 = rw e at small in
+    let t₁ : leb 2 (length (bytesOf 2 n ++ table)) ≡ true = le-leb 2 (length (bytesOf 2 n ++ table)) (omega arith) in
     let t₂ : leb 2 n ≡ true = le-leb 2 n low in
     let t₃ : leb n 10 ≡ true = le-leb n 10 high in
-    let t₄ : leb (2 + 4 * n) (length (digits 2 n ++ table)) ≡ true = le-leb (2 + 4 * n) (length (digits 2 n ++ table)) (omega arith) in
-    let front : length (digits 2 n ++ tableOf (2 + 4 * n) parts) ≡ 2 + 4 * n = simp (length-append, length-digits, length-table) in
-    let h : chained n (2 + 4 * n) (length (digits 2 n ++ table)) table ≡ true = chained-table parts (2 + 4 * n) (digits 2 n ++ table) (join parts) l s in
-    let p : stretches n (digits 2 n ++ table) table ≡ parts =
-    stretches-table parts (2 + 4 * n) (digits 2 n ++ tableOf (2 + 4 * n) parts) (digits 2 n ++ table) (join parts) e front s in
+    let t₄ : leb (2 + 4 * n) (length (bytesOf 2 n ++ table)) ≡ true = le-leb (2 + 4 * n) (length (bytesOf 2 n ++ table)) (omega arith) in
+    let front : length (bytesOf 2 n ++ tableOf (2 + 4 * n) parts) ≡ 2 + 4 * n = simp (length-append, length-bytes, length-table) in
+    let h : chained n (2 + 4 * n) (length (bytesOf 2 n ++ table)) table ≡ true = chained-table parts (2 + 4 * n) (bytesOf 2 n ++ table) (join parts) l s in
+    let p : stretches n (bytesOf 2 n ++ table) table ≡ parts =
+    stretches-table parts (2 + 4 * n) (bytesOf 2 n ++ tableOf (2 + 4 * n) parts) (bytesOf 2 n ++ table) (join parts) e front s in
     rw (e, c, d, t₁, t₂, t₃, t₄, h, p)
 
 -- ---- an accepted file
@@ -128,8 +128,8 @@ chained-back (suc n) due file table hb hl h =
     let (fits, tab, all, len) = chained-back n (due + m) file (drop 4 table) b₄ (omega arith) (k .1) in
     let ld : length (drop due file) ≡ length file - due = length-drop due file in
     let lp : length (take m (drop due file)) ≡ m = length-take-le m (drop due file) (omega arith) in
-    let g₁ : digits 2 due ≡ take 2 table = ap (digits 2) (sym e) ∙ digits-number 2 table hb (omega arith) in
-    let g₂ : digits 2 m ≡ take 2 (drop 2 table) = digits-number 2 (drop 2 table) b₂ (omega arith) in
+    let g₁ : bytesOf 2 due ≡ take 2 table = ap (bytesOf 2) (sym e) ∙ bytes-number 2 table hb (omega arith) in
+    let g₂ : bytesOf 2 m ≡ take 2 (drop 2 table) = bytes-number 2 (drop 2 table) b₂ (omega arith) in
     let n₄ : 4 * suc n ≡ 4 + 4 * n = omega arith in
     let t₄ : take (4 * suc n) table ≡ take 2 table ++ take 2 (drop 2 table) ++ take (4 * n) (drop 4 table) =
     rw n₄ (take-add 4 (4 * n) table ∙ ap (λ (t : List ℕ). t ++ take (4 * n) (drop 4 table)) (take-add 2 2 table)) in
@@ -153,8 +153,8 @@ assemble-directory file parts hb e =
     let b₂ : Bytes (drop 2 file) = every-drop (λ b. ltb b 256) 2 file hb in
     let l₂ : length (drop 2 file) ≡ length file - 2 = length-drop 2 file in
     let (_, tab, all, len) = chained-back n (2 + 4 * n) file (drop 2 file) b₂ (omega arith) h in
-    let g : digits 2 n ≡ take 2 file = digits-number 2 file hb (omega arith) in
-    let same : digits 2 n ++ tableOf (2 + 4 * n) ps ++ join ps ≡ file =
+    let g : bytesOf 2 n ≡ take 2 file = bytes-number 2 file hb (omega arith) in
+    let same : bytesOf 2 n ++ tableOf (2 + 4 * n) ps ++ join ps ≡ file =
     rw (tab, all, g, ← take-add 2 (4 * n) file) (take-append-drop (2 + 4 * n) file) in
-    subst (λ (ps : List (List ℕ)). (digits 2 (length ps) ++ tableOf (2 + 4 * length ps) ps ++ join ps ≡ file) × (2 ≤ length ps) × (length ps ≤ 10) × Bytes (join ps)) p
+    subst (λ (ps : List (List ℕ)). (bytesOf 2 (length ps) ++ tableOf (2 + 4 * length ps) ps ++ join ps ≡ file) × (2 ≤ length ps) × (length ps ≤ 10) × Bytes (join ps)) p
     (rw len same, rw len low, rw len high, rw all (every-drop (λ b. ltb b 256) (2 + 4 * n) file hb))

@@ -16,7 +16,7 @@ use Rattle.record.specs.declared.Place.{Place}
 use Rattle.format.specs.Format.{Format, byte, sequence, padded, via, putAll}
 use Rattle.format.specs.Parts.{relations, dependency, dependencies, putEntry, entry, entries, row, rows, chunk, query}
 use Rattle.format.specs.File.{putPlace, join}
-use Rattle.format.proofs.Numbers.{length-digits}
+use Rattle.format.proofs.Numbers.{length-bytes}
 use Rattle.format.proofs.Parts.{Narrow, narrow-at, headFits}
 
 pub take-short : {A : Type 0} (n : ℕ) (xs : List A) → length (take n xs) ≤ n
@@ -33,8 +33,8 @@ length-putAll put c h (x ∷ xs) =
 
 pub length-entry : (e : Entry) → length (putEntry e) ≡ 5
 unfolding putEntry
-length-entry (Constant n) = ap suc (length-digits 4 n)
-length-entry (Variable v) = ap suc (length-digits 4 v)
+length-entry (Constant n) = ap suc (length-bytes 4 n)
+length-entry (Variable v) = ap suc (length-bytes 4 v)
 
 pub length-entries : (n : ℕ) (cells : List Cell) → length (entries n .put cells) ≡ 5 * length (take n cells)
 unfolding entries padded entry

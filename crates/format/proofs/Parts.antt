@@ -17,12 +17,12 @@ use Rattle.query.specs.declared.Dependency.{Dependency}
 use Rattle.lists.specs.Tests.{between, every, inUse, isZero}
 use Rattle.query.specs.Rule.{blankEntry, blankCell, blankDependency, goodDependency, goodEntry, goodCell, noCell, noDependency}
 use Rattle.query.proofs.Shape.{blank-number, blank-cell, blank-dependency}
-use Rattle.format.specs.Bytes.{number, digits, Bytes}
+use Rattle.format.specs.Bytes.{number, bytesOf, Bytes}
 use Rattle.format.specs.Format.{Reading, none, got, gotIf, Format, Lawful, byte, sequence, padded, via}
 use Rattle.format.specs.Parts.{relations, dependencyAt, dependency, dependencies, putEntry, isEntry, entryFrom, entry, entries, row, noRow, blankRow, rows, chunk, flat, Fields, queryWith, fieldsOf, fullCells, query}
 use Rattle.lists.proofs.Tests.{and-left, and-right, and-both, and-iff, every-take, every-drop, every-join, every-weaken, every-getD, every-same}
 use Rattle.format.proofs.Arrays.{bytes-append}
-use Rattle.format.proofs.Numbers.{number-digits, digits-number, length-digits}
+use Rattle.format.proofs.Numbers.{number-bytes, bytes-number, length-bytes}
 use Rattle.format.proofs.Formats.{not-got, gotIf-true, byte-lawful, sequence-lawful, padded-lawful, via-lawful}
 
 -- ---- part 0 and part 1
@@ -67,28 +67,28 @@ dependencies-lawful schema =
 putEntry-get : (e : Entry) (rest : List ℕ) → goodEntry e ≡ true → entry .get (putEntry e ++ rest) ≡ got (record { entry = e }) rest
 unfolding entry putEntry gotIf
 putEntry-get (Constant n) rest h =
-    let bytes : List ℕ = 0 ∷ digits 4 n ++ rest in
-    let l : leb 5 (length bytes) ≡ true = le-leb 5 (length bytes) (omega (arith, length-append (digits 4 n) rest, length-digits 4 n)) in
-    let k : number 4 (digits 4 n ++ rest) ≡ n = number-digits 4 n rest (omega (arith, leb-true n 2147483647 h)) in
-    let d : drop 4 (digits 4 n ++ rest) ≡ rest = drop-at (digits 4 n) rest 4 (length-digits 4 n) in
+    let bytes : List ℕ = 0 ∷ bytesOf 4 n ++ rest in
+    let l : leb 5 (length bytes) ≡ true = le-leb 5 (length bytes) (omega (arith, length-append (bytesOf 4 n) rest, length-bytes 4 n)) in
+    let k : number 4 (bytesOf 4 n ++ rest) ≡ n = number-bytes 4 n rest (omega (arith, leb-true n 2147483647 h)) in
+    let d : drop 4 (bytesOf 4 n ++ rest) ≡ rest = drop-at (bytesOf 4 n) rest 4 (length-bytes 4 n) in
     rw (l, k, d, h)
 putEntry-get (Variable v) rest h =
-    let bytes : List ℕ = 1 ∷ digits 4 v ++ rest in
-    let l : leb 5 (length bytes) ≡ true = le-leb 5 (length bytes) (omega (arith, length-append (digits 4 v) rest, length-digits 4 v)) in
-    let k : number 4 (digits 4 v ++ rest) ≡ v = number-digits 4 v rest (omega (arith, leb-true v 95 h)) in
-    let d : drop 4 (digits 4 v ++ rest) ≡ rest = drop-at (digits 4 v) rest 4 (length-digits 4 v) in
+    let bytes : List ℕ = 1 ∷ bytesOf 4 v ++ rest in
+    let l : leb 5 (length bytes) ≡ true = le-leb 5 (length bytes) (omega (arith, length-append (bytesOf 4 v) rest, length-bytes 4 v)) in
+    let k : number 4 (bytesOf 4 v ++ rest) ≡ v = number-bytes 4 v rest (omega (arith, leb-true v 95 h)) in
+    let d : drop 4 (bytesOf 4 v ++ rest) ≡ rest = drop-at (bytesOf 4 v) rest 4 (length-bytes 4 v) in
     rw (l, k, d, h)
 
--- the first byte, the four digits after it and the rest
-five : (bytes : List ℕ) → Bytes bytes → 5 ≤ length bytes → (getD bytes 0 0 ∷ digits 4 (number 4 (drop 1 bytes))) ++ drop 5 bytes ≡ bytes
+-- the first byte, the four bytesOf after it and the rest
+five : (bytes : List ℕ) → Bytes bytes → 5 ≤ length bytes → (getD bytes 0 0 ∷ bytesOf 4 (number 4 (drop 1 bytes))) ++ drop 5 bytes ≡ bytes
 unfolding every
 five [] b h = absurd (not-suc-le-zero h)
 five (x ∷ bytes) b h =
-    let d : digits 4 (number 4 bytes) ≡ take 4 bytes = digits-number 4 bytes (and-right (ltb x 256) (every (λ n. ltb n 256) bytes) b) (le-of-suc-le-suc h) in
+    let d : bytesOf 4 (number 4 bytes) ≡ take 4 bytes = bytes-number 4 bytes (and-right (ltb x 256) (every (λ n. ltb n 256) bytes) b) (le-of-suc-le-suc h) in
     rw (d, take-append-drop 4 bytes)
 
 -- the entry that a byte and a number stand for is good, and written so
-entryFrom-put : (tag n : ℕ) (t : Bool) → eqb tag 0 ≡ t → isEntry tag n ≡ true → (goodCell (entryFrom tag n) ≡ true) × (putEntry (entryFrom tag n .entry) ≡ tag ∷ digits 4 n)
+entryFrom-put : (tag n : ℕ) (t : Bool) → eqb tag 0 ≡ t → isEntry tag n ≡ true → (goodCell (entryFrom tag n) ≡ true) × (putEntry (entryFrom tag n .entry) ≡ tag ∷ bytesOf 4 n)
 unfolding putEntry
 entryFrom-put tag n true e h = let z : tag ≡ 0 = eqb-true tag 0 e in rw z (rw z at h, refl)
 entryFrom-put tag n false e h =
@@ -106,7 +106,7 @@ entry-lawful =
           let n : ℕ = number 4 (drop 1 bytes) in
           let (t, ec, er) = gotIf-true (leb 5 (length bytes) && isEntry tag n) (entryFrom tag n) c (drop 5 bytes) rest e in
           let k : (leb 5 (length bytes) ≡ true) × (isEntry tag n ≡ true) = simp and-iff at t in
-          let p : (goodCell (entryFrom tag n) ≡ true) × (putEntry (entryFrom tag n .entry) ≡ tag ∷ digits 4 n) = entryFrom-put tag n (eqb tag 0) refl (k .1) in
+          let p : (goodCell (entryFrom tag n) ≡ true) × (putEntry (entryFrom tag n .entry) ≡ tag ∷ bytesOf 4 n) = entryFrom-put tag n (eqb tag 0) refl (k .1) in
           subst (λ (c : Cell). (goodCell c ≡ true) × (putEntry (c .entry) ++ rest ≡ bytes)) ec
           (p .0, rw (p .1, ← er) (five bytes hb (leb-true 5 (length bytes) (k .0))));
     }

@@ -18,7 +18,7 @@ use Rattle.refusals.specs.Refusals.{_>>=_, badQuery, gives, refused, Reply}
 use Rattle.format.specs.Bytes.{Bytes}
 use Rattle.format.specs.Format.{Reading, none, got, Format, Lawful, byte, sequence, via, pad}
 use Rattle.format.specs.Parts.{query}
-use Rattle.format.specs.File.{complete, isVacant, placeWith, safeQuery, readPlace, noneLeft, readPlaces, join, putPlace, oneMore, upToFilled, shapedQuery}
+use Rattle.format.specs.File.{complete, isVacant, placeWith, safeQuery, readPlace, noneLeft, readPlaces, join, putPlace, oneMoreIfAny, upToFilled, shapedQuery}
 use Rattle.lists.proofs.Tests.{and-left, and-right, and-both, and-iff, every-same}
 use Rattle.format.proofs.Arrays.{bytes-append}
 use Rattle.query.proofs.Shape.{blank-query}
@@ -111,7 +111,7 @@ AllRead schema parts places =
 none-filled : (k : ℕ) → upToFilled (replicate k noPlace) ≡ 0
 unfolding upToFilled
 none-filled zero = refl
-none-filled (suc k) = ap oneMore (none-filled k)
+none-filled (suc k) = ap oneMoreIfAny (none-filled k)
 
 -- one place more in front of places of which the last is filled
 one-more : (p : Place) (ps rest : List Place) (parts : List (List ℕ)) → (noneLeft parts ≡ true → p .filled ≡ true) → length ps ≡ length parts → upToFilled rest ≡ length ps
@@ -120,7 +120,7 @@ unfolding upToFilled noneLeft
 one-more p ps rest [] last l e = let f : p .filled ≡ true = last refl in rw (f, e)
 one-more p ps rest (part ∷ parts) last l e = go (p .filled)
   where
-    go : (t : Bool) → cond t (suc (upToFilled rest)) (oneMore (upToFilled rest)) ≡ suc (length ps)
+    go : (t : Bool) → cond t (suc (upToFilled rest)) (oneMoreIfAny (upToFilled rest)) ≡ suc (length ps)
     go true = ap suc e
     go false = rw (e, l)
 
@@ -224,7 +224,7 @@ unfolding upToFilled
 upTo-fits [] = lit≤ tt
 upTo-fits (p ∷ ps) = go (p .filled) (upToFilled ps) (upTo-fits ps)
   where
-    go : (t : Bool) (k : ℕ) → k ≤ length ps → cond t (suc k) (oneMore k) ≤ suc (length ps)
+    go : (t : Bool) (k : ℕ) → k ≤ length ps → cond t (suc k) (oneMoreIfAny k) ≤ suc (length ps)
     go true k h = omega arith
     go false zero h = omega arith
     go false (suc k) h = omega arith

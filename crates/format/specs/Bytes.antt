@@ -13,9 +13,9 @@ number zero bytes = 0
 number (suc k) bytes = getD bytes 0 0 + 256 * number k (drop 1 bytes)
 
 -- The k bytes of a number, little-endian
-unfoldable pub digits : ℕ → ℕ → List ℕ
-digits zero n = []
-digits (suc k) n = n % 256 ∷ digits k (n / 256)
+unfoldable pub bytesOf : ℕ → ℕ → List ℕ
+bytesOf zero n = []
+bytesOf (suc k) n = n % 256 ∷ bytesOf k (n / 256)
 
 -- Each number of a list is a byte
 abbrev pub Bytes : List ℕ → Type 0

@@ -16,7 +16,7 @@ use Rattle.lists.specs.Tests.{between, every}
 use Rattle.query.specs.Rule.{headSafe}
 use Rattle.record.specs.Rule.{noPlace, blankRecord}
 use Rattle.refusals.specs.Refusals.{badDependency, badDirectory, badOffsets, badQuery, badRelations, unsafeHead, Reply, refused, gives, _>>=_}
-use Rattle.format.specs.Bytes.{number, digits}
+use Rattle.format.specs.Bytes.{number, bytesOf}
 use Rattle.format.specs.Format.{Reading, none, got, Format, pad}
 use Rattle.format.specs.Parts.{relations, dependencies, query}
 
@@ -60,7 +60,7 @@ directory file =
 -- The table of some parts, the first of which starts at the given offset
 unfoldable pub tableOf : ℕ → List (List ℕ) → List ℕ
 tableOf start [] = []
-tableOf start (p ∷ ps) = digits 2 start ++ digits 2 (length p) ++ tableOf (start + length p) ps
+tableOf start (p ∷ ps) = bytesOf 2 start ++ bytesOf 2 (length p) ++ tableOf (start + length p) ps
 
 -- Parts one after the other
 unfoldable pub join : List (List ℕ) → List ℕ
@@ -69,7 +69,7 @@ join (p ∷ ps) = p ++ join ps
 
 -- The file of some parts: their number, the table, and the parts
 unfoldable pub assemble : List (List ℕ) → List ℕ
-assemble parts = digits 2 (length parts) ++ tableOf (2 + 4 * length parts) parts ++ join parts
+assemble parts = bytesOf 2 (length parts) ++ tableOf (2 + 4 * length parts) parts ++ join parts
 
 -- ---- reading
 
@@ -140,14 +140,14 @@ unfoldable pub putPlace : List ℕ → Place → List ℕ
 putPlace schema p = cond (p .filled) (query schema .put (p .query)) (255 ∷ [])
 
 -- One more if there is any
-abbrev pub oneMore : ℕ → ℕ
-oneMore zero = zero
-oneMore (suc n) = suc (suc n)
+abbrev pub oneMoreIfAny : ℕ → ℕ
+oneMoreIfAny zero = zero
+oneMoreIfAny (suc n) = suc (suc n)
 
 -- How many places there are up to the last filled one
 unfoldable pub upToFilled : List Place → ℕ
 upToFilled [] = 0
-upToFilled (p ∷ ps) = cond (p .filled) (suc (upToFilled ps)) (oneMore (upToFilled ps))
+upToFilled (p ∷ ps) = cond (p .filled) (suc (upToFilled ps)) (oneMoreIfAny (upToFilled ps))
 
 -- The parts of a record's file
 unfoldable pub partsOf : Record → List (List ℕ)

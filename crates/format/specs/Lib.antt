@@ -3,3 +3,4 @@ pub mod Bytes
 pub mod Format
 pub mod Parts
 pub mod File
+pub mod Faults

@@ -12,7 +12,7 @@ use Rattle.query.specs.declared.Query.{Query}
 use Rattle.query.specs.declared.Dependency.{Dependency}
 use Rattle.lists.specs.Tests.{between, every, isZero}
 use Rattle.query.specs.Rule.{blankCell, blankDependency, goodDependency, goodEntry, goodCell, noCell, noDependency}
-use Rattle.format.specs.Bytes.{number, digits}
+use Rattle.format.specs.Bytes.{number, bytesOf}
 use Rattle.format.specs.Format.{Reading, none, gotIf, Format, byte, sequence, padded, via}
 
 -- ---- part 0 and part 1
@@ -42,8 +42,8 @@ dependencies schema = sequence (byte (λ n. leb n 32)) (λ n. padded 32 noDepend
 
 -- The bytes of an entry: 0 for a constant, 1 for a variable, and 32 bits
 unfoldable pub putEntry : Entry → List ℕ
-putEntry (Constant n) = 0 ∷ digits 4 n
-putEntry (Variable v) = 1 ∷ digits 4 v
+putEntry (Constant n) = 0 ∷ bytesOf 4 n
+putEntry (Variable v) = 1 ∷ bytesOf 4 v
 
 -- Whether a byte and a number stand for an entry
 abbrev pub isEntry : ℕ → ℕ → Bool

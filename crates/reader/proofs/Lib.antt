@@ -1,2 +1,2 @@
 -- Laws that several functions cite.
-pub mod Stretches
+pub mod Directories

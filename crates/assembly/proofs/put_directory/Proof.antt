@@ -4,7 +4,7 @@ use mathlib.Core.List.{List, [], _++_, map}
 use Prim.Native.Nat.{ℕ, _+_, _*_, _≤_}
 use native.Mathlib.Omega.{arith}
 use lib.ListN.{length, take, length-map}
-use Rattle.format.specs.Bytes.{digits}
+use Rattle.format.specs.Bytes.{bytesOf}
 use Rattle.format.specs.File.{tableOf, putPlace}
 use Rattle.format.proofs.Directory.{length-table}
 use Rattle.format.proofs.Lengths.{take-short}
@@ -13,19 +13,19 @@ use Rattle.assembly.proofs.put_directory.Statement.{statement}
 use Rattle.assembly.proofs.put_directory.Tie as tie
 
 -- ---- the run after each store
-run-1 : (c : tie.After-put-word) → Run (c .before .before .before .args .buffer .now) 0 ([] ++ digits 2 (c .before .before .before .args .n + 2)) (c .put-word .last .0) 2
+run-1 : (c : tie.After-put-word) → Run (c .before .before .before .args .buffer .now) 0 ([] ++ bytesOf 2 (c .before .before .before .args .n + 2)) (c .put-word .last .0) 2
 run-1 c = word-run (run-starts (c .before .before .before .args .buffer .now) 0) (c .before .before .before .args .n + 2) (c .put-word .last .0) (omega (arith, c .before .before .before .pre .1 .1 .1)) (c .put-word .ensures)
 
-run-2 : (c : tie.After-put-word2) → Run (c .before .before .before .before .before .before .before .args .buffer .now) 0 ([] ++ digits 2 (c .before .before .before .before .before .before .before .args .n + 2) ++ digits 2 (2 + 4 * (c .before .before .before .before .before .before .before .args .n + 2))) (c .put-word2 .last .0) 4
+run-2 : (c : tie.After-put-word2) → Run (c .before .before .before .before .before .before .before .args .buffer .now) 0 ([] ++ bytesOf 2 (c .before .before .before .before .before .before .before .args .n + 2) ++ bytesOf 2 (2 + 4 * (c .before .before .before .before .before .before .before .args .n + 2))) (c .put-word2 .last .0) 4
 run-2 c = word-run (run-1 (c .before .before .before .before)) (2 + 4 * (c .before .before .before .before .before .before .before .args .n + 2)) (c .put-word2 .last .0) (omega (arith, c .before .before .before .before .before .before .before .pre .1 .1 .1)) (c .put-word2 .ensures)
 
-run-3 : (c : tie.After-put-word3) → Run (c .before .before .before .before .before .before .before .before .before .before .before .args .buffer .now) 0 ([] ++ digits 2 (c .before .before .before .before .before .before .before .before .before .before .before .args .n + 2) ++ digits 2 (2 + 4 * (c .before .before .before .before .before .before .before .before .before .before .before .args .n + 2)) ++ digits 2 (c .before .before .before .before .before .before .before .before .before .before .before .args .first)) (c .put-word3 .last .0) 6
+run-3 : (c : tie.After-put-word3) → Run (c .before .before .before .before .before .before .before .before .before .before .before .args .buffer .now) 0 ([] ++ bytesOf 2 (c .before .before .before .before .before .before .before .before .before .before .before .args .n + 2) ++ bytesOf 2 (2 + 4 * (c .before .before .before .before .before .before .before .before .before .before .before .args .n + 2)) ++ bytesOf 2 (c .before .before .before .before .before .before .before .before .before .before .before .args .first)) (c .put-word3 .last .0) 6
 run-3 c = word-run (run-2 (c .before .before .before .before)) (c .before .before .before .before .before .before .before .before .before .before .before .args .first) (c .put-word3 .last .0) (omega (arith, c .before .before .before .before .before .before .before .before .before .before .before .pre .1 .1 .1)) (c .put-word3 .ensures)
 
-run-4 : (c : tie.After-put-word4) → Run (c .before .before .before .before .before .before .before .before .before .before .before .before .before .before .before .args .buffer .now) 0 ([] ++ digits 2 (c .before .before .before .before .before .before .before .before .before .before .before .before .before .before .before .args .n + 2) ++ digits 2 (2 + 4 * (c .before .before .before .before .before .before .before .before .before .before .before .before .before .before .before .args .n + 2)) ++ digits 2 (c .before .before .before .before .before .before .before .before .before .before .before .before .before .before .before .args .first) ++ digits 2 (2 + 4 * (c .before .before .before .before .before .before .before .before .before .before .before .before .before .before .before .args .n + 2) + c .before .before .before .before .before .before .before .before .before .before .before .before .before .before .before .args .first)) (c .put-word4 .last .0) 8
+run-4 : (c : tie.After-put-word4) → Run (c .before .before .before .before .before .before .before .before .before .before .before .before .before .before .before .args .buffer .now) 0 ([] ++ bytesOf 2 (c .before .before .before .before .before .before .before .before .before .before .before .before .before .before .before .args .n + 2) ++ bytesOf 2 (2 + 4 * (c .before .before .before .before .before .before .before .before .before .before .before .before .before .before .before .args .n + 2)) ++ bytesOf 2 (c .before .before .before .before .before .before .before .before .before .before .before .before .before .before .before .args .first) ++ bytesOf 2 (2 + 4 * (c .before .before .before .before .before .before .before .before .before .before .before .before .before .before .before .args .n + 2) + c .before .before .before .before .before .before .before .before .before .before .before .before .before .before .before .args .first)) (c .put-word4 .last .0) 8
 run-4 c = word-run (run-3 (c .before .before .before .before)) (2 + 4 * (c .before .before .before .before .before .before .before .before .before .before .before .before .before .before .before .args .n + 2) + c .before .before .before .before .before .before .before .before .before .before .before .before .before .before .before .args .first) (c .put-word4 .last .0) (omega (arith, c .before .before .before .before .before .before .before .before .before .before .before .before .before .before .before .pre .1 .1 .1)) (c .put-word4 .ensures)
 
-run-5 : (c : tie.After-put-word5) → Run (c .before .before .before .before .before .before .before .before .before .before .before .before .before .before .before .before .before .before .before .args .buffer .now) 0 ([] ++ digits 2 (c .before .before .before .before .before .before .before .before .before .before .before .before .before .before .before .before .before .before .before .args .n + 2) ++ digits 2 (2 + 4 * (c .before .before .before .before .before .before .before .before .before .before .before .before .before .before .before .before .before .before .before .args .n + 2)) ++ digits 2 (c .before .before .before .before .before .before .before .before .before .before .before .before .before .before .before .before .before .before .before .args .first) ++ digits 2 (2 + 4 * (c .before .before .before .before .before .before .before .before .before .before .before .before .before .before .before .before .before .before .before .args .n + 2) + c .before .before .before .before .before .before .before .before .before .before .before .before .before .before .before .before .before .before .before .args .first) ++ digits 2 (c .before .before .before .before .before .before .before .before .before .before .before .before .before .before .before .before .before .before .before .args .second)) (c .put-word5 .last .0) 10
+run-5 : (c : tie.After-put-word5) → Run (c .before .before .before .before .before .before .before .before .before .before .before .before .before .before .before .before .before .before .before .args .buffer .now) 0 ([] ++ bytesOf 2 (c .before .before .before .before .before .before .before .before .before .before .before .before .before .before .before .before .before .before .before .args .n + 2) ++ bytesOf 2 (2 + 4 * (c .before .before .before .before .before .before .before .before .before .before .before .before .before .before .before .before .before .before .before .args .n + 2)) ++ bytesOf 2 (c .before .before .before .before .before .before .before .before .before .before .before .before .before .before .before .before .before .before .before .args .first) ++ bytesOf 2 (2 + 4 * (c .before .before .before .before .before .before .before .before .before .before .before .before .before .before .before .before .before .before .before .args .n + 2) + c .before .before .before .before .before .before .before .before .before .before .before .before .before .before .before .before .before .before .before .args .first) ++ bytesOf 2 (c .before .before .before .before .before .before .before .before .before .before .before .before .before .before .before .before .before .before .before .args .second)) (c .put-word5 .last .0) 10
 run-5 c = word-run (run-4 (c .before .before .before .before)) (c .before .before .before .before .before .before .before .before .before .before .before .before .before .before .before .before .before .before .before .args .second) (c .put-word5 .last .0) (omega (arith, c .before .before .before .before .before .before .before .before .before .before .before .before .before .before .before .before .before .before .before .pre .1 .1 .1)) (c .put-word5 .ensures)
 
 -- The parts that the table lists, and where the first of them starts
@@ -38,7 +38,7 @@ begin c = 2 + 4 * (c .args .n + 2) + c .args .first + c .args .second
 few : (c : tie.Start) → length (listed c) ≤ c .args .n
 few c = rw (length-map (take (c .args .n) (c .args .places)) (putPlace (take (c .args .count) (c .args .widths)))) (take-short (c .args .n) (c .args .places))
 
-last-run : (c : tie.After-put-table) → Run (c .before .before .before .before .before .before .before .before .before .before .before .before .before .before .before .before .before .before .before .before .before .before .before .args .buffer .now) 0 ([] ++ digits 2 (c .before .before .before .before .before .before .before .before .before .before .before .before .before .before .before .before .before .before .before .before .before .before .before .args .n + 2) ++ digits 2 (2 + 4 * (c .before .before .before .before .before .before .before .before .before .before .before .before .before .before .before .before .before .before .before .before .before .before .before .args .n + 2)) ++ digits 2 (c .before .before .before .before .before .before .before .before .before .before .before .before .before .before .before .before .before .before .before .before .before .before .before .args .first) ++ digits 2 (2 + 4 * (c .before .before .before .before .before .before .before .before .before .before .before .before .before .before .before .before .before .before .before .before .before .before .before .args .n + 2) + c .before .before .before .before .before .before .before .before .before .before .before .before .before .before .before .before .before .before .before .before .before .before .before .args .first) ++ digits 2 (c .before .before .before .before .before .before .before .before .before .before .before .before .before .before .before .before .before .before .before .before .before .before .before .args .second) ++ tableOf (begin (c .before .before .before .before .before .before .before .before .before .before .before .before .before .before .before .before .before .before .before .before .before .before .before)) (listed (c .before .before .before .before .before .before .before .before .before .before .before .before .before .before .before .before .before .before .before .before .before .before .before))) (c .put-table .last .0) (10 + length (tableOf (begin (c .before .before .before .before .before .before .before .before .before .before .before .before .before .before .before .before .before .before .before .before .before .before .before)) (listed (c .before .before .before .before .before .before .before .before .before .before .before .before .before .before .before .before .before .before .before .before .before .before .before))))
+last-run : (c : tie.After-put-table) → Run (c .before .before .before .before .before .before .before .before .before .before .before .before .before .before .before .before .before .before .before .before .before .before .before .args .buffer .now) 0 ([] ++ bytesOf 2 (c .before .before .before .before .before .before .before .before .before .before .before .before .before .before .before .before .before .before .before .before .before .before .before .args .n + 2) ++ bytesOf 2 (2 + 4 * (c .before .before .before .before .before .before .before .before .before .before .before .before .before .before .before .before .before .before .before .before .before .before .before .args .n + 2)) ++ bytesOf 2 (c .before .before .before .before .before .before .before .before .before .before .before .before .before .before .before .before .before .before .before .before .before .before .before .args .first) ++ bytesOf 2 (2 + 4 * (c .before .before .before .before .before .before .before .before .before .before .before .before .before .before .before .before .before .before .before .before .before .before .before .args .n + 2) + c .before .before .before .before .before .before .before .before .before .before .before .before .before .before .before .before .before .before .before .before .before .before .before .args .first) ++ bytesOf 2 (c .before .before .before .before .before .before .before .before .before .before .before .before .before .before .before .before .before .before .before .before .before .before .before .args .second) ++ tableOf (begin (c .before .before .before .before .before .before .before .before .before .before .before .before .before .before .before .before .before .before .before .before .before .before .before)) (listed (c .before .before .before .before .before .before .before .before .before .before .before .before .before .before .before .before .before .before .before .before .before .before .before))) (c .put-table .last .0) (10 + length (tableOf (begin (c .before .before .before .before .before .before .before .before .before .before .before .before .before .before .before .before .before .before .before .before .before .before .before)) (listed (c .before .before .before .before .before .before .before .before .before .before .before .before .before .before .before .before .before .before .before .before .before .before .before))))
 last-run c =
     run-turns (run-5 (c .before .before .before .before)) (tableOf (begin (c .before .before .before .before .before .before .before .before .before .before .before .before .before .before .before .before .before .before .before .before .before .before .before)) (listed (c .before .before .before .before .before .before .before .before .before .before .before .before .before .before .before .before .before .before .before .before .before .before .before))) (c .put-table .last .0) (10 + length (tableOf (begin (c .before .before .before .before .before .before .before .before .before .before .before .before .before .before .before .before .before .before .before .before .before .before .before)) (listed (c .before .before .before .before .before .before .before .before .before .before .before .before .before .before .before .before .before .before .before .before .before .before .before))))
     (omega (arith, length-table (begin (c .before .before .before .before .before .before .before .before .before .before .before .before .before .before .before .before .before .before .before .before .before .before .before)) (listed (c .before .before .before .before .before .before .before .before .before .before .before .before .before .before .before .before .before .before .before .before .before .before .before)), few (c .before .before .before .before .before .before .before .before .before .before .before .before .before .before .before .before .before .before .before .before .before .before .before), c .before .before .before .before .before .before .before .before .before .before .before .before .before .before .before .before .before .before .before .before .before .before .before .pre .1 .1 .1)) (c .put-table .ensures) refl

@@ -9,12 +9,12 @@ use lib.Seq.{length-take-le}
 use Rattle.record.specs.declared.Place.{Place}
 use Rattle.record.specs.Rule.{goodPlace}
 use Rattle.lists.specs.Over.{over}
-use Rattle.format.specs.Bytes.{digits}
+use Rattle.format.specs.Bytes.{bytesOf}
 use Rattle.format.specs.File.{tableOf, putPlace}
 use Rattle.lists.proofs.Over.{over-nil, over-length, over-over}
 use Rattle.lists.proofs.Tests.{every-getD}
 use Rattle.format.proofs.Arrays.{pastPlace}
-use Rattle.format.proofs.Numbers.{length-digits}
+use Rattle.format.proofs.Numbers.{length-bytes}
 use Rattle.format.proofs.Directory.{length-table}
 use Rattle.assembly.proofs.FirstPlaces.{parts-next, parts-end}
 use Rattle.assembly.proofs.put_table.Statement.{statement}
@@ -40,7 +40,7 @@ parts-left schema places n k l =
     let m : length (take n places) ≡ n = length-take-le n places l in
     length-map (drop k (take n places)) (putPlace schema) ∙ length-drop k (take n places) ∙ ap (λ (j : ℕ). j - k) m
 
-table-cons : (due : ℕ) (p : List ℕ) (ps : List (List ℕ)) → tableOf due (p ∷ ps) ≡ digits 2 due ++ digits 2 (length p) ++ tableOf (due + length p) ps
+table-cons : (due : ℕ) (p : List ℕ) (ps : List (List ℕ)) → tableOf due (p ∷ ps) ≡ bytesOf 2 due ++ bytesOf 2 (length p) ++ tableOf (due + length p) ps
 unfolding tableOf
 table-cons due p ps = refl
 
@@ -49,31 +49,31 @@ module _ (schema before : List ℕ) (at start n : ℕ) (places : List Place) (bu
   room-first : at + 4 * k + 2 ≤ length buffer
   room-first = omega (arith, f .long)
 
-  module _ (first : List ℕ) (e₁ : first ≡ over buffer (at + 4 * k) (digits 2 due)) where
+  module _ (first : List ℕ) (e₁ : first ≡ over buffer (at + 4 * k) (bytesOf 2 due)) where
     first-long : length first ≡ length buffer
-    first-long = ap length e₁ ∙ over-length buffer (digits 2 due) (at + 4 * k) (omega (arith, length-digits 2 due, room-first))
+    first-long = ap length e₁ ∙ over-length buffer (bytesOf 2 due) (at + 4 * k) (omega (arith, length-bytes 2 due, room-first))
 
     room-second : at + 4 * k + 2 + 2 ≤ length first
     room-second = omega (arith, first-long, f .long)
 
-    goes-on : (size : ℕ) → size ≡ length (putPlace schema (getD places k pastPlace)) → size ≤ 534 → (second : List ℕ) → second ≡ over first (at + 4 * k + 2) (digits 2 size)
+    goes-on : (size : ℕ) → size ≡ length (putPlace schema (getD places k pastPlace)) → size ≤ 534 → (second : List ℕ) → second ≡ over first (at + 4 * k + 2) (bytesOf 2 size)
         → At schema before at start n places second (due + size) (k + 1)
     goes-on size es small second e₂ =
         let p : List ℕ = putPlace schema (getD places k pastPlace) in
         let ps : List (List ℕ) = partsFrom schema places n (k + 1) in
         let more : List ℕ = tableOf (due + length p) ps in
-        let pair : List ℕ = digits 2 due ++ digits 2 (length p) in
-        let ld : length (digits 2 due) ≡ 2 = length-digits 2 due in
-        let lp : length (digits 2 (length p)) ≡ 2 = length-digits 2 (length p) in
-        let lq : length pair ≡ 4 = length-append (digits 2 due) (digits 2 (length p)) ∙ omega arith in
+        let pair : List ℕ = bytesOf 2 due ++ bytesOf 2 (length p) in
+        let ld : length (bytesOf 2 due) ≡ 2 = length-bytes 2 due in
+        let lp : length (bytesOf 2 (length p)) ≡ 2 = length-bytes 2 (length p) in
+        let lq : length pair ≡ 4 = length-append (bytesOf 2 due) (bytesOf 2 (length p)) ∙ omega arith in
         let lm : length more ≡ 4 * (n - (k + 1)) = length-table (due + length p) ps ∙ ap (λ (j : ℕ). 4 * j) (parts-left schema places n (k + 1) l) in
         let long = f .long in
         let split : tableOf due (partsFrom schema places n k) ≡ pair ++ more = ap (tableOf due) (parts-next schema places n k l h) ∙ table-cons due p ps in
-        let n₁ : at + 4 * k + 2 ≡ at + 4 * k + length (digits 2 due) = omega arith in
+        let n₁ : at + 4 * k + 2 ≡ at + 4 * k + length (bytesOf 2 due) = omega arith in
         let two : second ≡ over buffer (at + 4 * k) pair =
-        e₂ ∙ ap (λ (b : List ℕ). over b (at + 4 * k + 2) (digits 2 size)) e₁ ∙ ap (λ (s : ℕ). over (over buffer (at + 4 * k) (digits 2 due)) (at + 4 * k + 2) (digits 2 s)) es
-        ∙ ap (λ (j : ℕ). over (over buffer (at + 4 * k) (digits 2 due)) j (digits 2 (length p))) n₁
-        ∙ over-over buffer (at + 4 * k) (digits 2 due) (digits 2 (length p)) (omega arith) in
+        e₂ ∙ ap (λ (b : List ℕ). over b (at + 4 * k + 2) (bytesOf 2 size)) e₁ ∙ ap (λ (s : ℕ). over (over buffer (at + 4 * k) (bytesOf 2 due)) (at + 4 * k + 2) (bytesOf 2 s)) es
+        ∙ ap (λ (j : ℕ). over (over buffer (at + 4 * k) (bytesOf 2 due)) j (bytesOf 2 (length p))) n₁
+        ∙ over-over buffer (at + 4 * k) (bytesOf 2 due) (bytesOf 2 (length p)) (omega arith) in
         let n₂ : at + 4 * k + length pair ≡ at + 4 * (k + 1) = omega arith in
         let three : over buffer (at + 4 * k) (pair ++ more) ≡ over second (at + 4 * (k + 1)) more =
         sym (ap (λ (b : List ℕ). over b (at + 4 * (k + 1)) more) two ∙ ap (λ (j : ℕ). over (over buffer (at + 4 * k) pair) j more) (sym n₂)

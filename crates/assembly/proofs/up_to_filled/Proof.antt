@@ -10,7 +10,7 @@ use lib.ListN.{length, take, getD}
 use lib.Seq.{take-suc, take-all, length-take-le}
 use Rattle.record.specs.declared.Place.{Place}
 use Rattle.format.proofs.Arrays.{pastPlace}
-use Rattle.format.specs.File.{oneMore, upToFilled}
+use Rattle.format.specs.File.{oneMoreIfAny, upToFilled}
 use Rattle.assembly.proofs.up_to_filled.Statement.{statement}
 use Rattle.assembly.proofs.up_to_filled.Tie as tie
 
@@ -22,11 +22,11 @@ last-place [] p false e = rw e
 last-place (q ∷ ps) p t e = go t (q .filled) (last-place ps p t e)
   where
     go : (t u : Bool) → upToFilled (ps ++ (p ∷ [])) ≡ cond t (suc (length ps)) (upToFilled ps)
-        → cond u (suc (upToFilled (ps ++ (p ∷ [])))) (oneMore (upToFilled (ps ++ (p ∷ [])))) ≡ cond t (suc (suc (length ps))) (cond u (suc (upToFilled ps)) (oneMore (upToFilled ps)))
+        → cond u (suc (upToFilled (ps ++ (p ∷ [])))) (oneMoreIfAny (upToFilled (ps ++ (p ∷ [])))) ≡ cond t (suc (suc (length ps))) (cond u (suc (upToFilled ps)) (oneMoreIfAny (upToFilled ps)))
     go true true ih = ap suc ih
-    go true false ih = ap oneMore ih
+    go true false ih = ap oneMoreIfAny ih
     go false true ih = ap suc ih
-    go false false ih = ap oneMore ih
+    go false false ih = ap oneMoreIfAny ih
 
 turn : (places : List Place) (k : ℕ) (t : Bool) → k < length places → getD places k pastPlace .filled ≡ t
     → upToFilled (take (k + 1) places) ≡ cond t (k + 1) (upToFilled (take k places))

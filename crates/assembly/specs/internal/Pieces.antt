@@ -5,7 +5,7 @@ use lib.ListN.{take}
 use Rattle.query.specs.declared.Dependency.{Dependency}
 use Rattle.record.specs.declared.Record.{Record}
 use Rattle.record.specs.View.{schemaOf}
-use Rattle.format.specs.Bytes.{digits}
+use Rattle.format.specs.Bytes.{bytesOf}
 use Rattle.format.specs.Format.{putAll}
 use Rattle.format.specs.Parts.{relations}
 use Rattle.format.specs.File.{tableOf, join, putPlace}
@@ -21,7 +21,7 @@ dependencyBytes held list = held ∷ putAll putDependency (take held list)
 -- The number of parts and the table: parts 0 and 1 of the given lengths, and query parts
 abbrev pub directoryBytes : ℕ → ℕ → ℕ → List (List ℕ) → List ℕ
 directoryBytes n first second parts =
-    digits 2 (n + 2) ++ digits 2 (2 + 4 * (n + 2)) ++ digits 2 first ++ digits 2 (2 + 4 * (n + 2) + first) ++ digits 2 second
+    bytesOf 2 (n + 2) ++ bytesOf 2 (2 + 4 * (n + 2)) ++ bytesOf 2 first ++ bytesOf 2 (2 + 4 * (n + 2) + first) ++ bytesOf 2 second
     ++ tableOf (2 + 4 * (n + 2) + first + second) parts
 
 -- The parts of a record, n of them query parts, one after the other

@@ -2,7 +2,7 @@ use borrow.Author.Needs.{needs}
 use Prim.Native.Nat.{_/_, _%_}
 use native.Mathlib.Omega.{arith}
 use lib.ListN.{length-set}
-use Rattle.format.specs.Bytes.{digits}
+use Rattle.format.specs.Bytes.{bytesOf}
 use Rattle.encoder.proofs.Stores.{five-stores}
 use Rattle.encoder.proofs.put_tagged.Statement.{statement}
 use Rattle.encoder.proofs.put_tagged.Tie as tie
@@ -50,7 +50,7 @@ same-length : tie.Need-same-length
 same-length c = search needs
 
 returns : tie.Need-returns
-unfolding digits
+unfolding bytesOf
 returns c =
     five-stores (c .args .buffer .now) (c .args .at) (c .args .tag) (c .args .n % 256) (c .args .n / 256 % 256) (c .args .n / 256 / 256 % 256) (c .args .n / 256 / 256 / 256 % 256) (c .pre)
 

@@ -2,7 +2,7 @@ use borrow.Author.Needs.{needs}
 use Prim.Native.Nat.{_/_, _%_}
 use native.Mathlib.Omega.{arith}
 use lib.ListN.{length-set}
-use Rattle.format.specs.Bytes.{digits}
+use Rattle.format.specs.Bytes.{bytesOf}
 use Rattle.encoder.proofs.Stores.{two-stores}
 use Rattle.encoder.proofs.put_word.Statement.{statement}
 use Rattle.encoder.proofs.put_word.Tie as tie
@@ -26,7 +26,7 @@ same-length : tie.Need-same-length
 same-length c = search needs
 
 returns : tie.Need-returns
-unfolding digits
+unfolding bytesOf
 returns c =
     two-stores (c .args .buffer .now) (c .args .at) (c .args .n % 256) (c .args .n / 256 % 256) (c .pre)
 

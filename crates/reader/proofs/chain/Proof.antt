@@ -5,7 +5,7 @@ use native.Mathlib.Nat.{sub-zero}
 use native.Mathlib.Omega.{arith}
 use lib.ListN.{length, drop}
 use Rattle.format.specs.File.{chained}
-use Rattle.reader.proofs.Stretches.{tableAt, chained-turns, chained-breaks, chained-ends}
+use Rattle.format.proofs.Stretches.{tableAt, chained-turns, chained-breaks, chained-ends}
 use Rattle.reader.proofs.chain.Statement.{statement}
 use Rattle.reader.proofs.chain.Tie as tie
 

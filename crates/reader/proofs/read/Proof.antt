@@ -4,7 +4,7 @@ use mathlib.Core.List.{List}
 use Prim.Native.Nat.{ℕ}
 use Rattle.refusals.specs.Refusals.{Reply, _>>=_}
 use Rattle.format.specs.File.{directory, readAll, readFile, outcomeOf}
-use Rattle.reader.proofs.Stretches.{accepts, refuses}
+use Rattle.reader.proofs.Directories.{accepts, refuses}
 use Rattle.reader.proofs.read.Statement.{statement}
 use Rattle.reader.proofs.read.Tie as tie
 

@@ -4,7 +4,8 @@ use mathlib.Core.Bool.{true, false}
 use lib.ListN.{drop}
 use Rattle.reader.specs.declared.DirectoryRead.the-variants.{Parts}
 use Rattle.reader.specs.internal.Read.{directoryRead}
-use Rattle.reader.proofs.Stretches.{length-stretches, too-short, too-few, too-many, cut-table, full-table}
+use Rattle.format.proofs.Stretches.{length-stretches}
+use Rattle.reader.proofs.Directories.{too-short, too-few, too-many, cut-table, full-table}
 use Rattle.reader.proofs.read_directory.Statement.{statement}
 use Rattle.reader.proofs.read_directory.Tie as tie
 

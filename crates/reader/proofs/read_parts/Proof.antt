@@ -4,7 +4,6 @@ use mathlib.Core.Path.{_≡_, sym, ap, refl, _∙_}
 use mathlib.Core.Bool.{true, false}
 use mathlib.Core.List.{List, [], _∷_}
 use Prim.Native.Nat.{ℕ, _+_, _*_, _-_, _≤_}
-use native.Mathlib.Nat.{sub-zero}
 use native.Mathlib.Omega.{arith}
 use lib.Dec.{ltb}
 use lib.ListN.{take, drop}
@@ -25,19 +24,12 @@ use Rattle.format.proofs.Results.{complete-get}
 use Rattle.parsing.specs.declared.RelationsRead.{RelationsRead}
 use Rattle.parsing.specs.declared.DependenciesRead.{DependenciesRead}
 use Rattle.parsing.specs.internal.Read.{relationsRead, dependenciesRead}
-use Rattle.reader.specs.internal.Read.{recordRead}
-use Rattle.reader.proofs.Stretches.{tableAt, stretches-cons, stretch-fits}
+use Rattle.places.specs.internal.Read.{recordRead}
+use Rattle.format.proofs.Stretches.{tableAt, first-two, stretch-fits}
 use Rattle.reader.proofs.read_parts.Statement.{statement}
 use Rattle.reader.proofs.read_parts.Tie as tie
 
 -- ---- the parts
-
-first-two : (file : List ℕ) (n : ℕ) → 2 ≤ n
-    → stretches n file (drop 2 file) ≡ stretch file (tableAt file 0) ∷ stretch file (tableAt file 1) ∷ stretches (n - 2) file (drop 10 file)
-first-two file n h =
-    let e : stretches (n - 0) file (tableAt file 0) ≡ stretch file (tableAt file 0) ∷ stretches (n - 1) file (tableAt file 1) = stretches-cons file n 0 0 (omega arith) in
-    let f : stretches (n - 1) file (tableAt file 1) ≡ stretch file (tableAt file 1) ∷ stretches (n - 2) file (tableAt file 2) = stretches-cons file n 0 1 (omega arith) in
-    (rw sub-zero at e) ∙ ap {B = List (List ℕ)} (λ ps. stretch file (tableAt file 0) ∷ ps) f
 
 stretch-bytes : (file table : List ℕ) → Bytes file → Bytes (stretch file table)
 stretch-bytes file table hb =

@@ -1,19 +1,10 @@
--- The answers of this crate's functions: the format's results as values of the code's structs and enums.
+-- The answers of this crate's functions: the format's results as values of the code's enums.
 use mathlib.Core.List.{List}
 use Prim.Native.Nat.{ℕ}
 use lib.ListN.{length}
-use Rattle.query.specs.declared.Dependency.{Dependency}
-use Rattle.record.specs.declared.Place.{Place}
-use Rattle.record.specs.declared.Outcome.{Outcome}
 use Rattle.refusals.specs.Refusals.{Reply, gives, refused}
-use Rattle.format.specs.File.{recordWith, outcomeOf}
 use Rattle.reader.specs.declared.DirectoryRead.{DirectoryRead}
 use Rattle.reader.specs.declared.DirectoryRead.the-variants.{Parts, Broken}
-
--- The record of the given relations and dependencies with the places that were read
-abbrev pub recordRead : ℕ × List ℕ → ℕ × List Dependency → Reply (List Place) → Outcome
-recordRead rs ds (gives ps) = outcomeOf (gives (recordWith rs ds ps))
-recordRead rs ds (refused n) = outcomeOf (refused n)
 
 -- The number of parts that the directory gives
 abbrev pub directoryRead : Reply (List (List ℕ)) → DirectoryRead

@@ -1,7 +1,7 @@
 use borrow.Author.Needs.{needs}
 use Rattle.record.specs.declared.Answer.the-variants.{Refused}
-use Rattle.reader.proofs.refusal.Statement.{statement}
-use Rattle.reader.proofs.refusal.Tie as tie
+use Rattle.places.proofs.refusal.Statement.{statement}
+use Rattle.places.proofs.refusal.Tie as tie
 
 blank-record-requires : tie.Need-blank-record-requires
 blank-record-requires c κs = search needs

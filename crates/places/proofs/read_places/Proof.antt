@@ -20,10 +20,10 @@ use Rattle.lists.proofs.Over.{over-nil, over-set}
 use Rattle.format.proofs.Arrays.{pad-over}
 use Rattle.decoder.specs.declared.PlaceRead.{PlaceRead}
 use Rattle.decoder.specs.internal.Read.{placeRead}
-use Rattle.reader.specs.internal.Read.{recordRead}
-use Rattle.reader.proofs.Stretches.{tableAt, stretches-cons, stretch-fits}
-use Rattle.reader.proofs.read_places.Statement.{statement}
-use Rattle.reader.proofs.read_places.Tie as tie
+use Rattle.places.specs.internal.Read.{recordRead}
+use Rattle.format.proofs.Stretches.{tableAt, stretches-cons, stretch-fits}
+use Rattle.places.proofs.read_places.Statement.{statement}
+use Rattle.places.proofs.read_places.Tie as tie
 
 -- The record with the places read so far and the others laid over what follows them
 abbrev recordOver : ℕ × List ℕ → ℕ × List Dependency → List Place → ℕ → Reply (List Place) → Outcome

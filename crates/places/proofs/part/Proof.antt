@@ -4,9 +4,9 @@ use Prim.Native.Nat.{_+_, _-_}
 use native.Mathlib.Omega.{arith}
 use lib.ListN.{drop}
 use Rattle.format.specs.Bytes.{number}
-use Rattle.reader.proofs.Stretches.{tableAt, table-size}
-use Rattle.reader.proofs.part.Statement.{statement}
-use Rattle.reader.proofs.part.Tie as tie
+use Rattle.format.proofs.Stretches.{tableAt, table-size}
+use Rattle.places.proofs.part.Statement.{statement}
+use Rattle.places.proofs.part.Tie as tie
 
 mul-word16 : tie.Need-mul-word16
 mul-word16 c = search needs

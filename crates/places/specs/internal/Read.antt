@@ -1,0 +1,13 @@
+-- The answers of this crate's functions: the format's results as values of the code's structs.
+use mathlib.Core.List.{List}
+use Prim.Native.Nat.{ℕ}
+use Rattle.query.specs.declared.Dependency.{Dependency}
+use Rattle.record.specs.declared.Place.{Place}
+use Rattle.record.specs.declared.Outcome.{Outcome}
+use Rattle.refusals.specs.Refusals.{Reply, gives, refused}
+use Rattle.format.specs.File.{recordWith, outcomeOf}
+
+-- The record of the given relations and dependencies with the places that were read
+abbrev pub recordRead : ℕ × List ℕ → ℕ × List Dependency → Reply (List Place) → Outcome
+recordRead rs ds (gives ps) = outcomeOf (gives (recordWith rs ds ps))
+recordRead rs ds (refused n) = outcomeOf (refused n)
