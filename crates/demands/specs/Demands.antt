@@ -12,11 +12,10 @@ use Rattle.query.specs.declared.Dependency.{Dependency}
 use Rattle.query.specs.declared.Query.{Query}
 use Rattle.record.specs.declared.Record.{Record}
 use Rattle.record.specs.declared.Answer.the-variants as answer
-use Rattle.query.specs.View.{queryOf}
+use Rattle.query.specs.View.{queryOf, imagesOf}
 use Rattle.record.specs.View.{schemaOf, dependenciesOf}
 use Rattle.record.specs.Rule.{goodRecord}
 use Rattle.record.specs.Calls.{withPlace, storedAt, queryAt, openConditions, addConditions, putConditions, dropConditions, determinedConditions}
-use Rattle.mapping.specs.Mapped.{imagesOf}
 use Rattle.comparison.specs.declared.Comparison.{Comparison}
 use Rattle.comparison.specs.declared.Verdict.the-variants as verdict
 use Rattle.comparison.specs.Comparison.{pairConditions, pairRefusal, SaysContained, base}

@@ -26,7 +26,7 @@ use Rattle.format.specs.Parts.{query}
 use Rattle.format.specs.File.{Result, ok, refused, _>>=_, placeWith, putPlace, readFile, fileOf}
 use Rattle.lists.proofs.Over.{over-nil}
 use Rattle.writer.specs.declared.Written.the-variants as written
-use Rattle.mapping.specs.Mapped.{imagesOf}
+use Rattle.query.specs.View.{imagesOf}
 use Rattle.comparison.proofs.Checks.{checked-refused, checked-decided}
 use Rattle.comparison.specs.declared.Checked.{Checked}
 use Rattle.comparison.specs.declared.Checked.the-variants as checked
