@@ -8,9 +8,9 @@ use native.Mathlib.Nat.{le-trans}
 use native.Mathlib.Omega.{arith}
 use lib.Dec.{eqb}
 use lib.ListN.{getD}
-use Rattle.consistency.specs.Solution.{together as goes}
+use Rattle.consistency.specs.internal.Solution.{together as goes}
 use Rattle.lists.specs.Tests.{Tells}
-use Rattle.candidates.specs.Candidates.{Agrees, Fixes, Repeats, Marks, rowStart, imageStart, candidatesOf, Together, Possible, IsTable}
+use Rattle.candidates.specs.internal.Candidates.{Agrees, Fixes, Repeats, Marks, rowStart, imageStart, candidatesOf, Together, Possible, IsTable}
 use Rattle.candidates.specs.internal.Sharing.{Shares, IsMask}
 
 module _ (source target named offered : List ℕ) (size r d row image : ℕ) (at-row : row ≡ rowStart size r) (at-image : image ≡ imageStart size r d) where

@@ -7,8 +7,8 @@ use native.Mathlib.Nat.{div-div-eq-div-mul, pow-succ', not-suc-le-zero, le-of-su
 use lib.Pow.{pow-mono}
 use native.Mathlib.Omega.{arith}
 use Rattle.lists.proofs.Tests.{below-or-past}
-use Rattle.consistency.specs.Solution.{Bit as Has}
-use Rattle.candidates.specs.Candidates.{Marks}
+use Rattle.consistency.specs.internal.Solution.{Bit as Has}
+use Rattle.candidates.specs.internal.Candidates.{Marks}
 
 -- The lowest bit of a doubled mask is the added one
 has-lowest : (m b : ℕ) → b < 2 → (m * 2 + b) / 2 ^ 0 % 2 ≡ b

@@ -8,7 +8,7 @@ use native.Mathlib.Decide.{ℕ-discrete}
 use native.Mathlib.Omega.{arith}
 use lib.ListN.{getD}
 use Rattle.lists.proofs.Positions.{below-each, below-some, both-or-not}
-use Rattle.candidates.specs.Candidates.{SameRow, Repeats}
+use Rattle.candidates.specs.internal.Candidates.{SameRow, Repeats}
 
 repeats-or-not : (target offered : List ℕ) (d : ℕ) → Dec (Repeats target offered d)
 repeats-or-not target offered d =

@@ -1,3 +1,2 @@
--- What the search is given (Candidates). `internal` is this crate's own.
-pub mod Candidates
+-- What contracts cite; no promise of a public call rests on it.
 pub mod internal

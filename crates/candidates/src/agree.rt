@@ -4,7 +4,7 @@ use query::code::decode;
 ghost use Prim.Native.Nat.{_+_, _≤_};
 ghost use lib.ListN.{length};
 ghost use Rattle.lists.specs.Tests.{Tells};
-ghost use Rattle.candidates.specs.Candidates.{Takes, Agrees, Fixes, SameRow};
+ghost use Rattle.candidates.specs.internal.Candidates.{Takes, Agrees, Fixes, SameRow};
 ghost use Rattle.candidates.specs.internal.Sharing.{Holds, Shares};
 
 // Whether the row at q, with its image at e, takes the code `value` to `image` wherever it has it.

@@ -82,7 +82,8 @@ chasable schema held dependencies q widths good good-q =
       right-fits =
           λ d h.
           let at : getD (take held dependencies) d noDependency ≡ getD dependencies d noDependency = getD-take held dependencies d noDependency h in
-          rw at at (ltb-true (getD (take held dependencies) d noDependency .right) 8 (every-getD-else (λ x. ltb (x .right) 8) (take held dependencies) d noDependency rights refl));
+          rw at at (ltb-true (getD (take held dependencies) d noDependency .right) 8
+          (every-getD-else (λ x. ltb (x .right) 8) (take held dependencies) d noDependency rights refl));
     }
 
 -- ---- what follows of the result

@@ -20,7 +20,8 @@ use Rattle.theory.specs.Query.{Entry, constant, Row, column, sameEntry}
 use Rattle.theory.specs.Chase.{agree, breaks}
 
 -- Column c of row i is cell 8 i + c
-pub wide-column : (relation : ℕ) (cells : List Cell) (i c : ℕ) → c < 8 → column (constant 0) (rowAt relation cells i) c ≡ entryOf (getD cells (8 * i + c) noCell .entry)
+pub wide-column : (relation : ℕ) (cells : List Cell) (i c : ℕ) → c < 8 → column (constant 0) (rowAt relation cells i) c ≡ entryOf
+    (getD cells (8 * i + c) noCell .entry)
 wide-column relation cells i c h =
     List·getD-map (λ (x : Cell). entryOf (x .entry)) (take 8 (drop (8 * i) cells)) c noCell
     ∙ ap (λ (x : Cell). entryOf (x .entry)) (getD-take 8 (drop (8 * i) cells) c noCell h ∙ getD-drop (8 * i) cells c noCell)
@@ -80,4 +81,5 @@ module _ (q : Query) (d : Dependency) (i j : ℕ) where
       → agreed && not differ ≡ breaks (dependencyOf d) (wideRow q i) (wideRow q j)
   unfolding breaks
   breaks-by agreed differ first second agreed-is differ-is =
-      rw (eq-eqb _ _ first, eq-eqb _ _ second, ← agree-relations (getD (q .relations) i 0) (getD (q .relations) j 0) (q .cells) i j (columnsOf (d .left)), differ-is, agreed-is)
+      rw (eq-eqb _ _ first, eq-eqb _ _ second, ← agree-relations (getD (q .relations) i 0) (getD (q .relations) j 0) (q .cells) i j (columnsOf (d .left)),
+      differ-is, agreed-is)

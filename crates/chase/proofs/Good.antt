@@ -52,10 +52,12 @@ module _ (v : ℕ) (e : Entry) (good : goodEntry e ≡ true) where
   used-kept : (n : ℕ) (cells : List Cell) → inUse n goodCell blankCell cells ≡ true → inUse n goodCell blankCell (map (substituteCell v e) cells) ≡ true
   used-kept n cells p =
       used-whole n goodCell blankCell (map (substituteCell v e) cells)
-      (rw take-map (every-map goodCell goodCell (substituteCell v e) (λ c. substitute-good v e good (c .entry)) (take n cells) (used-good n goodCell blankCell cells p)))
+      (rw take-map (every-map goodCell goodCell (substituteCell v e) (λ c. substitute-good v e good (c .entry)) (take n cells)
+      (used-good n goodCell blankCell cells p)))
       (unused-kept n cells (used-blank n goodCell blankCell cells p))
 
-  rows-kept : (schema relations : List ℕ) (cells : List Cell) → goodRows schema relations cells ≡ true → goodRows schema relations (map (substituteCell v e) cells) ≡ true
+  rows-kept : (schema relations : List ℕ) (cells : List Cell) → goodRows schema relations cells ≡ true
+      → goodRows schema relations (map (substituteCell v e) cells) ≡ true
   unfolding goodRows
   rows-kept schema [] cells p = refl
   rows-kept schema (relation ∷ relations) cells p =

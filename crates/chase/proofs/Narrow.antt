@@ -22,7 +22,8 @@ use Rattle.query.proofs.Shape.{blank-entry}
 use Rattle.chase.proofs.Good.{good-row}
 use Rattle.theory.specs.Query.{Entry, constant, Row, Query, column, mapRow, mapQuery}
 use Rattle.theory.specs.Database.{Dependency}
-use Rattle.theory.specs.Chase.{orElse, mapFound, firstPassing, firstPair, firstFound, firstBroken, agree, breaks, resolve, inHead, step, substitute, Chases, rests, clashes, replaces}
+use Rattle.theory.specs.Chase.{orElse, mapFound, firstPassing, firstPair, firstFound, firstBroken, agree, breaks, resolve, inHead, step, substitute}
+use Rattle.theory.specs.Chase.{Chases, rests, clashes, replaces}
 use Rattle.lists.proofs.Tests.{and-left, and-right}
 use Rattle.theory.proofs.Lists.{bool-cases}
 
@@ -164,7 +165,8 @@ module _ (schema : List ℕ) where
   chases-narrow {ds} {q} ps (replaces {result = result} {v = v} {count = count} {e = e} is later) =
       replaces
       (step-narrow ds q ps ∙ is)
-      (subst (λ x. Chases ds x (narrowQuery schema result) count) (narrow-mapQuery (substitute v e) q) (chases-narrow (substitute-padded v e (q .rows) ps) later))
+      (subst (λ x. Chases ds x (narrowQuery schema result) count) (narrow-mapQuery (substitute v e) q)
+      (chases-narrow (substitute-padded v e (q .rows) ps) later))
 
 -- ---- the wide rows of a good query
 
@@ -175,7 +177,8 @@ blank-column [] c blank = refl
 blank-column (x ∷ xs) zero blank = sym (ap entryOf (blank-entry (x .entry) (and-left (blankCell x) (every blankCell xs) blank)))
 blank-column (x ∷ xs) (suc c) blank = blank-column xs c (and-right (blankCell x) (every blankCell xs) blank)
 
-cut-column : (w : ℕ) (xs : List Cell) (c : ℕ) → every blankCell (drop w xs) ≡ true → getD (take w (entriesOf xs)) c (constant 0) ≡ getD (entriesOf xs) c (constant 0)
+cut-column : (w : ℕ) (xs : List Cell) (c : ℕ) → every blankCell (drop w xs) ≡ true
+    → getD (take w (entriesOf xs)) c (constant 0) ≡ getD (entriesOf xs) c (constant 0)
 cut-column zero xs c blank = blank-column xs c blank
 cut-column (suc w) [] c blank = refl
 cut-column (suc w) (x ∷ xs) zero blank = refl

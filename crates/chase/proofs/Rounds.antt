@@ -23,7 +23,8 @@ use Rattle.chase.specs.declared.Found.the-variants.{Rest, Step}
 use Rattle.chase.specs.declared.Resolution.{Resolution}
 use Rattle.chase.specs.declared.Resolution.the-variants.{Clash, Replace}
 use Rattle.chase.specs.declared.Chased as stored-chased
-use Rattle.chase.specs.internal.Wide.{wideRow, wideRows, wideQuery, firstDiffering, foundOf, goodFound, resolutionOf, substituteEntry, substituteCell, mapCells}
+use Rattle.chase.specs.internal.Wide.{wideRow, wideRows, wideQuery, firstDiffering, foundOf, goodFound, resolutionOf, substituteEntry}
+use Rattle.chase.specs.internal.Wide.{substituteCell, mapCells}
 use Rattle.chase.specs.Outcome.{IsChased}
 use Rattle.lists.proofs.Maps.{drop-map, take-replicate, map-replicate}
 use Rattle.query.proofs.Stored.{all-cells}
@@ -195,7 +196,8 @@ module _
               good-kept
               v
               e
-              (resolve-good (inHead (wideQuery query)) a b v e (and-left (goodEntry a) (goodEntry b) both) (and-right (goodEntry a) (goodEntry b) both) resolved)
+              (resolve-good (inHead (wideQuery query)) a b v e (and-left (goodEntry a) (goodEntry b) both)
+              (and-right (goodEntry a) (goodEntry b) both) resolved)
               schema
               query
               good-query;
@@ -228,7 +230,8 @@ chased-by schema dependencies held q r good widths fits fits' chased good' arity
 -- The never query is the theory's
 wide-never : (arity : ℕ) → arity ≤ 8 → wideQuery (neverQuery arity) ≡ never arity
 unfolding wideRows
-wide-never arity fits = ap (λ l. record { head = l; rows = [] }) (ap entriesOf (take-replicate arity 8 noCell fits) ∙ map-replicate (λ c. entryOf (c .entry)) arity noCell)
+wide-never arity fits = ap (λ l. record { head = l; rows = [] })
+    (ap entriesOf (take-replicate arity 8 noCell fits) ∙ map-replicate (λ c. entryOf (c .entry)) arity noCell)
 
 module _
     (dependencies : List stored-dependency.Dependency)

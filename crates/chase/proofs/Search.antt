@@ -20,7 +20,8 @@ use Rattle.chase.proofs.Columns.{wide-column}
 use Rattle.theory.specs.Query.{Entry, Row}
 use Rattle.theory.specs.Database.{Dependency}
 use Rattle.theory.specs.Chase.{mapFound, firstBroken, breaks}
-use Rattle.theory.proofs.Step.{brokenFor, brokenWith, firstBroken-nil, firstBroken-cons, brokenFor-nil, brokenFor-cons, brokenWith-nil, brokenWith-true, brokenWith-false}
+use Rattle.theory.proofs.Step.{brokenFor, brokenWith, firstBroken-nil, firstBroken-cons, brokenFor-nil, brokenFor-cons, brokenWith-nil}
+use Rattle.theory.proofs.Step.{brokenWith-true, brokenWith-false}
 
 module _ (q : Query) where
   -- The rows that are left of n after the first i

@@ -1,7 +1,7 @@
 -- What the code has shown when it answers, and the promise that follows: first for a comparison of two stored queries, then for the places that they come from,
 -- then for the checking of a mapping. The cases themselves are in `Verdicts`. Assumes nothing.
 use mathlib.Core.Path.{_≡_, refl, sym, ap, ap₂, subst, subst₂, _∙_}
-use mathlib.Core.Logic.{_≢_, inl, inr}
+use mathlib.Core.Logic.{_≢_}
 use mathlib.Core.Bool.{Bool, true, false, _&&_}
 use mathlib.Core.List.{List, [], _∷_, List·Memᴰ·head, List·Memᴰ·not-nil}
 use mathlib.Core.Option.{Option, none, some}
@@ -12,13 +12,12 @@ use Rattle.record.specs.Calls.{storedAt, queryAt}
 use Rattle.query.specs.declared.Cell.{Cell}
 use Rattle.query.specs.declared.Query.{Query}
 use Rattle.query.specs.declared.Dependency.{Dependency}
-use Rattle.record.specs.declared.Place.{Place}
 use Rattle.record.specs.declared.Record.{Record}
-use Rattle.query.specs.View.{entriesOf, rowsOf, queryOf}
-use Rattle.record.specs.View.{schemaOf, dependenciesOf}
+use Rattle.query.specs.View.{entriesOf, rowsOf, queryOf, imagesOf}
+use Rattle.record.specs.View.{schemaOf}
 use Rattle.lists.specs.Tests.{every, between}
 use Rattle.record.specs.Rule.{goodPlace, goodRecord}
-use Rattle.query.specs.Rule.{goodQuery, goodRelations, goodDependencies, noCell, noQuery}
+use Rattle.query.specs.Rule.{goodQuery, goodRelations, goodDependencies, noQuery}
 use Rattle.lists.proofs.Tests.{and-left, and-right}
 use Rattle.query.proofs.Good.{good-query}
 use Rattle.query.proofs.Shape.{row-count}
@@ -26,7 +25,7 @@ use Rattle.chase.specs.declared.Chased.{Chased}
 use Rattle.chase.specs.Outcome.{Chasable, IsChased}
 use Rattle.chase.proofs.Callers.{chasable}
 use Rattle.mapping.specs.declared.Mapped.{Mapped}
-use Rattle.mapping.specs.Mapped.{imagesOf, Storable, IsMapped, Finds, Checks}
+use Rattle.mapping.specs.internal.Mapped.{Storable, IsMapped, Finds, Checks}
 use Rattle.theory.specs.Query as theory
 use Rattle.theory.specs.Query.{_∈_}
 use Rattle.theory.specs.Answer as answer
@@ -34,8 +33,6 @@ use Rattle.theory.specs.Checking.{mapsTo}
 use Rattle.refusals.specs.Refusals.{gives, reply}
 use Rattle.comparison.specs.declared.Pair.the-variants.{Places, Refused}
 use Rattle.comparison.specs.declared.Verdict.the-variants as verdict
-use Rattle.comparison.specs.declared.Comparison.{Comparison}
-use Rattle.comparison.specs.declared.Checked.{Checked}
 use Rattle.comparison.specs.declared.Checked.the-variants as checked
 use Rattle.comparison.specs.Comparison.{chasedAt, pairRefusal, Compared, CheckedMapping}
 use Rattle.comparison.specs.internal.Pairs.{paired, bare, Drawn}
@@ -117,7 +114,8 @@ module _ (r : Record) (p q : ℕ) (first second : Query) (dependencies : List De
           subst₂ (λ (S T : theory.Query). answer.IsMapping S T (imagesOf (mapped .images))) (ap (queryOf (schemaOf r)) (drawn .second-is)) chased-is
           (found .mapping e)
           in
-          compared-contained r p q (drawn .accepted) (mapping-rows (queryAt r q) (chasedAt r p) (imagesOf (mapped .images)) is-mapping) (mapped .images) is-mapping
+          compared-contained r p q (drawn .accepted) (mapping-rows (queryAt r q) (chasedAt r p) (imagesOf (mapped .images)) is-mapping)
+          (mapped .images) is-mapping
 
       -- There is none
       module _ (named : length (chased .query .relations) ≡ 12) (size : chased .query .size ≢ 0) where
@@ -160,7 +158,8 @@ module _ (r : Record) (p q a b : ℕ) (is : paired (pairRefusal r p q) p q ≡ P
 pub checks-refused : (r : Record) (p q : ℕ) (images : List Cell) (n : ℕ) → pairRefusal r p q ≡ some n → CheckedMapping r p q images (checked.Refused n)
 checks-refused r p q images n e = ap (λ (o : Option ℕ). reply o (mapsTo (queryAt r q) (queryAt r p) (entriesOf images))) (sym e)
 
-module _ (r : Record) (p q : ℕ) (images : List Cell) (x y : Query) (accepted : pairRefusal r p q ≡ none) (is-x : x ≡ storedAt r p) (is-y : y ≡ storedAt r q) where
+module _ (r : Record) (p q : ℕ) (images : List Cell) (x y : Query) (accepted : pairRefusal r p q ≡ none) (is-x : x ≡ storedAt r p)
+    (is-y : y ≡ storedAt r q) where
   pub check-storable : Storable y × Storable x
   check-storable =
       let k = queries r p q accepted in

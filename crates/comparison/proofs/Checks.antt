@@ -6,14 +6,13 @@ use mathlib.Core.List.{List}
 use mathlib.Core.Option.{Option, none, some}
 use Prim.Native.Nat.{ℕ}
 use native.Mathlib.Omega.{arith}
-use Rattle.refusals.specs.Refusals.{Reply, refused, gives, reply}
+use Rattle.refusals.specs.Refusals.{refused, gives, reply}
 use Rattle.query.specs.declared.Cell.{Cell}
-use Rattle.query.specs.View.{entriesOf}
+use Rattle.query.specs.View.{entriesOf, imagesOf}
 use Rattle.record.specs.declared.Record.{Record}
 use Rattle.record.specs.Calls.{queryAt}
 use Rattle.theory.specs.Answer.{IsMapping}
 use Rattle.theory.specs.Checking.{mapsTo}
-use Rattle.mapping.specs.Mapped.{imagesOf}
 use Rattle.mapping.proofs.Checked.{test-tells}
 use Rattle.comparison.specs.declared.Checked.{Checked}
 use Rattle.comparison.specs.declared.Checked.the-variants.{Yes, No, Refused}

@@ -8,17 +8,15 @@ use native.Mathlib.Omega.{arith}
 use Rattle.theory.specs.Answer.{IsMapping}
 use Rattle.query.specs.declared.Cell.{Cell}
 use Rattle.query.specs.View.{imagesOf}
-use Rattle.query.specs.Meaning.{Sized}
 use Rattle.query.proofs.Meaning.{stored-unique}
 use Rattle.record.specs.declared.Record.{Record}
 use Rattle.record.specs.View.{schemaOf}
 use Rattle.record.specs.Calls.{queryAt}
 use Rattle.comparison.specs.declared.Verdict.{Verdict}
 use Rattle.comparison.specs.declared.Verdict.the-variants as verdict
-use Rattle.comparison.specs.declared.Comparison.{Comparison}
 use Rattle.comparison.specs.declared.Checked.{Checked}
 use Rattle.comparison.specs.declared.Checked.the-variants.{Yes, No, Refused}
-use Rattle.comparison.specs.Comparison.{pairRefusal, verdictOf, Compared, CheckedMapping}
+use Rattle.comparison.specs.Comparison.{pairRefusal, verdictOf, CheckedMapping}
 use Rattle.comparison.specs.Meaning.{CheckMeans, CheckDenies, ComparedOnce}
 use Rattle.comparison.proofs.Checks.{checked-refused, checked-decided}
 use Rattle.comparison.proofs.Verdicts.{queries, refused-apart}

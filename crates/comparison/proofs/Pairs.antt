@@ -5,7 +5,7 @@ use mathlib.Core.Logic.{⊎-elim}
 use mathlib.Core.Bool.{true, false, not}
 use mathlib.Core.List.{[], _∷_}
 use mathlib.Core.Option.{Option, none, some}
-use Prim.Native.Nat.{ℕ, _≤_, _<_}
+use Prim.Native.Nat.{ℕ, _<_}
 use native.Mathlib.Omega.{arith}
 use lib.Dec.{eqb, ltb}
 use borrow.Author.Tests.{ltb-true, eqb-true, lt-ltb, le-ltb, eq-eqb, ne-eqb, not-true, not-false}
@@ -17,7 +17,6 @@ use Rattle.refusals.specs.Refusals.{firstHolding}
 use Rattle.record.specs.Calls.{above, vacant, isFilled, placeAt, filledPlace, storedAt}
 use Rattle.refusals.proofs.Refusals.{first-goes, some-holds, none-holds, nothing-holds}
 use Rattle.record.proofs.Refusals.{found-refused, place-refused, filled-at}
-use Rattle.comparison.specs.declared.Pair.{Pair}
 use Rattle.comparison.specs.declared.Pair.the-variants.{Places, Refused}
 use Rattle.comparison.specs.Comparison.{pairRefusal}
 use Rattle.comparison.specs.internal.Pairs.{paired}
@@ -76,7 +75,8 @@ module _ (r : Record) (p q : ℕ) where
                 rw (good, lt-ltb p 8 low-p, lt-ltb q 8 low-q, filled-p, filled-q, eq-eqb (storedAt r p .arity) (storedAt r q .arity) e)
 
 -- The same of two places that were found, with the queries stored there
-module _ (r : Record) (p q : ℕ) (good : goodRecord r ≡ true) (a b : ℕ) (at-p : filledPlace r p ≡ lookup.At a) (at-q : filledPlace r q ≡ lookup.At b) (x y : Query)
+module _ (r : Record) (p q : ℕ) (good : goodRecord r ≡ true) (a b : ℕ) (at-p : filledPlace r p ≡ lookup.At a) (at-q : filledPlace r q ≡ lookup.At b)
+    (x y : Query)
     (is-x : x ≡ storedAt r a) (is-y : y ≡ storedAt r b) where
   arity-p : storedAt r p .arity ≡ x .arity
   arity-p = ap (λ (k : ℕ). storedAt r k .arity) (sym (filled-at r p a at-p .0)) ∙ ap (λ (z : Query). z .arity) (sym is-x)

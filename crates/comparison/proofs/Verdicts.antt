@@ -1,19 +1,19 @@
 -- What a comparison promises (`Compared`), case by case: refused, never, contained by a mapping, not contained.
--- Each case is Chandra and Merlin's theorem with functional dependencies (`Rattle.theory.proofs.Containment`) for the queries of two places that are not refused.
+-- Each case is Chandra and Merlin's theorem with functional dependencies (`Rattle.theory.proofs.Containment`) for the queries of two places that are
+-- not refused.
 -- Assumes nothing.
 use mathlib.Core.Path.{_≡_, refl, sym, ap, subst, _∙_}
-use mathlib.Core.Logic.{_≢_, _⊎_, inl, inr}
+use mathlib.Core.Logic.{_≢_, inl, inr}
 use mathlib.Core.Bool.{Bool, true, false, cond}
 use mathlib.Core.List.{List, [], _∷_}
 use mathlib.Core.Option.{Option, none, some}
-use Prim.Native.Nat.{ℕ, _*_, _≤_, _<_}
+use Prim.Native.Nat.{ℕ, _*_, _≤_}
 use native.Mathlib.Omega.{arith}
 use lib.ListN.{length, getD, replicate}
 use Rattle.query.specs.declared.Cell.{Cell}
 use Rattle.query.specs.declared.Query.{Query}
-use Rattle.record.specs.declared.Place.{Place}
 use Rattle.record.specs.declared.Record.{Record}
-use Rattle.query.specs.View.{queryOf}
+use Rattle.query.specs.View.{queryOf, imagesOf}
 use Rattle.record.specs.View.{schemaOf, dependenciesOf}
 use Rattle.lists.specs.Tests.{every, between}
 use Rattle.query.specs.Rule.{blankQuery, goodQuery, headSafe, noCell, noQuery}
@@ -26,19 +26,16 @@ use Rattle.query.proofs.Stored as query-stored
 use Rattle.chase.proofs.Callers.{good-widths}
 use Rattle.lists.proofs.Positions.{every-getD-else}
 use Rattle.theory.specs.Query as theory
-use Rattle.theory.specs.Database as database
 use Rattle.theory.specs.Answer as answer
 use Rattle.theory.specs.Containment as containment
 use Rattle.theory.specs.Search as search
-use Rattle.theory.proofs.Search.{mappable-exact, mappable-false}
+use Rattle.theory.proofs.Search.{mappable-exact}
 use Rattle.theory.proofs.Containment.{contained-of-mapping, counterexample}
-use Rattle.mapping.specs.Mapped.{imagesOf}
 use Rattle.comparison.specs.declared.Verdict.{Verdict}
 use Rattle.comparison.specs.declared.Verdict.the-variants.{Never, Contained, Apart, Refused}
-use Rattle.comparison.specs.declared.Comparison.{Comparison}
 use Rattle.comparison.specs.Comparison.{chasedAt, pairRefusal, verdictOn, judged, verdictOf, base, Compared}
 use Rattle.comparison.specs.internal.Pairs.{bare}
-use Rattle.comparison.proofs.Pairs.{Standing, standing}
+use Rattle.comparison.proofs.Pairs.{standing}
 
 -- ---- the queries of two places
 
@@ -184,7 +181,8 @@ module _ (r : Record) (p q : ℕ) (accepted : pairRefusal r p q ≡ none) where
         shown =
             subst
             (λ (C : theory.Query).
-            containment.Counterexample (schemaOf r) (dependenciesOf r) (queryAt r p) (queryAt r q) (containment.frozenRows base C) (containment.frozenHead base C))
+            containment.Counterexample (schemaOf r) (dependenciesOf r) (queryAt r p) (queryAt r q) (containment.frozenRows base C)
+            (containment.frozenHead base C))
             (sym is)
             (counterexample (schemaOf r) (dependenciesOf r) (queryAt r p) (queryAt r q) base (formed .rows-fit)
             (query-stored.constants-below (schemaOf r) (known .narrow) (storedAt r p) (known .good-p))

@@ -5,17 +5,15 @@ use mathlib.Core.List.{List, [], _∷_}
 use mathlib.Core.Option.{Option, none, some}
 use Prim.Native.Nat.{ℕ}
 use lib.Dec.{eqb}
-use lib.ListN.{getD, replicate}
+use lib.ListN.{replicate}
 use Rattle.query.specs.declared.Cell.{Cell}
 use Rattle.query.specs.declared.Query.{Query}
 use Rattle.record.specs.declared.Record.{Record}
-use Rattle.query.specs.View.{entriesOf, queryOf}
+use Rattle.query.specs.View.{entriesOf, queryOf, imagesOf}
 use Rattle.record.specs.View.{schemaOf, dependenciesOf}
 use Rattle.query.specs.Rule.{goodQuery, noCell, noQuery}
-use Rattle.record.specs.Rule.{noPlace}
 use Rattle.refusals.specs.Refusals.{Condition, firstHolding, headsDiffer, Reply, refused, gives, reply}
 use Rattle.record.specs.Calls.{broken, above, vacant, storedAt, queryAt}
-use Rattle.mapping.specs.Mapped.{imagesOf}
 use Rattle.comparison.specs.declared.Verdict.{Verdict}
 use Rattle.comparison.specs.declared.Verdict.the-variants.{Never, Contained, Apart, Refused}
 use Rattle.comparison.specs.declared.Comparison.{Comparison}

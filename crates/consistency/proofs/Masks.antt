@@ -7,8 +7,8 @@ use native.Mathlib.Omega.{arith}
 use native.Mathlib.Decide.{decLt}
 use lib.Bits.{bitAnd, bitOr, and-step, or-step, and-shr, or-shr}
 use lib.Pow.{pow-pos, pow-lt, pow-add}
-use Rattle.consistency.specs.Solution.{Bit}
-use Rattle.consistency.specs.Consistent.{NoBit}
+use Rattle.consistency.specs.internal.Solution.{Bit}
+use Rattle.consistency.specs.internal.Consistent.{NoBit}
 
 and-low : (x y : ℕ) → bitAnd x y % 2 ≡ min (x % 2) (y % 2)
 and-low x y = ap (λ (n : ℕ). n % 2) (and-step x y) ∙ (omega arith)

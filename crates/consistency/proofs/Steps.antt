@@ -9,8 +9,8 @@ use native.Mathlib.Decide.{ℕ-discrete}
 use lib.ListN.{getD, set, length, replicate}
 use lib.Seq.{getD-set-same, getD-set-other}
 use lib.Bits.{bitAnd, bitOr}
-use Rattle.consistency.specs.Solution.{Bit, together, Solution}
-use Rattle.consistency.specs.Consistent.{NoBit, Below, Agrees, Refuted, Sound, Settles}
+use Rattle.consistency.specs.internal.Solution.{Bit, together, Solution}
+use Rattle.consistency.specs.internal.Consistent.{NoBit, Below, Agrees, Refuted, Sound, Settles}
 use Rattle.consistency.specs.internal.Steps.{RowAfter, Supports}
 use Rattle.consistency.specs.declared.State.{State}
 use Rattle.consistency.proofs.Masks.{bit-and, bit-or-left, bit-or-right, bit-or-other, bit-one}
@@ -145,4 +145,5 @@ settles-same rows table s = record { chosen = refl; placed = refl; sound = λ do
 
 pub settles-more : (rows : ℕ) (table : List ℕ) (s t u : State) → Settles rows table s t → Settles rows table t u → Settles rows table s u
 settles-more rows table s t u first then =
-    record { chosen = then .chosen ∙ first .chosen; placed = then .placed ∙ first .placed; sound = λ domain sound. then .sound domain (first .sound domain sound) }
+    record { chosen = then .chosen ∙ first .chosen; placed = then .placed ∙ first .placed; sound =
+        λ domain sound. then .sound domain (first .sound domain sound) }

@@ -1,4 +1,2 @@
--- What a search looks for (Solution), and what its state keeps (Consistent). `internal` is this crate's own.
-pub mod Solution
-pub mod Consistent
+-- What contracts cite; no promise of a public call rests on it.
 pub mod internal

@@ -5,7 +5,7 @@
 // (r * 12 + d) * 13 + q of a table is the mask of the candidates of row q that go together with candidate d of row r.
 ghost use mathlib.Core.Path.{_≡_};
 ghost use Prim.Native.Nat.{_<_, _≤_};
-ghost use Rattle.consistency.specs.Consistent.{NoBit, Below, Settles, Follows};
+ghost use Rattle.consistency.specs.internal.Consistent.{NoBit, Below, Settles, Follows};
 ghost use Rattle.consistency.specs.internal.Steps.{Marked, After, Supports};
 
 // The rows of placed have the candidate that chosen says. Row q has the candidates of current[q] left, and the placed rows of

@@ -3,7 +3,7 @@ use mathlib.Core.Path.{_≡_}
 use mathlib.Core.Bool.{true}
 use mathlib.Core.Option.{none}
 use Prim.Native.Nat.{ℕ}
-use Rattle.mapping.specs.Mapped.{imagesOf}
+use Rattle.query.specs.View.{imagesOf}
 use Rattle.record.specs.declared.Record.{Record}
 use Rattle.record.specs.View.{schemaOf, dependenciesOf}
 use Rattle.record.specs.Rule.{goodRecord}

@@ -11,8 +11,7 @@ use Rattle.query.specs.View.{dependencyOf, columnsOf}
 use Rattle.query.specs.declared.Dependency.{Dependency}
 use Rattle.chains.specs.Chains.{lastBelow}
 use Rattle.chains.proofs.Chains.{last-le, last-none, last-key}
-use Rattle.words.specs.Words.{spanAt}
-use Rattle.words.specs.Testing.{agreeRows}
+use Rattle.words.specs.internal.Rows.{spanAt, agreeRows}
 use Rattle.words.proofs.Obeys.{agree-all}
 use Rattle.leaders.specs.internal.Hash.{bucketOf}
 use Rattle.leaders.specs.internal.Table.{keyOf, Table}
@@ -53,10 +52,12 @@ module _ (width : ℕ) (words : List ℕ) (d : Dependency) (heads links offsets 
     -- a link leads back
     pub link-le : (s : ℕ) → s < count → getD links s 0 ≤ s
     link-le s below =
-        let is : getD links s 0 ≡ lastBelow (keyOf width words d (length heads) offsets) s (keyOf width words d (length heads) offsets s) = table .chained .links s below in
+        let is : getD links s 0 ≡ lastBelow (keyOf width words d (length heads) offsets) s (keyOf width words d (length heads) offsets s) =
+        table .chained .links s below in
         omega (arith, last-le (keyOf width words d (length heads) offsets) s (keyOf width words d (length heads) offsets s))
 
-    pub follow-next : (node s : ℕ) → node ≡ suc s → Following node → agreeRows (dependencyOf d) (spanAt width words (getD offsets s 0)) (spanAt width words at) ≡ false
+    pub follow-next : (node s : ℕ) → node ≡ suc s → Following node → agreeRows (dependencyOf d) (spanAt width words (getD offsets s 0)) (spanAt width words at)
+        ≡ false
         → Following (getD links s 0)
     follow-next node s n f differs =
         let below : s < count = omega (arith, f .low) in
@@ -81,5 +82,6 @@ module _ (width : ℕ) (words : List ℕ) (d : Dependency) (heads links offsets 
 
         none-from : (t : ℕ) → getD links s 0 ≤ t → t < count → (x : Bool) → eqb t s ≡ x
             → agreeRows (dependencyOf d) (spanAt width words (getD offsets t 0)) (spanAt width words at) ≡ false
-        none-from t low high true h = ap (λ (u : ℕ). agreeRows (dependencyOf d) (spanAt width words (getD offsets u 0)) (spanAt width words at)) (eqb-true t s h) ∙ differs
+        none-from t low high true h = ap (λ (u : ℕ). agreeRows (dependencyOf d) (spanAt width words (getD offsets u 0)) (spanAt width words at))
+            (eqb-true t s h) ∙ differs
         none-from t low high false h = past t low high (eqb-false t s h) (ltb t s) refl

@@ -8,7 +8,7 @@ use lib.Seq.{getD-take, getD-drop}
 use Rattle.theory.specs.Query.{Row, column}
 use Rattle.theory.specs.Database.{Agree}
 use Rattle.query.specs.View.{columnsFrom, columnsOf}
-use Rattle.words.specs.Words.{spanAt}
+use Rattle.words.specs.internal.Rows.{spanAt}
 use Rattle.words.proofs.Columns.{columns-short, columns-set, columns-clear}
 use Rattle.leaders.specs.internal.Hash.{hashFrom}
 
@@ -50,7 +50,8 @@ module _ (width : ℕ) (words : List ℕ) (a : ℕ) where
       let e : width - c ≡ suc (width - (c + 1)) = omega arith in
       let f : c + 1 ≡ suc c = omega arith in
       rw (e, columns-set c (width - (c + 1)) mask bit, f)
-      (ap (λ (x : ℕ). hashFrom (columnsFrom (suc c) (width - suc c) (mask / 2)) ((h * 1000003 + x) % 4294967296) (spanAt width words a)) (span-value width words a c l))
+      (ap (λ (x : ℕ). hashFrom (columnsFrom (suc c) (width - suc c) (mask / 2)) ((h * 1000003 + x) % 4294967296) (spanAt width words a))
+      (span-value width words a c l))
 
   pub hash-end : (c mask h : ℕ) → width ≤ c → hashAt c mask h ≡ h
   unfolding hashAt hashFrom columnsFrom

@@ -115,7 +115,8 @@ module _ (d : Dependency) (D : Database) where
             (agree-through (nthRow D (number s)) (nthRow D n) (nthRow D (number t)) (agree-through (nthRow D (number s)) (nthRow D k) (nthRow D n) (l .3) b)
             (agree-back (nthRow D (number t)) (nthRow D n) a)) in
             let low' : number t ≤ k = subst (λ (m : ℕ). number m ≤ k) one (l .2) in
-            let first : Agree 0 (d .left) (nthRow D (number t)) (nthRow D k) = subst (λ (m : ℕ). Agree 0 (d .left) (nthRow D (number m)) (nthRow D k)) one (l .3) in
+            let first : Agree 0 (d .left) (nthRow D (number t)) (nthRow D k) = subst (λ (m : ℕ). Agree 0 (d .left) (nthRow D (number m)) (nthRow D k)) one
+            (l .3) in
             sym (right k low' h i p first (eqb (number t) k) refl) ∙ same (omega arith)
 
     -- no leader agrees with the row at n: nor does a row before it

@@ -14,8 +14,9 @@ use Rattle.query.specs.View.{dependencyOf, columnsOf}
 use Rattle.query.specs.declared.Dependency.{Dependency}
 use Rattle.chains.specs.Chains.{Chained}
 use Rattle.chains.proofs.Chains.{chained-agree}
-use Rattle.words.specs.Words.{spellsRows, rowsFrom, rowsOf, spellsRowsFrom, spanAt, rowAt, Next}
-use Rattle.words.specs.Testing.{agreeRows, firstPairFrom}
+use Rattle.words.specs.Words.{spellsRows, rowsFrom, rowsOf, spellsRowsFrom}
+use Rattle.words.specs.internal.Rows.{spanAt, rowAt, Next, agreeRows}
+use Rattle.words.specs.Testing.{firstPairFrom}
 use Rattle.words.specs.internal.Found.{From}
 use Rattle.words.proofs.Spelling.{next-row}
 use Rattle.words.proofs.Obeys.{agree-true, agree-all}
@@ -32,7 +33,8 @@ use Rattle.leaders.proofs.Leading.{groups-start, groups-other, groups-m
 rows-few : (schema : List ℕ) (due : ℕ) (words : List ℕ) → length (rowsFrom schema due words) ≤ length words
 unfolding rowsFrom
 rows-few schema due [] = omega arith
-rows-few schema zero (relation ∷ words) = let i : length (rowsFrom schema (getD schema relation 0) words) ≤ length words = rows-few schema (getD schema relation 0) words in omega arith
+rows-few schema zero (relation ∷ words) = let i : length (rowsFrom schema (getD schema relation 0) words) ≤ length words = rows-few schema
+    (getD schema relation 0) words in omega arith
 rows-few schema (suc due) (word ∷ words) = let i : length (rowsFrom schema due words) ≤ length words = rows-few schema due words in omega arith
 
 -- ---- the position that comes first
@@ -200,12 +202,15 @@ module _ (schema words : List ℕ) (d : Dependency) where
               room = h .room;
               table = h .table;
               members = h .members;
-              groups = groups-full (dependencyOf d) (rowsOf schema words) n (w .least .number) (w .count) (λ t. getD N t 0) (h .groups) (p .number) left right alone;
-              least = subst (λ (x : Position). Placed schema words (x .at) (x .number)) (sym e) (earlier-placed schema words (w .least) q (h .least) (m .placed));
+              groups = groups-full (dependencyOf d) (rowsOf schema words) n (w .least .number) (w .count) (λ t. getD N t 0) (h .groups)
+                  (p .number) left right alone;
+              least = subst (λ (x : Position). Placed schema words (x .at) (x .number)) (sym e)
+                  (earlier-placed schema words (w .least) q (h .least) (m .placed));
             }
 
         -- it is a leader
-        module _ (b : ℕ) (H' L' : List ℕ) (room : w .count < length O) (bucket : b ≡ bucketOf (length H) (dependencyOf d) (spanAt (getD schema (d .relation) 0) words at))
+        module _ (b : ℕ) (H' L' : List ℕ) (room : w .count < length O)
+            (bucket : b ≡ bucketOf (length H) (dependencyOf d) (spanAt (getD schema (d .relation) 0) words at))
             (sizeH : length H' ≡ length H) (sizeL : length L' ≡ length L)
             (pushed : (key : ℕ → ℕ) → Chained key H L (w .count) → key (w .count) ≡ b → Chained key H' L' (w .count + 1)) where
           new-offset : getD (set O (w .count) at) (w .count) 0 ≡ at
@@ -259,7 +264,8 @@ module _ (schema words : List ℕ) (d : Dependency) where
                   chained = new-chained;
                 };
                 members = λ s low. new-member s low (eqb s (w .count)) refl;
-                groups = groups-new (dependencyOf d) (rowsOf schema words) n (w .least .number) (w .count) (λ t. getD N t 0) (h .groups) (λ t. getD (set N (w .count) n) t 0)
+                groups = groups-new (dependencyOf d) (rowsOf schema words) n (w .least .number) (w .count) (λ t. getD N t 0) (h .groups)
+                    (λ t. getD (set N (w .count) n) t 0)
                     old-number new-number (member-relation at n m) alone;
                 least = h .least;
               }
@@ -294,7 +300,8 @@ module _ (schema words : List ℕ) (d : Dependency) where
       (subst (λ (x : List ℕ). Walked schema words d n w H L O x) (sym eN) h))))
 
   -- all rows are passed
-  pub walked-end : (at n : ℕ) (w : Walk) (H L O N : List ℕ) → Walked schema words d n w H L O N → Placed schema words at n → length words ≤ at → Skips schema words d (w .least)
+  pub walked-end : (at n : ℕ) (w : Walk) (H L O N : List ℕ) → Walked schema words d n w H L O N → Placed schema words at n → length words ≤ at
+      → Skips schema words d (w .least)
   unfolding rowsFrom
   walked-end at n w H L O N h p end =
       let none : drop n (rowsOf schema words) ≡ [] = p .read ∙ ap (λ (l : List ℕ). rowsOf schema l) (drop-of-length-le words {i = at} end) in
@@ -315,7 +322,8 @@ rest-all words at = let size : length (drop at words) ≡ length words - at = le
 -- from the rows of a part of the words to those of all words
 pub skips-on : (schema words : List ℕ) (d : Dependency) (at i : ℕ) (p : Position) → From schema words at i → Skips schema (drop at words) d p
     → From schema words (at + p .at) (i + p .number)
-    × (firstPairFrom (dependencyOf d) i (rowsOf schema (drop at words)) ≡ firstPairFrom (dependencyOf d) (i + p .number) (rowsOf schema (drop (at + p .at) words)))
+    × (firstPairFrom (dependencyOf d) i (rowsOf schema (drop at words)) ≡ firstPairFrom (dependencyOf d) (i + p .number)
+    (rowsOf schema (drop (at + p .at) words)))
 skips-on schema words d at i p f k =
     let e : drop (p .at) (drop at words) ≡ drop (at + p .at) words = drop-drop (p .at) at words in
     let size : length (drop at words) ≡ length words - at = length-drop at words in

@@ -10,11 +10,10 @@ use Rattle.theory.specs.Answer.{IsMapping}
 use Rattle.theory.specs.Checking.{imageAt, mapsTo}
 use Rattle.theory.proofs.Checking.{maps-to-exact}
 use Rattle.query.specs.declared.Cell.{Cell}
-use Rattle.query.specs.View.{entryOf, entriesOf}
+use Rattle.query.specs.View.{entryOf, entriesOf, imagesOf}
 use Rattle.query.specs.Rule.{noCell}
 use Rattle.lists.specs.Tests.{Tells}
 use Rattle.lists.proofs.Positions.{tells-same}
-use Rattle.mapping.specs.Mapped.{imagesOf}
 
 pub images-same : (images : List Cell) → imageAt (entriesOf images) ≡ imagesOf images
 images-same images = fun-ext (λ v. List·getD-map (λ (c : Cell). entryOf (c .entry)) images v noCell)

@@ -15,7 +15,7 @@ use Rattle.query.specs.declared.Cell.{Cell}
 use Rattle.query.specs.Code.{decoded}
 use Rattle.query.proofs.Codes.{code-variable}
 use Rattle.query.specs.Rule.{noCell}
-use Rattle.candidates.specs.Candidates.{rowStart, imageStart}
+use Rattle.candidates.specs.internal.Candidates.{rowStart, imageStart}
 use Rattle.mapping.specs.internal.Lines.{RowAssigned, Assigned}
 
 -- The variable of a code that a good query has
@@ -31,12 +31,14 @@ variable-small code v small is =
 pub row-start : (before : List Cell) (source : List ℕ) (target : List Cell) (row image : ℕ) → RowAssigned before source target row image 0 before
 row-start before source target row image v h = inl ((λ i l. absurd (not-suc-le-zero l)), refl)
 
-module _ (before : List Cell) (source : List ℕ) (target : List Cell) (row image i : ℕ) (out : List Cell) (was : RowAssigned before source target row image i out) where
+module _ (before : List Cell) (source : List ℕ) (target : List Cell) (row image i : ℕ) (out : List Cell)
+    (was : RowAssigned before source target row image i out) where
   -- A column with a constant
   pub row-skip : getD source (row + i) 0 < 2147483648 → RowAssigned before source target row image (i + 1) out
   row-skip small v h =
       ⊎-elim
-      (λ w. inl (below-more (λ (k : ℕ). getD source (row + k) 0 ≡ 2147483648 + v → ⊥) i (w .0) (λ e. let z : getD source (row + i) 0 ≡ 2147483648 + v = e in omega arith), w .1))
+      (λ w. inl (below-more (λ (k : ℕ). getD source (row + k) 0 ≡ 2147483648 + v → ⊥) i (w .0)
+      (λ e. let z : getD source (row + i) 0 ≡ 2147483648 + v = e in omega arith), w .1))
       (λ w. let l : w .0 < i = w .1 in inr (w .0, omega arith, w .2, w .3))
       (was v h)
 
@@ -46,7 +48,8 @@ module _ (before : List Cell) (source : List ℕ) (target : List Cell) (row imag
   row-store x small long here v h = go (ℕ-discrete v x)
     where
       go : Dec (v ≡ x)
-          → (((k : ℕ) → k < i + 1 → getD source (row + k) 0 ≡ 2147483648 + v → ⊥) × (getD (set out x (getD target (image + i) noCell)) v noCell ≡ getD before v noCell))
+          → (((k : ℕ) → k < i + 1 → getD source (row + k) 0 ≡ 2147483648 + v → ⊥)
+          × (getD (set out x (getD target (image + i) noCell)) v noCell ≡ getD before v noCell))
           ⊎ ((k : ℕ) × (k < i + 1) × (getD source (row + k) 0 ≡ 2147483648 + v)
           × (getD (set out x (getD target (image + i) noCell)) v noCell ≡ getD target (image + k) noCell))
       go (yes same) =

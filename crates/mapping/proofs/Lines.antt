@@ -3,7 +3,7 @@
 -- The lengths of arrays are the types', so the laws ask them.
 use mathlib.Core.Path.{_≡_, sym, _∙_, ap, subst}
 use mathlib.Core.Bool.{Bool, true, false, cond}
-use mathlib.Core.Logic.{_⊎_, ⊎-elim}
+use mathlib.Core.Logic.{⊎-elim}
 use mathlib.Core.List.{List, [], _++_, map, List·Memᴰ·append-cases, Memᴰ·cast, Memᴰ·append-left, Memᴰ·append-right}
 use Prim.Native.Nat.{ℕ, _+_, _*_, _-_, _/_, _%_, _≤_, _<_}
 use native.Mathlib.Decide.{decLt}
@@ -28,7 +28,7 @@ use Rattle.lists.proofs.Positions.{getD-in, in-getD, length-none}
 use Rattle.query.proofs.Good.{GoodQuery, good-query}
 use Rattle.query.proofs.Stored.{Within, entry-within, blank-good, row-at, row-parts}
 use Rattle.query.proofs.Shape.{head-length, row-count, rowFrom, row-is, column-is, head-is, blank-cell}
-use Rattle.mapping.specs.Mapped.{Narrow}
+use Rattle.mapping.specs.internal.Mapped.{Narrow}
 use Rattle.mapping.specs.internal.Lines.{cellAt, entryAt}
 use Rattle.mapping.proofs.Wide.{Wide}
 
@@ -123,13 +123,15 @@ module _ (schema : List ℕ) (q : Query) (good : goodQuery schema q ≡ true) (s
   head-within i h =
       subst (λ (c : Cell). Within (entryOf (c .entry))) (sym (cell-head q i))
       (entry-within (getD (q .head) i noCell .entry)
-      (every-getD goodCell (q .head) i noCell (used-all (headInUse q) goodCell blankCell (q .head) (λ c. blank-good (c .entry)) (parts .head)) (omega (arith, sizes .head))))
+      (every-getD goodCell (q .head) i noCell (used-all (headInUse q) goodCell blankCell (q .head) (λ c. blank-good (c .entry)) (parts .head))
+      (omega (arith, sizes .head))))
 
   pub all-within : (k : ℕ) → k < 104 → Within (entryAt q k)
   all-within k h = go (decLt k (8 * q .size)) (decLt k 96)
     where
       go : Dec (k < 8 * q .size) → Dec (k < 96) → Within (entryAt q k)
-      go (yes l) t = let e : 8 * (k / 8) + k % 8 ≡ k = omega arith in subst (λ (j : ℕ). Within (entryAt q j)) e (row-within (k / 8) (k % 8) (omega arith) (omega arith))
+      go (yes l) t = let e : 8 * (k / 8) + k % 8 ≡ k = omega arith in subst (λ (j : ℕ). Within (entryAt q j)) e
+          (row-within (k / 8) (k % 8) (omega arith) (omega arith))
       go (no l) (yes m) = subst Within (sym (cells-blank k (omega arith) m)) (lit< tt)
       go (no l) (no m) = let e : 96 + (k - 96) ≡ k = omega arith in subst (λ (j : ℕ). Within (entryAt q j)) e (head-within (k - 96) (omega arith))
 

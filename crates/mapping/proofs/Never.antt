@@ -13,7 +13,7 @@ use Rattle.query.specs.declared.Query.{Query}
 use Rattle.query.specs.View.{rowsOf, queryOf}
 use Rattle.query.specs.Rule.{goodQuery, noCell}
 use Rattle.mapping.specs.declared.Mapped.{Mapped}
-use Rattle.mapping.specs.Mapped.{Narrow, Finds}
+use Rattle.mapping.specs.internal.Mapped.{Narrow, Finds}
 
 -- A stored query of size 0 has no rows
 pub never-rows : (schema : List ℕ) (q : Query) → q .size ≡ 0 → queryOf schema q .rows ≡ []
@@ -21,7 +21,8 @@ unfolding rowsOf
 never-rows schema q e = ap (λ (n : ℕ). rowsOf schema (take n (q .relations)) (q .cells)) e
 
 -- From it or to it there is no mapping
-pub never-mapping : (schema : List ℕ) (source target : Query) → (source .size ≡ 0) ⊎ (target .size ≡ 0) → Mapping (queryOf schema source) (queryOf schema target) → ⊥
+pub never-mapping : (schema : List ℕ) (source target : Query) → (source .size ≡ 0) ⊎ (target .size ≡ 0)
+    → Mapping (queryOf schema source) (queryOf schema target) → ⊥
 never-mapping schema source target never m =
     ⊎-elim (λ e. m .1 .carries .not-never (never-rows schema source e))
     (λ e. mapping-target (queryOf schema source) (queryOf schema target) m (never-rows schema target e)) never

@@ -12,14 +12,14 @@ use Rattle.theory.specs.Answer.{valueOf}
 use Rattle.theory.specs.Containment.{freeze}
 use Rattle.query.specs.declared.Cell.{Cell}
 use Rattle.query.specs.declared.Query.{Query}
-use Rattle.query.specs.View.{entryOf, queryOf}
+use Rattle.query.specs.View.{entryOf, queryOf, imagesOf}
 use Rattle.query.specs.Rule.{noCell}
 use Rattle.query.proofs.Good.{good-query}
 use Rattle.query.proofs.Codes.{code-below}
-use Rattle.consistency.specs.Solution.{Solution}
+use Rattle.consistency.specs.internal.Solution.{Solution}
 use Rattle.lists.specs.Tests.{Tells}
-use Rattle.candidates.specs.Candidates.{IsDomain, IsTable}
-use Rattle.mapping.specs.Mapped.{imagesOf, Storable, noMapping, Finds, Checks}
+use Rattle.candidates.specs.internal.Candidates.{IsDomain, IsTable}
+use Rattle.mapping.specs.internal.Mapped.{Storable, noMapping, Finds, Checks}
 use Rattle.mapping.specs.internal.Lines.{cellAt, entryAt, entryIn, Carried, Lands, RestBlank, Assigned}
 use Rattle.lists.proofs.Positions.{tells-false}
 use Rattle.mapping.proofs.Checked.{tells-test}

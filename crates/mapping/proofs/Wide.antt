@@ -15,13 +15,12 @@ use Rattle.theory.specs.Query.{Entry, constant, variable}
 use Rattle.theory.specs.Answer.{valueOf}
 use Rattle.theory.specs.Containment.{freeze}
 use Rattle.query.specs.declared.Cell.{Cell}
-use Rattle.query.specs.View.{entryOf}
+use Rattle.query.specs.View.{entryOf, imagesOf}
 use Rattle.query.specs.Rule.{noCell}
 use Rattle.query.proofs.Stored.{Within}
 use Rattle.query.proofs.Codes.{code-same, code-fixed}
-use Rattle.consistency.specs.Solution.{Solution}
-use Rattle.candidates.specs.Candidates.{rowStart, imageStart, candidatesOf, Repeats, Together, Possible, IsDomain, IsTable}
-use Rattle.mapping.specs.Mapped.{imagesOf}
+use Rattle.consistency.specs.internal.Solution.{Solution}
+use Rattle.candidates.specs.internal.Candidates.{rowStart, imageStart, candidatesOf, Repeats, Together, Possible, IsDomain, IsTable}
 use Rattle.mapping.specs.internal.Lines.{entryIn, Assigned}
 use Rattle.candidates.proofs.Masks.{has-below}
 use Rattle.candidates.proofs.Candidates.{few-candidates}
@@ -115,7 +114,8 @@ module _ (source target : ℕ → Entry) (from to named offered : List ℕ) (siz
           relation = λ l. lands .same-relation r l;
           first = λ l. lands .first r l;
           fixes = λ i k small.
-              let here : getD from (rowStart size r + i) 0 ≡ freeze 2147483648 (source (rowStart size r + i)) = from-is (rowStart size r + i) (at-row r i h k) in
+              let here : getD from (rowStart size r + i) 0 ≡ freeze 2147483648 (source (rowStart size r + i)) =
+              from-is (rowStart size r + i) (at-row r i h k) in
               to-is (imageStart size r (choice r) + i) (at-image r i h k)
               ∙ ap (freeze 2147483648)
               (sym (lands .carried r i h k)

@@ -1,3 +1,2 @@
--- What finding and checking a mapping promise (Mapped). `internal` is this crate's own.
-pub mod Mapped
+-- What contracts cite; no promise of a public call rests on it.
 pub mod internal

@@ -1,2 +1,3 @@
--- What functions of this crate alone cite.
+-- What finding and checking a mapping promise (Mapped), and what functions of this crate alone cite (Lines).
+pub mod Mapped
 pub mod Lines

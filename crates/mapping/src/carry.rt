@@ -7,8 +7,7 @@ ghost use Prim.Native.Nat.{ℕ, _+_, _≤_, _<_};
 ghost use Rattle.theory.specs.Query.{constant};
 ghost use Rattle.theory.specs.Answer.{valueOf};
 ghost use Rattle.lists.specs.Tests.{Tells};
-ghost use Rattle.query.specs.View.{entryOf};
-ghost use Rattle.mapping.specs.Mapped.{imagesOf};
+ghost use Rattle.query.specs.View.{entryOf, imagesOf};
 ghost use Rattle.mapping.specs.internal.Lines.{Carried, Lands, Stands, RestBlank};
 
 // An entry with each variable replaced by its image: a variable above 95 has constant 0.

@@ -15,7 +15,7 @@ use query::Cell;
 use query::Entry;
 use query::Query;
 ghost use mathlib.Core.Path.{_≡_};
-ghost use Rattle.mapping.specs.Mapped.{noMapping, Storable, Finds, Checks};
+ghost use Rattle.mapping.specs.internal.Mapped.{noMapping, Storable, Finds, Checks};
 
 // A mapping that was looked for: whether there is one, and the image of each variable. Where there is none the images hold constant 0.
 pub struct Mapped {

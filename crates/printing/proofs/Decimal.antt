@@ -74,7 +74,8 @@ decimal-leads n = by-digits (λ n. (0 < length (decimal n)) × (getD (decimal n)
     one : (n : ℕ) → n < 10 → (0 < length (decimal n)) × (getD (decimal n) 0 0 ≡ 48 → n ≡ 0)
     one n h = rw (decimal-one n h) (omega arith, λ e. omega arith)
 
-    more : (n : ℕ) → 10 ≤ n → (0 < length (decimal (n / 10))) × (getD (decimal (n / 10)) 0 0 ≡ 48 → n / 10 ≡ 0) → (0 < length (decimal n)) × (getD (decimal n) 0 0 ≡ 48 → n ≡ 0)
+    more : (n : ℕ) → 10 ≤ n → (0 < length (decimal (n / 10))) × (getD (decimal (n / 10)) 0 0 ≡ 48 → n / 10 ≡ 0)
+        → (0 < length (decimal n)) × (getD (decimal n) 0 0 ≡ 48 → n ≡ 0)
     more n h ih =
         rw (decimal-more n h) (
           rw length-append (omega arith),

@@ -47,7 +47,8 @@ module _ {given : List ℕ} {first : ℕ} {text : List ℕ} where
       record { room = omega (arith, room-left p .0) }
 
   -- when the next part is written, what comes after it is left
-  pub wrote : {rest buffer buffer′ : List ℕ} {at at′ : ℕ} {s : List ℕ} → Progress given first text rest buffer at → (t : List ℕ) → rest ≡ s ++ t → Written buffer at s buffer′ at′
+  pub wrote : {rest buffer buffer′ : List ℕ} {at at′ : ℕ} {s : List ℕ} → Progress given first text rest buffer at → (t : List ℕ) → rest ≡ s ++ t
+      → Written buffer at s buffer′ at′
       → Progress given first text t buffer′ at′
   wrote {rest} {buffer} {buffer′} {at} {at′} {s} p t e w =
       let l : length (p .done) + length rest ≡ length text = sym (length-append (p .done) rest) ∙ ap (λ (l : List ℕ). length l) (p .parts) in
@@ -61,7 +62,8 @@ module _ {given : List ℕ} {first : ℕ} {text : List ℕ} where
         written =
             record {
               buffer =
-                  w .buffer ∙ ap (λ (b : List ℕ). over b at s) (p .written .buffer) ∙ ap (λ (i : ℕ). over (over given first (p .done)) i s) (p .written .position)
+                  w .buffer ∙ ap (λ (b : List ℕ). over b at s) (p .written .buffer)
+                      ∙ ap (λ (i : ℕ). over (over given first (p .done)) i s) (p .written .position)
                   ∙ over-over given first (p .done) s f;
               position = omega (arith, w .position, p .written .position, n);
             };
@@ -76,7 +78,8 @@ module _ {given : List ℕ} {first : ℕ} {text : List ℕ} where
   left-as {buffer = buffer} {at} p e = subst (λ (r : List ℕ). Progress given first text r buffer at) e p
 
   -- the buffer and the position may be had in another way
-  pub moved : {rest buffer buffer′ : List ℕ} {at at′ : ℕ} → Progress given first text rest buffer at → buffer′ ≡ buffer → at′ ≡ at → Progress given first text rest buffer′ at′
+  pub moved : {rest buffer buffer′ : List ℕ} {at at′ : ℕ} → Progress given first text rest buffer at → buffer′ ≡ buffer → at′ ≡ at
+      → Progress given first text rest buffer′ at′
   moved {rest} {buffer′ = buffer′} {at} p e i =
       subst (λ (k : ℕ). Progress given first text rest buffer′ k) (sym i) (subst (λ (b : List ℕ). Progress given first text rest b at) (sym e) p)
 
@@ -84,7 +87,8 @@ module _ {given : List ℕ} {first : ℕ} {text : List ℕ} where
   pub rest-fits : {rest buffer : List ℕ} {at : ℕ} → Progress given first text rest buffer at → Fits buffer at rest
   rest-fits {rest} p = part-fits p rest [] (sym (append-nil rest))
 
-  pub wrote-rest : {rest buffer buffer′ : List ℕ} {at at′ : ℕ} → Progress given first text rest buffer at → Written buffer at rest buffer′ at′ → Written given first text buffer′ at′
+  pub wrote-rest : {rest buffer buffer′ : List ℕ} {at at′ : ℕ} → Progress given first text rest buffer at → Written buffer at rest buffer′ at′
+      → Written given first text buffer′ at′
   wrote-rest {rest} p w = finished (wrote p [] (sym (append-nil rest)) w)
 
 -- one byte

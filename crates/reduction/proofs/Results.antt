@@ -16,7 +16,7 @@ use Rattle.record.specs.declared.Place.{Place}
 use Rattle.record.specs.declared.Record.{Record}
 use Rattle.record.specs.declared.Answer.the-variants as answer
 use Rattle.record.specs.declared.Lookup.the-variants as lookup
-use Rattle.query.specs.View.{queryOf, heldOf}
+use Rattle.query.specs.View.{queryOf, heldOf, imagesOf}
 use Rattle.record.specs.View.{schemaOf, dependenciesOf}
 use Rattle.lists.specs.Tests.{every, between}
 use Rattle.query.specs.Rule.{goodDependencies, goodQuery, headSafe, noCell}
@@ -34,21 +34,19 @@ use Rattle.chase.specs.Outcome.{IsChased}
 use Rattle.chase.proofs.Callers.{good-widths, width-le, chased-count}
 use Rattle.theory.specs.Query as theory
 use Rattle.theory.specs.Query.{WellFormed, variablesOf, rowEntries, _∈_}
-use Rattle.theory.specs.Database as database
 use Rattle.theory.specs.Answer.{IsMapping, Mapping}
-use Rattle.theory.specs.Chase.{chase, Chases}
+use Rattle.theory.specs.Chase.{chase}
 use Rattle.theory.specs.Reduction.{Reduction}
 use Rattle.theory.proofs.Carry.{mapping-target}
-use Rattle.theory.proofs.Chase.{chase-chases}
 use Rattle.theory.proofs.Determined.{subset-of}
 use Rattle.theory.proofs.Reduction.{reduction-answers, reduction-minimal, reduction-mapping, reduction-wellformed}
 use Rattle.mapping.specs.declared.Mapped.{Mapped}
 use Rattle.reduction.specs.declared.Shortened.{Shortened}
 use Rattle.reduction.specs.declared.Reduced.{Reduced}
-use Rattle.mapping.specs.Mapped.{imagesOf, IsMapped}
+use Rattle.mapping.specs.internal.Mapped.{IsMapped}
 use Rattle.core.specs.CoreOf.{IsCoreOf}
-use Rattle.reduction.specs.Reduced.{refusal, reductionRefusal, Reduces, IsReduced}
-use Rattle.reduction.specs.Steps.{Shortenable, IsShortened, Reducible, IsStored}
+use Rattle.reduction.specs.Reduced.{refusal, reductionRefusal, ReducesTo, IsReduced}
+use Rattle.reduction.specs.internal.Steps.{Shortenable, IsShortened, Reducible, IsStored}
 
 -- ---- 1. the shortened query
 
@@ -69,7 +67,8 @@ result-of {schema} {dependencies} {held} {q} {result} {chased} c p =
     }
 
 -- A search that must find a mapping finds it
-found-mapping : {schema : List ℕ} {source target : Query} {r : Mapped} → IsMapped schema source target r → Mapping (queryOf schema source) (queryOf schema target)
+found-mapping : {schema : List ℕ} {source target : Query} {r : Mapped} → IsMapped schema source target r
+    → Mapping (queryOf schema source) (queryOf schema target)
     → IsMapping (queryOf schema source) (queryOf schema target) (imagesOf (r .images))
 found-mapping {schema} {source} {target} {r} is m = go (r .found) refl
   where
@@ -78,7 +77,8 @@ found-mapping {schema} {source} {target} {r} is m = go (r .found) refl
     go false e = absurd (is .none e m)
 
 -- One that can find none leaves blanks
-found-none : {schema : List ℕ} {source target : Query} {r : Mapped} → IsMapped schema source target r → queryOf schema target .rows ≡ [] → r .images ≡ replicate 96 noCell
+found-none : {schema : List ℕ} {source target : Query} {r : Mapped} → IsMapped schema source target r → queryOf schema target .rows ≡ []
+    → r .images ≡ replicate 96 noCell
 found-none {schema} {source} {target} {r} is empty = go (r .found) refl
   where
     go : (b : Bool) → r .found ≡ b → r .images ≡ replicate 96 noCell
@@ -151,8 +151,10 @@ module _ (r : Record) (source target : ℕ) (able : Reducible r source target) (
         unchanged = ap (λ (x : Query). withPlace r target (record { filled = true; query = x })) read;
         good = place-kept r target (record { filled = true; query = s .query }) (able .good) (filled-place schema (s .query) (told .good) (told .safe));
         reduces =
-            subst (λ (x : Query). Reduces schema (dependenciesOf r) (queryOf schema (storedAt r source)) (queryOf schema x) (s .count) (imagesOf (s .images))) read
-            (subst (λ (x : Query). Reduces schema (dependenciesOf r) (queryOf schema x) (queryOf schema (s .query)) (s .count) (imagesOf (s .images))) is (told .reduces));
+            subst (λ (x : Query). ReducesTo schema (dependenciesOf r) (queryOf schema (storedAt r source)) (queryOf schema x) (s .count)
+            (imagesOf (s .images))) read
+            (subst (λ (x : Query). ReducesTo schema (dependenciesOf r) (queryOf schema x) (queryOf schema (s .query)) (s .count) (imagesOf (s .images))) is
+            (told .reduces));
         no-mapping = λ empty. told .no-mapping (ap (λ (x : Query). queryOf schema x .rows) read ∙ empty);
       }
 
@@ -206,7 +208,8 @@ module _ (r : Record) (source target : ℕ) (o : Reduced) where
           refused-with r source target n o
           (source-refuses n (ltb source 8) (isFilled r source) refl refl (found-refused (firstHolding (above source ∷ vacant r source ∷ [])) source n e))
 
-      pub reduce-target : (from n : ℕ) → filledPlace r source ≡ lookup.At from → vacantPlace r target ≡ lookup.Refused n → o ≡ refusal r n → IsReduced r source target o
+      pub reduce-target : (from n : ℕ) → filledPlace r source ≡ lookup.At from → vacantPlace r target ≡ lookup.Refused n → o ≡ refusal r n
+          → IsReduced r source target o
       unfolding reductionRefusal firstHolding
       reduce-target from n at e =
           let f = filled-at r source from at in
@@ -222,7 +225,8 @@ module _ (r : Record) (source target : ℕ) (o : Reduced) where
           rw (good, lt-ltb source 8 (f .1), lt-ltb target 8 low, f .2, g .2)
 
       -- An accepted call
-      pub reduce-done : (from to : ℕ) → filledPlace r source ≡ lookup.At from → vacantPlace r target ≡ lookup.At to → IsStored r from to o → IsReduced r source target o
+      pub reduce-done : (from to : ℕ) → filledPlace r source ≡ lookup.At from → vacantPlace r target ≡ lookup.At to → IsStored r from to o
+          → IsReduced r source target o
       reduce-done from to at free stored =
           let accepts : reductionRefusal r source target ≡ none = accepted-none from to at free in
           let is : IsStored r source target o =

@@ -1,3 +1,3 @@
--- What shortening a query and reducing a place promise.
+-- What reducing a place promises. Below `internal`: what the functions behind it do.
 pub mod Reduced
-pub mod Steps
+pub mod internal

@@ -5,17 +5,16 @@ use mathlib.Core.Bool.{true}
 use mathlib.Core.List.{List, [], _∷_}
 use mathlib.Core.Option.{Option, none, some}
 use Prim.Native.Nat.{ℕ, _≤_}
-use lib.ListN.{getD, length, replicate}
+use lib.ListN.{replicate}
 use Rattle.query.specs.declared.Query.{Query}
 use Rattle.record.specs.declared.Record.{Record}
 use Rattle.record.specs.declared.Answer.the-variants as answer
-use Rattle.query.specs.View.{queryOf}
+use Rattle.query.specs.View.{imagesOf}
 use Rattle.record.specs.View.{schemaOf, dependenciesOf}
-use Rattle.record.specs.Rule.{goodRecord, noPlace}
+use Rattle.record.specs.Rule.{goodRecord}
 use Rattle.query.specs.Rule.{noCell}
 use Rattle.refusals.specs.Refusals.{Condition, firstHolding}
 use Rattle.record.specs.Calls.{broken, above, vacant, filled, withPlace, storedAt, queryAt}
-use Rattle.mapping.specs.Mapped.{imagesOf}
 use Rattle.reduction.specs.declared.Reduced.{Reduced}
 use Rattle.theory.specs.Query as theory
 use Rattle.theory.specs.Database as database
@@ -36,7 +35,7 @@ abbrev pub refusal : Record → ℕ → Reduced
 refusal r n = record { answer = answer.Refused n; «record» = r; count = 0; images = replicate 96 noCell }
 
 -- What an accepted reduction of S, under the schema and the dependencies ds, gives: T is the result, `images` the mapping and `count` the count
-pub record Reduces (schema : List ℕ) (ds : List database.Dependency) (S T : theory.Query) (count : ℕ) (images : ℕ → theory.Entry) : Type 0 where
+pub record ReducesTo (schema : List ℕ) (ds : List database.Dependency) (S T : theory.Query) (count : ℕ) (images : ℕ → theory.Entry) : Type 0 where
   -- T is a result of reduction
   pub result : reduction.Reduction ds S T
   -- unless T is never, a mapping from S to T is returned
@@ -58,6 +57,6 @@ pub record IsReduced (r : Record) (source target : ℕ) (o : Reduced) : Type 0 w
       → o .«record» ≡ withPlace r target (record { filled = true; query = storedAt (o .«record») target })
   pub good : reductionRefusal r source target ≡ none → goodRecord (o .«record») ≡ true
   pub reduces : reductionRefusal r source target ≡ none
-      → Reduces (schemaOf r) (dependenciesOf r) (queryAt r source) (queryAt (o .«record») target) (o .count) (imagesOf (o .images))
+      → ReducesTo (schemaOf r) (dependenciesOf r) (queryAt r source) (queryAt (o .«record») target) (o .count) (imagesOf (o .images))
   -- a mapping that is absent is 0
   pub no-mapping : reductionRefusal r source target ≡ none → queryAt (o .«record») target .rows ≡ [] → o .images ≡ replicate 96 noCell

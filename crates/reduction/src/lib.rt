@@ -16,7 +16,7 @@ ghost use Rattle.lists.specs.Tests.{every, between};
 ghost use Rattle.query.specs.Rule.{goodQuery, headSafe};
 ghost use Rattle.query.specs.View.{heldOf};
 ghost use Rattle.reduction.specs.Reduced.{refusal, IsReduced};
-ghost use Rattle.reduction.specs.Steps.{Shortenable, IsShortened, Reducible, IsStored};
+ghost use Rattle.reduction.specs.internal.Steps.{Shortenable, IsShortened, Reducible, IsStored};
 
 // What a reduction gives: its answer, the record after it, the number of replacements, and the mapping from the source query to the result.
 // Where there is no mapping, its images hold constant 0.

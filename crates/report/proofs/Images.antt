@@ -1,5 +1,6 @@
--- The images that a reduction returns are good entries: the image of a variable that occurs is an entry of the result, any other is constant 0. Assumes nothing.
-use mathlib.Core.Path.{_≡_, refl, sym, ap, _∙_, subst}
+-- The images that a reduction returns are good entries: the image of a variable that occurs is an entry of the result, any other is constant 0.
+-- Assumes nothing.
+use mathlib.Core.Path.{_≡_, refl, sym, subst}
 use mathlib.Core.Logic.{_≢_, _⊎_, inl, inr, ⊎-elim}
 use mathlib.Core.Bool.{true}
 use mathlib.Core.List.{List, [], _∷_, _++_, List·Memᴰ·append-cases, Memᴰ·map}

@@ -1,5 +1,5 @@
 -- Lines of places one after the other: what is written of the first places, then of the next, is written of both. Assumes nothing.
-use mathlib.Core.Path.{_≡_, refl, sym, ap, _∙_, subst}
+use mathlib.Core.Path.{_≡_, sym, ap, _∙_, subst}
 use mathlib.Core.Bool.{Bool, true, false, cond}
 use mathlib.Core.List.{List, [], _∷_, _++_, append-assoc, append-nil}
 use Prim.Native.Nat.{ℕ, zero, suc, _+_, _*_, _≤_, _<_}
@@ -8,11 +8,12 @@ use native.Mathlib.Omega.{arith}
 use lib.ListN.{length, length-append}
 use Rattle.record.specs.declared.Record.{Record}
 use Rattle.record.specs.Calls.{isFilled}
-use Rattle.text.specs.Text.{passing, placeRoom}
+use Rattle.text.specs.Text.{passing}
+use Rattle.text.specs.internal.Listable.{placeRoom}
 use Rattle.lists.specs.Over.{over}
 use Rattle.printing.specs.internal.Writing.{Written}
 use Rattle.lists.proofs.Over.{over-nil, over-length, over-over}
-use Rattle.report.specs.Report.{Lines, AllLines, nil, cons}
+use Rattle.report.specs.Report.{AllLines, nil, cons}
 use Rattle.report.specs.internal.Places.{LinesWritten, PartWritten}
 
 -- ---- places

@@ -1,13 +1,12 @@
 -- The lines of a filled place: what its reduction in the record without the other places gives may be listed, and is its lines. Assumes nothing.
-use mathlib.Core.Path.{_≡_, refl, sym, ap, _∙_, subst}
+use mathlib.Core.Path.{_≡_, sym, ap, _∙_, subst}
 use mathlib.Core.Bool.{true}
-use mathlib.Core.List.{List, []}
+use mathlib.Core.List.{List}
 use mathlib.Core.Option.{none}
 use Prim.Native.Nat.{ℕ, _+_, _≤_, _<_}
 use native.Mathlib.Omega.{arith}
-use lib.ListN.{length, getD, set, replicate, length-set, length-replicate}
+use lib.ListN.{length, getD, length-set, length-replicate}
 use lib.Seq.{getD-set-same}
-use Rattle.query.specs.declared.Cell.{Cell}
 use Rattle.query.specs.declared.Query.{Query}
 use Rattle.record.specs.declared.Place.{Place}
 use Rattle.record.specs.declared.Record.{Record}
@@ -15,19 +14,18 @@ use Rattle.record.specs.View.{schemaOf, dependenciesOf}
 use Rattle.query.specs.View.{queryOf, imagesOf}
 use Rattle.lists.specs.Tests.{every}
 use Rattle.query.specs.Rule.{goodCell, goodQuery, headSafe}
-use Rattle.record.specs.Rule.{goodPlace, goodRecord, noPlace}
+use Rattle.record.specs.Rule.{goodRecord, noPlace}
 use Rattle.record.specs.Calls.{isFilled, storedAt, queryAt}
 use Rattle.query.proofs.Good.{good-query}
 use Rattle.record.proofs.Good.{good-record}
 use Rattle.record.proofs.Stored as stored
 use Rattle.reduction.specs.declared.Reduced.{Reduced}
-use Rattle.reduction.specs.Reduced.{reductionRefusal, Reduces, IsReduced}
-use Rattle.text.specs.Text.{placeText, placeRoom}
-use Rattle.text.specs.internal.Listable.{Listable}
+use Rattle.reduction.specs.Reduced.{reductionRefusal, ReducesTo, IsReduced}
+use Rattle.text.specs.Text.{placeText}
+use Rattle.text.specs.internal.Listable.{placeRoom, Listable}
 use Rattle.printing.specs.internal.Writing.{Written}
 use Rattle.text.proofs.Bound.{place-short}
 use Rattle.theory.specs.Query as theory
-use Rattle.report.specs.Report.{Lines}
 use Rattle.report.specs.internal.Places.{LinesWritten, aloneIn, otherPlace}
 use Rattle.report.proofs.Images.{images-good}
 use Rattle.report.proofs.OnePlace.{other-low, alone-query, alone-accepted}
@@ -87,10 +85,10 @@ module _ (r : Record) (place : ℕ) (low : place < 8) (good : goodRecord r ≡ t
   target-is =
       ap (λ (s : List ℕ). queryOf s (storedAt (o .«record») (otherPlace place))) same-schema ∙ ap (λ (q : Query). queryOf (schemaOf r) q) (sym result-stored)
 
-  reduces : Reduces (schemaOf r) (dependenciesOf r) (queryAt r place) (queryOf (schemaOf r) result) (o .count) (imagesOf (o .images))
+  reduces : ReducesTo (schemaOf r) (dependenciesOf r) (queryAt r place) (queryOf (schemaOf r) result) (o .count) (imagesOf (o .images))
   reduces =
-      subst (λ (T : theory.Query). Reduces (schemaOf r) (dependenciesOf r) (queryAt r place) T (o .count) (imagesOf (o .images))) target-is
-      (subst (λ (S : theory.Query). Reduces (schemaOf r) (dependenciesOf r) S (queryAt (o .«record») (otherPlace place)) (o .count) (imagesOf (o .images)))
+      subst (λ (T : theory.Query). ReducesTo (schemaOf r) (dependenciesOf r) (queryAt r place) T (o .count) (imagesOf (o .images))) target-is
+      (subst (λ (S : theory.Query). ReducesTo (schemaOf r) (dependenciesOf r) S (queryAt (o .«record») (otherPlace place)) (o .count) (imagesOf (o .images)))
       (alone-query r place low) (alone-reduced .reduces accepted))
 
   good-images : every goodCell (o .images) ≡ true
@@ -133,6 +131,7 @@ module _ (r : Record) (place : ℕ) (low : place < 8) (good : goodRecord r ≡ t
             };
         short =
             place-short (r .relations) (r .widths) (good-record r good .relations) place source result (o .count) (o .images) low source-good result-good
-            (omega (arith, good-query (schemaOf r) source source-good .size)) (omega (arith, good-query (schemaOf r) result result-good .size)) small good-images;
+            (omega (arith, good-query (schemaOf r) source source-good .size))
+            (omega (arith, good-query (schemaOf r) result result-good .size)) small good-images;
         written = w;
       }

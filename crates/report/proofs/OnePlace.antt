@@ -16,14 +16,13 @@ use Rattle.record.specs.View.{schemaOf}
 use Rattle.query.specs.View.{queryOf}
 use Rattle.record.specs.Rule.{goodPlace, goodRecord, noPlace}
 use Rattle.refusals.specs.Refusals.{firstHolding, badRecord, noSuchPlace, placeVacant, placeFilled}
-use Rattle.record.specs.Calls.{broken, above, vacant, filled, isFilled, queryAt}
+use Rattle.record.specs.Calls.{above, vacant, filled, isFilled, queryAt}
 use Rattle.lists.proofs.Tests.{every-set, every-replicate}
 use Rattle.record.proofs.Good.{good-record, make-record}
 use Rattle.record.proofs.Stored.{place-good}
 use Rattle.record.proofs.Kept.{empty-place}
 use Rattle.refusals.proofs.Refusals.{first-goes}
 use Rattle.reduction.specs.Reduced.{reductionRefusal}
-use Rattle.theory.specs.Query as theory
 use Rattle.report.specs.internal.Places.{aloneIn, otherPlace}
 
 pub other-low : (place : ℕ) → otherPlace place < 8

@@ -1,5 +1,5 @@
 -- What reading a file answers: an accepted file's record is good, and what is written of it is its listing. Assumes nothing.
-use mathlib.Core.Path.{_≡_, refl, sym, ap, _∙_, subst}
+use mathlib.Core.Path.{_≡_, refl, sym, ap, subst}
 use mathlib.Core.Bool.{true}
 use mathlib.Core.List.{List}
 use Prim.Native.Nat.{ℕ, _≤_, _<_}
@@ -9,7 +9,7 @@ use Rattle.record.specs.declared.Record.{Record}
 use Rattle.record.specs.declared.Answer.the-variants.{Done, Refused}
 use Rattle.record.specs.declared.Outcome.{Outcome}
 use Rattle.record.specs.Rule.{goodRecord}
-use Rattle.refusals.specs.Refusals.{Reply, gives, refused}
+use Rattle.refusals.specs.Refusals.{Reply}
 use Rattle.format.specs.File.{readFile, outcomeOf}
 use Rattle.format.proofs.RoundTrip.{file-written-back}
 use Rattle.format.proofs.Arrays.{bytes-known}
@@ -41,7 +41,8 @@ module _ (file : List ℕ) (o : Outcome) (e : o ≡ outcomeOf (readFile file)) w
       }
 
   -- The line of a refused file is one
-  pub read-refused : (n : ℕ) → o .answer ≡ Refused n → (before after : List ℕ) (end : ℕ) → Written before 0 (refusedText n) after end → IsReport file before after end
+  pub read-refused : (n : ℕ) → o .answer ≡ Refused n → (before after : List ℕ) (end : ℕ) → Written before 0 (refusedText n) after end
+      → IsReport file before after end
   read-refused n a before after end w =
       record {
         text = refusedText n;

@@ -10,7 +10,7 @@ use Rattle.record.specs.View.{schemaOf, dependenciesOf}
 use Rattle.record.specs.Calls.{isFilled, queryAt}
 use Rattle.refusals.specs.Refusals.{Reply, gives, refused}
 use Rattle.format.specs.File.{readFile}
-use Rattle.reduction.specs.Reduced.{Reduces}
+use Rattle.reduction.specs.Reduced.{ReducesTo}
 use Rattle.text.specs.Text.{passing, placeText, refusedText}
 use Rattle.theory.specs.Query as theory
 
@@ -19,7 +19,7 @@ pub record Lines (r : Record) (place : ℕ) (lines : List ℕ) : Type 0 where
   pub result : theory.Query
   pub count : ℕ
   pub images : ℕ → theory.Entry
-  pub reduces : Reduces (schemaOf r) (dependenciesOf r) (queryAt r place) result count images
+  pub reduces : ReducesTo (schemaOf r) (dependenciesOf r) (queryAt r place) result count images
   pub text : lines ≡ placeText place (queryAt r place) result count images
 
 -- The lines of some places, one after the other

@@ -8,7 +8,7 @@ ghost use Prim.Native.Nat.{_*_, _≤_, _<_};
 ghost use lib.ListN.{length};
 ghost use Rattle.record.specs.Rule.{goodRecord};
 ghost use Rattle.record.specs.Calls.{isFilled};
-ghost use Rattle.text.specs.Text.{placeRoom};
+ghost use Rattle.text.specs.internal.Listable.{placeRoom};
 ghost use Rattle.report.specs.Report.{IsReport};
 ghost use Rattle.report.specs.internal.Places.{aloneIn, otherPlace, LinesWritten, PlaceWritten, ListingWritten, Room};
 

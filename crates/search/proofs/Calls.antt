@@ -8,8 +8,8 @@ use Prim.Native.Nat.{ℕ, _+_, _-_, _*_, _^_, _<_, _≤_}
 use native.Mathlib.Omega.{arith}
 use lib.ListN.{getD, length}
 use lib.Bits.{bitOr}
-use Rattle.consistency.specs.Solution.{Bit, Solution}
-use Rattle.consistency.specs.Consistent.{NoBit, Below, Refuted, Settles, Follows}
+use Rattle.consistency.specs.internal.Solution.{Bit, Solution}
+use Rattle.consistency.specs.internal.Consistent.{NoBit, Below, Refuted, Settles, Follows}
 use Rattle.search.specs.internal.Invariant.{missing, IsNext, IsCandidate, Excluded, Attempted, Placeable, Tryable}
 use Rattle.consistency.specs.declared.State.{State}
 use Rattle.search.specs.declared.Attempt.{Attempt}

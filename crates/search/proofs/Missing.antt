@@ -6,8 +6,8 @@ use native.Mathlib.Nat.{zero-div}
 use native.Mathlib.Omega.{arith}
 use native.Mathlib.Decide.{decLt}
 use lib.Bits.{bitOr}
-use Rattle.consistency.specs.Solution.{Bit}
-use Rattle.consistency.specs.Consistent.{NoBit}
+use Rattle.consistency.specs.internal.Solution.{Bit}
+use Rattle.consistency.specs.internal.Consistent.{NoBit}
 use Rattle.consistency.proofs.Masks.{or-digit, bit-or-right, bit-one}
 use Rattle.search.specs.internal.Invariant.{missing}
 

@@ -7,8 +7,8 @@ use native.Mathlib.Omega.{arith}
 use native.Mathlib.Decide.{decLt, ℕ-discrete}
 use lib.ListN.{getD}
 use lib.Bits.{bitOr}
-use Rattle.consistency.specs.Solution.{Bit, together, Solution}
-use Rattle.consistency.specs.Consistent.{NoBit, Agrees, Refuted, Left}
+use Rattle.consistency.specs.internal.Solution.{Bit, together, Solution}
+use Rattle.consistency.specs.internal.Consistent.{NoBit, Agrees, Refuted, Left}
 use Rattle.consistency.proofs.Masks.{bit-or-left, bit-or-right}
 use Rattle.consistency.proofs.Steps.{apart, agrees-part}
 use Rattle.search.specs.internal.Invariant.{IsCandidate, Excluded}

@@ -13,8 +13,8 @@ ghost use mathlib.Core.Path.{_≡_};
 ghost use mathlib.Core.Bool.{true, false};
 ghost use Prim.Native.Nat.{ℕ, _<_, _≤_};
 ghost use lib.ListN.{getD};
-ghost use Rattle.consistency.specs.Solution.{Solution};
-ghost use Rattle.consistency.specs.Consistent.{Below};
+ghost use Rattle.consistency.specs.internal.Solution.{Solution};
+ghost use Rattle.consistency.specs.internal.Consistent.{Below};
 ghost use Rattle.search.specs.internal.Invariant.{IsEarlier, IsNext, IsCandidate, RowFits, Tested, Attempted, Placeable, Tryable};
 
 // Whether there is a solution, and one. Without one, chosen means nothing.

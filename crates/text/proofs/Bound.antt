@@ -1,5 +1,5 @@
 -- How long the text of a place can be: entries first, then the lines, then the text. Assumes nothing.
-use mathlib.Core.Path.{_≡_, refl, sym, subst}
+use mathlib.Core.Path.{_≡_, refl, subst}
 use mathlib.Core.Bool.{Bool, true, false, cond}
 use mathlib.Core.List.{List, [], _∷_, _++_, flatMap}
 use Prim.Native.Nat.{ℕ, zero, suc, _+_, _*_, _^_, _≤_, _<_}
@@ -23,8 +23,10 @@ use Rattle.query.proofs.Stored.{row-parts, rows-first, rows-rest, head-cells, v
 use Rattle.theory.specs.Query as theory
 use Rattle.printing.specs.Decimal.{field}
 use Rattle.printing.proofs.Decimal.{decimal-length}
-use Rattle.text.specs.Text.{entryText, entriesText, newline, placeWord, rowsWord, keptWord, replacedWord, placeLine, neverLine, headLine, rowWord, rowLine, rowsText}
-use Rattle.text.specs.Text.{nextWord, equals, imageText, imagesText, mapLine, passing, leastAbove, occurring, placeText, placeRoom}
+use Rattle.text.specs.Text.{entryText, entriesText, newline, placeWord, rowsWord, keptWord, replacedWord, placeLine, neverLine, headLine}
+use Rattle.text.specs.Text.{rowWord, rowLine, rowsText}
+use Rattle.text.specs.Text.{nextWord, equals, imageText, imagesText, mapLine, passing, leastAbove, occurring, placeText}
+use Rattle.text.specs.internal.Listable.{placeRoom}
 use Rattle.text.proofs.Occurring.{variables-bound}
 
 -- ---- entries
@@ -59,7 +61,8 @@ place-line-short place rows kept count p r k c =
     let b : length (field rowsWord rows) ≤ 8 = field-length rowsWord rows 1 (omega arith) in
     let d : length (field keptWord kept) ≤ 8 = field-length keptWord kept 1 (omega arith) in
     let e : length (field replacedWord count) ≤ 13 = field-length replacedWord count 2 (omega arith) in
-    rw (length-append (field placeWord place), length-append (field rowsWord rows), length-append (field keptWord kept), length-append (field replacedWord count)) (omega arith)
+    rw (length-append (field placeWord place), length-append (field rowsWord rows), length-append (field keptWord kept), length-append
+    (field replacedWord count)) (omega arith)
 
 never-line-short : (place rows count : ℕ) → place < 8 → rows ≤ 12 → count < 256 → length (neverLine place rows count) ≤ 35
 unfolding neverLine
@@ -88,7 +91,8 @@ module _ (schema : List ℕ) (few : length schema ≤ 8) (narrow : (i : ℕ) →
       entries-short (take w cells) (subst (λ (cs : List Cell). every goodCell cs ≡ true) cut used) in
       let rest : length (rowsText (rowsOf schema rs (drop 8 cells))) ≤ 94 * length rs = rows-short rs (drop 8 cells) (rows-rest schema r rs cells good) in
       let line : List ℕ = field rowWord r ++ (entriesText (entriesOf (take w cells)) ++ newline) in
-      rw (length-append line, length-append (field rowWord r), length-append (entriesText (entriesOf (take w cells)))) (omega (arith, length-take w cells, narrow r))
+      rw (length-append line, length-append (field rowWord r), length-append (entriesText (entriesOf (take w cells))))
+      (omega (arith, length-take w cells, narrow r))
 
 images-short : (image : ℕ → theory.Entry) (test : ℕ → Bool) (start n : ℕ) → start + n ≤ 96 → ((v : ℕ) → length (entryText (image v)) ≤ 10)
     → length (imagesText image (passing test start n)) ≤ 15 * n
@@ -101,7 +105,8 @@ images-short image test start (suc n) h short = go (test start) (images-short im
 
     go : (t : Bool) → length (imagesText image (passing test (suc start) n)) ≤ 15 * n
         → length (imagesText image (cond t (start ∷ passing test (suc start) n) (passing test (suc start) n))) ≤ 15 * suc n
-    go true rest = rw (length-append (field nextWord start ++ (equals ++ entryText (image start))), length-append (field nextWord start)) (omega (arith, a, short start))
+    go true rest = rw (length-append (field nextWord start ++ (equals ++ entryText (image start))), length-append (field nextWord start))
+        (omega (arith, a, short start))
     go false rest = omega arith
 
 image-short : (images : List Cell) → every goodCell images ≡ true → (v : ℕ) → length (entryText (imagesOf images v)) ≤ 10
@@ -149,11 +154,13 @@ module _ (relations : ℕ) (widths : List ℕ) (known : goodRelations relations 
         → length
         (cond t (neverLine place rows count)
         (placeLine place rows kept count
-        ++ (headLine (queryOf schema result .head) ++ (rowsText (queryOf schema result .rows) ++ mapLine (imagesOf images) (occurring (queryOf schema source))))))
+        ++ (headLine (queryOf schema result .head) ++
+        (rowsText (queryOf schema result .rows) ++ mapLine (imagesOf images) (occurring (queryOf schema source))))))
         ≤ placeRoom
     lines-short true size line never head below map = omega arith
     lines-short false size line never head below map =
-        rw (length-append (placeLine place rows kept count), length-append (headLine (queryOf schema result .head)), length-append (rowsText (queryOf schema result .rows)))
+        rw (length-append (placeLine place rows kept count), length-append (headLine (queryOf schema result .head)), length-append
+        (rowsText (queryOf schema result .rows)))
         (omega arith)
 
     -- The text of a place is at most as long as its room

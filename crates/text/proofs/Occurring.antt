@@ -77,7 +77,8 @@ module _ (q : theory.Query) (below : (v : ℕ) → v ∈ theory.variables q → 
       let vs : List ℕ = theory.variables q in
       let test : ℕ → Bool = λ v. member v vs in
       let e : leastAbove vs + (96 - leastAbove vs) ≡ 96 = omega (arith, variables-bound) in
-      passing-same (λ v. member v (variablesOf (rowEntries (q .rows)))) test 0 96 (λ v. member-same v (variablesOf (rowEntries (q .rows))) vs (from-rows v) (to-rows v))
+      passing-same (λ v. member v (variablesOf (rowEntries (q .rows)))) test 0 96
+      (λ v. member-same v (variablesOf (rowEntries (q .rows))) vs (from-rows v) (to-rows v))
       ∙ ap (passing test 0) (sym e)
       ∙ passing-more test 0 (leastAbove vs) (96 - leastAbove vs) (λ v h. not-mem-member v vs (λ at. let l : v < leastAbove vs = above-all vs at in omega arith))
     where

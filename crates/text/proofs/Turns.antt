@@ -18,7 +18,8 @@ use Rattle.text.specs.internal.Listable.{rowOfCells}
 
 -- From cell i on, the entry of cell i comes first
 pub entries-turn : (cells : List Cell) (n i : ℕ) → i < n → n ≤ length cells
-    → entriesText (entriesOf (drop i (take n cells))) ≡ (space ++ entryText (entryOf (getD cells i noCell .entry))) ++ entriesText (entriesOf (drop (i + 1) (take n cells)))
+    → entriesText (entriesOf (drop i (take n cells))) ≡ (space ++ entryText (entryOf (getD cells i noCell .entry))) ++ entriesText
+    (entriesOf (drop (i + 1) (take n cells)))
 unfolding entriesText flatMap
 entries-turn cells n i h l =
     let here : i < length (take n cells) = rw (length-take-le n cells l) h in
@@ -62,7 +63,8 @@ module _ (image : ℕ → theory.Entry) (test : ℕ → Bool) (v : ℕ) (h : v <
   left : 96 - v ≡ suc (96 - (v + 1))
   left = omega arith
 
-  pub images-passed : test v ≡ true → imagesText image (passing test v (96 - v)) ≡ imageText v (image v) ++ imagesText image (passing test (v + 1) (96 - (v + 1)))
+  pub images-passed : test v ≡ true → imagesText image (passing test v (96 - v)) ≡ imageText v (image v) ++ imagesText image
+      (passing test (v + 1) (96 - (v + 1)))
   unfolding imagesText passing flatMap
   images-passed t = rw (left, t, add-one v)
 

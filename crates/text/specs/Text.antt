@@ -133,10 +133,6 @@ placeText place source result count image =
     (placeLine place (length (source .rows)) (length (result .rows)) count
     ++ (headLine (result .head) ++ (rowsText (result .rows) ++ mapLine image (occurring source))))
 
--- Room for the text of any place: a line of at most 37 bytes, a head of at most 93, 12 rows of at most 94 each and a mapping of at most 1444
-abbrev pub placeRoom : ℕ
-placeRoom = 2702
-
 -- "refused "
 abbrev pub refusedWord : List ℕ
 refusedWord = 114 ∷ 101 ∷ 102 ∷ 117 ∷ 115 ∷ 101 ∷ 100 ∷ 32 ∷ []

@@ -28,7 +28,7 @@ use Rattle.lists.proofs.Over.{over-nil}
 use Rattle.writer.specs.declared.Written.the-variants as written
 use Rattle.writer.specs.Write.{written, afterWriting}
 use Rattle.writer.proofs.Writing.{fits-written, long-refused, written-fits, refused-long}
-use Rattle.mapping.specs.Mapped.{imagesOf}
+use Rattle.query.specs.View.{imagesOf}
 use Rattle.comparison.proofs.Checks.{checked-refused, checked-decided}
 use Rattle.comparison.specs.declared.Checked.{Checked}
 use Rattle.comparison.specs.declared.Checked.the-variants as checked

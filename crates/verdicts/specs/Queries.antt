@@ -19,7 +19,7 @@ use Rattle.lists.specs.Over.{over}
 use Rattle.format.specs.Format.{Reading, none, got, gotIf, getTimes, putAll}
 use Rattle.format.specs.Parts.{entryFrom, query}
 use Rattle.format.specs.File.{readFile, fileOf, shapedQuery, shaped}
-use Rattle.mapping.specs.Mapped.{imagesOf}
+use Rattle.query.specs.View.{imagesOf}
 use Rattle.comparison.specs.declared.Comparison.{Comparison}
 use Rattle.comparison.specs.declared.Verdict.{Verdict}
 use Rattle.comparison.specs.declared.Verdict.the-variants as verdict

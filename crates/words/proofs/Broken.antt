@@ -1,20 +1,19 @@
--- What the answer of a test means, in the words of `specs/Broken`: 1. two rows, 2. the first row that passes a test, 3. the first pair, 4. the first dependency,
--- 5. there is only one first, so the answer is it. Assumes nothing.
+-- What the answer of a test means, in the words of `specs/Broken`: 1. two rows, 2. the first row that passes a test, 3. the first pair,
+-- 4. the first dependency, 5. there is only one first, so the answer is it. Assumes nothing.
 use mathlib.Core.Path.{_≡_, refl, sym, ap, _∙_, subst}
 use mathlib.Core.Logic.{_⊎_, inl, inr, ⊎-elim}
-use mathlib.Core.Bool.{Bool, true, false, not, cond, _&&_, false≢true}
+use mathlib.Core.Bool.{Bool, true, false, not, _&&_, false≢true}
 use mathlib.Core.List.{List, [], _∷_}
 use mathlib.Core.Option.{Option, none, some}
-use Prim.Native.Nat.{ℕ, zero, suc, _+_, _≤_, _<_}
+use Prim.Native.Nat.{ℕ, zero, suc, _+_, _<_}
 use native.Mathlib.Omega.{arith}
 use lib.Dec.{eqb}
-use lib.ListN.{length, getD}
+use lib.ListN.{length}
 use borrow.Author.Tests.{eqb-true, eq-eqb, not-true}
 use Rattle.lists.proofs.Tests.{and-left, and-right, below-or-past}
 use Rattle.theory.specs.Query.{Row, constant, column, mapRow, sameEntry}
-use Rattle.theory.specs.Database.{Database, Dependency, Agree, Obeys}
+use Rattle.theory.specs.Database.{Database, Dependency, Agree}
 use Rattle.theory.specs.Chase.{orElse, mapFound, firstPassing, firstPair, firstFound, agree, breaks}
-use Rattle.words.specs.declared.Violation.{Violation}
 use Rattle.words.specs.declared.Violation.the-variants as violation
 use Rattle.words.specs.Testing.{numberedFrom, breaksRows, breaksWith, firstPairFrom, firstBrokenFrom}
 use Rattle.words.specs.Broken.{violationOf}
@@ -75,7 +74,8 @@ unfolding firstPassing numberedFrom
 first-row test n [] found e = absurd (let z : _≡_ {A = ℕ} 0 1 = cc in omega arith)
 first-row test n (t ∷ D) found e = go (test t) refl (first-row test (suc n) D found)
   where
-    go : (b : Bool) → test t ≡ b → (firstPassing (λ b. test (b .1)) (numberedFrom (suc n) D) ≡ some found → FirstRow test D (suc n) found) → FirstRow test (t ∷ D) n found
+    go : (b : Bool) → test t ≡ b → (firstPassing (λ b. test (b .1)) (numberedFrom (suc n) D) ≡ some found → FirstRow test D (suc n) found) → FirstRow test
+        (t ∷ D) n found
     go true h later =
         let here : some (n, t) ≡ some found = sym (rw h) ∙ e in
         let number : n ≡ found .0 = cc in
@@ -89,13 +89,15 @@ first-row test n (t ∷ D) found e = go (test t) refl (first-row test (suc n) D 
         earlier rest (suc b) l = rest .before b (omega arith)
 
 -- Where none is found, none passes
-no-row : (test : Row ℕ → Bool) (n : ℕ) (D : Database) → firstPassing (λ b. test (b .1)) (numberedFrom n D) ≡ none → (b : ℕ) → b < length D → test (nthRow D b) ≡ false
+no-row : (test : Row ℕ → Bool) (n : ℕ) (D : Database) → firstPassing (λ b. test (b .1)) (numberedFrom n D) ≡ none → (b : ℕ) → b < length D → test (nthRow D b)
+    ≡ false
 unfolding firstPassing numberedFrom
 no-row test n [] e b l = absurd (omega arith)
 no-row test n (t ∷ D) e b l = go (test t) refl b l (no-row test (suc n) D)
   where
     go : (x : Bool) → test t ≡ x → (b : ℕ) → b < suc (length D)
-        → (firstPassing (λ b. test (b .1)) (numberedFrom (suc n) D) ≡ none → (b : ℕ) → b < length D → test (nthRow D b) ≡ false) → test (nthRow (t ∷ D) b) ≡ false
+        → (firstPassing (λ b. test (b .1)) (numberedFrom (suc n) D) ≡ none → (b : ℕ) → b < length D → test (nthRow D b) ≡ false) → test (nthRow (t ∷ D) b)
+        ≡ false
     go true h b l later = absurd (let z : some (n, t) ≡ none = sym (rw h) ∙ e in let y : _≡_ {A = ℕ} 0 1 = cc in omega arith)
     go false h zero l later = h
     go false h (suc b) l later = later (sym (rw h) ∙ e) b (omega arith)
@@ -241,7 +243,8 @@ one-dependency {k = k} {i} {j} {l} {a} {b} f g =
 module _ {ds : List Dependency} {D : Database} {k i j a b : ℕ} (f : FirstBroken ds D k i j) (g : FirstBroken ds D k a b) where
   one-first-row : i ≡ a
   one-first-row =
-      ⊎-elim (λ h. absurd (g .rows-before i j (inl h) (f .broken))) (λ h. ⊎-elim (λ m. absurd (f .rows-before a b (inl m) (g .broken))) (λ m. omega arith) (below-or-past a i))
+      ⊎-elim (λ h. absurd (g .rows-before i j (inl h) (f .broken)))
+      (λ h. ⊎-elim (λ m. absurd (f .rows-before a b (inl m) (g .broken))) (λ m. omega arith) (below-or-past a i))
       (below-or-past i a)
 
   one-second-row : j ≡ b
@@ -250,7 +253,8 @@ module _ {ds : List Dependency} {D : Database} {k i j a b : ℕ} (f : FirstBroke
       (λ h. ⊎-elim (λ m. absurd (f .rows-before a b (inr (sym one-first-row, m)) (g .broken))) (λ m. omega arith) (below-or-past b j)) (below-or-past j b)
 
 -- Where no dependency is found, no rows break one
-no-dependency : (k : ℕ) (ds : List Dependency) (D : Database) → firstBrokenFrom k ds D ≡ none → (l : ℕ) → l < length ds → firstPairFrom (nthDependency ds l) 0 D ≡ none
+no-dependency : (k : ℕ) (ds : List Dependency) (D : Database) → firstBrokenFrom k ds D ≡ none → (l : ℕ) → l < length ds → firstPairFrom (nthDependency ds l) 0 D
+    ≡ none
 unfolding firstBrokenFrom firstFound numberedFrom orElse mapFound
 no-dependency k [] D e l m = absurd (omega arith)
 no-dependency k (d ∷ ds) D e l m = go (firstPairFrom d 0 D) refl l m (no-dependency (suc k) ds D)
@@ -266,14 +270,16 @@ no-dependency k (d ∷ ds) D e l m = go (firstPairFrom d 0 D) refl l m (no-depen
 answer-first : (ds : List Dependency) (D : Database) (k i j : ℕ) → violationOf (firstBrokenFrom 0 ds D) ≡ violation.At k i j → FirstBroken ds D k i j
 answer-first ds D k i j e = go (firstBrokenFrom 0 ds D) refl e
   where
-    go : (o : Option ((ℕ × Dependency) × ((ℕ × Row ℕ) × (ℕ × Row ℕ)))) → firstBrokenFrom 0 ds D ≡ o → violationOf o ≡ violation.At k i j → FirstBroken ds D k i j
+    go : (o : Option ((ℕ × Dependency) × ((ℕ × Row ℕ) × (ℕ × Row ℕ)))) → firstBrokenFrom 0 ds D ≡ o → violationOf o ≡ violation.At k i j
+        → FirstBroken ds D k i j
     go none h v = absurd (let z : _≡_ {A = ℕ} 0 1 = cc in omega arith)
     go (some found) h v =
         let p : found .0 .0 ≡ k = cc in
         let q : found .1 .0 .0 ≡ i = cc in
         let r : found .1 .1 .0 ≡ j = cc in
         subst (λ (x : ℕ). FirstBroken ds D x i j) p
-        (subst (λ (x : ℕ). FirstBroken ds D (found .0 .0) x j) q (subst (λ (x : ℕ). FirstBroken ds D (found .0 .0) (found .1 .0 .0) x) r (found-first ds D found h)))
+        (subst (λ (x : ℕ). FirstBroken ds D (found .0 .0) x j) q
+        (subst (λ (x : ℕ). FirstBroken ds D (found .0 .0) (found .1 .0 .0) x) r (found-first ds D found h)))
 
 -- And the first is the answer
 first-answer : (ds : List Dependency) (D : Database) (k i j : ℕ) → FirstBroken ds D k i j → violationOf (firstBrokenFrom 0 ds D) ≡ violation.At k i j

@@ -1,20 +1,20 @@
 -- Two rows of words, column by column: the left set of a dependency is taken from its mask bit by bit. Assumes nothing.
-use mathlib.Core.Path.{_≡_, refl, ap, sym, _∙_}
-use mathlib.Core.Bool.{Bool, true, false, not, cond, _&&_}
+use mathlib.Core.Path.{_≡_, refl, ap, _∙_}
+use mathlib.Core.Bool.{Bool, true, false, not, _&&_}
 use mathlib.Core.List.{List, [], _∷_}
 use Prim.Native.Nat.{ℕ, zero, suc, _+_, _-_, _/_, _%_, _^_, _≤_, _<_}
 use native.Mathlib.Nat.{div-lt-iff-lt-mul, pow-suc}
 use native.Mathlib.Omega.{arith}
 use lib.Dec.{eqb}
 use borrow.Author.Tests.{eq-eqb, ne-eqb}
-use lib.ListN.{length, take, drop, getD, List·getD-map}
+use lib.ListN.{take, drop, getD, List·getD-map}
 use lib.Seq.{getD-take, getD-drop}
-use Rattle.theory.specs.Query.{Row, Entry, constant, column, mapRow, sameEntry}
+use Rattle.theory.specs.Query.{constant, column, mapRow, sameEntry}
 use Rattle.theory.specs.Chase.{agree, breaks}
 use Rattle.query.specs.View.{columnsFrom, columnsOf, dependencyOf}
 use Rattle.query.specs.declared.Dependency.{Dependency}
-use Rattle.words.specs.Words.{spanAt}
-use Rattle.words.specs.Testing.{agreeRows, breaksRows}
+use Rattle.words.specs.internal.Rows.{spanAt, agreeRows}
+use Rattle.words.specs.Testing.{breaksRows}
 
 -- ---- the columns of a mask
 
@@ -78,7 +78,8 @@ module _ (width : ℕ) (words : List ℕ) (a b : ℕ) where
       let f : c + 1 ≡ suc c = omega arith in
       rw (e, columns-clear c (width - (c + 1)) mask clear, f)
 
-  pub agree-same : (c mask : ℕ) → c < width → mask % 2 ≡ 1 → getD words (a + 1 + c) 0 ≡ getD words (b + 1 + c) 0 → agreeFrom c mask ≡ agreeFrom (c + 1) (mask / 2)
+  pub agree-same : (c mask : ℕ) → c < width → mask % 2 ≡ 1 → getD words (a + 1 + c) 0 ≡ getD words (b + 1 + c) 0 → agreeFrom c mask ≡ agreeFrom (c + 1)
+      (mask / 2)
   unfolding agreeFrom agree
   agree-same c mask h bit same =
       let e : width - c ≡ suc (width - (c + 1)) = omega arith in
@@ -98,6 +99,7 @@ module _ (width : ℕ) (words : List ℕ) (a b : ℕ) where
   -- two rows of the dependency's relation break it when they agree on the left and differ on the right
   pub breaks-spans : (d : Dependency) → getD words a 0 ≡ d .relation → getD words b 0 ≡ d .relation → d .right < width
       → breaksRows (dependencyOf d) (spanAt width words a) (spanAt width words b)
-      ≡ agreeRows (dependencyOf d) (spanAt width words a) (spanAt width words b) && not (eqb (getD words (a + 1 + d .right) 0) (getD words (b + 1 + d .right) 0))
+      ≡ agreeRows (dependencyOf d) (spanAt width words a) (spanAt width words b) && not
+      (eqb (getD words (a + 1 + d .right) 0) (getD words (b + 1 + d .right) 0))
   unfolding breaks
   breaks-spans d ra rb right = rw (eq-eqb (getD words a 0) (d .relation) ra, eq-eqb (getD words b 0) (d .relation) rb, same-column (d .right) right)

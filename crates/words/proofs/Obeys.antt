@@ -1,14 +1,14 @@
 -- A test finds no broken dependency exactly when the database obeys the dependencies, as the theory defines it. Assumes nothing.
 use mathlib.Core.Path.{_≡_, refl, ap, sym, subst, _∙_}
-use mathlib.Core.Bool.{Bool, true, false, not, cond, _&&_, false≢true}
+use mathlib.Core.Bool.{Bool, true, false, false≢true}
 use mathlib.Core.List.{List, [], _∷_, List·Memᴰ·head, List·Memᴰ·tail, List·Memᴰ·not-nil}
 use mathlib.Core.Option.{Option, none, some}
 use Prim.Native.Nat.{ℕ, suc}
 use native.Mathlib.Omega.{arith}
 use lib.Dec.{eqb}
-use borrow.Author.Tests.{eqb-true, eqb-false, eq-eqb}
-use lib.ListN.{getD, List·getD-map}
-use Rattle.theory.specs.Query.{Row, Entry, constant, column, mapRow, sameEntry, _∈_}
+use borrow.Author.Tests.{eqb-true, eq-eqb}
+use lib.ListN.{List·getD-map}
+use Rattle.theory.specs.Query.{Row, constant, column, mapRow, sameEntry, _∈_}
 use Rattle.theory.specs.Database.{Database, Dependency, Agree, ObeysOne, Obeys}
 use Rattle.theory.specs.Chase.{orElse, mapFound, firstPassing, firstPair, firstFound, agree, breaks}
 use Rattle.words.specs.Testing.{numberedFrom, breaksRows, breaksWith, firstPairFrom, firstBrokenFrom}
@@ -17,7 +17,8 @@ use Rattle.lists.proofs.Tests.{and-left, and-right}
 -- ---- two rows
 
 -- two rows of constants have the same entry in a column when the rows have the same number there
-pub same-constants : (r s : Row ℕ) (c : ℕ) → sameEntry (column (constant 0) (mapRow constant r) c) (column (constant 0) (mapRow constant s) c) ≡ eqb (column 0 r c) (column 0 s c)
+pub same-constants : (r s : Row ℕ) (c : ℕ) → sameEntry (column (constant 0) (mapRow constant r) c) (column (constant 0) (mapRow constant s) c) ≡ eqb
+    (column 0 r c) (column 0 s c)
 unfolding sameEntry
 same-constants r s c = rw (List·getD-map constant (r .values) c 0, List·getD-map constant (s .values) c 0)
 
@@ -35,7 +36,8 @@ agree-all (c ∷ cs) r s h b (List·Memᴰ·head e) =
     (sameEntry (column (constant 0) (mapRow constant r) c) (column (constant 0) (mapRow constant s) c)) (agree cs (mapRow constant r) (mapRow constant s)) h in
     subst (λ (x : ℕ). column 0 r x ≡ column 0 s x) (sym e) (eqb-true (column 0 r c) (column 0 s c) first)
 agree-all (c ∷ cs) r s h b (List·Memᴰ·tail m) =
-    agree-all cs r s (and-right (sameEntry (column (constant 0) (mapRow constant r) c) (column (constant 0) (mapRow constant s) c)) (agree cs (mapRow constant r) (mapRow constant s)) h) b m
+    agree-all cs r s (and-right (sameEntry (column (constant 0) (mapRow constant r) c) (column (constant 0) (mapRow constant s) c))
+    (agree cs (mapRow constant r) (mapRow constant s)) h) b m
 
 -- rows that do not break a dependency keep it
 pub breaks-kept : (d : Dependency) (r s : Row ℕ) → breaksRows d r s ≡ false → r .relation ≡ d .relation → s .relation ≡ d .relation → Agree 0 (d .left) r s
@@ -54,9 +56,11 @@ breaks-kept d r s h p q a = go (eqb (column 0 r (d .right)) (column 0 s (d .righ
 pub kept-breaks : (d : Dependency) (r s : Row ℕ)
     → (r .relation ≡ d .relation → s .relation ≡ d .relation → Agree 0 (d .left) r s → column 0 r (d .right) ≡ column 0 s (d .right)) → breaksRows d r s ≡ false
 unfolding breaks
-kept-breaks d r s keep = go (eqb (r .relation) (d .relation)) refl (eqb (s .relation) (d .relation)) refl (agree (d .left) (mapRow constant r) (mapRow constant s)) refl
+kept-breaks d r s keep = go (eqb (r .relation) (d .relation)) refl (eqb (s .relation) (d .relation)) refl
+    (agree (d .left) (mapRow constant r) (mapRow constant s)) refl
   where
-    go : (x : Bool) → eqb (r .relation) (d .relation) ≡ x → (y : Bool) → eqb (s .relation) (d .relation) ≡ y → (z : Bool) → agree (d .left) (mapRow constant r) (mapRow constant s) ≡ z
+    go : (x : Bool) → eqb (r .relation) (d .relation) ≡ x → (y : Bool) → eqb (s .relation) (d .relation) ≡ y → (z : Bool) → agree (d .left) (mapRow constant r)
+        (mapRow constant s) ≡ z
         → breaksRows d r s ≡ false
     go false p y q z a = rw p
     go true p false q z a = rw (p, q)
@@ -67,18 +71,21 @@ kept-breaks d r s keep = go (eqb (r .relation) (d .relation)) refl (eqb (s .rela
           q,
           a,
           same-constants r s (d .right),
-          eq-eqb (column 0 r (d .right)) (column 0 s (d .right)) (keep (eqb-true (r .relation) (d .relation) p) (eqb-true (s .relation) (d .relation) q) (agree-all (d .left) r s a)),
+          eq-eqb (column 0 r (d .right)) (column 0 s (d .right))
+          (keep (eqb-true (r .relation) (d .relation) p) (eqb-true (s .relation) (d .relation) q) (agree-all (d .left) r s a)),
         )
 
 -- ---- all rows
 
 -- nothing passes: each row fails
-none-passes : (test : (ℕ × Row ℕ) → Bool) (n : ℕ) (D : Database) → ((m : ℕ) (s : Row ℕ) → s ∈ D → test (m, s) ≡ false) → firstPassing test (numberedFrom n D) ≡ none
+none-passes : (test : (ℕ × Row ℕ) → Bool) (n : ℕ) (D : Database) → ((m : ℕ) (s : Row ℕ) → s ∈ D → test (m, s) ≡ false) → firstPassing test (numberedFrom n D)
+    ≡ none
 unfolding firstPassing numberedFrom
 none-passes test n [] h = refl
 none-passes test n (s ∷ D) h = rw (h n s (List·Memᴰ·head refl)) (none-passes test (suc n) D (λ m u k. h m u (List·Memᴰ·tail k)))
 
-each-fails : (d : Dependency) (r : Row ℕ) (n : ℕ) (D : Database) → firstPassing (breaksWith d r) (numberedFrom n D) ≡ none → (s : Row ℕ) → s ∈ D → breaksRows d r s ≡ false
+each-fails : (d : Dependency) (r : Row ℕ) (n : ℕ) (D : Database) → firstPassing (breaksWith d r) (numberedFrom n D) ≡ none → (s : Row ℕ) → s ∈ D
+    → breaksRows d r s ≡ false
 unfolding firstPassing numberedFrom
 each-fails d r n [] h s m = absurd (List·Memᴰ·not-nil m)
 each-fails d r n (u ∷ D) h s m = go (λ i k. each-fails d r (suc n) D i s k) (breaksRows d r u) refl m

@@ -1,25 +1,24 @@
 -- The searches of a test, from one row of the words to the next: what is found from a row on is found there or after it. Assumes nothing.
 use mathlib.Core.Path.{_≡_, refl, ap, ap₂, sym, _∙_}
 use mathlib.Core.Bool.{Bool, true, false, and-false}
-use mathlib.Core.List.{List, [], _∷_, map}
+use mathlib.Core.List.{List, [], _∷_}
 use mathlib.Core.Option.{Option, none, some}
-use Prim.Native.Nat.{ℕ, zero, suc, _+_, _-_, _≤_, _<_}
+use Prim.Native.Nat.{ℕ, suc, _+_, _≤_, _<_}
 use native.Mathlib.Numerals.{add-one}
 use native.Mathlib.Omega.{arith}
 use lib.Dec.{eqb}
-use borrow.Author.Tests.{eq-eqb, ne-eqb}
+use borrow.Author.Tests.{ne-eqb}
 use lib.ListN.{length, take, drop, getD, drop-of-length-le}
 use lib.Seq.{length-take-le, drop-cons, getD-take}
 use Rattle.theory.specs.Query.{Row}
 use Rattle.theory.specs.Database.{Database, Dependency}
 use Rattle.theory.specs.Chase.{orElse, mapFound, firstPassing, firstPair, firstFound, breaks}
-use Rattle.words.specs.Words.{rowsFrom, rowsOf, rowAt, Next}
-use Rattle.words.specs.Testing.{numberedFrom, breaksRows, breaksWith, rowsAt, firstPairFrom, firstBrokenFrom}
+use Rattle.words.specs.Words.{rowsFrom, rowsOf}
+use Rattle.words.specs.internal.Rows.{rowAt, Next, rowsAt}
+use Rattle.words.specs.Testing.{numberedFrom, breaksRows, breaksWith, firstPairFrom, firstBrokenFrom}
 use Rattle.words.specs.Broken.{violationOf}
 use Rattle.words.specs.internal.Found.{partnerOf, pairOf}
-use Rattle.words.specs.declared.Partner.{Partner}
 use Rattle.words.specs.declared.Partner.the-variants as partner
-use Rattle.words.specs.declared.Pair.{Pair}
 use Rattle.words.specs.declared.Pair.the-variants as pair
 use Rattle.words.specs.declared.Violation.{Violation}
 use Rattle.words.specs.declared.Violation.the-variants as violation
@@ -82,7 +81,8 @@ module _ (schema words : List ℕ) where
       → partner.At j ≡ partnerOf (firstPassing (breaksWith d (rowAt schema words at)) (rowsAt schema words after (n + 1)))
       → pairOf (firstPairFrom d n (rowsOf schema (drop at words))) ≡ pair.At n j
   unfolding orElse mapFound
-  pair-found d at after n j next h = ap pairOf (pairs-cons d at after n next) ∙ go (firstPassing (breaksWith d (rowAt schema words at)) (rowsAt schema words after (n + 1))) h
+  pair-found d at after n j next h = ap pairOf (pairs-cons d at after n next) ∙ go
+      (firstPassing (breaksWith d (rowAt schema words at)) (rowsAt schema words after (n + 1))) h
     where
       go : (o : Option (ℕ × Row ℕ)) → partner.At j ≡ partnerOf o
           → pairOf (orElse (mapFound (λ y. ((n, rowAt schema words at), y)) o) (firstPairFrom d (n + 1) (rowsOf schema (drop after words)))) ≡ pair.At n j
@@ -106,7 +106,8 @@ module _ (schema words : List ℕ) where
       → firstPairFrom d n (rowsOf schema (drop at words)) ≡ firstPairFrom d (n + 1) (rowsOf schema (drop after words))
   pair-other d at after n next h =
       pair-later d at after n next
-      (sym (ap partnerOf (passing-none (breaksWith d (rowAt schema words at)) (rowsAt schema words after (n + 1)) (λ x. breaks-first d (rowAt schema words at) (x .1) h))))
+      (sym (ap partnerOf (passing-none (breaksWith d (rowAt schema words at)) (rowsAt schema words after (n + 1))
+      (λ x. breaks-first d (rowAt schema words at) (x .1) h))))
 
   pub pair-end : (d : Dependency) (at n : ℕ) → length words ≤ at → firstPairFrom d n (rowsOf schema (drop at words)) ≡ none
   unfolding firstPair

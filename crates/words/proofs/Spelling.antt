@@ -2,7 +2,7 @@
 -- First how reading goes on after a row, then the two directions. Assumes nothing.
 use mathlib.Core.Path.{_≡_, refl, ap, ap₂, sym, subst, _∙_}
 use mathlib.Core.Bool.{Bool, true, false, _&&_, and-false, false≢true}
-use mathlib.Core.List.{List, [], _∷_, _++_, List·Memᴰ, List·Memᴰ·head, List·Memᴰ·tail, List·Memᴰ·not-nil}
+use mathlib.Core.List.{List, [], _∷_, _++_, List·Memᴰ·head, List·Memᴰ·tail, List·Memᴰ·not-nil}
 use Prim.Native.Nat.{ℕ, zero, suc, _+_, _-_, _≤_, _<_}
 use native.Mathlib.Omega.{arith}
 use lib.Dec.{ltb}
@@ -12,7 +12,8 @@ use lib.Seq.{length-take-le, take-at, drop-at, drop-cons, drop-drop}
 use Rattle.lists.proofs.Tests.{and-left, and-right}
 use Rattle.theory.specs.Query.{Row, FitsSchema}
 use Rattle.theory.specs.Database.{Database, Sound}
-use Rattle.words.specs.Words.{wordsOf, Spells, rowsFrom, spellsRowsFrom, rowsOf, spellsRows, rowAt, Next}
+use Rattle.words.specs.Words.{wordsOf, Spells, rowsFrom, spellsRowsFrom, rowsOf, spellsRows}
+use Rattle.words.specs.internal.Rows.{rowAt, Next}
 
 -- ---- after the values that are due, reading begins again
 
@@ -81,7 +82,8 @@ spells-back schema (r ∷ D) sound =
     let long : width ≤ length (r .values ++ wordsOf D) = omega (arith, length-append (r .values) (wordsOf D), fits .1) in
     let past : drop width (r .values ++ wordsOf D) ≡ wordsOf D = drop-at (r .values) (wordsOf D) width (fits .1) in
     let front : take width (r .values ++ wordsOf D) ≡ r .values = take-at (r .values) (wordsOf D) width (fits .1) in (
-      rw (lt-ltb (r .relation) (length schema) (fits .0)) (spells-skip schema width (r .values ++ wordsOf D) long ∙ ap (λ (l : List ℕ). spellsRowsFrom schema 0 l) past ∙ more .0),
+      rw (lt-ltb (r .relation) (length schema) (fits .0))
+      (spells-skip schema width (r .values ++ wordsOf D) long ∙ ap (λ (l : List ℕ). spellsRowsFrom schema 0 l) past ∙ more .0),
       ap₂ {C = Database} (λ (v : List ℕ) (E : Database). record { relation = r .relation; values = v } ∷ E) front
           (rows-skip schema width (r .values ++ wordsOf D) long ∙ ap (λ (l : List ℕ). rowsFrom schema 0 l) past ∙ more .1),
     )
@@ -94,7 +96,8 @@ module _ (schema words : List ℕ) (at : ℕ) (inside : at < length words) where
   read-relation = drop-cons words at 0 inside
 
   -- what `spellsRows` judges there: the relation, and then the rest, where its values are due
-  pub spells-at : spellsRows schema (drop at words) ≡ ltb (getD words at 0) (length schema) && spellsRowsFrom schema (getD schema (getD words at 0) 0) (drop (suc at) words)
+  pub spells-at : spellsRows schema (drop at words) ≡ ltb (getD words at 0) (length schema) && spellsRowsFrom schema (getD schema (getD words at 0) 0)
+      (drop (suc at) words)
   unfolding spellsRowsFrom
   spells-at = ap (λ (l : List ℕ). spellsRowsFrom schema 0 l) read-relation
 
@@ -105,13 +108,15 @@ module _ (schema words : List ℕ) (at : ℕ) (inside : at < length words) where
       let z : length (drop (suc at) words) ≡ length words - suc at = length-drop (suc at) words in
       let due : getD schema (getD words at 0) 0 ≤ length (drop (suc at) words) = omega (arith, z, e) in
       let far : suc at + getD schema (getD words at 0) 0 ≡ at + 1 + width = omega (arith, e) in
-      spells-at ∙ ap (λ (b : Bool). b && spellsRowsFrom schema (getD schema (getD words at 0) 0) (drop (suc at) words)) (lt-ltb (getD words at 0) (length schema) known)
+      spells-at ∙ ap (λ (b : Bool). b && spellsRowsFrom schema (getD schema (getD words at 0) 0) (drop (suc at) words))
+          (lt-ltb (getD words at 0) (length schema) known)
       ∙ spells-skip schema (getD schema (getD words at 0) 0) (drop (suc at) words) due
       ∙ ap (λ (l : List ℕ). spellsRowsFrom schema 0 l) (drop-drop (getD schema (getD words at 0) 0) (suc at) words ∙ ap (λ (n : ℕ). drop n words) far)
 
   -- an unknown relation, and a row that is cut short
   pub spells-unknown : length schema ≤ getD words at 0 → spellsRows schema (drop at words) ≡ false
-  spells-unknown h = spells-at ∙ ap (λ (b : Bool). b && spellsRowsFrom schema (getD schema (getD words at 0) 0) (drop (suc at) words)) (le-ltb (getD words at 0) (length schema) h)
+  spells-unknown h = spells-at ∙ ap (λ (b : Bool). b && spellsRowsFrom schema (getD schema (getD words at 0) 0) (drop (suc at) words))
+      (le-ltb (getD words at 0) (length schema) h)
 
   pub spells-cut : (width : ℕ) → width ≡ getD schema (getD words at 0) 0 → length words < at + 1 + width → spellsRows schema (drop at words) ≡ false
   spells-cut width e room =

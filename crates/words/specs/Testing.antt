@@ -4,20 +4,14 @@ use mathlib.Core.Bool.{Bool}
 use mathlib.Core.List.{List, [], _∷_}
 use mathlib.Core.Option.{Option}
 use Prim.Native.Nat.{ℕ, suc}
-use lib.ListN.{drop}
 use Rattle.theory.specs.Query.{Row, constant, mapRow}
 use Rattle.theory.specs.Database.{Database, Dependency}
-use Rattle.theory.specs.Chase.{firstPair, firstFound, agree, breaks}
-use Rattle.words.specs.Words.{rowsOf}
+use Rattle.theory.specs.Chase.{firstPair, firstFound, breaks}
 
 -- The elements of a list with their positions, the first at position n
 unfoldable pub numberedFrom : {A : Type 0} → ℕ → List A → List (ℕ × A)
 numberedFrom n [] = []
 numberedFrom n (x ∷ xs) = (n, x) ∷ numberedFrom (suc n) xs
-
--- Whether two rows of numbers agree on the left columns of a dependency: as rows of constants they do
-abbrev pub agreeRows : Dependency → Row ℕ → Row ℕ → Bool
-agreeRows d r s = agree (d .left) (mapRow constant r) (mapRow constant s)
 
 -- Whether two rows of numbers break a dependency: as rows of constants they do
 abbrev pub breaksRows : Dependency → Row ℕ → Row ℕ → Bool
@@ -26,10 +20,6 @@ breaksRows d r s = breaks d (mapRow constant r) (mapRow constant s)
 -- Whether a row, given with its position, breaks a dependency with the row r
 abbrev pub breaksWith : Dependency → Row ℕ → (ℕ × Row ℕ) → Bool
 breaksWith d r b = breaksRows d r (b .1)
-
--- The rows of the words from `at` on with their positions, the first of them at position n
-abbrev pub rowsAt : List ℕ → List ℕ → ℕ → ℕ → List (ℕ × Row ℕ)
-rowsAt schema words at n = numberedFrom n (rowsOf schema (drop at words))
 
 -- The first pair of rows that break a dependency, with their positions, the first row at position n
 abbrev pub firstPairFrom : Dependency → ℕ → Database → Option ((ℕ × Row ℕ) × (ℕ × Row ℕ))

@@ -3,10 +3,9 @@
 use mathlib.Core.Path.{_≡_}
 use mathlib.Core.Bool.{Bool, true, false, _&&_}
 use mathlib.Core.List.{List, [], _∷_, _++_}
-use Prim.Native.Nat.{ℕ, zero, suc, _+_, _≤_, _<_}
+use Prim.Native.Nat.{ℕ, zero, suc}
 use lib.Dec.{ltb}
-use lib.ListN.{length, take, drop, getD}
-use Rattle.theory.specs.Query.{Row}
+use lib.ListN.{length, take, getD}
 use Rattle.theory.specs.Database.{Database, Sound}
 
 -- The words of some rows, row by row
@@ -39,19 +38,3 @@ rowsOf schema words = rowsFrom schema 0 words
 -- Whether words spell rows: the opposite is refusal 9, a row of unknown relation or cut short
 abbrev pub spellsRows : List ℕ → List ℕ → Bool
 spellsRows schema words = spellsRowsFrom schema 0 words
-
--- The row of the given width that begins at a word
-abbrev pub spanAt : ℕ → List ℕ → ℕ → Row ℕ
-spanAt width words at = record { relation = getD words at 0; values = take width (drop (suc at) words) }
-
--- The row that begins at a word
-abbrev pub rowAt : List ℕ → List ℕ → ℕ → Row ℕ
-rowAt schema words at = spanAt (getD schema (getD words at 0) 0) words at
-
--- The row at `at` ends before `after`, and the rows go on there
-pub record Next (schema words : List ℕ) (at after : ℕ) : Type 0 where
-  pub place : after ≡ at + 1 + getD schema (getD words at 0) 0
-  pub fits : after ≤ length words
-  pub known : getD words at 0 < length schema
-  pub read : rowsOf schema (drop at words) ≡ rowAt schema words at ∷ rowsOf schema (drop after words)
-  pub good : spellsRows schema (drop after words) ≡ true

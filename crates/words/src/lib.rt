@@ -7,8 +7,9 @@ ghost use Prim.Native.Nat.{_+_, _^_, _≤_, _<_};
 ghost use lib.ListN.{length, drop, getD};
 ghost use Rattle.query.specs.View.{dependencyOf};
 ghost use Rattle.theory.specs.Chase.{firstPassing};
-ghost use Rattle.words.specs.Words.{spellsRows, spanAt, rowAt, Next};
-ghost use Rattle.words.specs.Testing.{agreeRows, breaksRows, breaksWith, rowsAt};
+ghost use Rattle.words.specs.Words.{spellsRows};
+ghost use Rattle.words.specs.internal.Rows.{spanAt, rowAt, Next, agreeRows, rowsAt};
+ghost use Rattle.words.specs.Testing.{breaksRows, breaksWith};
 ghost use Rattle.words.specs.internal.Found.{partnerOf, Testable, From};
 
 // Whether the words spell rows: each row is of a known relation, and none is cut short.

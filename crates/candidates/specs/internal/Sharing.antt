@@ -3,7 +3,7 @@ use mathlib.Core.Path.{_≡_}
 use mathlib.Core.List.{List}
 use Prim.Native.Nat.{ℕ, _+_, _/_, _%_, _≤_, _<_}
 use lib.ListN.{getD}
-use Rattle.candidates.specs.Candidates.{Marks, candidatesOf, Together}
+use Rattle.candidates.specs.internal.Candidates.{Marks, candidatesOf, Together}
 
 -- The code `value` stands in the row at q
 abbrev pub Holds : List ℕ → ℕ → ℕ → Type 0

@@ -11,7 +11,8 @@ use Rattle.chase.proofs.agree.Statement.{statement}
 use Rattle.chase.proofs.agree.Tie as tie
 
 abbrev Inv-loop : tie.InvT-loop
-Inv-loop cells left i j rest₀ c₀ rest c = (c ≤ 8) × (agreeLeft 0 left (rowAt 0 cells i) (rowAt 0 cells j) ≡ agreeLeft c rest (rowAt 0 cells i) (rowAt 0 cells j))
+Inv-loop cells left i j rest₀ c₀ rest c = (c ≤ 8)
+    × (agreeLeft 0 left (rowAt 0 cells i) (rowAt 0 cells j) ≡ agreeLeft c rest (rowAt 0 cells i) (rowAt 0 cells j))
 
 abbrev μ-loop : tie.MeasureT-loop
 μ-loop cells left i j rest₀ c₀ rest c = 8 - c

@@ -64,7 +64,8 @@ returns-4 c =
     let a = at .before .before .before .before .before .before .before .before .args in
     breaks-by (a .q) (a .d) (a .i) (a .j) true (c .same-entry .result) (at .before .before .before .if1 .left) (at .before .if2 .left)
     (sym (not-false _ (c .before .before .before .if3 .left)) ∙ at .agree .ensures)
-    (wide-same (getD (a .q .relations) (a .i) 0) (getD (a .q .relations) (a .j) 0) (a .q .cells) (a .i) (a .j) (a .d .right) _ _ _ (search needs) (c .before .before .entry-at .ensures)
+    (wide-same (getD (a .q .relations) (a .i) 0) (getD (a .q .relations) (a .j) 0) (a .q .cells) (a .i) (a .j) (a .d .right) _ _ _ (search needs)
+    (c .before .before .entry-at .ensures)
     (c .before .entry-at2 .ensures)
     (c .same-entry .ensures))
 

@@ -5,7 +5,8 @@ use Prim.Native.Nat.{_≤_, _<_, _+_, _*_, _-_}
 use native.Mathlib.Omega.{arith}
 use lib.ListN.{getD}
 use borrow.Author.Needs.{needs}
-use Rattle.chase.proofs.Search.{brokenFrom, brokenFromRow, brokenFromPair, dependency-next, dependency-last, row-next, row-last, pair-next, pair-last, nothing-found, pair-found}
+use Rattle.chase.proofs.Search.{brokenFrom, brokenFromRow, brokenFromPair, dependency-next, dependency-last, row-next, row-last, pair-next}
+use Rattle.chase.proofs.Search.{pair-last, nothing-found, pair-found}
 use Rattle.lists.proofs.Tests.{and-both}
 use Rattle.chase.proofs.Good.{good-read}
 use Rattle.query.specs.Rule.{noDependency}
@@ -13,7 +14,8 @@ use Rattle.chase.proofs.find_step.Statement.{statement}
 use Rattle.chase.proofs.find_step.Tie as tie
 
 abbrev Inv-loop3 : tie.InvT-loop3
-Inv-loop3 q held dependencies size cells d dependency right i j₀ j = (i < j) × (j ≤ size) × (brokenFrom q dependencies held 0 ≡ brokenFromPair q dependencies held d i j)
+Inv-loop3 q held dependencies size cells d dependency right i j₀ j = (i < j) × (j ≤ size)
+    × (brokenFrom q dependencies held 0 ≡ brokenFromPair q dependencies held d i j)
 
 abbrev μ-loop3 : tie.MeasureT-loop3
 μ-loop3 q held dependencies size cells d dependency right i j₀ j = size - j
@@ -124,7 +126,8 @@ entry-at-requires c κs =
     let d = c .before .before .before .before .before .before .before .before .before .loop .d in
     let i = c .before .before .before .before .before .loop2 .i in
     let j = c .before .before .before .loop3 .j in
-    let fits : getD (a .t2) d noDependency .right < 8 = c .before .before .before .before .before .before .before .before .before .before .before .before .before .pre .right-fits d (search needs) in
+    let fits : getD (a .t2) d noDependency .right < 8 =
+    c .before .before .before .before .before .before .before .before .before .before .before .before .before .pre .right-fits d (search needs) in
     let inside : 8 * i + getD (a .t2) d noDependency .right < 96 = omega arith in
     inside
 
@@ -173,7 +176,8 @@ loop3-again c =
     let d = c .before .before .before .before .before .before .before .before .before .loop .d in
     let i = c .before .before .before .before .before .loop2 .i in
     let j = c .before .before .before .loop3 .j in
-    (search needs, search needs, c .before .before .before .loop3 .inv .2 ∙ pair-next (a .q) (a .t2) (a .held) d i j (search needs) (sym (c .before .breaks .ensures) ∙ c .if1 .left))
+    (search needs, search needs, c .before .before .before .loop3 .inv .2
+    ∙ pair-next (a .q) (a .t2) (a .held) d i j (search needs) (sym (c .before .breaks .ensures) ∙ c .if1 .left))
 
 add-i : tie.Need-add-i Inv-loop3 μ-loop3 Inv-loop2 μ-loop2 Inv-loop μ-loop Inv-search μ-search
 add-i c = search needs

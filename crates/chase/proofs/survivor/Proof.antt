@@ -40,14 +40,16 @@ returns-4 c =
     λ inHead p q.
     let a = c .before .before .before .before .before .before .a .given .1 in
     let b = c .before .before .before .b2 .given .1 in
-    resolve-first inHead _ _ _ _ a b (sym (c .before .survives .ensures inHead (variable-in-head inHead _ _ _ a p) (variable-in-head inHead _ _ _ b q)) ∙ c .if1 .taken)
+    resolve-first inHead _ _ _ _ a b (sym (c .before .survives .ensures inHead (variable-in-head inHead _ _ _ a p) (variable-in-head inHead _ _ _ b q))
+    ∙ c .if1 .taken)
 
 returns-5 : tie.Need-returns-5
 returns-5 c =
     λ inHead p q.
     let a = c .before .before .before .before .before .before .a .given .1 in
     let b = c .before .before .before .b2 .given .1 in
-    resolve-second inHead _ _ _ _ a b (sym (c .before .survives .ensures inHead (variable-in-head inHead _ _ _ a p) (variable-in-head inHead _ _ _ b q)) ∙ c .if1 .left)
+    resolve-second inHead _ _ _ _ a b (sym (c .before .survives .ensures inHead (variable-in-head inHead _ _ _ a p) (variable-in-head inHead _ _ _ b q))
+    ∙ c .if1 .left)
 
 pub survivor-spec : {M : Type 1} → statement M
 survivor-spec =

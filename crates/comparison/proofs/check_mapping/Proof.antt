@@ -70,8 +70,10 @@ returns-2 c =
     let q = c .before .before .before .before .before .before .before .before .args .q in
     let found = c .before .before .before .before .before .found .given in
     let is = sym (c .before .before .before .before .before .before .before .filled-pair .ensures) ∙ found .1 in
-    let drawn = draws given p q _ _ is (c .before .before .stored2 .result) (c .before .before .before .stored .result) _ _ (c .before .before .stored2 .ensures) (c .before .before .before .stored .ensures) refl refl in
-    checks-yes given p q (c .before .before .before .before .before .before .before .before .args .images) _ _ (drawn .accepted) (drawn .first-is) (drawn .second-is) (c .before .check .result) (c .before .check .ensures) (c .if1 .taken)
+    let drawn = draws given p q _ _ is (c .before .before .stored2 .result) (c .before .before .before .stored .result) _ _
+    (c .before .before .stored2 .ensures) (c .before .before .before .stored .ensures) refl refl in
+    checks-yes given p q (c .before .before .before .before .before .before .before .before .args .images) _ _ (drawn .accepted) (drawn .first-is)
+    (drawn .second-is) (c .before .check .result) (c .before .check .ensures) (c .if1 .taken)
 
 returns-3 : tie.Need-returns-3
 returns-3 c =
@@ -80,8 +82,10 @@ returns-3 c =
     let q = c .before .before .before .before .before .before .before .before .args .q in
     let found = c .before .before .before .before .before .found .given in
     let is = sym (c .before .before .before .before .before .before .before .filled-pair .ensures) ∙ found .1 in
-    let drawn = draws given p q _ _ is (c .before .before .stored2 .result) (c .before .before .before .stored .result) _ _ (c .before .before .stored2 .ensures) (c .before .before .before .stored .ensures) refl refl in
-    checks-no given p q (c .before .before .before .before .before .before .before .before .args .images) _ _ (drawn .accepted) (drawn .first-is) (drawn .second-is) (c .before .check .result) (c .before .check .ensures) (c .if1 .left)
+    let drawn = draws given p q _ _ is (c .before .before .stored2 .result) (c .before .before .before .stored .result) _ _
+    (c .before .before .stored2 .ensures) (c .before .before .before .stored .ensures) refl refl in
+    checks-no given p q (c .before .before .before .before .before .before .before .before .args .images) _ _ (drawn .accepted) (drawn .first-is)
+    (drawn .second-is) (c .before .check .result) (c .before .check .ensures) (c .if1 .left)
 
 pub check-mapping-spec : {M : Type 1} → statement M
 check-mapping-spec =

@@ -34,7 +34,8 @@ returns c =
     let told = c .before .before .enum-told .given in
     let number : c .before .refusal .result ≡ told .0 .0 = c .before .refusal .ensures ∙ ap numberIn (told .1) in
     subst (Compared given p q) (sym (c .only .ensures ∙ ap (λ (n : ℕ). bare (Refused n)) number))
-    (compared-refused given p q (told .0 .0) (paired-refused (pairRefusal given p q) p q (told .0 .0) (sym (c .before .before .before .before .filled-pair .ensures) ∙ told .1)))
+    (compared-refused given p q (told .0 .0) (paired-refused (pairRefusal given p q) p q (told .0 .0)
+    (sym (c .before .before .before .before .filled-pair .ensures) ∙ told .1)))
 
 stored-requires : tie.Need-stored-requires
 stored-requires c κs =
@@ -73,7 +74,8 @@ returns-2 c =
     let q = c .before .before .before .before .before .before .before .before .before .args .q in
     let found = c .before .before .before .before .before .before .found .given in
     let is = sym (c .before .before .before .before .before .before .before .before .filled-pair .ensures) ∙ found .1 in
-    c .compare-queries .ensures given p q (draws given p q _ _ is _ _ _ _ (c .before .before .before .stored .ensures) (c .before .before .stored2 .ensures) refl refl)
+    c .compare-queries .ensures given p q (draws given p q _ _ is _ _ _ _ (c .before .before .before .stored .ensures)
+    (c .before .before .stored2 .ensures) refl refl)
 
 pub compare-spec : {M : Type 1} → statement M
 compare-spec =

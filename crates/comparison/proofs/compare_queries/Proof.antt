@@ -43,7 +43,8 @@ returns-2 c =
     let find = c .before .before .before .find in
     λ r p q drawn.
     subst (λ (query : Query). Compared r p q (record { verdict = Contained; images = find .result .images; query = query })) (sym (c .no-query .ensures))
-    (answers-contained r p q (at .first) (at .second) (at .dependencies) (at .held) drawn (chase .result) (chase .ensures) (find .result) (find .ensures) (c .before .if2 .taken))
+    (answers-contained r p q (at .first) (at .second) (at .dependencies) (at .held) drawn (chase .result) (chase .ensures) (find .result) (find .ensures)
+    (c .before .if2 .taken))
 
 returns-3 : tie.Need-returns-3
 returns-3 c =

@@ -1,10 +1,9 @@
 -- `comparison::only` meets its contract. Assumes nothing.
-use mathlib.Core.Path.{_≡_, ap}
+use mathlib.Core.Path.{ap}
 use lib.ListN.{replicate}
 use borrow.Author.Needs.{needs}
 use Rattle.query.specs.declared.Query.{Query}
 use Rattle.query.specs.Rule.{noCell}
-use Rattle.comparison.specs.declared.Comparison.{Comparison}
 use Rattle.comparison.proofs.only.Statement.{statement}
 use Rattle.comparison.proofs.only.Tie as tie
 

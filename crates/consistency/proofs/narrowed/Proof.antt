@@ -12,7 +12,7 @@ use lib.ListN.{getD, set, length, length-set}
 use lib.Seq.{getD-set-same, getD-set-other}
 use lib.Bits.{bitAnd, bitOr}
 use Rattle.consistency.specs.internal.Steps.{Marked, RowAfter}
-use Rattle.consistency.specs.Solution.{together}
+use Rattle.consistency.specs.internal.Solution.{together}
 use Rattle.consistency.specs.declared.State.{State}
 use Rattle.consistency.proofs.narrowed.Statement.{statement}
 use Rattle.consistency.proofs.narrowed.Tie as tie
@@ -62,7 +62,8 @@ shl-next : tie.Need-shl-next Inv-loop μ-loop
 shl-next c = search needs
 
 loop-holds : tie.Need-loop-holds Inv-loop μ-loop
-loop-holds c = (search needs, search needs, search needs, refl, ap (bitOr (c .args .t3 .placed)) (shifted (c .args .r) (omega arith)), λ k l. absurd (omega arith))
+loop-holds c = (search needs, search needs, search needs, refl, ap (bitOr (c .args .t3 .placed)) (shifted (c .args .r) (omega arith)), λ k l. absurd
+    (omega arith))
 
 mul-old : tie.Need-mul-old Inv-loop μ-loop
 mul-old c = search needs
@@ -130,7 +131,8 @@ loop-again c =
       i .inv .4,
       below-more (RowAfter (s .table .now) (s .t3) (stored (i .next) (i .q) left (c .before .marked .result) (c .marked2 .result)) (s .r) (s .d)) (i .q)
           (λ k l. row-kept _ _ _ _ _ _ k _ _ _ (λ e. omega arith) (i .inv .5 k l))
-          (row-stored (s .table .now) (s .t3) (i .next) (s .r) (s .d) (i .q) (c .before .marked .result) (c .marked2 .result) (omega arith) (omega arith) (c .before .marked .ensures)),
+          (row-stored (s .table .now) (s .t3) (i .next) (s .r) (s .d) (i .q) (c .before .marked .result) (c .marked2 .result) (omega arith) (omega arith)
+          (c .before .marked .ensures)),
     )
 
 returns : tie.Need-returns Inv-loop μ-loop

@@ -1,7 +1,7 @@
 -- `search::settled` meets its contract. The loop's invariant: so far it is settled. Assumes nothing.
 use borrow.Author.Needs.{needs}
 use Prim.Native.Nat.{_-_, _≤_}
-use Rattle.consistency.specs.Consistent.{Settles}
+use Rattle.consistency.specs.internal.Consistent.{Settles}
 use Rattle.consistency.proofs.Steps.{settles-same, settles-more}
 use Rattle.consistency.proofs.settled.Statement.{statement}
 use Rattle.consistency.proofs.settled.Tie as tie

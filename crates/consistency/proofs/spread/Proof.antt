@@ -3,7 +3,7 @@ use borrow.Author.Needs.{needs}
 use mathlib.Core.Path.{subst⁻¹}
 use mathlib.Core.Logic.{⊎-elim}
 use Prim.Native.Nat.{_-_, _≤_}
-use Rattle.consistency.specs.Consistent.{Settles}
+use Rattle.consistency.specs.internal.Consistent.{Settles}
 use Rattle.consistency.proofs.Steps.{settles-same, settles-more}
 use Rattle.consistency.proofs.spread.Statement.{statement}
 use Rattle.consistency.proofs.spread.Tie as tie

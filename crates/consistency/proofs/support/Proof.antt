@@ -7,7 +7,7 @@ use native.Mathlib.Decide.{decLt}
 use native.Mathlib.Omega.{arith}
 use Prim.Native.Nat.{ℕ, _+_, _-_, _<_, _≤_}
 use lib.Bits.{bitOr}
-use Rattle.consistency.specs.Solution.{Bit, together}
+use Rattle.consistency.specs.internal.Solution.{Bit, together}
 use Rattle.consistency.specs.internal.Steps.{Supports}
 use Rattle.consistency.proofs.Masks.{bit-or-left, bit-or-right}
 use Rattle.consistency.proofs.support.Statement.{statement}

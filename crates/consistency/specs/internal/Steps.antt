@@ -5,7 +5,7 @@ use mathlib.Core.List.{List}
 use Prim.Native.Nat.{ℕ, _^_, _<_}
 use lib.ListN.{getD, set}
 use lib.Bits.{bitAnd, bitOr}
-use Rattle.consistency.specs.Solution.{Bit, together}
+use Rattle.consistency.specs.internal.Solution.{Bit, together}
 use Rattle.consistency.specs.declared.State.{State}
 
 -- n is the mask with row r too, unless the candidates `left` are the `old` ones

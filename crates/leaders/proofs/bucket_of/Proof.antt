@@ -7,7 +7,7 @@ use native.Mathlib.Nat.{mod-lt}
 use native.Mathlib.Omega.{arith}
 use lib.ListN.{getD}
 use Rattle.query.specs.View.{columnsOf}
-use Rattle.words.specs.Words.{spanAt}
+use Rattle.words.specs.internal.Rows.{spanAt}
 use Rattle.leaders.specs.internal.Hash.{hashFrom}
 use Rattle.leaders.proofs.Hashes.{hashAt, hash-start, hash-skip, hash-mix, hash-end}
 use borrow.Author.Needs.{needs}
@@ -61,8 +61,10 @@ loop-again c = let a = c .before .before .before .args in
       search needs,
       low,
       l .inv .2
-          ∙ ⊎-elim (λ w. hash-mix (a .width) W (a .a) (l .c) (l .left) (l .h) (search needs) (w .0 .taken) ∙ ap (hashAt (a .width) W (a .a) (l .c + 1) (l .left / 2)) (sym (w .2)))
-          (λ w. hash-skip (a .width) W (a .a) (l .c) (l .left) (l .h) (search needs) (w .0 .left) ∙ ap (hashAt (a .width) W (a .a) (l .c + 1) (l .left / 2)) (sym (w .1))) (c .if1 .came),
+          ∙ ⊎-elim (λ w. hash-mix (a .width) W (a .a) (l .c) (l .left) (l .h) (search needs) (w .0 .taken) ∙ ap
+          (hashAt (a .width) W (a .a) (l .c + 1) (l .left / 2)) (sym (w .2)))
+          (λ w. hash-skip (a .width) W (a .a) (l .c) (l .left) (l .h) (search needs) (w .0 .left) ∙ ap (hashAt (a .width) W (a .a) (l .c + 1) (l .left / 2))
+          (sym (w .1))) (c .if1 .came),
     )
 
 rem-result : tie.Need-rem-result Inv-loop μ-loop
@@ -74,7 +76,8 @@ returns c = let s = c .before .before in
     let l = c .before .loop in
     let W = a .words .now in
     let e : hashFrom (columnsOf (a .d .left)) 0 (spanAt (a .width) W (a .a)) ≡ l .h =
-    hash-start (a .width) W (a .a) (a .d .left) (s .pre .1 .0) (s .pre .1 .1) ∙ l .inv .2 ∙ hash-end (a .width) W (a .a) (l .c) (l .left) (l .h) (search needs) in
+    hash-start (a .width) W (a .a) (a .d .left) (s .pre .1 .0) (s .pre .1 .1) ∙ l .inv .2 ∙ hash-end (a .width) W (a .a) (l .c) (l .left) (l .h)
+    (search needs) in
     (sym (ap (λ (x : ℕ). x % a .buckets) e), mod-lt (l .h) {m = a .buckets} (s .pre .1 .2))
 
 pub bucket-of-spec : {M : Type 1} → statement M

@@ -8,7 +8,6 @@ use Rattle.leaders.proofs.Following.{Following, follow-start, link-le, 
 use borrow.Author.Needs.{needs}
 use Rattle.leaders.proofs.leader_of.Statement.{statement}
 use Rattle.leaders.proofs.leader_of.Tie as tie
-use Rattle.words.proofs.agrees_at.Reads as agrees-at-reads
 
 abbrev Inv-loop : tie.InvT-loop
 Inv-loop words width d at b heads links offsets count node₀ node = Following width words d heads links offsets count at b node
@@ -28,7 +27,8 @@ cast-node c = omega (arith, c .shared-slice-known5 .given (c .before .before .be
 loop-holds : tie.Need-loop-holds Inv-loop μ-loop
 loop-holds c = let s = c .before .before .before .before .before in
     let a = s .args in
-    follow-start (a .width) (a .words .now) (a .d) (a .heads .now) (a .links .now) (a .offsets .now) (a .count) (a .at) (a .b) (s .pre .1 .1) (s .pre .1 .0 .0) (s .pre .1 .0 .1)
+    follow-start (a .width) (a .words .now) (a .d) (a .heads .now) (a .links .now) (a .offsets .now) (a .count) (a .at) (a .b) (s .pre .1 .1) (s .pre .1 .0 .0)
+    (s .pre .1 .0 .1)
 
 sub-s : tie.Need-sub-s Inv-loop μ-loop
 sub-s c = search needs
@@ -70,7 +70,8 @@ loop-less c = let l = c .before .before .before .before .before .loop in
     let a = s .args in
     let low : l .node - 1 < a .count = omega (arith, l .inv .low) in
     let back : getD (a .links .now) (l .node - 1) 0 ≤ l .node - 1 =
-    link-le (a .width) (a .words .now) (a .d) (a .heads .now) (a .links .now) (a .offsets .now) (a .count) (a .at) (a .b) (s .pre .1 .1) (s .pre .1 .0 .0) (l .node - 1) low in
+    link-le (a .width) (a .words .now) (a .d) (a .heads .now) (a .links .now) (a .offsets .now) (a .count) (a .at) (a .b) (s .pre .1 .1) (s .pre .1 .0 .0)
+    (l .node - 1) low in
     omega arith
 
 loop-again : tie.Need-loop-again Inv-loop μ-loop
@@ -78,7 +79,8 @@ loop-again c = let l = c .before .before .before .before .before .loop in
     let s = c .before .before .before .before .before .before .before .before .before .before .before in
     let a = s .args in
     let is : l .node ≡ suc (l .node - 1) = omega arith in
-    let f = follow-next (a .width) (a .words .now) (a .d) (a .heads .now) (a .links .now) (a .offsets .now) (a .count) (a .at) (a .b) (s .pre .1 .1) (s .pre .1 .0 .0)
+    let f = follow-next (a .width) (a .words .now) (a .d) (a .heads .now) (a .links .now) (a .offsets .now) (a .count) (a .at) (a .b) (s .pre .1 .1)
+    (s .pre .1 .0 .0)
     (l .node) (l .node - 1) is (l .inv) (sym (c .before .before .agrees-at .ensures) ∙ c .before .if1 .left) in
     f
 

@@ -1,7 +1,7 @@
 -- `pass_row` passes one row of the dependency's relation.
 -- Assumes nothing.
 use mathlib.Core.Path.{_≡_, subst}
-use Prim.Native.Nat.{ℕ, _≤_, _-_, _+_, _<_}
+use Prim.Native.Nat.{ℕ, _≤_, _+_, _<_}
 use native.Mathlib.Omega.{arith}
 use lib.ListN.{length, getD}
 use Rattle.leaders.specs.internal.Table.{Led}
@@ -10,10 +10,6 @@ use Rattle.leaders.proofs.Passing.{member-room, walked-same, walked-dif
 use borrow.Author.Needs.{needs}
 use Rattle.leaders.proofs.pass_row.Statement.{statement}
 use Rattle.leaders.proofs.pass_row.Tie as tie
-use Rattle.chains.proofs.push.Reads as push-reads
-use Rattle.leaders.proofs.bucket_of.Reads as bucket-of-reads
-use Rattle.leaders.proofs.earlier.Reads as earlier-reads
-use Rattle.leaders.proofs.leader_of.Reads as leader-of-reads
 
 cast-index : tie.Need-cast-index
 cast-index c = search needs
@@ -53,7 +49,8 @@ cast-right : tie.Need-cast-right
 cast-right c = search needs
 
 mul-leader : tie.Need-mul-leader
-mul-leader c = let s = c .before .before .before .before .before .before .before .before .before .before .before .before .before .before .before .before .before .before in
+mul-leader c = let s = c .before .before .before .before .before .before .before .before .before .before .before .before .before .before .before .before
+    .before .before in
     let a = s .args in
     let T = s .pre .0 in
     let m = s .pre .1 .0 in
@@ -63,11 +60,13 @@ mul-leader c = let s = c .before .before .before .before .before .before .before
     let W : ℕ = getD S (a .d .relation) 0 in
     let f = c .before .before .found .given in
     let t : ℕ = f .0 .0 in
-    let led = subst (λ (x : Leader). Led W X (a .d) (a .offsets .now) (a .walk .count) (a .at) x) (f .1) (c .before .before .before .before .leader-of .ensures) in
+    let led = subst (λ (x : Leader). Led W X (a .d) (a .offsets .now) (a .walk .count) (a .at) x) (f .1)
+    (c .before .before .before .before .leader-of .ensures) in
     omega (arith, led .0, h .table .stored)
 
 slice-read-leader : tie.Need-slice-read-leader
-slice-read-leader c = let s = c .before .before .before .before .before .before .before .before .before .before .before .before .before .before .before .before .before .before .before in
+slice-read-leader c = let s = c .before .before .before .before .before .before .before .before .before .before .before .before .before .before .before
+    .before .before .before .before in
     let a = s .args in
     let T = s .pre .0 in
     let m = s .pre .1 .0 in
@@ -77,11 +76,13 @@ slice-read-leader c = let s = c .before .before .before .before .before .before 
     let W : ℕ = getD S (a .d .relation) 0 in
     let f = c .before .before .before .found .given in
     let t : ℕ = f .0 .0 in
-    let led = subst (λ (x : Leader). Led W X (a .d) (a .offsets .now) (a .walk .count) (a .at) x) (f .1) (c .before .before .before .before .before .leader-of .ensures) in
+    let led = subst (λ (x : Leader). Led W X (a .d) (a .offsets .now) (a .walk .count) (a .at) x) (f .1)
+    (c .before .before .before .before .before .leader-of .ensures) in
     omega (arith, led .0, h .table .stored)
 
 add-if1 : tie.Need-add-if1
-add-if1 c = let s = c .before .before .before .before .before .before .before .before .before .before .before .before .before .before .before .before .before .before .before in
+add-if1 c = let s = c .before .before .before .before .before .before .before .before .before .before .before .before .before .before .before .before .before
+    .before .before in
     let a = s .args in
     let T = s .pre .0 in
     let m = s .pre .1 .0 in
@@ -91,14 +92,16 @@ add-if1 c = let s = c .before .before .before .before .before .before .before .b
     let W : ℕ = getD S (a .d .relation) 0 in
     let f = c .before .before .before .found .given in
     let t : ℕ = f .0 .0 in
-    let led = subst (λ (x : Leader). Led W X (a .d) (a .offsets .now) (a .walk .count) (a .at) x) (f .1) (c .before .before .before .before .before .leader-of .ensures) in
+    let led = subst (λ (x : Leader). Led W X (a .d) (a .offsets .now) (a .walk .count) (a .at) x) (f .1)
+    (c .before .before .before .before .before .leader-of .ensures) in
     let room : getD (a .offsets .now) t 0 + 1 + W ≤ length X = h .table .fits t (led .0) in
     let below : a .d .right < W = T .right-fits in
     let room' : a .at + 1 + W ≤ length X = member-room S X (a .d) (a .at) (a .n) m in
     omega arith
 
 add-if1-2 : tie.Need-add-if1-2
-add-if1-2 c = let s = c .before .before .before .before .before .before .before .before .before .before .before .before .before .before .before .before .before .before .before in
+add-if1-2 c = let s = c .before .before .before .before .before .before .before .before .before .before .before .before .before .before .before .before
+    .before .before .before in
     let a = s .args in
     let T = s .pre .0 in
     let m = s .pre .1 .0 in
@@ -108,14 +111,16 @@ add-if1-2 c = let s = c .before .before .before .before .before .before .before 
     let W : ℕ = getD S (a .d .relation) 0 in
     let f = c .before .before .before .found .given in
     let t : ℕ = f .0 .0 in
-    let led = subst (λ (x : Leader). Led W X (a .d) (a .offsets .now) (a .walk .count) (a .at) x) (f .1) (c .before .before .before .before .before .leader-of .ensures) in
+    let led = subst (λ (x : Leader). Led W X (a .d) (a .offsets .now) (a .walk .count) (a .at) x) (f .1)
+    (c .before .before .before .before .before .leader-of .ensures) in
     let room : getD (a .offsets .now) t 0 + 1 + W ≤ length X = h .table .fits t (led .0) in
     let below : a .d .right < W = T .right-fits in
     let room' : a .at + 1 + W ≤ length X = member-room S X (a .d) (a .at) (a .n) m in
     omega arith
 
 mul-if1 : tie.Need-mul-if1
-mul-if1 c = let s = c .before .before .before .before .before .before .before .before .before .before .before .before .before .before .before .before .before .before .before in
+mul-if1 c = let s = c .before .before .before .before .before .before .before .before .before .before .before .before .before .before .before .before .before
+    .before .before in
     let a = s .args in
     let T = s .pre .0 in
     let m = s .pre .1 .0 in
@@ -125,7 +130,8 @@ mul-if1 c = let s = c .before .before .before .before .before .before .before .b
     let W : ℕ = getD S (a .d .relation) 0 in
     let f = c .before .before .before .found .given in
     let t : ℕ = f .0 .0 in
-    let led = subst (λ (x : Leader). Led W X (a .d) (a .offsets .now) (a .walk .count) (a .at) x) (f .1) (c .before .before .before .before .before .leader-of .ensures) in
+    let led = subst (λ (x : Leader). Led W X (a .d) (a .offsets .now) (a .walk .count) (a .at) x) (f .1)
+    (c .before .before .before .before .before .leader-of .ensures) in
     let room : getD (a .offsets .now) t 0 + 1 + W ≤ length X = h .table .fits t (led .0) in
     let below : a .d .right < W = T .right-fits in
     let room' : a .at + 1 + W ≤ length X = member-room S X (a .d) (a .at) (a .n) m in
@@ -133,7 +139,8 @@ mul-if1 c = let s = c .before .before .before .before .before .before .before .b
 
 shared-slice-read-if1 : tie.Need-shared-slice-read-if1
 shared-slice-read-if1 c =
-    let s = c .before .before .before .before .before .before .before .before .before .before .before .before .before .before .before .before .before .before .before .before in
+    let s = c .before .before .before .before .before .before .before .before .before .before .before .before .before .before .before .before .before .before
+    .before .before in
     let a = s .args in
     let T = s .pre .0 in
     let m = s .pre .1 .0 in
@@ -143,14 +150,16 @@ shared-slice-read-if1 c =
     let W : ℕ = getD S (a .d .relation) 0 in
     let f = c .before .before .before .before .found .given in
     let t : ℕ = f .0 .0 in
-    let led = subst (λ (x : Leader). Led W X (a .d) (a .offsets .now) (a .walk .count) (a .at) x) (f .1) (c .before .before .before .before .before .before .leader-of .ensures) in
+    let led = subst (λ (x : Leader). Led W X (a .d) (a .offsets .now) (a .walk .count) (a .at) x) (f .1)
+    (c .before .before .before .before .before .before .leader-of .ensures) in
     let room : getD (a .offsets .now) t 0 + 1 + W ≤ length X = h .table .fits t (led .0) in
     let below : a .d .right < W = T .right-fits in
     let room' : a .at + 1 + W ≤ length X = member-room S X (a .d) (a .at) (a .n) m in
     omega arith
 
 add-if1-3 : tie.Need-add-if1-3
-add-if1-3 c = let s = c .before .before .before .before .before .before .before .before .before .before .before .before .before .before .before .before .before .before .before .before in
+add-if1-3 c = let s = c .before .before .before .before .before .before .before .before .before .before .before .before .before .before .before .before
+    .before .before .before .before in
     let a = s .args in
     let T = s .pre .0 in
     let m = s .pre .1 .0 in
@@ -160,14 +169,16 @@ add-if1-3 c = let s = c .before .before .before .before .before .before .before 
     let W : ℕ = getD S (a .d .relation) 0 in
     let f = c .before .before .before .before .found .given in
     let t : ℕ = f .0 .0 in
-    let led = subst (λ (x : Leader). Led W X (a .d) (a .offsets .now) (a .walk .count) (a .at) x) (f .1) (c .before .before .before .before .before .before .leader-of .ensures) in
+    let led = subst (λ (x : Leader). Led W X (a .d) (a .offsets .now) (a .walk .count) (a .at) x) (f .1)
+    (c .before .before .before .before .before .before .leader-of .ensures) in
     let room : getD (a .offsets .now) t 0 + 1 + W ≤ length X = h .table .fits t (led .0) in
     let below : a .d .right < W = T .right-fits in
     let room' : a .at + 1 + W ≤ length X = member-room S X (a .d) (a .at) (a .n) m in
     omega arith
 
 add-if1-4 : tie.Need-add-if1-4
-add-if1-4 c = let s = c .before .before .before .before .before .before .before .before .before .before .before .before .before .before .before .before .before .before .before .before in
+add-if1-4 c = let s = c .before .before .before .before .before .before .before .before .before .before .before .before .before .before .before .before
+    .before .before .before .before in
     let a = s .args in
     let T = s .pre .0 in
     let m = s .pre .1 .0 in
@@ -177,7 +188,8 @@ add-if1-4 c = let s = c .before .before .before .before .before .before .before 
     let W : ℕ = getD S (a .d .relation) 0 in
     let f = c .before .before .before .before .found .given in
     let t : ℕ = f .0 .0 in
-    let led = subst (λ (x : Leader). Led W X (a .d) (a .offsets .now) (a .walk .count) (a .at) x) (f .1) (c .before .before .before .before .before .before .leader-of .ensures) in
+    let led = subst (λ (x : Leader). Led W X (a .d) (a .offsets .now) (a .walk .count) (a .at) x) (f .1)
+    (c .before .before .before .before .before .before .leader-of .ensures) in
     let room : getD (a .offsets .now) t 0 + 1 + W ≤ length X = h .table .fits t (led .0) in
     let below : a .d .right < W = T .right-fits in
     let room' : a .at + 1 + W ≤ length X = member-room S X (a .d) (a .at) (a .n) m in
@@ -188,7 +200,8 @@ mul-if1-2 c = search needs
 
 shared-slice-read-if1-2 : tie.Need-shared-slice-read-if1-2
 shared-slice-read-if1-2 c =
-    let s = c .before .before .before .before .before .before .before .before .before .before .before .before .before .before .before .before .before .before .before .before .before in
+    let s = c .before .before .before .before .before .before .before .before .before .before .before .before .before .before .before .before .before .before
+    .before .before .before in
     let a = s .args in
     let T = s .pre .0 in
     let m = s .pre .1 .0 in
@@ -198,7 +211,8 @@ shared-slice-read-if1-2 c =
     let W : ℕ = getD S (a .d .relation) 0 in
     let f = c .before .before .before .before .before .found .given in
     let t : ℕ = f .0 .0 in
-    let led = subst (λ (x : Leader). Led W X (a .d) (a .offsets .now) (a .walk .count) (a .at) x) (f .1) (c .before .before .before .before .before .before .before .leader-of .ensures) in
+    let led = subst (λ (x : Leader). Led W X (a .d) (a .offsets .now) (a .walk .count) (a .at) x) (f .1)
+    (c .before .before .before .before .before .before .before .leader-of .ensures) in
     let room : getD (a .offsets .now) t 0 + 1 + W ≤ length X = h .table .fits t (led .0) in
     let below : a .d .right < W = T .right-fits in
     let room' : a .at + 1 + W ≤ length X = member-room S X (a .d) (a .at) (a .n) m in
@@ -215,7 +229,8 @@ same-length-3 c = search needs
 
 returns : tie.Need-returns
 returns c =
-    let s = c .before .before .before .before .before .before .before .before .before .before .before .before .before .before .before .before .before .before .before .before .before .before in
+    let s = c .before .before .before .before .before .before .before .before .before .before .before .before .before .before .before .before .before .before
+    .before .before .before .before in
     let a = s .args in
     let T = s .pre .0 in
     let m = s .pre .1 .0 in
@@ -227,11 +242,13 @@ returns c =
     let t : ℕ = f .0 .0 in
     let led = subst (λ (x : Leader). Led W X (a .d) (a .offsets .now) (a .walk .count) (a .at) x) (f .1)
     (c .before .before .before .before .before .before .before .before .leader-of .ensures) in
-    walked-same S X (a .d) (a .n) (a .walk) (a .heads .now) (a .links .now) (a .offsets .now) (a .numbers .now) h (a .at) m t (led .0) (T .right-fits) (led .1) (c .if1 .taken)
+    walked-same S X (a .d) (a .n) (a .walk) (a .heads .now) (a .links .now) (a .offsets .now) (a .numbers .now) h (a .at) m t (led .0) (T .right-fits) (led .1)
+    (c .if1 .taken)
 
 mul-t31 : tie.Need-mul-t31
 mul-t31 c =
-    let s = c .before .before .before .before .before .before .before .before .before .before .before .before .before .before .before .before .before .before .before .before .before .before in
+    let s = c .before .before .before .before .before .before .before .before .before .before .before .before .before .before .before .before .before .before
+    .before .before .before .before in
     let a = s .args in
     let T = s .pre .0 in
     let m = s .pre .1 .0 in
@@ -247,7 +264,8 @@ mul-t31 c =
 
 slice-read-t33 : tie.Need-slice-read-t33
 slice-read-t33 c =
-    let s = c .before .before .before .before .before .before .before .before .before .before .before .before .before .before .before .before .before .before .before .before .before .before .before in
+    let s = c .before .before .before .before .before .before .before .before .before .before .before .before .before .before .before .before .before .before
+    .before .before .before .before .before in
     let a = s .args in
     let T = s .pre .0 in
     let m = s .pre .1 .0 in
@@ -275,7 +293,8 @@ same-length-6 c = search needs
 
 returns-2 : tie.Need-returns-2
 returns-2 c =
-    let s = c .before .before .before .before .before .before .before .before .before .before .before .before .before .before .before .before .before .before .before .before .before .before .before .before in
+    let s = c .before .before .before .before .before .before .before .before .before .before .before .before .before .before .before .before .before .before
+    .before .before .before .before .before .before in
     let a = s .args in
     let T = s .pre .0 in
     let m = s .pre .1 .0 in
@@ -287,7 +306,8 @@ returns-2 c =
     let t : ℕ = f .0 .0 in
     let led = subst (λ (x : Leader). Led W X (a .d) (a .offsets .now) (a .walk .count) (a .at) x) (f .1)
     (c .before .before .before .before .before .before .before .before .before .before .leader-of .ensures) in
-    walked-differ S X (a .d) (a .n) (a .walk) (a .heads .now) (a .links .now) (a .offsets .now) (a .numbers .now) h (a .at) m t (led .0) (led .1) (c .earlier .result) (c .earlier .ensures)
+    walked-differ S X (a .d) (a .n) (a .walk) (a .heads .now) (a .links .now) (a .offsets .now) (a .numbers .now) h (a .at) m t (led .0) (led .1)
+    (c .earlier .result) (c .earlier .ensures)
 
 enum-told : tie.Need-enum-told
 enum-told c = search needs
@@ -305,7 +325,8 @@ same-length-9 : tie.Need-same-length-9
 same-length-9 c = search needs
 
 returns-3 : tie.Need-returns-3
-returns-3 c = let s = c .before .before .before .before .before .before .before .before .before .before .before .before .before .before .before .before .before .before in
+returns-3 c = let s = c .before .before .before .before .before .before .before .before .before .before .before .before .before .before .before .before
+    .before .before in
     let a = s .args in
     let T = s .pre .0 in
     let m = s .pre .1 .0 in
@@ -315,10 +336,12 @@ returns-3 c = let s = c .before .before .before .before .before .before .before 
     let W : ℕ = getD S (a .d .relation) 0 in
     let absent = subst (λ (x : Leader). Led W X (a .d) (a .offsets .now) (a .walk .count) (a .at) x) (c .before .before .enum-told .given .1)
     (c .before .before .before .before .leader-of .ensures) in
-    walked-full S X (a .d) (a .n) (a .walk) (a .heads .now) (a .links .now) (a .offsets .now) (a .numbers .now) h (a .at) m absent (c .earlier2 .result) (c .earlier2 .ensures)
+    walked-full S X (a .d) (a .n) (a .walk) (a .heads .now) (a .links .now) (a .offsets .now) (a .numbers .now) h (a .at) m absent (c .earlier2 .result)
+    (c .earlier2 .ensures)
 
 push-requires : tie.Need-push-requires
-push-requires c κs = let s = c .before .before .before .before .before .before .before .before .before .before .before .before .before .before .before .before .before .before .before in
+push-requires c κs = let s = c .before .before .before .before .before .before .before .before .before .before .before .before .before .before .before .before
+    .before .before .before in
     let a = s .args in
     let T = s .pre .0 in
     let m = s .pre .1 .0 in
@@ -334,7 +357,8 @@ push-requires c κs = let s = c .before .before .before .before .before .before 
 
 mul-offsets : tie.Need-mul-offsets
 mul-offsets c =
-    let s = c .before .before .before .before .before .before .before .before .before .before .before .before .before .before .before .before .before .before .before .before .before .before .before .before in
+    let s = c .before .before .before .before .before .before .before .before .before .before .before .before .before .before .before .before .before .before
+    .before .before .before .before .before .before in
     let a = s .args in
     let T = s .pre .0 in
     let m = s .pre .1 .0 in
@@ -349,7 +373,8 @@ mul-offsets c =
 
 slice-write-offsets : tie.Need-slice-write-offsets
 slice-write-offsets c =
-    let s = c .before .before .before .before .before .before .before .before .before .before .before .before .before .before .before .before .before .before .before .before .before .before .before .before in
+    let s = c .before .before .before .before .before .before .before .before .before .before .before .before .before .before .before .before .before .before
+    .before .before .before .before .before .before in
     let a = s .args in
     let T = s .pre .0 in
     let m = s .pre .1 .0 in
@@ -364,7 +389,8 @@ slice-write-offsets c =
 
 mul-numbers : tie.Need-mul-numbers
 mul-numbers c =
-    let s = c .before .before .before .before .before .before .before .before .before .before .before .before .before .before .before .before .before .before .before .before .before .before .before .before in
+    let s = c .before .before .before .before .before .before .before .before .before .before .before .before .before .before .before .before .before .before
+    .before .before .before .before .before .before in
     let a = s .args in
     let T = s .pre .0 in
     let m = s .pre .1 .0 in
@@ -379,7 +405,8 @@ mul-numbers c =
 
 slice-write-numbers : tie.Need-slice-write-numbers
 slice-write-numbers c =
-    let s = c .before .before .before .before .before .before .before .before .before .before .before .before .before .before .before .before .before .before .before .before .before .before .before .before in
+    let s = c .before .before .before .before .before .before .before .before .before .before .before .before .before .before .before .before .before .before
+    .before .before .before .before .before .before in
     let a = s .args in
     let T = s .pre .0 in
     let m = s .pre .1 .0 in
@@ -394,7 +421,8 @@ slice-write-numbers c =
 
 add-t24 : tie.Need-add-t24
 add-t24 c =
-    let s = c .before .before .before .before .before .before .before .before .before .before .before .before .before .before .before .before .before .before .before .before .before .before .before .before in
+    let s = c .before .before .before .before .before .before .before .before .before .before .before .before .before .before .before .before .before .before
+    .before .before .before .before .before .before in
     let a = s .args in
     let T = s .pre .0 in
     let m = s .pre .1 .0 in
@@ -421,7 +449,8 @@ same-length-13 c = search needs
 
 returns-4 : tie.Need-returns-4
 returns-4 c =
-    let s = c .before .before .before .before .before .before .before .before .before .before .before .before .before .before .before .before .before .before .before .before .before .before .before .before in
+    let s = c .before .before .before .before .before .before .before .before .before .before .before .before .before .before .before .before .before .before
+    .before .before .before .before .before .before in
     let a = s .args in
     let T = s .pre .0 in
     let m = s .pre .1 .0 in
@@ -438,8 +467,10 @@ returns-4 c =
     let room : a .walk .count < length (a .offsets .now) = omega arith in
     let u = c .before .before .before .before .push in
     walked-new S X (a .d) (a .n) (a .walk) (a .heads .now) (a .links .now) (a .offsets .now) (a .numbers .now) h (a .at) m absent
-    (c .before .before .before .before .before .before .before .before .before .before .before .before .before .before .bucket-of .result) (u .last .0) (u .last .1 .0) room
-    (c .before .before .before .before .before .before .before .before .before .before .before .before .before .before .bucket-of .ensures .0) (u .ensures .0 .0) (u .ensures .0 .1)
+    (c .before .before .before .before .before .before .before .before .before .before .before .before .before .before .bucket-of .result) (u .last .0)
+    (u .last .1 .0) room
+    (c .before .before .before .before .before .before .before .before .before .before .before .before .before .before .bucket-of .ensures .0)
+    (u .ensures .0 .0) (u .ensures .0 .1)
     (u .ensures .1)
 
 pub pass-row-spec : {M : Type 1} → statement M

@@ -10,9 +10,6 @@ use Rattle.leaders.proofs.Passing.{placed-start, placed-next, walked-st
 use borrow.Author.Needs.{needs}
 use Rattle.leaders.proofs.skip.Statement.{statement}
 use Rattle.leaders.proofs.skip.Tie as tie
-use Rattle.chains.proofs.clear.Reads as clear-reads
-use Rattle.leaders.proofs.pass_row.Reads as pass-row-reads
-use Rattle.words.proofs.next.Reads as next-reads
 
 abbrev Inv-loop : tie.InvT-loop
 Inv-loop schema words d heads₀ links₀ offsets₀ numbers₀ relation walk₀ at₀ n₀ heads links offsets numbers walk at n =
@@ -57,12 +54,14 @@ shared-slice-read-if1 c = search needs
 
 pass-row-requires : tie.Need-pass-row-requires Inv-loop μ-loop
 pass-row-requires c κs =
-    let s = c .before .before .before .before .before .before .before .before .before .before .before .before .before .before .before .before .before .before .before .before in
+    let s = c .before .before .before .before .before .before .before .before .before .before .before .before .before .before .before .before .before .before
+    .before .before in
     let a = s .args in
     let S = a .schema .now in
     let X = a .words .now in
     let l = c .before .before .before .before .before .before .before .before .loop in
-    (s .pre .0, (record { placed = l .inv .0; inside = c .before .before .before .before .before .before .before .loop-test .taken; relation = c .before .before .before .before .if1 .taken }, l .inv .1))
+    (s .pre .0, (record { placed = l .inv .0; inside = c .before .before .before .before .before .before .before .loop-test .taken; relation =
+    c .before .before .before .before .if1 .taken }, l .inv .1))
 
 add-n : tie.Need-add-n Inv-loop μ-loop
 add-n c = search needs
@@ -80,12 +79,14 @@ loop-again c = let s = c .before .before .before .before .before .before .before
     let i = c .if1 in (
       placed-next S X (a .d) (l .at) (c .before .before .next .result) (l .n) (l .inv .0) N,
       ⊎-elim
-          (λ w. walked-cast S X (a .d) (l .n + 1) (w .5 .result) (i .walk) (w .5 .last .1 .1 .1 .1 .1 .1 .0) (i .heads) (w .5 .last .1 .1 .1 .1 .1 .1 .1 .0) (i .links)
+          (λ w. walked-cast S X (a .d) (l .n + 1) (w .5 .result) (i .walk) (w .5 .last .1 .1 .1 .1 .1 .1 .0) (i .heads) (w .5 .last .1 .1 .1 .1 .1 .1 .1 .0)
+          (i .links)
           (w .5 .last .1 .1 .1 .1 .1 .1 .1 .1 .0) (i .offsets)
           (w .5 .last .1 .1 .1 .1 .1 .1 .1 .1 .1 .0) (i .numbers) (w .18) (w .14) (w .15) (w .16) (w .17) (w .5 .ensures))
           (λ w. walked-cast S X (a .d) (l .n + 1) (l .walk) (i .walk) (l .heads) (i .heads) (l .links) (i .links) (l .offsets) (i .offsets)
           (l .numbers) (i .numbers) (w .5) (w .1) (w .2) (w .3) (w .4)
-          (walked-other S X (a .d) (l .n) (l .walk) (l .heads) (l .links) (l .offsets) (l .numbers) (l .inv .1) (l .at) (c .before .before .next .result) (l .inv .0) N (w .0 .left)))
+          (walked-other S X (a .d) (l .n) (l .walk) (l .heads) (l .links) (l .offsets) (l .numbers) (l .inv .1) (l .at) (c .before .before .next .result)
+          (l .inv .0) N (w .0 .left)))
           (i .came),
       ⊎-elim (λ w. ap length (w .14) ∙ w .6 .given ∙ l .inv .2) (λ w. ap length (w .1) ∙ l .inv .2) (i .came),
       ⊎-elim (λ w. ap length (w .15) ∙ w .8 .given ∙ l .inv .3) (λ w. ap length (w .2) ∙ l .inv .3) (i .came),
@@ -111,7 +112,8 @@ returns c = let s = c .before .before .before .before .before .before .before .b
     let S = a .schema .now in
     let X = a .words .now in
     let l = c .before .before .loop in
-    (walked-end S X (a .d) (l .at) (l .n) (l .walk) (l .heads) (l .links) (l .offsets) (l .numbers) (l .inv .1) (l .inv .0) (c .before .loop-test .left), l .inv .1 .room)
+    (walked-end S X (a .d) (l .at) (l .n) (l .walk) (l .heads) (l .links) (l .offsets) (l .numbers) (l .inv .1) (l .inv .0) (c .before .loop-test .left),
+    l .inv .1 .room)
 
 pub skip-spec : {M : Type 1} → statement M
 skip-spec =

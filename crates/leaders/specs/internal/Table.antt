@@ -7,8 +7,7 @@ use lib.ListN.{length, getD}
 use Rattle.query.specs.View.{dependencyOf}
 use Rattle.query.specs.declared.Dependency.{Dependency}
 use Rattle.chains.specs.Chains.{Chained}
-use Rattle.words.specs.Words.{spanAt}
-use Rattle.words.specs.Testing.{agreeRows}
+use Rattle.words.specs.internal.Rows.{spanAt, agreeRows}
 use Rattle.leaders.specs.internal.Hash.{bucketOf}
 use Rattle.leaders.specs.declared.Leader.{Leader}
 use Rattle.leaders.specs.declared.Leader.the-variants as leader

@@ -131,7 +131,8 @@ returns-5 c =
     check-tells source target images sizes sizes' (c .rest-blank .result) (at10 .if1 .left) (
       (λ e.
           parts-good source target images sizes sizes' (storable-size source (at15 .pre .0)) (storable-size target (at15 .pre .1))
-          (at8 .flat .result) (at7 .flat2 .result) (at8 .flat .ensures) (at7 .flat2 .ensures) long some (at4 .carries .ensures .0 (not-false _ (c .before .before .before .if3 .left)))
+          (at8 .flat .result) (at7 .flat2 .result) (at8 .flat .ensures) (at7 .flat2 .ensures) long some
+          (at4 .carries .ensures .0 (not-false _ (c .before .before .before .if3 .left)))
           (c .before .before .all-land .ensures .0 (not-false _ (c .before .if4 .left))) (c .rest-blank .ensures .0 e)),
       (λ w.
           c .rest-blank .ensures .1

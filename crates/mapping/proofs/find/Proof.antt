@@ -11,8 +11,8 @@ use Rattle.query.specs.declared.Query.{Query}
 use Rattle.lists.proofs.Loops.{mapped-length}
 use native.Mathlib.Omega.{arith}
 use Rattle.mapping.specs.internal.Lines.{choiceOf}
-use Rattle.candidates.specs.Candidates.{Laid}
-use Rattle.mapping.specs.Mapped.{Finds}
+use Rattle.candidates.specs.internal.Candidates.{Laid}
+use Rattle.mapping.specs.internal.Mapped.{Finds}
 use Rattle.mapping.specs.internal.Lines.{entryAt}
 use Rattle.mapping.proofs.Wide.{chosen-small}
 use Rattle.mapping.proofs.Lines.{Sizes, all-within}
@@ -121,7 +121,8 @@ to-is c =
     line-code (at7 .args .target) (c .before .before .before .flat .result) (c .codes2 .result) (c .before .before .before .flat .ensures) (c .codes2 .ensures)
 
 -- The search is given few enough rows
-few-rows : (c : After-table) → c .before .before .before .before .before .before .before .before .before .before .before .before .before .before .before .args .source .size + 1 ≤ 13
+few-rows : (c : After-table) → c .before .before .before .before .before .before .before .before .before .before .before .before .before .before .before .args
+    .source .size + 1 ≤ 13
 few-rows c =
     let at15 = c .before .before .before .before .before .before .before .before .before .before .before .before .before .before .before in
     let few : at15 .args .source .size ≤ 12 = storable-size (at15 .args .source) (at15 .pre .0) in

@@ -10,10 +10,9 @@ use Rattle.theory.specs.Query as theory
 use Rattle.theory.specs.Answer.{valueOf}
 use Rattle.query.specs.declared.Cell.{Cell}
 use Rattle.query.specs.declared.Query.{Query}
-use Rattle.query.specs.View.{entryOf}
+use Rattle.query.specs.View.{entryOf, imagesOf}
 use Rattle.query.specs.Rule.{noCell}
-use Rattle.candidates.specs.Candidates.{rowStart, imageStart}
-use Rattle.mapping.specs.Mapped.{imagesOf}
+use Rattle.candidates.specs.internal.Candidates.{rowStart, imageStart}
 
 -- The cells of a query in one line: 96 of the rows, then 8 of the head
 abbrev pub cellAt : Query → ℕ → Cell

@@ -75,7 +75,8 @@ put-number-returns : (t : ℕ) → put-number-lts.Need-returns (
   put-number.Post,
 ) (put-number-at t) put-number.Post
 put-number-returns t c =
-    wrote-rest (one-left (c .before .before .before .before .before .before .pre .1) (c .before .before .before .before .if1 .taken)) (c .before .before .put-byte .ensures)
+    wrote-rest (one-left (c .before .before .before .before .before .before .pre .1) (c .before .before .before .before .if1 .taken))
+    (c .before .before .put-byte .ensures)
 
 put-number-put-number-requires : (t : ℕ) → put-number-lts.Need-put-number-requires (
   put-byte-reads.Asked,

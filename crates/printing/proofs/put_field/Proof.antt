@@ -7,7 +7,8 @@ use Rattle.printing.proofs.put_field.Statement.{statement}
 use Rattle.printing.proofs.put_field.Tie as tie
 
 put-bytes-requires : tie.Need-put-bytes-requires
-put-bytes-requires c κs = part-fits (started (c .before .before .before .pre)) (c .before .before .before .args .word .now) (decimal (c .before .before .before .args .n)) refl
+put-bytes-requires c κs = part-fits (started (c .before .before .before .pre)) (c .before .before .before .args .word .now)
+    (decimal (c .before .before .before .args .n)) refl
 
 put-number-requires : tie.Need-put-number-requires
 put-number-requires c κs =

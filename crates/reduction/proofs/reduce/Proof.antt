@@ -22,7 +22,8 @@ refused-requires c κs = search needs
 returns : tie.Need-returns
 returns c =
     let a = c .before .before .before .args in
-    reduce-broken (a .given) (a .source) (a .target) (c .refused .result) (sym (c .before .before .is-good .ensures) ∙ not-true _ (c .before .if1 .taken)) (c .refused .ensures)
+    reduce-broken (a .given) (a .source) (a .target) (c .refused .result) (sym (c .before .before .is-good .ensures) ∙ not-true _ (c .before .if1 .taken))
+    (c .refused .ensures)
 
 -- what the tests passed so far tell
 good : (c : tie.Else1) → goodRecord (c .before .before .args .given) ≡ true
@@ -33,11 +34,13 @@ low c =
     let a = c .before .before .before .before .before .args in
     place-at (a .target) (c .enum-told .given .0 .0) (sym (c .before .before .place-at .ensures) ∙ c .enum-told .given .1) .1
 
-at-source : (c : tie.After-found) → filledPlace (c .before .before .before .before .before .before .before .before .args .given) (c .before .before .before .before .before .before .before .before .args .source) ≡ lookup.At (c .found .given .0 .0)
+at-source : (c : tie.After-found) → filledPlace (c .before .before .before .before .before .before .before .before .args .given)
+    (c .before .before .before .before .before .before .before .before .args .source) ≡ lookup.At (c .found .given .0 .0)
 at-source c = sym (c .before .before .filled-place .ensures) ∙ c .found .given .1
 
 at-target : (c : tie.After-found2)
-    → vacantPlace (c .before .before .before .before .before .before .before .before .before .before .before .before .args .given) (c .before .before .before .before .before .before .before .before .before .before .before .before .args .target) ≡ lookup.At (c .found2 .given .0 .0)
+    → vacantPlace (c .before .before .before .before .before .before .before .before .before .before .before .before .args .given)
+    (c .before .before .before .before .before .before .before .before .before .before .before .before .args .target) ≡ lookup.At (c .found2 .given .0 .0)
 at-target c = sym (c .before .before .vacant-place .ensures) ∙ c .found2 .given .1
 
 place-at-requires : tie.Need-place-at-requires
@@ -112,7 +115,8 @@ returns-4 c =
     let a = else1 .before .before .args in
     let told = c .before .before .enum-told4 .given in
     let number : c .before .number3 .result ≡ told .0 .0 = c .before .number3 .ensures ∙ ap numberOf (told .1) in
-    reduce-target (a .given) (a .source) (a .target) (c .refused4 .result) (good else1) (low told-target) (found .found .given .0 .0) (told .0 .0) (at-source found)
+    reduce-target (a .given) (a .source) (a .target) (c .refused4 .result) (good else1) (low told-target) (found .found .given .0 .0) (told .0 .0)
+    (at-source found)
     (sym (c .before .before .before .before .vacant-place .ensures) ∙ told .1) (c .refused4 .ensures ∙ ap (refusal (a .given)) number)
 
 store-reduced-requires : tie.Need-store-reduced-requires
@@ -130,7 +134,8 @@ returns-5 c =
     let told-target = found .before .before .before in
     let else1 = told-target .before .before .before in
     let a = else1 .before .before .args in
-    reduce-done (a .given) (a .source) (a .target) (c .store-reduced .result) (good else1) (low told-target) (found .found .given .0 .0) (found2 .found2 .given .0 .0)
+    reduce-done (a .given) (a .source) (a .target) (c .store-reduced .result) (good else1) (low told-target) (found .found .given .0 .0)
+    (found2 .found2 .given .0 .0)
     (at-source found) (at-target found2) (c .store-reduced .ensures)
 
 pub reduce-spec : {M : Type 1} → statement M

@@ -6,7 +6,7 @@ use borrow.Author.Needs.{needs}
 use lib.ListN.{length}
 use Rattle.lists.proofs.Loops.{mapped-length}
 use Rattle.query.proofs.Good.{good-query}
-use Rattle.mapping.specs.Mapped.{Storable}
+use Rattle.mapping.specs.internal.Mapped.{Storable}
 use Rattle.chase.proofs.Callers.{chasable, width-le}
 use Rattle.reduction.proofs.Results.{shortened}
 use Rattle.reduction.proofs.shorten.Statement.{statement}
@@ -41,7 +41,8 @@ returns c =
     let chased = c .before .before .before .before .chase .ensures schema good widths in
     let pruned = c .before .before .core-of .ensures schema narrow (chased .good) in
     let long : 8 * q .size ≤ length (q .cells) = omega (arith, good-query schema q good .size) in
-    shortened schema (first .args .dependencies) (first .args .held) q (c .before .before .core-of .result) (c .before .before .before .before .chase .result) (c .before .find .result)
+    shortened schema (first .args .dependencies) (first .args .held) q (c .before .before .core-of .result) (c .before .before .before .before .chase .result)
+    (c .before .find .result)
     widths long good safe chased pruned (c .before .find .ensures schema narrow good (pruned .good) (sym (pruned .same-arity ∙ chased .same-arity)))
 
 pub shorten-spec : {M : Type 1} → statement M

@@ -1,9 +1,8 @@
 -- `report::alone` meets its contract. Assumes nothing.
-use mathlib.Core.Path.{_≡_, ap}
+use mathlib.Core.Path.{_≡_}
 use Prim.Native.Nat.{_<_}
 use native.Mathlib.Omega.{arith}
 use lib.ListN.{length, getD}
-use Rattle.record.specs.declared.Place.{Place}
 use Rattle.record.specs.Rule.{noPlace}
 use Rattle.lists.proofs.Loops.{mapped-length, getD-any}
 use Rattle.record.proofs.Shape.{pastPlace}
@@ -37,7 +36,8 @@ array-set-from-after c = search needs
 returns : tie.Need-returns
 returns c =
     let first = c .before .before .before .before .before in
-    alone-made (first .args .given) (first .args .place) (c .no-place .result) (getD (first .args .given .places) (first .args .place) pastPlace) (c .no-place .ensures) (read first)
+    alone-made (first .args .given) (first .args .place) (c .no-place .result) (getD (first .args .given .places) (first .args .place) pastPlace)
+    (c .no-place .ensures) (read first)
 
 pub alone-spec : {M : Type 1} → statement M
 alone-spec =

@@ -1,6 +1,5 @@
 -- `report::other_place` meets its contract. Assumes nothing.
 use borrow.Author.Tests.{eq-eqb, ne-eqb}
-use borrow.Author.Needs.{needs}
 use Rattle.report.proofs.other_place.Statement.{statement}
 use Rattle.report.proofs.other_place.Tie as tie
 

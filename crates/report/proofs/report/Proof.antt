@@ -30,7 +30,8 @@ same-length c = search needs
 returns : tie.Need-returns
 returns c =
     let s = c .before .before .before .before .before .before .before .before .before in
-    read-listing (s .args .file .now) (c .before .before .before .before .before .before .read .result) (c .before .before .before .before .before .before .read .ensures)
+    read-listing (s .args .file .now) (c .before .before .before .before .before .before .read .result)
+    (c .before .before .before .before .before .before .read .ensures)
     (c .before .before .before .before .enum-told .given .1) (s .args .buffer .now) _ _
     (c .before .before .write-places .ensures)
 
@@ -40,7 +41,8 @@ same-length-2 c = search needs
 returns-2 : tie.Need-returns-2
 returns-2 c =
     let s = c .before .before .before .before .before .before .before .before .before .before in
-    read-refused (s .args .file .now) (c .before .before .before .before .before .before .before .read .result) (c .before .before .before .before .before .before .before .read .ensures)
+    read-refused (s .args .file .now) (c .before .before .before .before .before .before .before .read .result)
+    (c .before .before .before .before .before .before .before .read .ensures)
     (c .before .before .before .before .before .answer .given .0 .0) (c .before .before .before .before .before .answer .given .1)
     (s .args .buffer .now) _ _ (c .before .before .write-refused .ensures)
 

@@ -35,7 +35,8 @@ reduce-requires : tie.Need-reduce-requires
 reduce-requires c κs = search needs
 
 stored-requires-2 : tie.Need-stored-requires-2
-stored-requires-2 c κs = subst (λ (n : ℕ). n < 8) (sym (c .before .before .before .before .other-place .ensures)) (other-low (c .before .before .before .before .before .before .args .place))
+stored-requires-2 c κs = subst (λ (n : ℕ). n < 8) (sym (c .before .before .before .before .other-place .ensures))
+    (other-low (c .before .before .before .before .before .before .args .place))
 
 write-place-requires : tie.Need-write-place-requires
 write-place-requires c κs =

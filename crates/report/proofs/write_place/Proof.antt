@@ -18,8 +18,10 @@ same-length c = search needs
 returns : tie.Need-returns
 returns c =
     let s = c .before .before .before .before .before .before .before in
-    part-filled (s .args .given) (s .args .place) (s .args .buffer .now) (s .args .at) (c .before .before .write-lines .last .0) (c .before .before .write-lines .result)
-    (sym (c .before .before .before .before .before .is-filled .ensures) ∙ c .before .before .before .before .if1 .taken) (c .before .before .write-lines .ensures)
+    part-filled (s .args .given) (s .args .place) (s .args .buffer .now) (s .args .at) (c .before .before .write-lines .last .0)
+    (c .before .before .write-lines .result)
+    (sym (c .before .before .before .before .before .is-filled .ensures) ∙ c .before .before .before .before .if1 .taken)
+    (c .before .before .write-lines .ensures)
 
 returns-2 : tie.Need-returns-2
 returns-2 c =

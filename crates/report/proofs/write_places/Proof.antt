@@ -20,7 +20,8 @@ loop-holds c = (search needs, part-started (c .before .args .given) 0 (c .before
 write-place-requires : tie.Need-write-place-requires Inv-loop μ-loop
 write-place-requires c κs =
     let s = c .before .before .before .before in
-    (record { room = part-room (s .args .given) _ _ _ _ (c .before .before .loop .inv .1) (s .pre .0) (c .before .loop-test .taken) }, s .pre .1, c .before .loop-test .taken)
+    (record { room = part-room (s .args .given) _ _ _ _ (c .before .before .loop .inv .1) (s .pre .0) (c .before .loop-test .taken) }, s .pre .1,
+    c .before .loop-test .taken)
 
 add-place : tie.Need-add-place Inv-loop μ-loop
 add-place c = search needs
@@ -32,17 +33,20 @@ loop-again : tie.Need-loop-again Inv-loop μ-loop
 loop-again c =
     let s = c .before .before .before .before .before .before .before in (
       search needs,
-      part-more (s .args .given) _ _ _ _ (c .before .before .before .before .before .loop .inv .1) (s .pre .0) (c .before .before .before .before .loop-test .taken) _ _
+      part-more (s .args .given) _ _ _ _ (c .before .before .before .before .before .loop .inv .1) (s .pre .0)
+      (c .before .before .before .before .loop-test .taken) _ _
           (c .before .before .write-place .ensures),
     )
 
 same-length : tie.Need-same-length Inv-loop μ-loop
-same-length c = part-size (c .before .before .before .args .given) _ _ _ _ (c .before .loop .inv .1) (c .before .before .before .pre .0) (c .before .loop .inv .0)
+same-length c = part-size (c .before .before .before .args .given) _ _ _ _ (c .before .loop .inv .1) (c .before .before .before .pre .0)
+    (c .before .loop .inv .0)
 
 returns : tie.Need-returns Inv-loop μ-loop
 returns c =
     let e : c .before .loop .place ≡ 8 = omega arith in
-    subst (λ (k : ℕ). PartWritten (c .before .before .before .args .given) 0 k (c .before .before .before .args .buffer .now) 0 (c .before .loop .buffer) (c .before .loop .next)) e
+    subst (λ (k : ℕ). PartWritten (c .before .before .before .args .given) 0 k (c .before .before .before .args .buffer .now) 0 (c .before .loop .buffer)
+    (c .before .loop .next)) e
     (c .before .loop .inv .1)
 
 pub write-places-spec : {M : Type 1} → statement M

@@ -8,7 +8,8 @@ use Rattle.record.specs.declared.Record.{Record}
 use Rattle.record.specs.Rule.{noPlace}
 use Rattle.record.specs.Calls.{isFilled}
 use Rattle.printing.specs.internal.Writing.{Written}
-use Rattle.text.specs.Text.{passing, placeRoom}
+use Rattle.text.specs.Text.{passing}
+use Rattle.text.specs.internal.Listable.{placeRoom}
 use Rattle.report.specs.Report.{Lines, AllLines}
 
 -- ---- the record without the other places

@@ -5,7 +5,7 @@ use mathlib.Core.Path.{_≡_, refl, subst}
 use Prim.Native.Nat.{ℕ, _*_, _<_}
 use native.Mathlib.Omega.{arith}
 use lib.ListN.{getD, length}
-use Rattle.consistency.specs.Solution.{Solution}
+use Rattle.consistency.specs.internal.Solution.{Solution}
 use Rattle.search.specs.internal.Invariant.{missing, Tested}
 use Rattle.search.proofs.Calls.{tryable-first, failed-full, solved-already, failed-exhausted, some-work, placeable-next, failed-jump, tryable-next}
 use borrow.Fn.Kinds.{In}
@@ -55,7 +55,8 @@ place-row-claims t =
 
 abbrev try-candidate-claims : ℕ → try-candidate-lts.Claims
 try-candidate-claims t =
-    (next-candidate-reads.Asked, next-candidate-reads.Learnt, choose-reads.Asked, choose-reads.Learnt, place-row-below t, place-row.Post, try-candidate-below t, try-candidate.Post)
+    (next-candidate-reads.Asked, next-candidate-reads.Learnt, choose-reads.Asked, choose-reads.Learnt, place-row-below t, place-row.Post, try-candidate-below t,
+    try-candidate.Post)
 
 -- there is a choice for each of the 13 rows
 long : (t : ℕ) (s : try-candidate-lts.Start (try-candidate-claims t) (try-candidate-at t) try-candidate.Post) → length (s .args .t5 .chosen) ≡ 13
@@ -75,7 +76,8 @@ place-row-returns t c =
     let at6 = c .before .before .before .before .before .before in
     let s = at6 in
     solved-already (s .args .rows) (s .args .domain .now) (s .args .table .now) (s .args .t5) _ refl
-    (subst (Tested (s .args .rows) (s .args .domain .now) (s .args .table .now) (s .args .t5 .chosen) (Solution (s .args .rows) (s .args .domain .now) (s .args .table .now) (λ q. getD
+    (subst (Tested (s .args .rows) (s .args .domain .now) (s .args .table .now) (s .args .t5 .chosen)
+    (Solution (s .args .rows) (s .args .domain .now) (s .args .table .now) (λ q. getD
     (s .args .t5 .chosen) q 0)))
     (c .enum-told .given .1) (c .before .before .test-choices .ensures))
 
@@ -88,8 +90,10 @@ place-row-returns-2 t c =
     let at6 = at4 .before .before in
     let at7 = at6 .before in
     let s = at7 in
-    failed-full (s .args .rows) (s .args .domain .now) (s .args .table .now) (s .args .t5) (s .args .work) _ (s .pre .1) (at6 .next-row .ensures) (at4 .if1 .taken) _ refl
-    (subst (Tested (s .args .rows) (s .args .domain .now) (s .args .table .now) (s .args .t5 .chosen) (Solution (s .args .rows) (s .args .domain .now) (s .args .table .now) (λ q. getD
+    failed-full (s .args .rows) (s .args .domain .now) (s .args .table .now) (s .args .t5) (s .args .work) _ (s .pre .1) (at6 .next-row .ensures)
+    (at4 .if1 .taken) _ refl
+    (subst (Tested (s .args .rows) (s .args .domain .now) (s .args .table .now) (s .args .t5 .chosen)
+    (Solution (s .args .rows) (s .args .domain .now) (s .args .table .now) (λ q. getD
     (s .args .t5 .chosen) q 0)))
     (c .before .tested .given .1) (c .before .before .before .test-choices .ensures))
 
@@ -131,14 +135,16 @@ try-candidate-element-copy-out-next-candidate :
     ) (try-candidate-at t) try-candidate.Post
 try-candidate-element-copy-out-next-candidate t c = search needs
 
-try-candidate-next-candidate-requires : (t : ℕ) → try-candidate-lts.Need-next-candidate-requires (try-candidate-claims t) (try-candidate-at t) try-candidate.Post
+try-candidate-next-candidate-requires : (t : ℕ) → try-candidate-lts.Need-next-candidate-requires (try-candidate-claims t)
+    (try-candidate-at t) try-candidate.Post
 try-candidate-next-candidate-requires t c κs = search needs
 
 try-candidate-returns : (t : ℕ) → try-candidate-lts.Need-returns (try-candidate-claims t) (try-candidate-at t) try-candidate.Post
 try-candidate-returns t c =
     let at4 = c .before .before .before .before in
     let s = at4 in
-    failed-exhausted (s .args .rows) (s .args .domain .now) (s .args .table .now) (s .args .t5) (s .args .work) (s .args .row) (s .args .c) (s .args .blame) _ (s .pre .1)
+    failed-exhausted (s .args .rows) (s .args .domain .now) (s .args .table .now) (s .args .t5) (s .args .work) (s .args .row) (s .args .c) (s .args .blame) _
+    (s .pre .1)
     (c .before .before .next-candidate .ensures) (c .if1 .taken) _ refl refl
 
 try-candidate-choose-requires : (t : ℕ) → try-candidate-lts.Need-choose-requires (try-candidate-claims t) (try-candidate-at t) try-candidate.Post
@@ -150,7 +156,8 @@ try-candidate-sub-place-row t c =
     let s = at5 in
     omega (
       arith,
-      some-work (s .args .rows) (s .args .domain .now) (s .args .table .now) (s .args .t5) (s .args .work) (s .args .row) (s .args .c) (s .args .blame) _ (s .pre .1)
+      some-work (s .args .rows) (s .args .domain .now) (s .args .table .now) (s .args .t5) (s .args .work) (s .args .row) (s .args .c) (s .args .blame) _
+      (s .pre .1)
           (c .before .before .before .next-candidate .ensures) (c .before .if1 .left),
     )
 
@@ -164,14 +171,16 @@ try-candidate-place-row-requires t c κs =
         some-work (s .args .rows) (s .args .domain .now) (s .args .table .now) (s .args .t5) (s .args .work) (s .args .row) (s .args .c) (s .args .blame) _
             (s .pre .1) (c .before .before .before .next-candidate .ensures) (c .before .if1 .left),
       ),
-      placeable-next (s .args .rows) (s .args .domain .now) (s .args .table .now) (s .args .t5) (s .args .work) (s .args .row) (s .args .c) (s .args .blame) _ (s .pre .1)
+      placeable-next (s .args .rows) (s .args .domain .now) (s .args .table .now) (s .args .t5) (s .args .work) (s .args .row) (s .args .c) (s .args .blame) _
+      (s .pre .1)
           (c .before .before .before .next-candidate .ensures) (c .before .if1 .left) _ (c .choose .ensures) (long t s),
     )
 
 try-candidate-returns-2 : (t : ℕ) → try-candidate-lts.Need-returns-2 (try-candidate-claims t) (try-candidate-at t) try-candidate.Post
 try-candidate-returns-2 t c =
     let s = c .before .before .before .before .before .before .before in
-    solved-already (s .args .rows) (s .args .domain .now) (s .args .table .now) (s .args .t5) _ (c .if2 .taken) (c .before .place-row .ensures .solved (c .if2 .taken))
+    solved-already (s .args .rows) (s .args .domain .now) (s .args .table .now) (s .args .t5) _ (c .if2 .taken)
+    (c .before .place-row .ensures .solved (c .if2 .taken))
 
 try-candidate-cast-if3 : (t : ℕ) → try-candidate-lts.Need-cast-if3 (try-candidate-claims t) (try-candidate-at t) try-candidate.Post
 try-candidate-cast-if3 t c = search needs
@@ -186,7 +195,8 @@ try-candidate-returns-3 t c =
     let at7 = at5 .before .before in
     let at9 = at7 .before .before in
     let s = at9 in
-    failed-jump (s .args .rows) (s .args .domain .now) (s .args .table .now) (s .args .t5) (s .args .work) (s .args .row) (s .args .c) (s .args .blame) _ (s .pre .1)
+    failed-jump (s .args .rows) (s .args .domain .now) (s .args .table .now) (s .args .t5) (s .args .work) (s .args .row) (s .args .c) (s .args .blame) _
+    (s .pre .1)
     (at7 .next-candidate .ensures) (at5 .if1 .left) _ (at4 .choose .ensures) (long t s)
     _ (c .before .before .before .place-row .ensures) (c .before .before .if2 .left) (c .if3 .taken)
 
@@ -198,7 +208,8 @@ try-candidate-sub-try-candidate t c =
     let s = at9 in
     omega (
       arith,
-      some-work (s .args .rows) (s .args .domain .now) (s .args .table .now) (s .args .t5) (s .args .work) (s .args .row) (s .args .c) (s .args .blame) _ (s .pre .1)
+      some-work (s .args .rows) (s .args .domain .now) (s .args .table .now) (s .args .t5) (s .args .work) (s .args .row) (s .args .c) (s .args .blame) _
+      (s .pre .1)
           (at7 .next-candidate .ensures) (at5 .if1 .left),
     )
 
@@ -219,7 +230,8 @@ try-candidate-try-candidate-requires t c κs =
         some-work (s .args .rows) (s .args .domain .now) (s .args .table .now) (s .args .t5) (s .args .work) (s .args .row) (s .args .c) (s .args .blame) _
             (s .pre .1) (at8 .next-candidate .ensures) (at6 .if1 .left),
       ),
-      tryable-next (s .args .rows) (s .args .domain .now) (s .args .table .now) (s .args .t5) (s .args .work) (s .args .row) (s .args .c) (s .args .blame) _ (s .pre .1)
+      tryable-next (s .args .rows) (s .args .domain .now) (s .args .table .now) (s .args .t5) (s .args .work) (s .args .row) (s .args .c) (s .args .blame) _
+      (s .pre .1)
           (at8 .next-candidate .ensures) (at6 .if1 .left) _ (at5 .choose .ensures) (long t s)
           _ (at4 .place-row .ensures) (c .before .before .before .if2 .left),
     )

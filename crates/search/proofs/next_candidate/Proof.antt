@@ -4,7 +4,7 @@ use mathlib.Core.Path.{_≡_, subst}
 use native.Mathlib.Decide.{decLt}
 use Prim.Native.Nat.{ℕ, _+_, _-_, _<_, _≤_}
 use native.Mathlib.Omega.{arith}
-use Rattle.consistency.specs.Solution.{Bit}
+use Rattle.consistency.specs.internal.Solution.{Bit}
 use Rattle.search.proofs.next_candidate.Statement.{statement}
 use Rattle.search.proofs.next_candidate.Tie as tie
 

@@ -6,8 +6,8 @@ use mathlib.Core.Logic.{inl, inr}
 use Prim.Native.Nat.{ℕ, _+_, _-_, _<_, _≤_}
 use native.Mathlib.Omega.{arith}
 use borrow.Author.Count.{below-more}
-use Rattle.consistency.specs.Solution.{Bit}
-use Rattle.consistency.specs.Consistent.{NoBit}
+use Rattle.consistency.specs.internal.Solution.{Bit}
+use Rattle.consistency.specs.internal.Consistent.{NoBit}
 use Rattle.search.specs.internal.Invariant.{IsEarlier}
 use Rattle.search.proofs.next_row.Statement.{statement}
 use Rattle.search.proofs.next_row.Tie as tie

@@ -35,7 +35,8 @@ returns c =
     let settled = c .before .before .before .settled in
     let a = c .before .place-row .ensures in (
       a .solved,
-      λ p. no-solution (s .args .rows) (s .args .domain .now) (s .args .table .now) (settled .result) (settled .ensures .placed ∙ first .ensures .0) _ (a .failed p),
+      λ p. no-solution (s .args .rows) (s .args .domain .now) (s .args .table .now) (settled .result) (settled .ensures .placed ∙ first .ensures .0) _
+      (a .failed p),
     )
 
 pub solve-spec : {M : Type 1} → statement M

@@ -52,7 +52,8 @@ loop-again : tie.Need-loop-again Inv-loop μ-loop
 loop-again c = (
   search needs,
   below-more _ _ (c .before .before .before .before .loop .inv .1)
-      (subst (TestedRow (c .before .before .before .before .before) (c .before .before .before .before .loop .r)) (c .enum-told .given .1) (c .before .before .test-row .ensures)),
+      (subst (TestedRow (c .before .before .before .before .before) (c .before .before .before .before .loop .r)) (c .enum-told .given .1)
+      (c .before .before .test-row .ensures)),
 )
 
 returns-2 : tie.Need-returns-2 Inv-loop μ-loop

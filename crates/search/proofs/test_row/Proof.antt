@@ -6,7 +6,7 @@ use Rattle.consistency.proofs.Masks.{digit-one, bit-shifted, bit-or-left, bit-o
 use Prim.Native.Nat.{ℕ, _-_, _*_, _^_, _%_, _<_, _≤_}
 use native.Mathlib.Omega.{arith}
 use lib.ListN.{getD}
-use Rattle.consistency.specs.Solution.{Bit, together}
+use Rattle.consistency.specs.internal.Solution.{Bit, together}
 use Rattle.search.proofs.test_row.Statement.{statement}
 use Rattle.search.proofs.test_row.Tie as tie
 

@@ -6,8 +6,8 @@ use mathlib.Core.Bool.{true, false}
 use mathlib.Core.List.{List}
 use Prim.Native.Nat.{ℕ, zero, suc, _+_, _-_, _*_, _/_, _%_, _^_, _<_, _≤_}
 use lib.ListN.{getD}
-use Rattle.consistency.specs.Solution.{Bit, together, Solution}
-use Rattle.consistency.specs.Consistent.{NoBit, Below, Agrees, Refuted, Left, Sound}
+use Rattle.consistency.specs.internal.Solution.{Bit, together, Solution}
+use Rattle.consistency.specs.internal.Consistent.{NoBit, Below, Agrees, Refuted, Left, Sound}
 use Rattle.consistency.specs.declared.State.{State}
 use Rattle.search.specs.declared.Attempt.{Attempt}
 use Rattle.search.specs.declared.Clash.{Clash}

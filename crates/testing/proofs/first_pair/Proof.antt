@@ -17,13 +17,11 @@ use Rattle.leaders.proofs.Passing.{rest-all, skips-on}
 use borrow.Author.Needs.{needs}
 use Rattle.testing.proofs.first_pair.Statement.{statement}
 use Rattle.testing.proofs.first_pair.Tie as tie
-use Rattle.leaders.proofs.skip.Reads as skip-reads
-use Rattle.words.proofs.first_partner.Reads as first-partner-reads
-use Rattle.words.proofs.next.Reads as next-reads
 
 abbrev Inv-loop : tie.InvT-loop
 Inv-loop schema words d heads₀ links₀ offsets₀ numbers₀ relation at₀ i₀ heads links offsets numbers at i = From schema words at i
-    × (firstPairFrom (dependencyOf d) 0 (rowsOf schema words) ≡ firstPairFrom (dependencyOf d) i (rowsOf schema (drop at words))) × Room heads links offsets numbers
+    × (firstPairFrom (dependencyOf d) 0 (rowsOf schema words) ≡ firstPairFrom (dependencyOf d) i (rowsOf schema (drop at words)))
+    × Room heads links offsets numbers
     × (length heads ≡ length heads₀) × (length links ≡ length links₀) × (length offsets ≡ length offsets₀) × (length numbers ≡ length numbers₀)
 
 abbrev μ-loop : tie.MeasureT-loop
@@ -77,15 +75,18 @@ same-length-4 c = search needs
 
 returns : tie.Need-returns Inv-loop μ-loop
 returns c =
-    let s = c .before .before .before .before .before .before .before .before .before .before .before .before .before .before .before .before .before .before .before .before .before .before .before .before .before .before in
+    let s = c .before .before .before .before .before .before .before .before .before .before .before .before .before .before .before .before .before .before
+    .before .before .before .before .before .before .before .before in
     let a = s .args in
     let S = a .schema .now in
     let X = a .words .now in
     let D = dependencyOf (a .d) in
-    let l = c .before .before .before .before .before .before .before .before .before .before .before .before .before .before .before .before .before .before .loop in
+    let l = c .before .before .before .before .before .before .before .before .before .before .before .before .before .before .before .before .before .before
+    .loop in
     let p = c .before .before .before .before .before .before .before .before .before .before .before .skip .result in
     let k = skips-on S X (a .d) (l .at) (l .i) p (l .inv .0)
-    (subst (λ (Y : List ℕ). Skips S Y (a .d) p) (rest-all X (l .at)) (c .before .before .before .before .before .before .before .before .before .before .before .skip .ensures .0)) in
+    (subst (λ (Y : List ℕ). Skips S Y (a .d) p) (rest-all X (l .at))
+    (c .before .before .before .before .before .before .before .before .before .before .before .skip .ensures .0)) in
     let found = l .inv .1 ∙ k .1 in
     let end : l .at + p .at ≡ length X = c .if1 .taken in (
       sym (ap pairOf (found ∙ pair-end S X D (l .at + p .at) (l .i + p .number)
@@ -95,15 +96,18 @@ returns c =
 
 next-requires : tie.Need-next-requires Inv-loop μ-loop
 next-requires c κs =
-    let s = c .before .before .before .before .before .before .before .before .before .before .before .before .before .before .before .before .before .before .before .before .before .before .before .before .before .before in
+    let s = c .before .before .before .before .before .before .before .before .before .before .before .before .before .before .before .before .before .before
+    .before .before .before .before .before .before .before .before in
     let a = s .args in
     let S = a .schema .now in
     let X = a .words .now in
     let D = dependencyOf (a .d) in
-    let l = c .before .before .before .before .before .before .before .before .before .before .before .before .before .before .before .before .before .before .loop in
+    let l = c .before .before .before .before .before .before .before .before .before .before .before .before .before .before .before .before .before .before
+    .loop in
     let p = c .before .before .before .before .before .before .before .before .before .before .before .skip .result in
     let k = skips-on S X (a .d) (l .at) (l .i) p (l .inv .0)
-    (subst (λ (Y : List ℕ). Skips S Y (a .d) p) (rest-all X (l .at)) (c .before .before .before .before .before .before .before .before .before .before .before .skip .ensures .0)) in
+    (subst (λ (Y : List ℕ). Skips S Y (a .d) p) (rest-all X (l .at))
+    (c .before .before .before .before .before .before .before .before .before .before .before .skip .ensures .0)) in
     let found = l .inv .1 ∙ k .1 in
     let inside : l .at + p .at ≤ length X = k .0 .inside in
     let more : l .at + p .at ≡ length X → ⊥ = c .if1 .left in
@@ -111,15 +115,18 @@ next-requires c κs =
 
 mul-if2 : tie.Need-mul-if2 Inv-loop μ-loop
 mul-if2 c =
-    let s = c .before .before .before .before .before .before .before .before .before .before .before .before .before .before .before .before .before .before .before .before .before .before .before .before .before .before .before in
+    let s = c .before .before .before .before .before .before .before .before .before .before .before .before .before .before .before .before .before .before
+    .before .before .before .before .before .before .before .before .before in
     let a = s .args in
     let S = a .schema .now in
     let X = a .words .now in
     let D = dependencyOf (a .d) in
-    let l = c .before .before .before .before .before .before .before .before .before .before .before .before .before .before .before .before .before .before .before .loop in
+    let l = c .before .before .before .before .before .before .before .before .before .before .before .before .before .before .before .before .before .before
+    .before .loop in
     let p = c .before .before .before .before .before .before .before .before .before .before .before .before .skip .result in
     let k = skips-on S X (a .d) (l .at) (l .i) p (l .inv .0)
-    (subst (λ (Y : List ℕ). Skips S Y (a .d) p) (rest-all X (l .at)) (c .before .before .before .before .before .before .before .before .before .before .before .before .skip .ensures .0)) in
+    (subst (λ (Y : List ℕ). Skips S Y (a .d) p) (rest-all X (l .at))
+    (c .before .before .before .before .before .before .before .before .before .before .before .before .skip .ensures .0)) in
     let found = l .inv .1 ∙ k .1 in
     omega (arith, k .0 .inside)
 
@@ -131,12 +138,14 @@ add-first-partner c = search needs
 
 first-partner-requires : tie.Need-first-partner-requires Inv-loop μ-loop
 first-partner-requires c κs =
-    let s = c .before .before .before .before .before .before .before .before .before .before .before .before .before .before .before .before .before .before .before .before .before .before .before .before .before .before .before .before .before in
+    let s = c .before .before .before .before .before .before .before .before .before .before .before .before .before .before .before .before .before .before
+    .before .before .before .before .before .before .before .before .before .before .before in
     let a = s .args in
     let S = a .schema .now in
     let X = a .words .now in
     let D = dependencyOf (a .d) in
-    let l = c .before .before .before .before .before .before .before .before .before .before .before .before .before .before .before .before .before .before .before .before .before .loop in
+    let l = c .before .before .before .before .before .before .before .before .before .before .before .before .before .before .before .before .before .before
+    .before .before .before .loop in
     let p = c .before .before .before .before .before .before .before .before .before .before .before .before .before .before .skip .result in
     let k = skips-on S X (a .d) (l .at) (l .i) p (l .inv .0)
     (subst (λ (Y : List ℕ). Skips S Y (a .d) p) (rest-all X (l .at))
@@ -165,22 +174,27 @@ same-length-8 c = search needs
 
 returns-2 : tie.Need-returns-2 Inv-loop μ-loop
 returns-2 c =
-    let s = c .before .before .before .before .before .before .before .before .before .before .before .before .before .before .before .before .before .before .before .before .before .before .before .before .before .before .before .before .before .before .before .before .before in
+    let s = c .before .before .before .before .before .before .before .before .before .before .before .before .before .before .before .before .before .before
+    .before .before .before .before .before .before .before .before .before .before .before .before .before .before .before in
     let a = s .args in
     let S = a .schema .now in
     let X = a .words .now in
     let D = dependencyOf (a .d) in
-    let l = c .before .before .before .before .before .before .before .before .before .before .before .before .before .before .before .before .before .before .before .before .before .before .before .before .before .loop in
-    let p = c .before .before .before .before .before .before .before .before .before .before .before .before .before .before .before .before .before .before .skip .result in
+    let l = c .before .before .before .before .before .before .before .before .before .before .before .before .before .before .before .before .before .before
+    .before .before .before .before .before .before .before .loop in
+    let p = c .before .before .before .before .before .before .before .before .before .before .before .before .before .before .before .before .before .before
+    .skip .result in
     let k = skips-on S X (a .d) (l .at) (l .i) p (l .inv .0)
     (subst (λ (Y : List ℕ). Skips S Y (a .d) p) (rest-all X (l .at))
-    (c .before .before .before .before .before .before .before .before .before .before .before .before .before .before .before .before .before .before .skip .ensures .0)) in
+    (c .before .before .before .before .before .before .before .before .before .before .before .before .before .before .before .before .before .before .skip
+    .ensures .0)) in
     let found = l .inv .1 ∙ k .1 in
     let n = c .before .before .before .before .before .before .next .ensures in
     let f = c .before .second .given in (
       sym (ap pairOf found ∙ pair-found S X D (l .at + p .at) (c .before .before .before .before .before .before .next .result) (l .i + p .number) (f .0 .0) n
           (sym (f .1) ∙ c .before .before .before .first-partner .ensures)),
-      c .before .before .before .before .before .before .before .before .before .before .before .before .before .before .before .before .before .before .skip .ensures .1,
+      c .before .before .before .before .before .before .before .before .before .before .before .before .before .before .before .before .before .before .skip
+      .ensures .1,
     )
 
 enum-told : tie.Need-enum-told Inv-loop μ-loop
@@ -194,12 +208,14 @@ loop-less c = search needs
 
 loop-again : tie.Need-loop-again Inv-loop μ-loop
 loop-again c =
-    let s = c .before .before .before .before .before .before .before .before .before .before .before .before .before .before .before .before .before .before .before .before .before .before .before .before .before .before .before .before .before in
+    let s = c .before .before .before .before .before .before .before .before .before .before .before .before .before .before .before .before .before .before
+    .before .before .before .before .before .before .before .before .before .before .before in
     let a = s .args in
     let S = a .schema .now in
     let X = a .words .now in
     let D = dependencyOf (a .d) in
-    let l = c .before .before .before .before .before .before .before .before .before .before .before .before .before .before .before .before .before .before .before .before .before .loop in
+    let l = c .before .before .before .before .before .before .before .before .before .before .before .before .before .before .before .before .before .before
+    .before .before .before .loop in
     let p = c .before .before .before .before .before .before .before .before .before .before .before .before .before .before .skip .result in
     let k = skips-on S X (a .d) (l .at) (l .i) p (l .inv .0)
     (subst (λ (Y : List ℕ). Skips S Y (a .d) p) (rest-all X (l .at))

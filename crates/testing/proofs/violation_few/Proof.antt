@@ -7,7 +7,6 @@ use lib.ListN.{length-replicate}
 use borrow.Author.Needs.{needs}
 use Rattle.testing.proofs.violation_few.Statement.{statement}
 use Rattle.testing.proofs.violation_few.Tie as tie
-use Rattle.testing.proofs.violation_in.Reads as violation-in-reads
 
 slice-aggregate-violation-in : tie.Need-slice-aggregate-violation-in
 slice-aggregate-violation-in c = search needs

@@ -16,7 +16,6 @@ use Rattle.leaders.specs.internal.Walked.{Room}
 use borrow.Author.Needs.{needs}
 use Rattle.testing.proofs.violation_in.Statement.{statement}
 use Rattle.testing.proofs.violation_in.Tie as tie
-use Rattle.testing.proofs.first_pair.Reads as first-pair-reads
 
 abbrev Inv-loop : tie.InvT-loop
 Inv-loop schema words held heads₀ links₀ offsets₀ numbers₀ dependencies k₀ heads links offsets numbers k = (k ≤ held)
@@ -59,15 +58,18 @@ same-length-4 c = search needs
 
 returns : tie.Need-returns Inv-loop μ-loop
 returns c =
-    let s = c .before .before .before .before .before .before .before .before .before .before .before .before .before .before .before .before .before .before .before .before .before .before .before .before .before in
+    let s = c .before .before .before .before .before .before .before .before .before .before .before .before .before .before .before .before .before .before
+    .before .before .before .before .before .before .before in
     let a = s .args in
-    let l = c .before .before .before .before .before .before .before .before .before .before .before .before .before .before .before .before .before .before .loop in
+    let l = c .before .before .before .before .before .before .before .before .before .before .before .before .before .before .before .before .before .before
+    .loop in
     let S = a .schema .now in
     let X = a .words .now in
     let ds = a .t3 in
     let size : length ds ≡ 32 = search needs in
     let room : a .held ≤ length ds = omega (arith, s .pre .0) in
-    let e : map dependencyOf (drop (l .k) (take (a .held) ds)) ≡ dependencyOf (getD ds (l .k) noDependency) ∷ map dependencyOf (drop (l .k + 1) (take (a .held) ds)) =
+    let e : map dependencyOf (drop (l .k) (take (a .held) ds)) ≡ dependencyOf (getD ds (l .k) noDependency) ∷ map dependencyOf
+    (drop (l .k + 1) (take (a .held) ds)) =
     ap (map dependencyOf) (drop-take-cons ds (a .held) (l .k) noDependency (search needs) room) in
     let f = c .before .found .given in
     sym (ap violationOf (l .inv .1 ∙ ap (λ (x : List database.Dependency). firstBrokenFrom (l .k) x (rowsOf S X)) e)
@@ -85,7 +87,8 @@ loop-less c = search needs
 
 loop-again : tie.Need-loop-again Inv-loop μ-loop
 loop-again c =
-    let s = c .before .before .before .before .before .before .before .before .before .before .before .before .before .before .before .before .before .before .before .before .before .before .before .before in
+    let s = c .before .before .before .before .before .before .before .before .before .before .before .before .before .before .before .before .before .before
+    .before .before .before .before .before .before in
     let a = s .args in
     let l = c .before .before .before .before .before .before .before .before .before .before .before .before .before .before .before .before .before .loop in
     let S = a .schema .now in
@@ -93,7 +96,8 @@ loop-again c =
     let ds = a .t3 in
     let size : length ds ≡ 32 = search needs in
     let room : a .held ≤ length ds = omega (arith, s .pre .0) in
-    let e : map dependencyOf (drop (l .k) (take (a .held) ds)) ≡ dependencyOf (getD ds (l .k) noDependency) ∷ map dependencyOf (drop (l .k + 1) (take (a .held) ds)) =
+    let e : map dependencyOf (drop (l .k) (take (a .held) ds)) ≡ dependencyOf (getD ds (l .k) noDependency) ∷ map dependencyOf
+    (drop (l .k + 1) (take (a .held) ds)) =
     ap (map dependencyOf) (drop-take-cons ds (a .held) (l .k) noDependency (search needs) room) in (
       search needs,
       l .inv .1 ∙ ap (λ (x : List database.Dependency). firstBrokenFrom (l .k) x (rowsOf S X)) e

@@ -29,7 +29,8 @@ array-copy-out-cell c = search needs
 put-entry-after-requires : tie.Need-put-entry-after-requires Inv-loop μ-loop
 put-entry-after-requires c κs =
     part-fits (c .before .before .before .loop .inv .2) _ _
-    (entries-turn (c .before .before .before .before .before .args .t3) (c .before .before .before .before .before .args .n) (c .before .before .before .loop .i)
+    (entries-turn (c .before .before .before .before .before .args .t3) (c .before .before .before .before .before .args .n)
+    (c .before .before .before .loop .i)
     (c .before .before .loop-test .taken) (search needs))
 
 add-i : tie.Need-add-i Inv-loop μ-loop
@@ -43,7 +44,8 @@ loop-again c = (
   search needs,
   search needs,
   wrote (c .before .before .before .before .before .before .loop .inv .2) _
-      (entries-turn (c .before .before .before .before .before .before .before .before .args .t3) (c .before .before .before .before .before .before .before .before .args .n)
+      (entries-turn (c .before .before .before .before .before .before .before .before .args .t3)
+      (c .before .before .before .before .before .before .before .before .args .n)
       (c .before .before .before .before .before .before .loop .i) (c .before .before .before .before .before .loop-test .taken) (search needs))
       (c .before .before .put-entry-after .ensures),
 )
@@ -53,7 +55,8 @@ same-length c = same-size (c .before .loop .inv .2)
 
 returns : tie.Need-returns Inv-loop μ-loop
 returns c =
-    finished (left-as (c .before .loop .inv .2) (entries-end (c .before .before .before .args .t3) (c .before .before .before .args .n) (c .before .loop .i) (c .loop-test .left)))
+    finished (left-as (c .before .loop .inv .2)
+    (entries-end (c .before .before .before .args .t3) (c .before .before .before .args .n) (c .before .loop .i) (c .loop-test .left)))
 
 pub put-entries-spec : {M : Type 1} → statement M
 put-entries-spec =

@@ -49,7 +49,8 @@ same-length c = search needs
 
 returns : tie.Need-returns
 returns c =
-    wrote-rest (constant-left (c .before .before .before .before .before .before .before .before .pre) (c .before .before .before .before .before .entry .given .1))
+    wrote-rest (constant-left (c .before .before .before .before .before .before .before .before .pre)
+    (c .before .before .before .before .before .entry .given .1))
     (c .before .before .put-number .ensures)
 
 same-length-2 : tie.Need-same-length-2

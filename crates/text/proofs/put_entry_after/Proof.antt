@@ -9,7 +9,8 @@ use Rattle.text.proofs.put_entry_after.Statement.{statement}
 use Rattle.text.proofs.put_entry_after.Tie as tie
 
 put-byte-requires : tie.Need-put-byte-requires
-put-byte-requires c κs = part-fits (started (c .before .before .pre)) (c .before .before .args .byte ∷ []) (entryText (entryOf (c .before .before .args .entry))) refl
+put-byte-requires c κs = part-fits (started (c .before .before .pre)) (c .before .before .args .byte ∷ [])
+    (entryText (entryOf (c .before .before .args .entry))) refl
 
 put-entry-requires : tie.Need-put-entry-requires
 put-entry-requires c κs =

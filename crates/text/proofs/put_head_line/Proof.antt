@@ -36,7 +36,8 @@ same-length c = search needs
 returns : tie.Need-returns
 unfolding headLine
 returns c =
-    wrote-rest (wrote (wrote (started (c .before .before .before .before .before .before .before .before .before .before .before .before .before .before .pre .0)) _ refl
+    wrote-rest (wrote (wrote (started (c .before .before .before .before .before .before .before .before .before .before .before .before .before .before .pre
+    .0)) _ refl
     (c .before .before .before .before .before .before .before .before .before .before .put-bytes .ensures)) _ refl
     (c .before .before .before .before .before .before .put-entries .ensures)) (c .before .before .put-byte .ensures)
 

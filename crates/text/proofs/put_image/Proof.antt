@@ -16,7 +16,8 @@ put-field-requires c κs = part-fits (started (c .before .before .before .pre)) 
 
 put-entry-after-requires : tie.Need-put-entry-after-requires
 unfolding imageText
-put-entry-after-requires c κs = rest-fits (wrote (started (c .before .before .before .before .before .before .before .pre)) _ refl (c .before .before .before .put-field .ensures))
+put-entry-after-requires c κs = rest-fits
+    (wrote (started (c .before .before .before .before .before .before .before .pre)) _ refl (c .before .before .before .put-field .ensures))
 
 same-length : tie.Need-same-length
 same-length c = search needs

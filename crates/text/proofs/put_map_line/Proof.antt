@@ -43,7 +43,8 @@ returns c =
     let images = c .before .before .before .before .before .before in
     let word = images .before .before .before .before in
     let s = word .before .before .before .before in
-    wrote-rest (wrote (wrote (started (s .pre .0)) _ refl (word .put-bytes .ensures)) _ refl (images .put-images .ensures)) (c .before .before .put-byte .ensures)
+    wrote-rest (wrote (wrote (started (s .pre .0)) _ refl (word .put-bytes .ensures)) _ refl (images .put-images .ensures))
+    (c .before .before .put-byte .ensures)
 
 pub put-map-line-spec : {M : Type 1} → statement M
 put-map-line-spec =

@@ -37,7 +37,8 @@ same-length c = search needs
 returns : tie.Need-returns
 unfolding rowLine
 returns c =
-    wrote-rest (wrote (wrote (started (c .before .before .before .before .before .before .before .before .before .before .before .before .before .before .pre .0)) _ refl
+    wrote-rest (wrote (wrote (started (c .before .before .before .before .before .before .before .before .before .before .before .before .before .before .pre
+    .0)) _ refl
     (c .before .before .before .before .before .before .before .before .before .before .put-field .ensures)) _ refl
     (c .before .before .before .before .before .before .put-entries .ensures)) (c .before .before .put-byte .ensures)
 

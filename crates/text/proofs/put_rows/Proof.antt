@@ -1,7 +1,7 @@
 -- `text::put_rows` meets its contract. Invariant: the rows from r on are left to be written. Assumes nothing.
 use borrow.Author.Needs.{needs}
-use mathlib.Core.Path.{_≡_, sym, subst}
-use Prim.Native.Nat.{ℕ, _*_, _-_, _≤_, _<_}
+use mathlib.Core.Path.{_≡_}
+use Prim.Native.Nat.{_*_, _-_, _≤_}
 use native.Mathlib.Omega.{arith}
 use lib.ListN.{length, take, drop, getD}
 use Rattle.lists.proofs.Loops.{mapped-length}
@@ -60,7 +60,8 @@ put-row-line-requires c κs =
     let schema = take (s .args .relations) (s .args .widths) in
     let narrow : width .result ≤ 8 = omega (arith, width .ensures, width-le _ _ (s .pre .1) (getD (s .args .query .relations) (l .r) 0)) in (
       part-fits (l .inv .3) _ _
-          (rows-turn schema (s .args .query .relations) (s .args .query .cells) (s .args .query .size) (l .r) low (omega (arith, l .inv .1, l .inv .2)) (width .result)
+          (rows-turn schema (s .args .query .relations) (s .args .query .cells) (s .args .query .size) (l .r) low (omega (arith, l .inv .1, l .inv .2))
+          (width .result)
           (width .ensures) narrow (row .result)
           (row .ensures)),
       narrow,
@@ -85,7 +86,8 @@ loop-again c =
       search needs,
       search needs,
       wrote (l .inv .3) _
-          (rows-turn schema (s .args .query .relations) (s .args .query .cells) (s .args .query .size) (l .r) low (omega (arith, l .inv .1, l .inv .2)) (width .result)
+          (rows-turn schema (s .args .query .relations) (s .args .query .cells) (s .args .query .size) (l .r) low (omega (arith, l .inv .1, l .inv .2))
+          (width .result)
           (width .ensures) narrow (row .result)
           (row .ensures))
           (c .before .before .put-row-line .ensures),

@@ -25,7 +25,8 @@ module _ (cells : List Cell) (start : ℕ) (room : start + 8 ≤ length cells) w
   end : (row : List Cell) (i : ℕ) → row ≡ filledTo 8 noCell (take 8 (drop start cells)) i → i ≤ 8 → 8 ≤ i → row ≡ take 8 (drop start cells)
   end row i e low high =
       let eight : i ≡ 8 = omega arith in
-      e ∙ ap (filledTo 8 noCell (take 8 (drop start cells))) eight ∙ append-nil (take 8 (take 8 (drop start cells))) ∙ take-take 8 8 (drop start cells) (omega arith)
+      e ∙ ap (filledTo 8 noCell (take 8 (drop start cells))) eight ∙ append-nil (take 8 (take 8 (drop start cells)))
+      ∙ take-take 8 8 (drop start cells) (omega arith)
 
 abbrev Inv-loop : tie.InvT-loop
 Inv-loop start cells row₀ i₀ row i = (i ≤ 8) × (start + 8 ≤ length cells) × (row ≡ filledTo 8 noCell (take 8 (drop start cells)) i)

@@ -49,13 +49,15 @@ text-fits : (c : tie.Start) → Fits (c .args .buffer .now) (c .args .at) (text 
 text-fits c =
     let p = c .pre in
     let short =
-    place-short (c .args .relations) (c .args .widths) (p .relations-good) (c .args .place) (c .args .source) (c .args .result) (c .args .count) (c .args .images) (p .place-known)
+    place-short (c .args .relations) (c .args .widths) (p .relations-good) (c .args .place) (c .args .source) (c .args .result) (c .args .count)
+    (c .args .images) (p .place-known)
     (p .source-good) (p .result-good) (source-long c) (result-long c) (c .fits .count .fits) (p .images-good) in
     record { room = omega (arith, p .room) }
 
 -- Where the result is never, one line is left
 never-left : (c : tie.Start) → c .args .result .size ≡ 0
-    → Progress (c .args .buffer .now) (c .args .at) (text c) (neverLine (c .args .place) (c .args .source .size) (c .args .count)) (c .args .buffer .now) (c .args .at)
+    → Progress (c .args .buffer .now) (c .args .at) (text c) (neverLine (c .args .place) (c .args .source .size) (c .args .count)) (c .args .buffer .now)
+    (c .args .at)
 unfolding placeText
 never-left c z =
     let m : length (source c .rows) ≡ c .args .source .size = row-count (schema c) (c .args .source) (source-long c) in

@@ -35,7 +35,8 @@ put-field-requires c κs = first-fits (c .before .before .before .pre) (c .befor
 
 put-byte-requires : tie.Need-put-byte-requires
 put-byte-requires c κs =
-    rest-fits (end-left (c .before .before .before .before .before .before .before .pre) (c .before .before .before .before .before .before .before .fits .n .fits)
+    rest-fits (end-left (c .before .before .before .before .before .before .before .pre)
+    (c .before .before .before .before .before .before .before .fits .n .fits)
     (c .before .before .before .put-field .ensures))
 
 same-length : tie.Need-same-length
@@ -44,7 +45,8 @@ same-length c = search needs
 returns : tie.Need-returns
 returns c =
     wrote-rest (end-left (c .before .before .before .before .before .before .before .before .before .before .pre)
-    (c .before .before .before .before .before .before .before .before .before .before .fits .n .fits) (c .before .before .before .before .before .before .put-field .ensures))
+    (c .before .before .before .before .before .before .before .before .before .before .fits .n .fits)
+    (c .before .before .before .before .before .before .put-field .ensures))
     (c .before .before .put-byte .ensures)
 
 pub write-refused-spec : {M : Type 1} → statement M

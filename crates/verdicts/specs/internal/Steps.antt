@@ -9,7 +9,7 @@ use Rattle.record.specs.Rule.{goodRecord, goodPlace}
 use Rattle.format.specs.Format.{Reading, none, got}
 use Rattle.format.specs.File.{placeWith}
 use Rattle.mapping.specs.declared.Mapped.{Mapped}
-use Rattle.mapping.specs.Mapped.{noMapping}
+use Rattle.mapping.specs.internal.Mapped.{noMapping}
 use Rattle.comparison.specs.declared.Comparison.{Comparison}
 use Rattle.comparison.specs.declared.Verdict.the-variants as verdict
 use Rattle.reduction.specs.declared.Reduced.{Reduced}

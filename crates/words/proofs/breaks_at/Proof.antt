@@ -7,13 +7,11 @@ use borrow.Author.Tests.{not-true, not-false}
 use lib.Dec.{eqb}
 use lib.ListN.{getD}
 use Rattle.query.specs.View.{dependencyOf}
-use Rattle.words.specs.Words.{spanAt}
-use Rattle.words.specs.Testing.{agreeRows}
+use Rattle.words.specs.internal.Rows.{spanAt, agreeRows}
 use Rattle.words.proofs.Columns.{breaks-spans}
 use borrow.Author.Needs.{needs}
 use Rattle.words.proofs.breaks_at.Statement.{statement}
 use Rattle.words.proofs.breaks_at.Tie as tie
-use Rattle.words.proofs.agrees_at.Reads as agrees-at-reads
 
 agrees-at-requires : tie.Need-agrees-at-requires
 agrees-at-requires c κs = search needs
@@ -57,7 +55,8 @@ returns-2 : tie.Need-returns-2
 returns-2 c = let s = c .before .before .before .before .before .before in
     let a = s .args in
     let e : agreeRows (dependencyOf (a .d)) (spanAt (a .width) (a .words .now) (a .a)) (spanAt (a .width) (a .words .now) (a .b)) ≡ true =
-    sym (c .before .before .before .before .agrees-at .ensures) ∙ not-false (c .before .before .before .before .agrees-at .result) (c .before .before .before .if1 .left) in
+    sym (c .before .before .before .before .agrees-at .ensures) ∙ not-false (c .before .before .before .before .agrees-at .result)
+    (c .before .before .before .if1 .left) in
     sym (breaks-spans (a .width) (a .words .now) (a .a) (a .b) (a .d) (s .pre .0 .0) (s .pre .0 .1) (s .pre .1 .1 .2)
     ∙ ap (λ (b : Bool). b && not (eqb (getD (a .words .now) (a .a + 1 + a .d .right) 0) (getD (a .words .now) (a .b + 1 + a .d .right) 0))) e)
 

@@ -1,28 +1,26 @@
--- `first_partner` is the first row that breaks the dependency with the row at `a`. Invariant: the search from `at` on finds what the search from the start finds.
+-- `first_partner` is the first row that breaks the dependency with the row at `a`.
+-- Invariant: the search from `at` on finds what the search from the start finds.
 -- Assumes nothing.
 use mathlib.Core.Path.{_≡_, refl, sym, ap, ap₂, _∙_}
 use mathlib.Core.Bool.{Bool, true, false}
-use mathlib.Core.Option.{Option, none, some}
 use mathlib.Core.Logic.{⊎-elim}
-use Prim.Native.Nat.{ℕ, _≤_, _-_, _+_, _<_}
+use Prim.Native.Nat.{ℕ, _≤_, _-_, _+_}
 use native.Mathlib.Omega.{arith}
-use lib.ListN.{length, drop, getD}
+use lib.ListN.{length, getD}
 use Rattle.theory.specs.Query.{Row}
 use Rattle.theory.specs.Chase.{firstPassing}
 use Rattle.query.specs.View.{dependencyOf}
-use Rattle.words.specs.Words.{rowAt, spanAt, Next}
-use Rattle.words.specs.Testing.{breaksRows, breaksWith, rowsAt}
+use Rattle.words.specs.internal.Rows.{rowAt, spanAt, rowsAt}
+use Rattle.words.specs.Testing.{breaksRows, breaksWith}
 use Rattle.words.specs.internal.Found.{partnerOf, From}
-use Rattle.words.specs.declared.Partner.{Partner}
 use Rattle.words.proofs.Search.{breaks-second, passing-here, passing-later, passing-end}
 use borrow.Author.Needs.{needs}
 use Rattle.words.proofs.first_partner.Statement.{statement}
 use Rattle.words.proofs.first_partner.Tie as tie
-use Rattle.words.proofs.breaks_at.Reads as breaks-at-reads
-use Rattle.words.proofs.next.Reads as next-reads
 
 abbrev Inv-loop : tie.InvT-loop
-Inv-loop schema words d a from n relation index width at₀ j₀ at j = From schema words at j × (firstPassing (breaksWith (dependencyOf d) (rowAt schema words a)) (rowsAt schema words from n)
+Inv-loop schema words d a from n relation index width at₀ j₀ at j = From schema words at j
+    × (firstPassing (breaksWith (dependencyOf d) (rowAt schema words a)) (rowsAt schema words from n)
     ≡ firstPassing (breaksWith (dependencyOf d) (rowAt schema words a)) (rowsAt schema words at j))
 
 abbrev μ-loop : tie.MeasureT-loop
@@ -77,7 +75,8 @@ returns c = let s = c .before .before .before .before .before .before .before .b
     let rb : rowAt S W (l .at) ≡ spanAt width W (l .at) = ap (λ (r : ℕ). spanAt (getD S r 0) W (l .at)) (c .before .before .if1 .taken) in
     let yes : t (l .j, rowAt S W (l .at)) ≡ true =
     ap₂ {C = Bool} (λ (x y : Row ℕ). breaksRows (dependencyOf (a .d)) x y) ra rb ∙ sym (c .before .breaks-at .ensures) ∙ c .if2 .taken in
-    sym (ap partnerOf (l .inv .1 ∙ passing-here S W t (l .at) (c .before .before .before .before .next .result) (l .j) (c .before .before .before .before .next .ensures) yes))
+    sym (ap partnerOf (l .inv .1 ∙ passing-here S W t (l .at) (c .before .before .before .before .next .result) (l .j)
+    (c .before .before .before .before .next .ensures) yes))
 
 add-j : tie.Need-add-j Inv-loop μ-loop
 add-j c = search needs

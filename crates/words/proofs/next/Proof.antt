@@ -6,7 +6,6 @@ use Prim.Native.Nat.{_+_}
 use mathlib.Core.Path.{refl}
 use native.Mathlib.Omega.{arith}
 use lib.ListN.{getD}
-use Rattle.words.specs.Words.{Next}
 use Rattle.words.proofs.Spelling.{next-row}
 use borrow.Author.Needs.{needs}
 use Rattle.words.proofs.next.Statement.{statement}
@@ -41,7 +40,8 @@ add-result-2 c = let a = c .before .before .args in
 
 returns : tie.Need-returns
 returns c = let a = c .before .before .args in
-    next-row (a .schema .now) (a .words .now) (a .at) (c .before .before .pre .0) (a .at + 1 + getD (a .schema .now) (getD (a .words .now) (a .at) 0) 0) (c .before .before .pre .1) refl
+    next-row (a .schema .now) (a .words .now) (a .at) (c .before .before .pre .0) (a .at + 1 + getD (a .schema .now) (getD (a .words .now) (a .at) 0) 0)
+    (c .before .before .pre .1) refl
 
 pub next-spec : {M : Type 1} → statement M
 next-spec =

@@ -2,7 +2,7 @@
 -- Assumes nothing.
 use mathlib.Core.Path.{_≡_, refl, sym, ap, _∙_}
 use mathlib.Core.List.{List}
-use Prim.Native.Nat.{ℕ, _≤_, _-_, _+_, _<_}
+use Prim.Native.Nat.{ℕ, _≤_, _-_}
 use native.Mathlib.Omega.{arith}
 use lib.ListN.{length, drop, getD}
 use lib.Seq.{drop-length}
@@ -32,14 +32,16 @@ cast-relation c = omega (arith, c .shared-slice-known .given (c .before .before 
 
 returns : tie.Need-returns Inv-loop μ-loop
 returns c =
-    sym (c .before .before .before .loop .inv .1 ∙ spells-unknown (c .before .before .before .before .args .schema .now) (c .before .before .before .before .args .words .now)
+    sym (c .before .before .before .loop .inv .1 ∙ spells-unknown (c .before .before .before .before .args .schema .now)
+    (c .before .before .before .before .args .words .now)
     (c .before .before .before .loop .at) (search needs) (c .if1 .taken))
 
 shared-slice-read-width : tie.Need-shared-slice-read-width Inv-loop μ-loop
 shared-slice-read-width c = search needs
 
 cast-width : tie.Need-cast-width Inv-loop μ-loop
-cast-width c = omega (arith, c .shared-slice-known2 .given (getD (c .before .before .before .before .before .args .words .now) (c .before .before .before .before .loop .at) 0))
+cast-width c = omega (arith, c .shared-slice-known2 .given
+    (getD (c .before .before .before .before .before .args .words .now) (c .before .before .before .before .loop .at) 0))
 
 sub-if2 : tie.Need-sub-if2 Inv-loop μ-loop
 sub-if2 c = search needs
@@ -50,7 +52,8 @@ sub-if2-2 c = search needs
 returns-2 : tie.Need-returns-2 Inv-loop μ-loop
 returns-2 c = let a = c .before .before .before .before .before .before .args in
     let at = c .before .before .before .before .before .loop .at in
-    sym (c .before .before .before .before .before .loop .inv .1 ∙ spells-cut (a .schema .now) (a .words .now) at (search needs) (getD (a .schema .now) (getD (a .words .now) at 0) 0) refl
+    sym (c .before .before .before .before .before .loop .inv .1 ∙ spells-cut (a .schema .now) (a .words .now) at (search needs)
+    (getD (a .schema .now) (getD (a .words .now) at 0) 0) refl
     (search needs))
 
 add-at : tie.Need-add-at Inv-loop μ-loop
@@ -74,7 +77,8 @@ returns-3 : tie.Need-returns-3 Inv-loop μ-loop
 unfolding spellsRowsFrom
 returns-3 c = let a = c .before .before .args in
     let e : c .before .loop .at ≡ length (a .words .now) = search needs in
-    sym (c .before .loop .inv .1 ∙ ap (λ (n : ℕ). spellsRows (a .schema .now) (drop n (a .words .now))) e ∙ ap (λ (l : List ℕ). spellsRows (a .schema .now) l) (drop-length (a .words .now)))
+    sym (c .before .loop .inv .1 ∙ ap (λ (n : ℕ). spellsRows (a .schema .now) (drop n (a .words .now))) e ∙ ap (λ (l : List ℕ). spellsRows (a .schema .now) l)
+        (drop-length (a .words .now)))
 
 pub spelled-spec : {M : Type 1} → statement M
 spelled-spec =

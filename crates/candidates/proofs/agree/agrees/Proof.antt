@@ -10,7 +10,7 @@ use native.Mathlib.Nat.{not-le-of-lt}
 use mathlib.Core.Logic.{⊎-elim}
 use lib.ListN.{getD}
 use Rattle.query.proofs.Codes.{code-constant, code-variable}
-use Rattle.candidates.specs.Candidates.{Takes}
+use Rattle.candidates.specs.internal.Candidates.{Takes}
 use Rattle.lists.proofs.Positions.{tells-true, tells-false}
 use Rattle.candidates.proofs.agree.agrees.Statement.{statement}
 use Rattle.candidates.proofs.agree.agrees.Tie as tie

@@ -2,7 +2,7 @@
 -- Assumes nothing.
 use borrow.Author.Needs.{needs}
 use Prim.Native.Nat.{_-_, _≤_, _<_}
-use Rattle.candidates.specs.Candidates.{Marks}
+use Rattle.candidates.specs.internal.Candidates.{Marks}
 use Rattle.candidates.proofs.Masks.{marks-start, marks-one, marks-end, marks-room}
 use Rattle.candidates.proofs.table.all_below.Statement.{statement}
 use Rattle.candidates.proofs.table.all_below.Tie as tie
@@ -22,14 +22,16 @@ sub-e c = search needs
 mul-mask : tie.Need-mul-mask Inv-loop μ-loop
 mul-mask c =
     let room : c .before .loop .mask < 2048 =
-    marks-room (λ e. Unit {0}) (c .before .before .args .n) (c .before .loop .e) (c .before .loop .mask) (c .before .before .pre) (search needs) (c .before .loop .inv .0) (c .before .loop .inv .1)
+    marks-room (λ e. Unit {0}) (c .before .before .args .n) (c .before .loop .e) (c .before .loop .mask) (c .before .before .pre) (search needs)
+    (c .before .loop .inv .0) (c .before .loop .inv .1)
     in
     search needs
 
 add-mask : tie.Need-add-mask Inv-loop μ-loop
 add-mask c =
     let room : c .before .loop .mask < 2048 =
-    marks-room (λ e. Unit {0}) (c .before .before .args .n) (c .before .loop .e) (c .before .loop .mask) (c .before .before .pre) (search needs) (c .before .loop .inv .0) (c .before .loop .inv .1)
+    marks-room (λ e. Unit {0}) (c .before .before .args .n) (c .before .loop .e) (c .before .loop .mask) (c .before .before .pre) (search needs)
+    (c .before .loop .inv .0) (c .before .loop .inv .1)
     in
     search needs
 
@@ -39,7 +41,8 @@ loop-less c = search needs
 loop-again : tie.Need-loop-again Inv-loop μ-loop
 loop-again c = (
   search needs,
-  marks-one (λ e. Unit {0}) (c .before .before .args .n) (c .before .loop .e) (c .before .loop .mask) (search needs) (c .before .loop .inv .0) tt (c .before .loop .inv .1),
+  marks-one (λ e. Unit {0}) (c .before .before .args .n) (c .before .loop .e) (c .before .loop .mask) (search needs) (c .before .loop .inv .0) tt
+  (c .before .loop .inv .1),
 )
 
 returns : tie.Need-returns Inv-loop μ-loop

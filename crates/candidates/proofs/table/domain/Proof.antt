@@ -4,7 +4,7 @@ use borrow.Author.Needs.{needs}
 use mathlib.Core.Path.{sym, _∙_, subst}
 use mathlib.Core.Bool.{false≢true}
 use Prim.Native.Nat.{ℕ, _+_, _-_, _≤_, _<_}
-use Rattle.candidates.specs.Candidates.{Marks, Possible}
+use Rattle.candidates.specs.internal.Candidates.{Marks, Possible}
 use Rattle.candidates.proofs.Masks.{marks-start, marks-one, marks-zero, marks-end, marks-room}
 use Rattle.candidates.proofs.table.domain.Statement.{statement}
 use Rattle.candidates.proofs.table.domain.Tie as tie
@@ -31,19 +31,22 @@ sub-d c = search needs
 possible-requires : tie.Need-possible-requires Inv-loop μ-loop
 possible-requires c κs =
     let laid = c .before .before .before .before .before .pre .0 in
-    (record { source-length = laid .source-length; target-length = laid .target-length; few-rows = laid .few-rows; few-images = search needs }, search needs, search needs)
+    (record { source-length = laid .source-length; target-length = laid .target-length; few-rows = laid .few-rows; few-images = search needs }, search needs,
+    search needs)
 
 mul-mask : tie.Need-mul-mask Inv-loop μ-loop
 mul-mask c =
     let at4 = c .before .before .before .before in
-    let room : c .before .before .before .loop .mask < 2048 = marks-room _ (at4 .candidates .result) (c .before .before .before .loop .d) (c .before .before .before .loop .mask)
+    let room : c .before .before .before .loop .mask < 2048 = marks-room _ (at4 .candidates .result) (c .before .before .before .loop .d)
+    (c .before .before .before .loop .mask)
     (at4 .candidates .ensures .1) (search needs) (c .before .before .before .loop .inv .0) (c .before .before .before .loop .inv .1) in
     search needs
 
 add-mask : tie.Need-add-mask Inv-loop μ-loop
 add-mask c =
     let at4 = c .before .before .before .before in
-    let room : c .before .before .before .loop .mask < 2048 = marks-room _ (at4 .candidates .result) (c .before .before .before .loop .d) (c .before .before .before .loop .mask)
+    let room : c .before .before .before .loop .mask < 2048 = marks-room _ (at4 .candidates .result) (c .before .before .before .loop .d)
+    (c .before .before .before .loop .mask)
     (at4 .candidates .ensures .1) (search needs) (c .before .before .before .loop .inv .0) (c .before .before .before .loop .inv .1) in
     search needs
 
@@ -57,14 +60,16 @@ loop-again c =
     let args = at7 .args in
     let P : ℕ → Type 0 = Possible (args .source .now) (args .target .now) (args .named) (args .offered) (args .size) (args .r) in (
       search needs,
-      marks-one P (at4 .candidates .result) (c .before .before .before .loop .d) (c .before .before .before .loop .mask) (search needs) (c .before .before .before .loop .inv .0)
+      marks-one P (at4 .candidates .result) (c .before .before .before .loop .d) (c .before .before .before .loop .mask) (search needs)
+      (c .before .before .before .loop .inv .0)
           (c .before .possible .ensures .0 (c .if1 .taken)) (c .before .before .before .loop .inv .1),
     )
 
 mul-mask-2 : tie.Need-mul-mask-2 Inv-loop μ-loop
 mul-mask-2 c =
     let at4 = c .before .before .before .before in
-    let room : c .before .before .before .loop .mask < 2048 = marks-room _ (at4 .candidates .result) (c .before .before .before .loop .d) (c .before .before .before .loop .mask)
+    let room : c .before .before .before .loop .mask < 2048 = marks-room _ (at4 .candidates .result) (c .before .before .before .loop .d)
+    (c .before .before .before .loop .mask)
     (at4 .candidates .ensures .1) (search needs) (c .before .before .before .loop .inv .0) (c .before .before .before .loop .inv .1) in
     search needs
 
@@ -78,7 +83,8 @@ loop-again-2 c =
     let args = at7 .args in
     let P : ℕ → Type 0 = Possible (args .source .now) (args .target .now) (args .named) (args .offered) (args .size) (args .r) in (
       search needs,
-      marks-zero P (at4 .candidates .result) (c .before .before .before .loop .d) (c .before .before .before .loop .mask) (search needs) (c .before .before .before .loop .inv .0)
+      marks-zero P (at4 .candidates .result) (c .before .before .before .loop .d) (c .before .before .before .loop .mask) (search needs)
+      (c .before .before .before .loop .inv .0)
           (λ p. false≢true (sym (c .if1 .left) ∙ c .before .possible .ensures .1 p)) (c .before .before .before .loop .inv .1),
     )
 

@@ -5,7 +5,7 @@ use borrow.Author.Count.{below-none}
 use mathlib.Core.Path.{_≡_}
 use Prim.Native.Nat.{ℕ, _-_, _≤_, _<_}
 use lib.ListN.{getD, length}
-use Rattle.candidates.specs.Candidates.{Marks, candidatesOf, Possible}
+use Rattle.candidates.specs.internal.Candidates.{Marks, candidatesOf, Possible}
 use Rattle.lists.proofs.Positions.{stored-more}
 use Rattle.candidates.proofs.table.domains.Statement.{statement}
 use Rattle.candidates.proofs.table.domains.Tie as tie
@@ -48,7 +48,8 @@ loop-again c =
       search needs,
       search needs,
       stored-more
-          (λ j m. Marks (candidatesOf (args .size) (args .count) j) m (Possible (args .source .now) (args .target .now) (args .named) (args .offered) (args .size) j)) all r
+          (λ j m. Marks (candidatesOf (args .size) (args .count) j) m
+          (Possible (args .source .now) (args .target .now) (args .named) (args .offered) (args .size) j)) all r
           (c .domain .result) 0 long (c .before .before .loop .inv .2) (c .domain .ensures),
     )
 

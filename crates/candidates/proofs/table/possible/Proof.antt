@@ -50,7 +50,8 @@ returns-4 : tie.Need-returns-4
 returns-4 c =
     possible-when _ _ _ _ _ _ _ _ _ (c .before .before .before .before .row-at .ensures .0) (c .before .before .before .image-at .ensures .0) _
     (⊎-elim (λ w h. w .1 .left) (λ w h. absurd (not-le-of-lt h (w .left))) (c .before .before .before .before .before .if1 .came))
-    (⊎-elim (λ w h again. false≢true (sym (w .3 .left) ∙ w .2 .ensures .1 again)) (λ w h. absurd (not-le-of-lt h (w .left))) (c .before .before .before .before .before .if1 .came))
+    (⊎-elim (λ w h again. false≢true (sym (w .3 .left) ∙ w .2 .ensures .1 again)) (λ w h. absurd (not-le-of-lt h (w .left)))
+    (c .before .before .before .before .before .if1 .came))
     (c .before .before .fixes .ensures .0 (not-false _ (c .before .if4 .left)))
     (c .agrees .ensures)
 

@@ -7,7 +7,7 @@ use mathlib.Core.Bool.{false≢true}
 use mathlib.Core.Logic.{⊎-elim}
 use Prim.Native.Nat.{ℕ, _*_, _-_, _≤_, _<_}
 use lib.ListN.{getD}
-use Rattle.candidates.specs.Candidates.{SameRow}
+use Rattle.candidates.specs.internal.Candidates.{SameRow}
 use Rattle.lists.proofs.Positions.{tells-true, tells-false}
 use Rattle.candidates.proofs.table.repeats.Statement.{statement}
 use Rattle.candidates.proofs.table.repeats.Tie as tie
@@ -38,7 +38,8 @@ same-row-requires : tie.Need-same-row-requires Inv-loop μ-loop
 same-row-requires c κs = search needs
 
 returns : tie.Need-returns Inv-loop μ-loop
-returns c = tells-true (c .before .before .before .before .loop .e, search needs, c .before .before .if1 .taken, c .before .same-row .ensures .0 (c .if2 .taken))
+returns c = tells-true (c .before .before .before .before .loop .e, search needs, c .before .before .if1 .taken, c .before .same-row .ensures .0
+    (c .if2 .taken))
 
 add-e : tie.Need-add-e Inv-loop μ-loop
 add-e c = search needs

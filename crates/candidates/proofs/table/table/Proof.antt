@@ -44,7 +44,8 @@ loop-again c =
     let long : k < length all = search needs in (
       search needs,
       search needs,
-      stored-more (IsMask (args .source .now) (args .target .now) (args .size) (args .count)) all k (c .mask-at .result) 0 long (c .before .before .loop .inv .2)
+      stored-more (IsMask (args .source .now) (args .target .now) (args .size) (args .count)) all k (c .mask-at .result) 0 long
+      (c .before .before .loop .inv .2)
           (c .mask-at .ensures),
     )
 

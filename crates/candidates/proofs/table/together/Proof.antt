@@ -5,7 +5,7 @@ use mathlib.Core.Path.{sym, _∙_, subst}
 use mathlib.Core.Bool.{false≢true}
 use Prim.Native.Nat.{ℕ, _+_, _-_, _≤_, _<_}
 use Rattle.lists.specs.Tests.{Tells}
-use Rattle.candidates.specs.Candidates.{Marks, Together}
+use Rattle.candidates.specs.internal.Candidates.{Marks, Together}
 use Rattle.candidates.proofs.Masks.{marks-start, marks-one, marks-zero, marks-end, marks-room}
 use Rattle.candidates.proofs.Candidates.{together-when}
 use Rattle.candidates.proofs.table.together.Statement.{statement}
@@ -48,14 +48,16 @@ agrees-requires c κs = search needs
 mul-mask : tie.Need-mul-mask Inv-loop μ-loop
 mul-mask c =
     let room : c .before .before .before .before .loop .mask < 2048 = marks-room _ (c .before .before .before .before .before .candidates .result)
-    (c .before .before .before .before .loop .e) (c .before .before .before .before .loop .mask) (c .before .before .before .before .before .candidates .ensures .1) (search needs)
+    (c .before .before .before .before .loop .e) (c .before .before .before .before .loop .mask)
+    (c .before .before .before .before .before .candidates .ensures .1) (search needs)
     (c .before .before .before .before .loop .inv .0) (c .before .before .before .before .loop .inv .1) in
     search needs
 
 add-mask : tie.Need-add-mask Inv-loop μ-loop
 add-mask c =
     let room : c .before .before .before .before .loop .mask < 2048 = marks-room _ (c .before .before .before .before .before .candidates .result)
-    (c .before .before .before .before .loop .e) (c .before .before .before .before .loop .mask) (c .before .before .before .before .before .candidates .ensures .1) (search needs)
+    (c .before .before .before .before .loop .e) (c .before .before .before .before .loop .mask)
+    (c .before .before .before .before .before .candidates .ensures .1) (search needs)
     (c .before .before .before .before .loop .inv .0) (c .before .before .before .before .loop .inv .1) in
     search needs
 
@@ -67,21 +69,26 @@ loop-again c =
     let args = c .before .before .before .before .before .before .before .before .before .before .before .args in
     let P : ℕ → Type 0 = Together (args .source .now) (args .target .now) (args .size) (args .r) (args .d) (args .q) in
     let tells : Tells (c .before .agrees .result) (P (c .before .before .before .before .loop .e - 1)) =
-    (together-when (args .source .now) (args .target .now) (args .size) (args .r) (args .d) (c .before .before .before .before .before .before .before .before .row-at .result)
+    (together-when (args .source .now) (args .target .now) (args .size) (args .r) (args .d)
+    (c .before .before .before .before .before .before .before .before .row-at .result)
     (c .before .before .before .before .before .before .before .image-at .result)
-    (c .before .before .before .before .before .before .before .before .row-at .ensures .0) (c .before .before .before .before .before .before .before .image-at .ensures .0)
-    (c .before .agrees .result) (args .q) (c .before .before .before .before .loop .e - 1) (c .before .before .before .before .before .before .row-at2 .result) (c .before .before .image-at2 .result)
+    (c .before .before .before .before .before .before .before .before .row-at .ensures .0)
+    (c .before .before .before .before .before .before .before .image-at .ensures .0)
+    (c .before .agrees .result) (args .q) (c .before .before .before .before .loop .e - 1) (c .before .before .before .before .before .before .row-at2 .result)
+    (c .before .before .image-at2 .result)
     (c .before .before .before .before .before .before .row-at2 .ensures .0) (c .before .before .image-at2 .ensures .0) (c .before .agrees .ensures))
     in (
       search needs,
-      marks-one P (c .before .before .before .before .before .candidates .result) (c .before .before .before .before .loop .e) (c .before .before .before .before .loop .mask)
+      marks-one P (c .before .before .before .before .before .candidates .result) (c .before .before .before .before .loop .e)
+      (c .before .before .before .before .loop .mask)
           (search needs) (c .before .before .before .before .loop .inv .0) (tells .0 (c .if1 .taken)) (c .before .before .before .before .loop .inv .1),
     )
 
 mul-mask-2 : tie.Need-mul-mask-2 Inv-loop μ-loop
 mul-mask-2 c =
     let room : c .before .before .before .before .loop .mask < 2048 = marks-room _ (c .before .before .before .before .before .candidates .result)
-    (c .before .before .before .before .loop .e) (c .before .before .before .before .loop .mask) (c .before .before .before .before .before .candidates .ensures .1) (search needs)
+    (c .before .before .before .before .loop .e) (c .before .before .before .before .loop .mask)
+    (c .before .before .before .before .before .candidates .ensures .1) (search needs)
     (c .before .before .before .before .loop .inv .0) (c .before .before .before .before .loop .inv .1) in
     search needs
 
@@ -93,15 +100,20 @@ loop-again-2 c =
     let args = c .before .before .before .before .before .before .before .before .before .before .before .args in
     let P : ℕ → Type 0 = Together (args .source .now) (args .target .now) (args .size) (args .r) (args .d) (args .q) in
     let tells : Tells (c .before .agrees .result) (P (c .before .before .before .before .loop .e - 1)) =
-    (together-when (args .source .now) (args .target .now) (args .size) (args .r) (args .d) (c .before .before .before .before .before .before .before .before .row-at .result)
+    (together-when (args .source .now) (args .target .now) (args .size) (args .r) (args .d)
+    (c .before .before .before .before .before .before .before .before .row-at .result)
     (c .before .before .before .before .before .before .before .image-at .result)
-    (c .before .before .before .before .before .before .before .before .row-at .ensures .0) (c .before .before .before .before .before .before .before .image-at .ensures .0)
-    (c .before .agrees .result) (args .q) (c .before .before .before .before .loop .e - 1) (c .before .before .before .before .before .before .row-at2 .result) (c .before .before .image-at2 .result)
+    (c .before .before .before .before .before .before .before .before .row-at .ensures .0)
+    (c .before .before .before .before .before .before .before .image-at .ensures .0)
+    (c .before .agrees .result) (args .q) (c .before .before .before .before .loop .e - 1) (c .before .before .before .before .before .before .row-at2 .result)
+    (c .before .before .image-at2 .result)
     (c .before .before .before .before .before .before .row-at2 .ensures .0) (c .before .before .image-at2 .ensures .0) (c .before .agrees .ensures))
     in (
       search needs,
-      marks-zero P (c .before .before .before .before .before .candidates .result) (c .before .before .before .before .loop .e) (c .before .before .before .before .loop .mask)
-          (search needs) (c .before .before .before .before .loop .inv .0) (λ p. false≢true (sym (c .if1 .left) ∙ tells .1 p)) (c .before .before .before .before .loop .inv .1),
+      marks-zero P (c .before .before .before .before .before .candidates .result) (c .before .before .before .before .loop .e)
+      (c .before .before .before .before .loop .mask)
+          (search needs) (c .before .before .before .before .loop .inv .0) (λ p. false≢true (sym (c .if1 .left) ∙ tells .1 p))
+          (c .before .before .before .before .loop .inv .1),
     )
 
 returns : tie.Need-returns Inv-loop μ-loop

@@ -8,7 +8,7 @@ use Prim.Native.Nat.{ℕ, _+_, _-_, _≤_, _<_}
 use Rattle.theory.specs.Query.{constant}
 use Rattle.theory.specs.Answer.{valueOf}
 use Rattle.theory.proofs.Entries.{sameEntry-eq, sameEntry-ne}
-use Rattle.mapping.specs.Mapped.{imagesOf}
+use Rattle.query.specs.View.{imagesOf}
 use Rattle.mapping.specs.internal.Lines.{entryIn}
 use Rattle.lists.proofs.Positions.{tells-true, tells-false}
 use Rattle.mapping.proofs.carry.carries.Statement.{statement}
@@ -52,7 +52,8 @@ returns : tie.Need-returns Inv-loop μ-loop
 returns c =
     let at6 = c .before .before .before .before .before .before in
     tells-false
-    (λ p. sameEntry-ne _ _ (sym (c .before .same-entry .ensures) ∙ not-true _ (c .if1 .taken)) (c .before .before .image-of .ensures ∙ p (at6 .loop .i) (search needs)))
+    (λ p. sameEntry-ne _ _ (sym (c .before .same-entry .ensures) ∙ not-true _ (c .if1 .taken))
+    (c .before .before .image-of .ensures ∙ p (at6 .loop .i) (search needs)))
 
 add-i : tie.Need-add-i Inv-loop μ-loop
 add-i c = search needs

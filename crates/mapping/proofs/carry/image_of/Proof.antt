@@ -5,9 +5,8 @@ use mathlib.Core.Path.{ap, sym, _∙_}
 use lib.ListN.{List·getD-eq-default}
 use Rattle.theory.specs.Query.{constant}
 use Rattle.theory.specs.Answer.{valueOf}
-use Rattle.query.specs.View.{entryOf}
+use Rattle.query.specs.View.{entryOf, imagesOf}
 use Rattle.query.specs.Rule.{noCell}
-use Rattle.mapping.specs.Mapped.{imagesOf}
 use Rattle.mapping.proofs.carry.image_of.Statement.{statement}
 use Rattle.mapping.proofs.carry.image_of.Tie as tie
 
@@ -30,7 +29,8 @@ returns : tie.Need-returns
 returns c = ap (λ e. valueOf constant (imagesOf (c .before .before .before .args .t1)) (entryOf e)) (sym (c .before .e .given .1))
 
 returns-2 : tie.Need-returns-2
-returns-2 c = ap (λ e. valueOf constant (imagesOf (c .before .before .before .before .before .args .t1)) (entryOf e)) (sym (c .before .before .before .e2 .given .1))
+returns-2 c = ap (λ e. valueOf constant (imagesOf (c .before .before .before .before .before .args .t1)) (entryOf e))
+    (sym (c .before .before .before .e2 .given .1))
 
 returns-3 : tie.Need-returns-3
 returns-3 c =

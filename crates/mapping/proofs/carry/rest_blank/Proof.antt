@@ -9,7 +9,7 @@ use mathlib.Core.Logic.{⊎-elim}
 use Prim.Native.Nat.{ℕ, _-_, _≤_, _<_}
 use Rattle.theory.specs.Query.{constant}
 use Rattle.theory.proofs.Entries.{sameEntry-eq, sameEntry-ne}
-use Rattle.mapping.specs.Mapped.{imagesOf}
+use Rattle.query.specs.View.{imagesOf}
 use Rattle.mapping.specs.internal.Lines.{Stands}
 use Rattle.lists.proofs.Positions.{tells-true, tells-false}
 use Rattle.mapping.proofs.carry.rest_blank.Statement.{statement}
@@ -44,7 +44,8 @@ returns c =
     tells-false
     (λ p.
     sameEntry-ne _ _ (sym (c .before .before .before .same-entry .ensures) ∙ not-true _ (c .before .before .if1 .taken))
-    (p (c .before .before .before .before .before .before .loop .v) (search needs) (λ s. false≢true (sym (not-true _ (c .if2 .taken)) ∙ c .before .stands .ensures .1 s))))
+    (p (c .before .before .before .before .before .before .loop .v) (search needs)
+    (λ s. false≢true (sym (not-true _ (c .if2 .taken)) ∙ c .before .stands .ensures .1 s))))
 
 add-v : tie.Need-add-v Inv-loop μ-loop
 add-v c = search needs
@@ -56,7 +57,8 @@ loop-again : tie.Need-loop-again Inv-loop μ-loop
 loop-again c = (
   search needs,
   below-more _ _ (c .before .before .before .before .loop .inv .1)
-      (⊎-elim (λ w out. absurd (out (w .1 .ensures .0 (not-false _ (w .2 .left))))) (λ w out. sameEntry-eq _ _ (sym (c .before .same-entry .ensures) ∙ not-false _ (w .left)))
+      (⊎-elim (λ w out. absurd (out (w .1 .ensures .0 (not-false _ (w .2 .left)))))
+      (λ w out. sameEntry-eq _ _ (sym (c .before .same-entry .ensures) ∙ not-false _ (w .left)))
       (c .if1 .came)),
 )
 

@@ -7,7 +7,7 @@ use mathlib.Core.Logic.{_↔_}
 use Prim.Native.Nat.{ℕ, _+_, _*_, _^_, _≤_, _<_}
 use lib.Dec.{eqb}
 use lib.ListN.{getD, length}
-use Rattle.consistency.specs.Solution.{Bit as Has, together as goes}
+use Rattle.consistency.specs.internal.Solution.{Bit as Has, together as goes}
 
 -- The row at q, with its image at e, takes the code `value` to `image` wherever it has it
 abbrev pub Takes : List ℕ → List ℕ → ℕ → ℕ → ℕ → ℕ → Type 0

@@ -5,7 +5,7 @@ use mathlib.Core.List.{List}
 use Prim.Native.Nat.{ℕ, _/_, _%_, _^_, _<_}
 use lib.ListN.{getD, set}
 use lib.Bits.{bitOr}
-use Rattle.consistency.specs.Solution.{Bit, Solution}
+use Rattle.consistency.specs.internal.Solution.{Bit, Solution}
 use Rattle.consistency.specs.declared.State.{State}
 
 -- i is not in the mask m

@@ -4,18 +4,13 @@ use mathlib.Core.Bool.{Bool, true, false}
 use mathlib.Core.List.{List}
 use Prim.Native.Nat.{ℕ, _≤_}
 use lib.ListN.{getD, replicate}
-use Rattle.theory.specs.Query as theory
 use Rattle.theory.specs.Answer.{IsMapping, Mapping}
 use Rattle.theory.specs.Checking.{mapsTo}
 use Rattle.query.specs.declared.Cell.{Cell}
 use Rattle.query.specs.declared.Query.{Query}
-use Rattle.query.specs.View.{entryOf, entriesOf, queryOf}
+use Rattle.query.specs.View.{entriesOf, queryOf, imagesOf}
 use Rattle.query.specs.Rule.{goodQuery, noCell}
 use Rattle.mapping.specs.declared.Mapped.{Mapped}
-
--- The assignment that an array of images gives: variable v goes to the entry at v
-abbrev pub imagesOf : List Cell → ℕ → theory.Entry
-imagesOf images v = entryOf (getD images v noCell .entry)
 
 -- A query that some schema makes good
 abbrev pub Storable : Query → Type 0

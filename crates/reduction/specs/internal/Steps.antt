@@ -8,17 +8,16 @@ use Rattle.query.specs.declared.Query.{Query}
 use Rattle.query.specs.declared.Dependency.{Dependency}
 use Rattle.record.specs.declared.Record.{Record}
 use Rattle.record.specs.declared.Answer.the-variants as answer
-use Rattle.query.specs.View.{queryOf}
+use Rattle.query.specs.View.{queryOf, imagesOf}
 use Rattle.record.specs.View.{schemaOf, dependenciesOf}
 use Rattle.lists.specs.Tests.{every, between}
 use Rattle.query.specs.Rule.{goodDependencies, goodQuery, headSafe, noCell}
 use Rattle.record.specs.Rule.{goodRecord}
 use Rattle.record.specs.Calls.{isFilled, withPlace, storedAt, queryAt}
-use Rattle.mapping.specs.Mapped.{imagesOf}
 use Rattle.theory.specs.Database as database
 use Rattle.reduction.specs.declared.Shortened.{Shortened}
 use Rattle.reduction.specs.declared.Reduced.{Reduced}
-use Rattle.reduction.specs.Reduced.{Reduces}
+use Rattle.reduction.specs.Reduced.{ReducesTo}
 
 -- A query and dependencies that are good under some schema, as those of a good record
 pub record Shortenable (q : Query) (dependencies : List Dependency) (held : ℕ) : Type 0 where
@@ -31,7 +30,7 @@ pub record Shortenable (q : Query) (dependencies : List Dependency) (held : ℕ)
 pub record IsShortened (schema : List ℕ) (ds : List database.Dependency) (q : Query) (r : Shortened) : Type 0 where
   pub good : goodQuery schema (r .query) ≡ true
   pub safe : headSafe schema (r .query) ≡ true
-  pub reduces : Reduces schema ds (queryOf schema q) (queryOf schema (r .query)) (r .count) (imagesOf (r .images))
+  pub reduces : ReducesTo schema ds (queryOf schema q) (queryOf schema (r .query)) (r .count) (imagesOf (r .images))
   pub no-mapping : queryOf schema (r .query) .rows ≡ [] → r .images ≡ replicate 96 noCell
 
 -- A good record whose source place is filled, and a target place
@@ -46,5 +45,5 @@ pub record IsStored (r : Record) (source target : ℕ) (o : Reduced) : Type 0 wh
   pub done : o .answer ≡ answer.Done
   pub unchanged : o .«record» ≡ withPlace r target (record { filled = true; query = storedAt (o .«record») target })
   pub good : goodRecord (o .«record») ≡ true
-  pub reduces : Reduces (schemaOf r) (dependenciesOf r) (queryAt r source) (queryAt (o .«record») target) (o .count) (imagesOf (o .images))
+  pub reduces : ReducesTo (schemaOf r) (dependenciesOf r) (queryAt r source) (queryAt (o .«record») target) (o .count) (imagesOf (o .images))
   pub no-mapping : queryAt (o .«record») target .rows ≡ [] → o .images ≡ replicate 96 noCell

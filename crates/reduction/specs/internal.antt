@@ -1,0 +1,2 @@
+-- What the private functions promise.
+pub mod Steps
