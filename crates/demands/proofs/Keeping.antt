@@ -1,10 +1,11 @@
 -- Demand 1 from the calls' own contracts. Assumes nothing.
-use mathlib.Core.Path.{_≡_, refl, sym, ap, _∙_}
-use mathlib.Core.Bool.{Bool, true, false}
-use mathlib.Core.List.{List, [], _∷_, _++_}
+use mathlib.Core.Path.{_≡_, refl, sym, ap, subst, _∙_}
+use mathlib.Core.Bool.{Bool, true, false, cond}
+use mathlib.Core.List.{List, [], _∷_, _++_, map}
 use mathlib.Core.Option.{Option, none, some}
-use Prim.Native.Nat.{ℕ}
-use lib.ListN.{length, drop, replicate}
+use Prim.Native.Nat.{ℕ, zero, suc, _-_}
+use lib.Dec.{eqb}
+use lib.ListN.{length, drop}
 use native.Mathlib.Omega.{arith}
 use Rattle.refusals.specs.Refusals.{Condition, order, follows, firstHolding, Reply, refused, gives, reply}
 use Rattle.query.specs.declared.Cell.{Cell}
@@ -32,15 +33,19 @@ use Rattle.theory.specs.Query as theory
 use Rattle.theory.specs.Search as search
 use Rattle.theory.specs.Checking.{mapsTo}
 use Rattle.record.specs.View.{schemaOf, dependenciesOf}
+use Rattle.record.specs.Rule.{blankRecord}
 use Rattle.words.specs.Words.{rowsOf}
 use Rattle.words.specs.Testing.{firstBrokenFrom}
 use Rattle.words.specs.Broken.{violationOf}
 use Rattle.words.specs.declared.Violation.{Violation}
 use Rattle.words.specs.declared.Violation.the-variants as violation
-use Rattle.format.specs.File.{fileOf}
+use Rattle.format.specs.Bytes.{number}
+use Rattle.format.specs.File.{stretch, stretches, readFile, outcomeOf, fileOf}
+use Rattle.format.specs.Faults.{refusalIn, partAt, schemaIn, placeConditions, readConditions}
+use Rattle.format.proofs.Faults.{first-fault}
 use Rattle.writer.specs.declared.Written.{Written}
 use Rattle.writer.specs.Write.{writingRefused, lengthUnless, fileUnless, written, afterWriting}
-use Rattle.demands.specs.Demand1.{InOrder, Keeps, determinedAt, refusalIn, columnsRefusal, verdictRefusal, checkRefusal, testRefusal, evaluationRefusal, writingRefusal, OpenKeeps, AddKeeps, PutKeeps, DropKeeps, DeterminedKeeps, CompareKeeps, CheckKeeps, ReduceKeeps, TestKeeps, EvaluateKeeps, WriteKeeps}
+use Rattle.demands.specs.Demand1.{InOrder, Keeps, determinedAt, answerRefusal, columnsRefusal, verdictRefusal, checkRefusal, testRefusal, evaluationRefusal, writingRefusal, OpenKeeps, AddKeeps, PutKeeps, DropKeeps, DeterminedKeeps, CompareKeeps, CheckKeeps, ReduceKeeps, TestKeeps, EvaluateKeeps, partsOrder, fileOrder, ReadKeeps, WriteKeeps}
 
 -- ---- every call
 
@@ -53,17 +58,17 @@ module _ (conditions : List Condition) (numbers : List ℕ) (said : Option ℕ) 
 
 -- ---- the calls on the record alone
 
-concluded-said : (f : Option ℕ) (given after : Record) → refusalIn (concluded f given after .answer) ≡ f
+concluded-said : (f : Option ℕ) (given after : Record) → answerRefusal (concluded f given after .answer) ≡ f
 concluded-said none given after = refl
 concluded-said (some n) given after = refl
 
 -- A call that hands back the record given, or leaves another
 concluded-keeps : (conditions : List Condition) → InOrder conditions order → (given after : Record) (o : Outcome)
     → o ≡ concluded (firstHolding conditions) given after
-    → Keeps conditions order (refusalIn (o .answer)) (o .«record» ≡ given) (o .«record» ≡ after)
+    → Keeps conditions order (answerRefusal (o .answer)) (o .«record» ≡ given) (o .«record» ≡ after)
 concluded-keeps conditions ordered given after o e =
     keeps conditions order _ _ _ ordered
-    (ap (λ (x : Outcome). refusalIn (x .answer)) e ∙ concluded-said (firstHolding conditions) given after)
+    (ap (λ (x : Outcome). answerRefusal (x .answer)) e ∙ concluded-said (firstHolding conditions) given after)
     (λ n f. ap (λ (x : Outcome). x .«record») (e ∙ ap (λ (y : Option ℕ). concluded y given after) f))
     (λ f. ap (λ (x : Outcome). x .«record») (e ∙ ap (λ (y : Option ℕ). concluded y given after) f))
 
@@ -141,9 +146,9 @@ reduce-keeps r source target o is =
     keeps _ order _ _ _ refl (go (firstHolding (reductionConditions r source target)) refl)
     (λ n f. let e = is .refused n f in (ap (λ (x : Reduced). x .«record») e, ap (λ (x : Reduced). x .images) e, ap (λ (x : Reduced). x .count) e)) (λ f. is)
   where
-    go : (f : Option ℕ) → firstHolding (reductionConditions r source target) ≡ f → refusalIn (o .answer) ≡ firstHolding (reductionConditions r source target)
-    go none f = ap refusalIn (is .accepted f) ∙ sym f
-    go (some n) f = ap (λ (x : Reduced). refusalIn (x .answer)) (is .refused n f) ∙ sym f
+    go : (f : Option ℕ) → firstHolding (reductionConditions r source target) ≡ f → answerRefusal (o .answer) ≡ firstHolding (reductionConditions r source target)
+    go none f = ap answerRefusal (is .accepted f) ∙ sym f
+    go (some n) f = ap (λ (x : Reduced). answerRefusal (x .answer)) (is .refused n f) ∙ sym f
 
 -- ---- databases
 
@@ -189,3 +194,41 @@ write-keeps r before after w is-w is-after =
     (λ n f. is-after ∙ ap (λ (y : Option ℕ). fileUnless y (fileOf r) before) f)
     (λ f.
       (is-w ∙ ap (λ (y : Option ℕ). lengthUnless y (length (fileOf r))) f, is-after ∙ ap (λ (y : Option ℕ). fileUnless y (fileOf r) before) f))
+
+-- Past a number that is not 5, the faults of query parts are in their order
+parts-ordered : (schema : List ℕ) (parts : List (List ℕ)) (m : ℕ) → eqb 5 m ≡ false
+    → follows (map (λ (c : Condition). c .1) (placeConditions schema parts)) (m ∷ partsOrder (length parts)) ≡ true
+unfolding follows placeConditions partsOrder
+parts-ordered schema [] m e = refl
+parts-ordered schema (p ∷ ps) m e = rw e (parts-ordered schema ps 6 refl)
+
+stretches-length : (n : ℕ) (file table : List ℕ) → length (stretches n file table) ≡ n
+unfolding stretches
+stretches-length zero file table = refl
+stretches-length (suc n) file table = ap suc (stretches-length n file (drop 4 table))
+
+read-ordered : (file : List ℕ) → InOrder (readConditions file) (fileOrder file)
+unfolding follows readConditions
+read-ordered file =
+    let parts = stretches (number 2 file - 2) file (drop 10 file) in
+    subst (λ (n : ℕ). follows (map (λ (c : Condition). c .1) (placeConditions (schemaIn (partAt file 0)) parts)) (4 ∷ partsOrder n) ≡ true)
+    (stretches-length (number 2 file - 2) file (drop 10 file)) (parts-ordered (schemaIn (partAt file 0)) parts 4 refl)
+
+outcome-said : (x : Reply Record) → answerRefusal (outcomeOf x .answer) ≡ refusalIn x
+outcome-said (gives r) = refl
+outcome-said (refused n) = refl
+
+-- What a reply that is no refusal gives, and what one that is hands back
+reply-gives : (x : Reply Record) → refusalIn x ≡ none → x ≡ gives (outcomeOf x .«record»)
+reply-gives (gives r) e = refl
+reply-gives (refused n) e = let z : _≡_ {A = ℕ} 0 1 = cc in absurd (omega arith)
+
+reply-blank : (x : Reply Record) (n : ℕ) → refusalIn x ≡ some n → outcomeOf x .«record» ≡ blankRecord
+reply-blank (gives r) n e = let z : _≡_ {A = ℕ} 0 1 = cc in absurd (omega arith)
+reply-blank (refused m) n e = refl
+
+pub read-keeps : (file : List ℕ) (o : Outcome) → o ≡ outcomeOf (readFile file) → ReadKeeps file o
+read-keeps file o is =
+    keeps _ _ _ _ _ (read-ordered file) (ap (λ (x : Outcome). answerRefusal (x .answer)) is ∙ outcome-said (readFile file) ∙ first-fault file)
+    (λ n f. ap (λ (x : Outcome). x .«record») is ∙ reply-blank (readFile file) n (first-fault file ∙ f))
+    (λ f. reply-gives (readFile file) (first-fault file ∙ f) ∙ ap (λ (x : Outcome). gives (x .«record»)) (sym is))

@@ -3,10 +3,11 @@
 -- What each call asks, and what is due, is defined at the call. That a call ends is part of every proved contract.
 use mathlib.Core.Path.{_≡_}
 use mathlib.Core.Bool.{true}
-use mathlib.Core.List.{List, _++_, map}
+use mathlib.Core.List.{List, [], _∷_, _++_, map}
 use mathlib.Core.Option.{Option, none, some}
-use Prim.Native.Nat.{ℕ, _-_}
+use Prim.Native.Nat.{ℕ, zero, suc, _-_}
 use lib.ListN.{length, drop, getD, replicate}
+use Rattle.refusals.specs.Refusals.{badDirectory, badOffsets, badRelations, badDependency, badQuery, unsafeHead}
 use Rattle.refusals.specs.Refusals.{Condition, order, follows, firstHolding, gives}
 use Rattle.query.specs.declared.Cell.{Cell}
 use Rattle.query.specs.declared.Dependency.{Dependency}
@@ -40,7 +41,9 @@ use Rattle.words.specs.Testing.{firstBrokenFrom}
 use Rattle.words.specs.Broken.{violationOf}
 use Rattle.evaluation.specs.Evaluated.{answerWords}
 use Rattle.lists.specs.Over.{over}
-use Rattle.format.specs.File.{fileOf}
+use Rattle.format.specs.Bytes.{number}
+use Rattle.format.specs.File.{readFile, fileOf}
+use Rattle.format.specs.Faults.{readConditions}
 use Rattle.writer.specs.declared.Written.{Written}
 use Rattle.writer.specs.declared.Written.the-variants as written
 use Rattle.writer.specs.Write.{writeConditions}
@@ -71,9 +74,9 @@ Nothing = Unit {0}
 -- ---- the number with which a call says that it is refused, if it is
 
 -- A call that changes the record
-abbrev pub refusalIn : Answer → Option ℕ
-refusalIn answer.Done = none
-refusalIn (answer.Refused n) = some n
+abbrev pub answerRefusal : Answer → Option ℕ
+answerRefusal answer.Done = none
+answerRefusal (answer.Refused n) = some n
 
 -- A question about determined columns
 abbrev pub columnsRefusal : Columns → Option ℕ
@@ -114,21 +117,21 @@ writingRefusal (written.Refused n) = some n
 -- Opening a record: it was given none, so a refusal hands back the blank one
 abbrev pub OpenKeeps : List ℕ → Outcome → Type 0
 OpenKeeps widths o =
-    Keeps (openConditions widths) order (refusalIn (o .answer)) (o .«record» ≡ blankRecord)
+    Keeps (openConditions widths) order (answerRefusal (o .answer)) (o .«record» ≡ blankRecord)
     (o .«record» ≡ emptyRecord (length widths) (widths ++ replicate (8 - length widths) 0))
 
 -- Adding a dependency
 abbrev pub AddKeeps : Record → Dependency → Outcome → Type 0
-AddKeeps r d o = Keeps (addConditions r d) order (refusalIn (o .answer)) (o .«record» ≡ r) (o .«record» ≡ withDependency r d)
+AddKeeps r d o = Keeps (addConditions r d) order (answerRefusal (o .answer)) (o .«record» ≡ r) (o .«record» ≡ withDependency r d)
 
 -- Putting a query
 abbrev pub PutKeeps : Record → ℕ → Query → Outcome → Type 0
 PutKeeps r place q o =
-    Keeps (putConditions r place q) order (refusalIn (o .answer)) (o .«record» ≡ r) (o .«record» ≡ withPlace r place (record { filled = true; query = q }))
+    Keeps (putConditions r place q) order (answerRefusal (o .answer)) (o .«record» ≡ r) (o .«record» ≡ withPlace r place (record { filled = true; query = q }))
 
 -- Dropping a query
 abbrev pub DropKeeps : Record → ℕ → Outcome → Type 0
-DropKeeps r place o = Keeps (dropConditions r place) order (refusalIn (o .answer)) (o .«record» ≡ r) (o .«record» ≡ withPlace r place noPlace)
+DropKeeps r place o = Keeps (dropConditions r place) order (answerRefusal (o .answer)) (o .«record» ≡ r) (o .«record» ≡ withPlace r place noPlace)
 
 -- The columns that a left set determines
 abbrev pub determinedAt : Record → ℕ → ℕ → List ℕ
@@ -155,7 +158,7 @@ CheckKeeps r p q images c =
 -- Reducing: what is due leaves free which rows stay, their order, and the mapping
 abbrev pub ReduceKeeps : Record → ℕ → ℕ → Reduced → Type 0
 ReduceKeeps r source target o =
-    Keeps (reductionConditions r source target) order (refusalIn (o .answer))
+    Keeps (reductionConditions r source target) order (answerRefusal (o .answer))
     ((o .«record» ≡ r) × (o .images ≡ replicate 96 noCell) × (o .count ≡ 0)) (IsReduced r source target o)
 
 -- ---- databases
@@ -173,6 +176,20 @@ EvaluateKeeps r place words before after a =
     × (after ≡ answerWords (placeAnswers r place words) ++ drop (length (answerWords (placeAnswers r place words))) before))
 
 -- ---- files
+
+-- The order of the faults of so many query parts: part by part, within a part by number
+unfoldable pub partsOrder : ℕ → List ℕ
+partsOrder zero = []
+partsOrder (suc n) = badQuery ∷ unsafeHead ∷ partsOrder n
+
+-- The order of the faults of a file: the directory's, then those of each part in file order
+abbrev pub fileOrder : List ℕ → List ℕ
+fileOrder file = badDirectory ∷ badOffsets ∷ badRelations ∷ badDependency ∷ partsOrder (number 2 file - 2)
+
+-- Reading a file: it was given no record, so a refusal hands back the blank one
+abbrev pub ReadKeeps : List ℕ → Outcome → Type 0
+ReadKeeps file o =
+    Keeps (readConditions file) (fileOrder file) (answerRefusal (o .answer)) (o .«record» ≡ blankRecord) (readFile file ≡ gives (o .«record»))
 
 -- Writing a record into a buffer
 abbrev pub WriteKeeps : Record → List ℕ → List ℕ → Written → Type 0

@@ -11,7 +11,7 @@ use record::Columns;
 use record::Outcome;
 use record::Record;
 use reduction::Reduced;
-ghost use Rattle.demands.specs.Demand1.{OpenKeeps, AddKeeps, PutKeeps, DropKeeps, DeterminedKeeps, CompareKeeps, CheckKeeps, ReduceKeeps, TestKeeps, EvaluateKeeps, WriteKeeps};
+ghost use Rattle.demands.specs.Demand1.{OpenKeeps, AddKeeps, PutKeeps, DropKeeps, DeterminedKeeps, CompareKeeps, CheckKeeps, ReduceKeeps, TestKeeps, EvaluateKeeps, ReadKeeps, WriteKeeps};
 
 // ---- the record
 
@@ -90,6 +90,13 @@ pub fn evaluate(given: Record, place: usize, words: &[u32], buffer: &mut [u32]) 
 }
 
 // ---- files
+
+// Reads a file.
+pub fn read(file: &[u8]) -> Outcome
+    ensures { λ o. ⌜ ReadKeeps (now (file .entry)) o ⌝ }
+{
+    file::read(file)
+}
 
 // Writes a record into a lent buffer.
 pub fn write(given: Record, buffer: &mut [u8]) -> Written
