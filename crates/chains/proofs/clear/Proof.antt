@@ -17,36 +17,28 @@ Inv-loop heads₀ b₀ heads b = (b ≤ length heads₀) × (length heads ≡ le
 abbrev μ-loop : tie.MeasureT-loop
 μ-loop heads₀ b₀ heads b = length heads₀ - b
 
--- src/lib.rt:15:5
 loop-holds : tie.Need-loop-holds Inv-loop μ-loop
 loop-holds c = (search needs, refl, λ d h. absurd (omega arith))
 
--- src/lib.rt:16:9
 mul-heads : tie.Need-mul-heads Inv-loop μ-loop
 mul-heads c = search needs
 
--- src/lib.rt:16:9
 slice-write-heads : tie.Need-slice-write-heads Inv-loop μ-loop
 slice-write-heads c = search needs
 
--- src/lib.rt:17:9
 add-b : tie.Need-add-b Inv-loop μ-loop
 add-b c = search needs
 
--- src/lib.rt:15:5
 loop-less : tie.Need-loop-less Inv-loop μ-loop
 loop-less c = search needs
 
--- src/lib.rt:15:5
 loop-again : tie.Need-loop-again Inv-loop μ-loop
 loop-again c = let l = c .before .loop in
     (search needs, search needs, zero-more (l .heads) (l .b) (c .loop-test .taken) (l .inv .2))
 
--- src/lib.rt:10:1
 same-length : tie.Need-same-length Inv-loop μ-loop
 same-length c = search needs
 
--- src/lib.rt:10:1
 returns : tie.Need-returns Inv-loop μ-loop
 returns c = let l = c .before .loop in
     (l .inv .1, λ key links. chained-none key (l .heads) links (λ d h. l .inv .2 d (omega (arith, c .loop-test .left))))

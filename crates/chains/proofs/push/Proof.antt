@@ -10,47 +10,36 @@ use Rattle.chains.proofs.push.Tie as tie
 use Rattle.chains.proofs.push.Reads as reads
 use Rattle.chains.proofs.push.Lts as lts
 
--- src/lib.rt:27:16
 mul-links : tie.Need-mul-links
 mul-links c = search needs
 
--- src/lib.rt:27:16
 slice-read-links : tie.Need-slice-read-links
 slice-read-links c = search needs
 
--- src/lib.rt:27:5
 mul-links-2 : tie.Need-mul-links-2
 mul-links-2 c = search needs
 
--- src/lib.rt:27:5
 slice-write-links : tie.Need-slice-write-links
 slice-write-links c = search needs
 
--- src/lib.rt:28:17
 add-heads : tie.Need-add-heads
 add-heads c = search needs
 
--- src/lib.rt:28:16
 cast-heads : tie.Need-cast-heads
 cast-heads c = search needs
 
--- src/lib.rt:28:5
 mul-heads : tie.Need-mul-heads
 mul-heads c = search needs
 
--- src/lib.rt:28:5
 slice-write-heads : tie.Need-slice-write-heads
 slice-write-heads c = search needs
 
--- src/lib.rt:22:1
 same-length : tie.Need-same-length
 same-length c = search needs
 
--- src/lib.rt:22:1
 same-length-2 : tie.Need-same-length-2
 same-length-2 c = search needs
 
--- src/lib.rt:22:1
 returns : tie.Need-returns
 returns c = let s = c .before in
     let a = s .args in (
