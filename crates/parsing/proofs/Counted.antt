@@ -29,7 +29,8 @@ byte-front test (x ∷ bytes) b h =
     let u : test b ≡ true = ap test (sym e) ∙ t in
     (u, rw (e, u))
 
-pub byte-read : (test : ℕ → Bool) (s : List ℕ) (at b : ℕ) → Byte b ≡ byteRead (getByte test (drop at s)) → (test b ≡ true) × (getByte test (drop at s) ≡ got b (drop (at + 1) s))
+pub byte-read : (test : ℕ → Bool) (s : List ℕ) (at b : ℕ) → Byte b ≡ byteRead (getByte test (drop at s))
+    → (test b ≡ true) × (getByte test (drop at s) ≡ got b (drop (at + 1) s))
 byte-read test s at b h = let (t, e) = byte-front test (drop at s) b h in (t, e ∙ rw (lib.Seq.drop-drop 1 at s))
 
 pub byte-none : (o : Reading ℕ) → NoByte ≡ byteRead o → o ≡ none

@@ -51,7 +51,8 @@ goes-on part n widths i r w f h l p q =
     let k : 1 + i + 1 ≡ 1 + (i + 1) = omega arith in
     filling-turns f w (drop (1 + (i + 1)) part) h l (e ∙ rw k)
 
-no-count : (part : List ℕ) (r : ByteRead) → r ≡ byteRead (getByte (between 1 8) part) → r ≡ NoByte → noRelations ≡ relationsRead (complete badRelations (relations .get part))
+no-count : (part : List ℕ) (r : ByteRead) → r ≡ byteRead (getByte (between 1 8) part) → r ≡ NoByte
+    → noRelations ≡ relationsRead (complete badRelations (relations .get part))
 unfolding relations byte
 no-count part r p q =
     sym (ap relationsRead (complete-none badRelations (relations .get part)
@@ -60,7 +61,8 @@ no-count part r p q =
 fails : (part : List ℕ) (n : ℕ) (widths : List ℕ) (i : ℕ) (r : ByteRead) → Head part n → At part n widths i → i < n
     → r ≡ byteRead (getByte (between 1 8) (drop (1 + i) part)) → r ≡ NoByte → noRelations ≡ relationsRead (complete badRelations (relations .get part))
 fails part n widths i r hd f h p q =
-    sym (ap relationsRead (complete-fails badRelations (λ ws. (n, ws)) (Widths part n) (relations .get part) hd (filling-fails f h (byte-none (getByte (between 1 8) (drop (1 + i) part)) (sym q ∙ p)))))
+    sym (ap relationsRead (complete-fails badRelations (λ ws. (n, ws)) (Widths part n) (relations .get part) hd
+    (filling-fails f h (byte-none (getByte (between 1 8) (drop (1 + i) part)) (sym q ∙ p)))))
 
 -- the whole reading, after the last turn
 ended : (part : List ℕ) (n : ℕ) (widths : List ℕ) (i : ℕ) → At part n widths i → i ≤ n → n ≤ i → Widths part n ≡ got widths (drop (1 + n) part)
@@ -69,12 +71,14 @@ ended part n widths i f h l = let e : i ≡ n = omega arith in filling-ends f l 
 too-long : (part : List ℕ) (n : ℕ) (widths : List ℕ) (i : ℕ) → Head part n → At part n widths i → i ≤ n → n ≤ i → 1 + n < length part
     → noRelations ≡ relationsRead (complete badRelations (relations .get part))
 too-long part n widths i hd f h l t =
-    sym (ap relationsRead (complete-long badRelations (λ ws. (n, ws)) (Widths part n) (relations .get part) hd widths part (1 + n) (ended part n widths i f h l) t))
+    sym (ap relationsRead (complete-long badRelations (λ ws. (n, ws)) (Widths part n) (relations .get part) hd widths part (1 + n) (ended part n widths i f h l)
+    t))
 
 accepted : (part : List ℕ) (n : ℕ) (widths : List ℕ) (i : ℕ) → Head part n → At part n widths i → i ≤ n → n ≤ i → length part ≤ 1 + n
     → record { good = true; count = n; widths = widths } ≡ relationsRead (complete badRelations (relations .get part))
 accepted part n widths i hd f h l t =
-    sym (ap relationsRead (complete-ends badRelations (λ ws. (n, ws)) (Widths part n) (relations .get part) hd widths part (1 + n) (ended part n widths i f h l) t))
+    sym (ap relationsRead (complete-ends badRelations (λ ws. (n, ws)) (Widths part n) (relations .get part) hd widths part (1 + n) (ended part n widths i f h l)
+    t))
 
 abbrev Inv-loop : tie.InvT-loop
 Inv-loop part count n widths₀ i₀ widths i = (i ≤ n) × (n ≤ 8) × (length widths ≡ 8) × Head part n × At part n widths i
@@ -96,14 +100,19 @@ no-relations-requires c κs = search needs
 
 returns : tie.Need-returns Inv-loop μ-loop
 returns c =
-    c .no-relations .ensures ∙ no-count (c .before .before .before .before .before .args .part .now) (c .before .before .before .read-byte .result) (c .before .before .before .read-byte .ensures) (c .before .enum-told .given .1)
+    let after-read-byte = c .before .before .before in
+    let start = after-read-byte .before .before in
+    c .no-relations .ensures ∙ no-count (start .args .part .now) (after-read-byte .read-byte .result) (after-read-byte .read-byte .ensures)
+    (c .before .enum-told .given .1)
 
 cast-n : tie.Need-cast-n Inv-loop μ-loop
 cast-n c = search needs
 
 loop-holds : tie.Need-loop-holds Inv-loop μ-loop
 loop-holds c =
-    let (few, hd, f) = begins (c .before .before .before .before .before .args .part .now) (c .before .count .given .0 .0) (sym (c .before .count .given .1) ∙ c .before .before .before .read-byte .ensures) in
+    let start = c .before .before .before .before .before in
+    let (few, hd, f) =
+    begins (start .args .part .now) (c .before .count .given .0 .0) (sym (c .before .count .given .1) ∙ c .before .before .before .read-byte .ensures) in
     (omega arith, few, refl, hd, f)
 
 add-read-byte : tie.Need-add-read-byte Inv-loop μ-loop
@@ -123,9 +132,13 @@ no-relations-requires-2 c κs = search needs
 
 returns-2 : tie.Need-returns-2 Inv-loop μ-loop
 returns-2 c =
+    let after-read-byte2 = c .before .before .before in
+    let after-loop-test = after-read-byte2 .before in
+    let after-loop = after-loop-test .before in
     c .no-relations2 .ensures
-    ∙ fails _ _ (c .before .before .before .before .before .loop .widths) (c .before .before .before .before .before .loop .i) (c .before .before .before .read-byte2 .result) (c .before .before .before .before .before .loop .inv .3) (c .before .before .before .before .before .loop .inv .4) (c .before .before .before .before .loop-test .taken)
-    (c .before .before .before .read-byte2 .ensures) (c .before .enum-told2 .given .1)
+    ∙ fails _ _ (after-loop .loop .widths) (after-loop .loop .i) (after-read-byte2 .read-byte2 .result) (after-loop .loop .inv .3) (after-loop .loop .inv .4)
+    (after-loop-test .loop-test .taken)
+    (after-read-byte2 .read-byte2 .ensures) (c .before .enum-told2 .given .1)
 
 array-write-widths : tie.Need-array-write-widths Inv-loop μ-loop
 array-write-widths c = search needs
@@ -137,14 +150,19 @@ loop-less : tie.Need-loop-less Inv-loop μ-loop
 loop-less c = search needs
 
 loop-again : tie.Need-loop-again Inv-loop μ-loop
-loop-again c = (
-  search needs,
-  c .before .before .before .before .before .loop .inv .1,
-  length-set (c .before .before .before .before .before .loop .widths) (c .before .before .before .before .before .loop .i) (c .before .width .given .0 .0) ∙ c .before .before .before .before .before .loop .inv .2,
-  c .before .before .before .before .before .loop .inv .3,
-  goes-on _ _ (c .before .before .before .before .before .loop .widths) (c .before .before .before .before .before .loop .i) (c .before .before .before .read-byte2 .result) (c .before .width .given .0 .0) (c .before .before .before .before .before .loop .inv .4) (c .before .before .before .before .loop-test .taken)
-      (omega arith) (c .before .before .before .read-byte2 .ensures) (c .before .width .given .1),
-)
+loop-again c =
+    let after-read-byte2 = c .before .before .before in
+    let after-loop-test = after-read-byte2 .before in
+    let after-loop = after-loop-test .before in (
+      search needs,
+      after-loop .loop .inv .1,
+      length-set (after-loop .loop .widths) (after-loop .loop .i) (c .before .width .given .0 .0) ∙ after-loop .loop .inv .2,
+      after-loop .loop .inv .3,
+      goes-on _ _ (after-loop .loop .widths) (after-loop .loop .i) (after-read-byte2 .read-byte2 .result) (c .before .width .given .0 .0)
+          (after-loop .loop .inv .4)
+          (after-loop-test .loop-test .taken)
+          (omega arith) (after-read-byte2 .read-byte2 .ensures) (c .before .width .given .1),
+    )
 
 add-if1 : tie.Need-add-if1 Inv-loop μ-loop
 add-if1 c = search needs
@@ -154,11 +172,15 @@ no-relations-requires-3 c κs = search needs
 
 returns-3 : tie.Need-returns-3 Inv-loop μ-loop
 returns-3 c =
-    c .no-relations3 .ensures ∙ too-long _ _ (c .before .before .before .loop .widths) (c .before .before .before .loop .i) (c .before .before .before .loop .inv .3) (c .before .before .before .loop .inv .4) (c .before .before .before .loop .inv .0) (c .before .before .loop-test .left) (c .before .if1 .taken)
+    let after-loop = c .before .before .before in
+    c .no-relations3 .ensures ∙ too-long _ _ (after-loop .loop .widths) (after-loop .loop .i) (after-loop .loop .inv .3) (after-loop .loop .inv .4)
+    (after-loop .loop .inv .0) (c .before .before .loop-test .left) (c .before .if1 .taken)
 
 returns-4 : tie.Need-returns-4 Inv-loop μ-loop
 returns-4 c =
-    accepted _ _ (c .before .before .loop .widths) (c .before .before .loop .i) (c .before .before .loop .inv .3) (c .before .before .loop .inv .4) (c .before .before .loop .inv .0) (c .before .loop-test .left) (c .if1 .left)
+    let after-loop = c .before .before in
+    accepted _ _ (after-loop .loop .widths) (after-loop .loop .i) (after-loop .loop .inv .3) (after-loop .loop .inv .4) (after-loop .loop .inv .0)
+    (c .before .loop-test .left) (c .if1 .left)
 
 pub read-relations-spec : {M : Type 1} → statement M
 read-relations-spec =
