@@ -39,8 +39,7 @@ no-rows-requires c κs = search needs
 
 returns : tie.Need-returns Inv-loop2 μ-loop2 Inv-loop μ-loop
 returns c =
-    let earlier = c .before .before .before .before .before in
-    let s = earlier in
+    let s = c .before .before .before .before .before in
     let a = s .args in
     let S = take (a .count) (a .t5) in
     let X = a .part .now in
@@ -58,8 +57,7 @@ returns-2 : tie.Need-returns-2 Inv-loop2 μ-loop2 Inv-loop μ-loop
 returns-2 c =
     let after-loop-test = c .before .before .before .before in
     let after-loop = after-loop-test .before in
-    let earlier = after-loop .before .before in
-    let s = earlier in
+    let s = after-loop .before .before in
     let a = s .args in
     let S = take (a .count) (a .t5) in
     let X = a .part .now in
@@ -90,8 +88,7 @@ cast-width-2 c = search needs
 loop2-holds : tie.Need-loop2-holds Inv-loop2 μ-loop2 Inv-loop μ-loop
 loop2-holds c =
     let after-loop = c .before .before .before .before in
-    let earlier = after-loop .before .before in
-    let s = earlier in
+    let s = after-loop .before .before in
     let a = s .args in
     let S = take (a .count) (a .t5) in
     let X = a .part .now in
@@ -176,8 +173,7 @@ returns-3 c =
     let after-loop2 = after-loop2-test .before in
     let after-loop-test = after-loop2 .before .before .before .before in
     let after-loop = after-loop-test .before in
-    let earlier = after-loop .before .before in
-    let s = earlier in
+    let s = after-loop .before .before in
     let a = s .args in
     let S = take (a .count) (a .t5) in
     let X = a .part .now in
@@ -203,8 +199,7 @@ loop2-again c =
     let after-loop2 = after-loop2-test .before in
     let after-loop-test = after-loop2 .before .before .before .before in
     let after-loop = after-loop-test .before in
-    let earlier = after-loop .before .before in
-    let s = earlier in
+    let s = after-loop .before .before in
     let a = s .args in
     let S = take (a .count) (a .t5) in
     let X = a .part .now in
@@ -257,8 +252,7 @@ loop-again : tie.Need-loop-again Inv-loop2 μ-loop2 Inv-loop μ-loop
 loop-again c =
     let after-loop-test = c .before .before .before .before .before in
     let after-loop = after-loop-test .before in
-    let earlier = after-loop .before .before in
-    let s = earlier in
+    let s = after-loop .before .before in
     let a = s .args in
     let S = take (a .count) (a .t5) in
     let X = a .part .now in
@@ -272,8 +266,7 @@ no-rows-requires-4 c κs = search needs
 
 returns-4 : tie.Need-returns-4 Inv-loop2 μ-loop2 Inv-loop μ-loop
 returns-4 c =
-    let earlier = c .before .before .before .before .before in
-    let s = earlier in
+    let s = c .before .before .before .before .before in
     let a = s .args in
     let S = take (a .count) (a .t5) in
     let X = a .part .now in

@@ -182,8 +182,7 @@ returns-2 c =
 
 read-places-requires : tie.Need-read-places-requires
 read-places-requires c κs =
-    let earlier = c .before .before .before .before .before .before in
-    let after-if1 = earlier in
+    let after-if1 = c .before .before .before .before .before .before in
     let after-read-relations = after-if1 .before .before in
     let after-part = after-read-relations .before in
     let after-shared-slice-known = after-part .before in
@@ -203,8 +202,7 @@ returns-3 c =
     let after-if1 = after-part2 .before .before in
     let after-read-relations = after-if1 .before .before in
     let after-part = after-read-relations .before in
-    let earlier = after-part .before .before in
-    let s = earlier in
+    let s = after-part .before .before in
     c .read-places .ensures ∙ reads-places (s .args .file .now) (s .args .n) (s .pre .0 .0) (now (after-part .part .result)) (after-part .part .ensures)
     (after-read-relations .read-relations .result) (after-read-relations .read-relations .ensures) (now (after-part2 .part2 .result))
     (after-part2 .part2 .ensures) (not-false (after-read-relations .read-relations .result .good) (after-if1 .if1 .left))
