@@ -23,11 +23,15 @@ use Rattle.query.proofs.Relations.{relations-bounds}
 module _ (r : Record) (good : goodRecord r ≡ true) where
   module _ (lw : length (r .widths) ≡ 8) (ld : length (r .dependencies) ≡ 32) where
     pub first-long : length (relations .put (r .relations, r .widths)) ≡ 1 + r .relations
-    first-long = length-relations (r .relations) (r .widths) ∙ ap (λ (n : ℕ). 1 + n) (length-take-le (r .relations) (r .widths) (omega (arith, relations-bounds (r .relations) (r .widths) (good-record r good .relations) .1)))
+    first-long =
+        length-relations (r .relations) (r .widths)
+        ∙ ap (λ (n : ℕ). 1 + n) (length-take-le (r .relations) (r .widths)
+        (omega (arith, relations-bounds (r .relations) (r .widths) (good-record r good .relations) .1)))
 
     pub second-long : length (dependencyBytes (r .held) (r .dependencies)) ≡ 1 + 3 * r .held
     second-long =
-        let e : length (putAll putDependency (take (r .held) (r .dependencies))) ≡ 3 * length (take (r .held) (r .dependencies)) = length-putAll putDependency 3 (λ d. refl) (take (r .held) (r .dependencies)) in
+        let e : length (putAll putDependency (take (r .held) (r .dependencies))) ≡ 3 * length (take (r .held) (r .dependencies)) =
+        length-putAll putDependency 3 (λ d. refl) (take (r .held) (r .dependencies)) in
         let k : length (take (r .held) (r .dependencies)) ≡ r .held = length-take-le (r .held) (r .dependencies) (omega (arith, good-record r good .held)) in
         omega arith
 
@@ -49,7 +53,8 @@ module _ (r : Record) (good : goodRecord r ≡ true) where
         rw (← e, few, m, first-long, second-long) (simp append-assoc)
 
     -- the file's length
-    pub file-long : (n others : ℕ) → n ≡ upToFilled (r .places) → n ≤ length (r .places) → others ≡ length (join (map (putPlace (schemaOf r)) (take n (r .places))))
+    pub file-long : (n others : ℕ) → n ≡ upToFilled (r .places) → n ≤ length (r .places)
+        → others ≡ length (join (map (putPlace (schemaOf r)) (take n (r .places))))
         → (length (directoryBytes n (1 + r .relations) (1 + 3 * r .held) (map (putPlace (schemaOf r)) (take n (r .places)))) ≡ 2 + 4 * (n + 2))
         × (2 + 4 * (n + 2) + (1 + r .relations) + (1 + 3 * r .held) + others ≡ length (fileOf r))
     file-long n others e l eo =

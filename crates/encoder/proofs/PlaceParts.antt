@@ -33,9 +33,11 @@ module _ (schema : List ℕ) (narrow : Narrow schema) where
       let used : length (take w (take 8 cells)) ≡ w = length-take-le w (take 8 cells) (omega (arith, narrow-at schema r narrow)) in
       let ih : length (putAll (row schema .put) (take size (chunk named (drop 8 cells)))) ≡ rowsLength schema (take size named) =
       rows-exact named (drop 8 cells) size (length-drop 8 cells ∙ omega arith) in
-      length-append (row schema .put (r, take 8 cells)) (putAll (row schema .put) (take size (chunk named (drop 8 cells)))) ∙ omega (arith, length-row schema (r, take 8 cells))
+      length-append (row schema .put (r, take 8 cells)) (putAll (row schema .put) (take size (chunk named (drop 8 cells))))
+      ∙ omega (arith, length-row schema (r, take 8 cells))
 
-  pub query-exact : (q : Query) (used rows : ℕ) → length (q .head) ≡ 8 → length (q .relations) ≡ 12 → length (q .cells) ≡ 96 → used ≡ cond (eqb (q .size) 0) 0 (q .arity) → used ≤ 8
+  pub query-exact : (q : Query) (used rows : ℕ) → length (q .head) ≡ 8 → length (q .relations) ≡ 12 → length (q .cells) ≡ 96
+      → used ≡ cond (eqb (q .size) 0) 0 (q .arity) → used ≤ 8
       → rows ≡ rowsLength schema (take (q .size) (q .relations)) → 2 + 5 * used + rows ≡ length (query schema .put q)
   query-exact q used rows lh lr lc eu fits er =
       let k : length (take used (q .head)) ≡ used = length-take-le used (q .head) (omega arith) in

@@ -39,40 +39,41 @@ pub writing-starts : {A : Type 0} (put : A → List ℕ) (before : List ℕ) (st
     → Writing put before start xs before start 0
 writing-starts put before start xs h = record { long = refl; room = h; end = refl; rest = refl }
 
-module _ {A : Type 0} {put : A → List ℕ} {before : List ℕ} {start : ℕ} {xs : List A} {buffer : List ℕ} {at i : ℕ} (w : Writing put before start xs buffer at i) where
-  put-next : (d : A) → i < length xs → putAll put (drop i xs) ≡ put (getD xs i d) ++ putAll put (drop (i + 1) xs)
-  unfolding putAll
-  put-next d h = rw (drop-cons xs i d h, add-one)
+module _ {A : Type 0} {put : A → List ℕ} {before : List ℕ} {start : ℕ} {xs : List A} {buffer : List ℕ} {at i : ℕ} (w : Writing put before start xs buffer at i)
+  where
+    put-next : (d : A) → i < length xs → putAll put (drop i xs) ≡ put (getD xs i d) ++ putAll put (drop (i + 1) xs)
+    unfolding putAll
+    put-next d h = rw (drop-cons xs i d h, add-one)
 
-  -- there is room for the next value
-  pub writing-room : (d : A) → i < length xs → at + length (put (getD xs i d)) ≤ length buffer
-  writing-room d h =
-      let l : length (putAll put (drop i xs)) ≡ length (put (getD xs i d)) + length (putAll put (drop (i + 1) xs)) =
-      ap length (put-next d h) ∙ length-append (put (getD xs i d)) (putAll put (drop (i + 1) xs)) in
-      omega (arith, w .room)
+    -- there is room for the next value
+    pub writing-room : (d : A) → i < length xs → at + length (put (getD xs i d)) ≤ length buffer
+    writing-room d h =
+        let l : length (putAll put (drop i xs)) ≡ length (put (getD xs i d)) + length (putAll put (drop (i + 1) xs)) =
+        ap length (put-next d h) ∙ length-append (put (getD xs i d)) (putAll put (drop (i + 1) xs)) in
+        omega (arith, w .room)
 
-  pub writing-turns : (d : A) (next : List ℕ) (to : ℕ) → i < length xs → next ≡ over buffer at (put (getD xs i d)) → to ≡ at + length (put (getD xs i d))
-      → Writing put before start xs next to (i + 1)
-  writing-turns d next to h e t =
-      let one : List ℕ = put (getD xs i d) in
-      let more : List ℕ = putAll put (drop (i + 1) xs) in
-      let l : length (putAll put (drop i xs)) ≡ length one + length more = ap length (put-next d h) ∙ length-append one more in
-      let room = w .room in
-      let ln : length next ≡ length buffer = ap length e ∙ over-length buffer one at (omega arith) in
-      record {
-        long = ln ∙ w .long;
-        room = omega arith;
-        end = omega (arith, w .end);
-        rest = w .rest ∙ ap (over buffer at) (put-next d h) ∙ sym (rw (e, t) (over-over buffer at one more (omega arith)));
-      }
+    pub writing-turns : (d : A) (next : List ℕ) (to : ℕ) → i < length xs → next ≡ over buffer at (put (getD xs i d)) → to ≡ at + length (put (getD xs i d))
+        → Writing put before start xs next to (i + 1)
+    writing-turns d next to h e t =
+        let one : List ℕ = put (getD xs i d) in
+        let more : List ℕ = putAll put (drop (i + 1) xs) in
+        let l : length (putAll put (drop i xs)) ≡ length one + length more = ap length (put-next d h) ∙ length-append one more in
+        let room = w .room in
+        let ln : length next ≡ length buffer = ap length e ∙ over-length buffer one at (omega arith) in
+        record {
+          long = ln ∙ w .long;
+          room = omega arith;
+          end = omega (arith, w .end);
+          rest = w .rest ∙ ap (over buffer at) (put-next d h) ∙ sym (rw (e, t) (over-over buffer at one more (omega arith)));
+        }
 
-  pub writing-ends : length xs ≤ i → (buffer ≡ over before start (putAll put xs)) × (at ≡ start + length (putAll put xs))
-  unfolding putAll
-  writing-ends h =
-      let e : drop i xs ≡ [] = drop-of-length-le xs {i = i} h in
-      let z : putAll put (drop i xs) ≡ [] = ap (putAll put) e in
-      let l : length (putAll put (drop i xs)) ≡ 0 = ap length z in
-      (sym (w .rest ∙ ap (over buffer at) z ∙ over-nil buffer at), omega (arith, w .end))
+    pub writing-ends : length xs ≤ i → (buffer ≡ over before start (putAll put xs)) × (at ≡ start + length (putAll put xs))
+    unfolding putAll
+    writing-ends h =
+        let e : drop i xs ≡ [] = drop-of-length-le xs {i = i} h in
+        let z : putAll put (drop i xs) ≡ [] = ap (putAll put) e in
+        let l : length (putAll put (drop i xs)) ≡ 0 = ap length z in
+        (sym (w .rest ∙ ap (over buffer at) z ∙ over-nil buffer at), omega (arith, w .end))
 
 -- ---- pieces one after the other
 
@@ -85,13 +86,15 @@ pub record Run (before : List ℕ) (start : ℕ) (done buffer : List ℕ) (at : 
 pub run-starts : (before : List ℕ) (start : ℕ) → Run before start [] before start
 run-starts before start = record { long = refl; reached = native.Mathlib.Nat.add-zero start; written = sym (over-nil before start) }
 
-pub run-turns : {before : List ℕ} {start : ℕ} {done buffer : List ℕ} {at : ℕ} → Run before start done buffer at → (more next : List ℕ) (to : ℕ) → at + length more ≤ length before
+pub run-turns : {before : List ℕ} {start : ℕ} {done buffer : List ℕ} {at : ℕ} → Run before start done buffer at → (more next : List ℕ) (to : ℕ)
+    → at + length more ≤ length before
     → next ≡ over buffer at more → to ≡ at + length more → Run before start (done ++ more) next to
 run-turns {before} {start} {done} {buffer} {at} r more next to room e t =
     let reached = r .reached in
     let l : length (done ++ more) ≡ length done + length more = length-append done more in
     let two : next ≡ over before start (done ++ more) =
-    e ∙ ap (λ (b : List ℕ). over b at more) (r .written) ∙ ap (λ (n : ℕ). over (over before start done) n more) (sym (r .reached)) ∙ over-over before start done more (omega arith) in
+    e ∙ ap (λ (b : List ℕ). over b at more) (r .written) ∙ ap (λ (n : ℕ). over (over before start done) n more) (sym (r .reached))
+    ∙ over-over before start done more (omega arith) in
     record {
       long = ap length two ∙ over-length before (done ++ more) start (omega arith);
       reached = omega arith;
@@ -99,6 +102,7 @@ run-turns {before} {start} {done} {buffer} {at} r more next to room e t =
     }
 
 -- 16 bits more
-pub word-run : {before : List ℕ} {start : ℕ} {done buffer : List ℕ} {at : ℕ} → Run before start done buffer at → (v : ℕ) (next : List ℕ) → at + 2 ≤ length before
+pub word-run : {before : List ℕ} {start : ℕ} {done buffer : List ℕ} {at : ℕ} → Run before start done buffer at → (v : ℕ) (next : List ℕ)
+    → at + 2 ≤ length before
     → next ≡ over buffer at (bytesOf 2 v) → Run before start (done ++ bytesOf 2 v) next (at + 2)
 word-run r v next room e = run-turns r (bytesOf 2 v) next _ (rw (length-bytes 2 v) room) e (rw (length-bytes 2 v))

@@ -28,7 +28,8 @@ pub read-back : ReadBack
 read-back r buffer n s w =
     let (good, fits, long) = written-fits r buffer n w in
     let after = fits-written r buffer good fits .1 in
-    let same : take n (afterWriting r buffer) ≡ fileOf r = rw (← after, long) (take-at (fileOf r) (drop (0 + length (fileOf r)) buffer) (length (fileOf r)) refl) in
+    let same : take n (afterWriting r buffer) ≡ fileOf r =
+    rw (← after, long) (take-at (fileOf r) (drop (0 + length (fileOf r)) buffer) (length (fileOf r)) refl) in
     ap (λ (b : List ℕ). outcomeOf (readFile b)) same ∙ ap outcomeOf (record-read-back r good s)
 
 pub read-good : ReadGood

@@ -1,6 +1,6 @@
 -- Arrays that are filled up with blanks, and lists of bytes.
 use mathlib.Core.Path.{_≡_, refl, sym, _∙_}
-use mathlib.Core.Bool.{true, false, _&&_}
+use mathlib.Core.Bool.{false}
 use mathlib.Core.List.{List, [], _∷_, _++_}
 use Prim.Native.Nat.{ℕ, suc, _+_, _-_, _≤_, _<_}
 use native.Mathlib.Nat.{zero-add}

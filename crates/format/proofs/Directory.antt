@@ -1,19 +1,17 @@
 -- The directory: the parts of an assembled file are found again, and a file whose directory is accepted is its parts assembled.
 use mathlib.Core.Path.{_≡_, refl, sym, ap, _∙_, subst}
-use mathlib.Core.Bool.{Bool, true, false, cond, _&&_}
-use mathlib.Core.List.{List, [], _∷_, _++_, append-assoc, append-nil}
-use Prim.Native.Nat.{ℕ, zero, suc, _+_, _*_, _-_, _≤_, _<_, min}
+use mathlib.Core.Bool.{Bool, true, false, cond}
+use mathlib.Core.List.{List, [], _∷_, _++_, append-assoc}
+use Prim.Native.Nat.{ℕ, zero, suc, _+_, _*_, _-_, _≤_, _<_}
 use native.Mathlib.Omega.{arith}
 use lib.Dec.{eqb, leb, ltb}
-use lib.ListN.{length, take, drop, length-append, length-take, length-drop, take-append-drop}
+use lib.ListN.{length, take, drop, length-append, length-drop, take-append-drop}
 use lib.Seq.{take-at, drop-at, length-take-le, drop-drop, take-add, drop-length}
 use borrow.Author.Tests.{eqb-true, eq-eqb, leb-true, le-leb}
-use Rattle.lists.specs.Tests.{between, every}
 use Rattle.refusals.specs.Refusals.{badOffsets, gives, refused, Reply}
 use Rattle.format.specs.Bytes.{number, bytesOf, Bytes}
 use Rattle.format.specs.File.{chained, stretches, tableFits, directory, tableOf, join, assemble}
-use Rattle.lists.proofs.Tests.{and-left, and-right, and-both, and-iff, every-take, every-drop}
-use Rattle.format.proofs.Arrays.{bytes-append}
+use Rattle.lists.proofs.Tests.{and-both, and-iff, every-drop}
 use Rattle.format.proofs.Numbers.{number-bytes, bytes-number, length-bytes}
 
 pub length-table : (start : ℕ) (parts : List (List ℕ)) → length (tableOf start parts) ≡ 4 * length parts
@@ -83,12 +81,14 @@ stretches-table (p ∷ ps) start front file rest e l s =
     stretches-table ps (start + length p) (front ++ p) file rest e′ (length-append front p ∙ ap (λ (n : ℕ). n + length p) l) s in
     rw (first-offset start p ps rest hs hl, first-length start p ps rest hs hl, after-pair start p ps rest hs hl, t, ih)
 
-pub directory-assemble : (parts : List (List ℕ)) → 2 ≤ length parts → length parts ≤ 10 → length (assemble parts) < 65536 → directory (assemble parts) ≡ gives parts
+pub directory-assemble : (parts : List (List ℕ)) → 2 ≤ length parts → length parts ≤ 10 → length (assemble parts) < 65536
+    → directory (assemble parts) ≡ gives parts
 unfolding directory assemble
 directory-assemble parts low high small =
     let n : ℕ = length parts in
     let table : List ℕ = tableOf (2 + 4 * n) parts ++ join parts in
-    let e : bytesOf 2 n ++ tableOf (2 + 4 * n) parts ++ join parts ≡ bytesOf 2 n ++ table = append-assoc (bytesOf 2 n) (tableOf (2 + 4 * n) parts) (join parts) in
+    let e : bytesOf 2 n ++ tableOf (2 + 4 * n) parts ++ join parts ≡ bytesOf 2 n ++ table =
+    append-assoc (bytesOf 2 n) (tableOf (2 + 4 * n) parts) (join parts) in
     let l : length (bytesOf 2 n ++ table) ≡ 2 + 4 * n + length (join parts) = rw (← e) (length-assemble parts) in
     let c : number 2 (bytesOf 2 n ++ table) ≡ n = number-bytes 2 n table (omega arith) in
     let d : drop 2 (bytesOf 2 n ++ table) ≡ table = drop-at (bytesOf 2 n) table 2 (length-bytes 2 n) in
@@ -112,7 +112,8 @@ cond-ok false o n a e = let z : _≡_ {A = ℕ} 0 1 = cc in absurd (omega arith)
 
 -- what the offset rule gives: the table and the parts are the file from the table on
 pub chained-back : (n due : ℕ) (file table : List ℕ) → Bytes table → 4 * n ≤ length table → chained n due (length file) table ≡ true
-    → (due ≤ length file) × (tableOf due (stretches n file table) ≡ take (4 * n) table) × (join (stretches n file table) ≡ drop due file) × (length (stretches n file table) ≡ n)
+    → (due ≤ length file) × (tableOf due (stretches n file table) ≡ take (4 * n) table) × (join (stretches n file table) ≡ drop due file)
+    × (length (stretches n file table) ≡ n)
 unfolding chained stretches tableOf join
 chained-back zero due file table hb hl h =
     let e : due ≡ length file = eqb-true due (length file) h in
@@ -156,5 +157,6 @@ assemble-directory file parts hb e =
     let g : bytesOf 2 n ≡ take 2 file = bytes-number 2 file hb (omega arith) in
     let same : bytesOf 2 n ++ tableOf (2 + 4 * n) ps ++ join ps ≡ file =
     rw (tab, all, g, ← take-add 2 (4 * n) file) (take-append-drop (2 + 4 * n) file) in
-    subst (λ (ps : List (List ℕ)). (bytesOf 2 (length ps) ++ tableOf (2 + 4 * length ps) ps ++ join ps ≡ file) × (2 ≤ length ps) × (length ps ≤ 10) × Bytes (join ps)) p
+    subst (λ (ps : List (List ℕ)). (bytesOf 2 (length ps) ++ tableOf (2 + 4 * length ps) ps ++ join ps ≡ file) × (2 ≤ length ps) × (length ps ≤ 10)
+    × Bytes (join ps)) p
     (rw len same, rw len low, rw len high, rw all (every-drop (λ b. ltb b 256) (2 + 4 * n) file hb))

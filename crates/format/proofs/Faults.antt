@@ -1,8 +1,7 @@
 -- Reading refuses with the first fault of the file, in the order of `specs/Faults`. Assumes nothing.
 use mathlib.Core.Path.{_≡_, refl, sym, ap, _∙_}
 use mathlib.Core.Bool.{Bool, true, false, cond, not}
-use mathlib.Core.List.{List, [], _∷_, append-nil}
-use mathlib.Core.Option.{Option}
+use mathlib.Core.List.{List, [], _∷_}
 use Prim.Native.Nat.{ℕ, _+_, _-_, _*_, _≤_}
 use native.Mathlib.Omega.{arith}
 use lib.Dec.{leb}
@@ -17,11 +16,13 @@ use Rattle.refusals.specs.Refusals.{badDependency, badDirectory, badOffsets, ba
 use Rattle.refusals.specs.Refusals.{Condition, firstHolding, Reply, refused, gives, _>>=_}
 use Rattle.lists.proofs.Tests.{and-iff}
 use Rattle.format.specs.Bytes.{number}
-use Rattle.format.specs.Format.{Reading, none, got, Format}
+use Rattle.format.specs.Format.{Reading, none, got}
 use Rattle.format.specs.Parts.{relations, dependencies, query}
-use Rattle.format.specs.File.{chained, complete, directory, isVacant, noneLeft, placeWith, readAll, readFile, readParts, readPlace, readPlaces, recordWith}
-use Rattle.format.specs.File.{safeQuery, stretch, stretches, tableFits}
-use Rattle.format.specs.Faults.{isWhole, valueOr, partAt, schemaIn, relationsFault, dependenciesFault, queryFault, headFault, placeConditions, readConditions}
+use Rattle.format.specs.File.{chained, complete, directory, isVacant, noneLeft, placeWith, readAll, readFile, readParts, readPlace, readPlaces}
+use Rattle.format.specs.File.{recordWith}
+use Rattle.format.specs.File.{safeQuery, stretches, tableFits}
+use Rattle.format.specs.Faults.{isWhole, valueOr, partAt, schemaIn, relationsFault, dependenciesFault, queryFault, headFault, placeConditions}
+use Rattle.format.specs.Faults.{readConditions}
 use Rattle.format.specs.Faults.{refusalIn, FirstFault, WholeWritten}
 use Rattle.format.proofs.Results.{complete-get, complete-put}
 use Rattle.format.proofs.Stretches.{first-two}
@@ -35,7 +36,8 @@ refusal-kept (refused n) f = refl
 -- ---- a query part
 
 module _ {B : Type 0} (next : Place → Reply B) (rest : List Condition) (h : (p : Place) → refusalIn (next p) ≡ firstHolding rest) where
-  vacant-first : (last : Bool) → refusalIn (cond last (refused badQuery) (gives noPlace) >>= next) ≡ firstHolding ((last, badQuery) ∷ (false, unsafeHead) ∷ rest)
+  vacant-first : (last : Bool) → refusalIn (cond last (refused badQuery) (gives noPlace) >>= next)
+      ≡ firstHolding ((last, badQuery) ∷ (false, unsafeHead) ∷ rest)
   unfolding _>>=_ firstHolding
   vacant-first true = refl
   vacant-first false = h noPlace
@@ -59,7 +61,8 @@ module _ {B : Type 0} (next : Place → Reply B) (rest : List Condition) (h : (p
     unfolding readPlace
     place-first last part = go (isVacant part)
       where
-        go : (v : Bool) → refusalIn (cond v (cond last (refused badQuery) (gives noPlace)) (complete badQuery (query schema .get part) >>= safeQuery schema) >>= next)
+        go : (v : Bool) → refusalIn (cond v (cond last (refused badQuery) (gives noPlace)) (complete badQuery (query schema .get part) >>= safeQuery schema) >>=
+            next)
             ≡ firstHolding
             ((cond v last (not (isWhole (query schema .get part))), badQuery)
             ∷ (cond v false (not (headSafe schema (valueOr noQuery (query schema .get part)))), unsafeHead)
@@ -117,7 +120,8 @@ module _ (file : List ℕ) where
 
   few : tableFits file ≡ true → 2 ≤ count
   few e =
-      let k : (leb 2 (length file) ≡ true) × (((leb 2 count ≡ true) × (leb count 10 ≡ true)) × (leb (2 + 4 * count) (length file) ≡ true)) = simp and-iff at e in
+      let k : (leb 2 (length file) ≡ true) × (((leb 2 count ≡ true) × (leb count 10 ≡ true)) × (leb (2 + 4 * count) (length file) ≡ true)) =
+      simp and-iff at e in
       leb-true 2 count (k .1 .0 .0)
 
   all-first : 2 ≤ count → refusalIn (readAll (stretches count file (drop 2 file))) ≡ firstHolding conditions

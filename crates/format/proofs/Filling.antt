@@ -37,23 +37,24 @@ unfolding mapReading
 stored xs i x l none = refl
 stored {A = A} xs i x l (got ys rest) = ap (λ (zs : List A). got zs rest) (rw add-one (sym (over-set xs i x ys l)))
 
-module _ {A : Type 0} {get : List ℕ → Reading A} {all : Reading (List A)} {n : ℕ} {xs : List A} {i : ℕ} {bytes : List ℕ} (f : Filling get all n xs i bytes) where
-  pub filling-turns : (x : A) (rest : List ℕ) → i < n → i < length xs → get bytes ≡ got x rest → Filling get all n (set xs i x) (i + 1) rest
-  filling-turns x rest h l e =
-      let m : n - i ≡ suc (n - (i + 1)) = omega arith in
-      record {
-        rest = f .rest ∙ ap (λ (k : ℕ). mapReading (over xs i) (getTimes get k bytes)) m
-            ∙ ap (mapReading (over xs i)) (turn get (n - (i + 1)) bytes x rest e) ∙ stored xs i x l (getTimes get (n - (i + 1)) rest);
-      }
+module _ {A : Type 0} {get : List ℕ → Reading A} {all : Reading (List A)} {n : ℕ} {xs : List A} {i : ℕ} {bytes : List ℕ} (f : Filling get all n xs i bytes)
+  where
+    pub filling-turns : (x : A) (rest : List ℕ) → i < n → i < length xs → get bytes ≡ got x rest → Filling get all n (set xs i x) (i + 1) rest
+    filling-turns x rest h l e =
+        let m : n - i ≡ suc (n - (i + 1)) = omega arith in
+        record {
+          rest = f .rest ∙ ap (λ (k : ℕ). mapReading (over xs i) (getTimes get k bytes)) m
+              ∙ ap (mapReading (over xs i)) (turn get (n - (i + 1)) bytes x rest e) ∙ stored xs i x l (getTimes get (n - (i + 1)) rest);
+        }
 
-  pub filling-fails : i < n → get bytes ≡ none → all ≡ none
-  unfolding getTimes andThen mapReading
-  filling-fails h e =
-      let m : n - i ≡ suc (n - (i + 1)) = omega arith in
-      f .rest ∙ rw (m, e)
+    pub filling-fails : i < n → get bytes ≡ none → all ≡ none
+    unfolding getTimes andThen mapReading
+    filling-fails h e =
+        let m : n - i ≡ suc (n - (i + 1)) = omega arith in
+        f .rest ∙ rw (m, e)
 
-  pub filling-ends : n ≤ i → all ≡ got xs bytes
-  unfolding getTimes mapReading
-  filling-ends h =
-      let m : n - i ≡ 0 = omega arith in
-      f .rest ∙ ap (λ (k : ℕ). mapReading (over xs i) (getTimes get k bytes)) m ∙ ap (λ (ys : List A). got ys bytes) (over-nil xs i)
+    pub filling-ends : n ≤ i → all ≡ got xs bytes
+    unfolding getTimes mapReading
+    filling-ends h =
+        let m : n - i ≡ 0 = omega arith in
+        f .rest ∙ ap (λ (k : ℕ). mapReading (over xs i) (getTimes get k bytes)) m ∙ ap (λ (ys : List A). got ys bytes) (over-nil xs i)

@@ -1,17 +1,18 @@
 -- The two laws of each combinator.
 use mathlib.Core.Path.{_≡_, refl, sym, ap, _∙_, subst}
-use mathlib.Core.Bool.{Bool, true, false, cond, _&&_}
+use mathlib.Core.Bool.{Bool, true, false, _&&_}
 use mathlib.Core.List.{List, [], _∷_, _++_, append-assoc}
-use Prim.Native.Nat.{ℕ, zero, suc, _+_, _-_, _≤_, _<_, min}
+use Prim.Native.Nat.{ℕ, zero, suc, _+_, _-_, _≤_}
 use native.Mathlib.Omega.{arith}
 use lib.Dec.{eqb}
-use lib.ListN.{length, take, drop, replicate, length-append, length-take, length-drop, length-replicate, take-append-drop}
+use lib.ListN.{length, take, drop, replicate, length-drop, take-append-drop}
 use lib.Seq.{take-at, drop-at, length-take-le}
 use borrow.Author.Tests.{eqb-true, eq-eqb}
-use Rattle.lists.specs.Tests.{every, inUse}
+use Rattle.lists.specs.Tests.{every}
 use Rattle.format.specs.Bytes.{Bytes}
-use Rattle.format.specs.Format.{Reading, none, got, andThen, mapReading, gotIf, Format, Lawful, getByte, byte, sequence, putAll, getTimes, pad, padded, via}
-use Rattle.lists.proofs.Tests.{and-left, and-right, and-both, and-iff, every-take, every-drop, every-replicate, every-same}
+use Rattle.format.specs.Format.{Reading, none, got, andThen, mapReading, gotIf, Format, Lawful, getByte, byte, sequence, putAll, getTimes, pad, padded}
+use Rattle.format.specs.Format.{via}
+use Rattle.lists.proofs.Tests.{and-left, and-right, and-both, and-iff, every-drop, every-replicate, every-same}
 use Rattle.lists.proofs.Loops.{replicate-drop}
 use Rattle.format.proofs.Arrays.{length-pad, bytes-append}
 
@@ -95,7 +96,8 @@ module _ {A : Type 0} (f : Format A) (lf : Lawful f) where
       let (y, r, ey, e₁) = andThen-got (f .get bytes) (λ x rest. mapReading (λ xs. x ∷ xs) (getTimes (f .get) n rest)) xs rest e in
       let (ys, es, ep) = mapReading-got (λ ys. y ∷ ys) (getTimes (f .get) n r) xs rest e₁ in
       let ky : (f .good y ≡ true) × (f .put y ++ r ≡ bytes) = lf .put-get bytes y r hb ey in
-      let ih : (length ys ≡ n) × (every (f .good) ys ≡ true) × (putAll (f .put) ys ++ rest ≡ r) = times-put-get n r ys rest (bytes-append (f .put y) r (rw ky.1 hb) .1) es in
+      let ih : (length ys ≡ n) × (every (f .good) ys ≡ true) × (putAll (f .put) ys ++ rest ≡ r) =
+      times-put-get n r ys rest (bytes-append (f .put y) r (rw ky.1 hb) .1) es in
       rw (← ep) (
         ap suc (ih .0),
         and-both _ _ (ky .0) (ih .1),
@@ -104,7 +106,8 @@ module _ {A : Type 0} (f : Format A) (lf : Lawful f) where
 
 -- ---- an array of which the first n elements are in use
 
-module _ {A : Type 0} (total : ℕ) (blank : A) (isBlank : A → Bool) (n : ℕ) (f : Format A) (is : (x : A) → isBlank x ≡ true → x ≡ blank) (blank-is : isBlank blank ≡ true)
+module _ {A : Type 0} (total : ℕ) (blank : A) (isBlank : A → Bool) (n : ℕ) (f : Format A) (is : (x : A) → isBlank x ≡ true → x ≡ blank)
+    (blank-is : isBlank blank ≡ true)
     (fits : n ≤ total) (lf : Lawful f) where
   -- the elements in use, padded, are the array
   pad-take : (xs : List A) → length xs ≡ total → every isBlank (drop n xs) ≡ true → pad total blank (take n xs) ≡ xs
@@ -112,7 +115,8 @@ module _ {A : Type 0} (total : ℕ) (blank : A) (isBlank : A → Bool) (n : ℕ)
   pad-take xs l h =
       let lt : length (take n xs) ≡ n = length-take-le n xs (omega arith) in
       let ld : length (drop n xs) ≡ total - n = simp length-drop (omega arith) in
-      let e : drop n xs ≡ drop n (replicate total blank) = every-same isBlank blank is (drop n xs) h ∙ ap (λ (k : ℕ). replicate k blank) ld ∙ sym (replicate-drop n total blank) in
+      let e : drop n xs ≡ drop n (replicate total blank) =
+      every-same isBlank blank is (drop n xs) h ∙ ap (λ (k : ℕ). replicate k blank) ld ∙ sym (replicate-drop n total blank) in
       rw (lt, ← e) (take-append-drop n xs)
 
   take-pad : (ys : List A) → length ys ≡ n → take n (pad total blank ys) ≡ ys
@@ -139,12 +143,14 @@ module _ {A : Type 0} (total : ℕ) (blank : A) (isBlank : A → Bool) (n : ℕ)
             let k : (eqb (length xs) total ≡ true) × ((every (f .good) (take n xs) ≡ true) × (every isBlank (drop n xs) ≡ true)) = simp and-iff at h in
             let l : length xs ≡ total = eqb-true (length xs) total (k .0) in
             let lt : length (take n xs) ≡ n = length-take-le n xs (omega arith) in
-            let e : getTimes (f .get) n (putAll (f .put) (take n xs) ++ rest) ≡ got (take n xs) rest = rw lt at (times-get-put f lf (take n xs) rest (k .1 .0)) in
+            let e : getTimes (f .get) n (putAll (f .put) (take n xs) ++ rest) ≡ got (take n xs) rest =
+            rw lt at (times-get-put f lf (take n xs) rest (k .1 .0)) in
             rw (e, pad-take xs l (k .1 .1));
         put-get = λ bytes xs rest hb e.
             let (ys, ey, ep) = mapReading-got (pad total blank) (getTimes (f .get) n bytes) xs rest e in
             let k : (length ys ≡ n) × (every (f .good) ys ≡ true) × (putAll (f .put) ys ++ rest ≡ bytes) = times-put-get f lf n bytes ys rest hb ey in
-            subst (λ (zs : List A). ((eqb (length zs) total && (every (f .good) (take n zs) && every isBlank (drop n zs))) ≡ true) × (putAll (f .put) (take n zs) ++ rest ≡ bytes)) ep
+            subst (λ (zs : List A). ((eqb (length zs) total && (every (f .good) (take n zs) && every isBlank (drop n zs))) ≡ true)
+            × (putAll (f .put) (take n zs) ++ rest ≡ bytes)) ep
             (padded-back ys (k .0) (k .1), ap (λ (zs : List A). putAll (f .put) zs ++ rest) (take-pad ys (k .0)) ∙ k .2);
       }
 

@@ -1,21 +1,19 @@
 -- How long the parts are: exactly, and at most.
-use mathlib.Core.Path.{_≡_, refl, sym, ap, _∙_}
-use mathlib.Core.Bool.{Bool, true, false, cond, _&&_}
-use mathlib.Core.List.{List, [], _∷_, _++_, map}
-use Prim.Native.Nat.{ℕ, zero, suc, _+_, _*_, _-_, _≤_, _<_, min}
+use mathlib.Core.Path.{_≡_, refl, sym, ap}
+use mathlib.Core.Bool.{cond}
+use mathlib.Core.List.{List, [], _∷_}
+use Prim.Native.Nat.{ℕ, suc, _+_, _*_, _-_, _≤_}
 use native.Mathlib.Nat.{mul-suc, mul-zero}
 use native.Mathlib.Omega.{arith}
-use lib.Dec.{eqb, leb, lit≤}
-use lib.ListN.{length, take, drop, getD, length-append, length-take}
+use lib.Dec.{eqb, lit≤}
+use lib.ListN.{length, take, getD, length-append, length-take}
 use Rattle.query.specs.declared.Entry.{Entry}
 use Rattle.query.specs.declared.Entry.the-variants.{Constant, Variable}
 use Rattle.query.specs.declared.Cell.{Cell}
 use Rattle.query.specs.declared.Query.{Query}
 use Rattle.query.specs.declared.Dependency.{Dependency}
-use Rattle.record.specs.declared.Place.{Place}
-use Rattle.format.specs.Format.{Format, byte, sequence, padded, via, putAll}
+use Rattle.format.specs.Format.{byte, sequence, padded, via, putAll}
 use Rattle.format.specs.Parts.{relations, dependency, dependencies, putEntry, entry, entries, row, rows, chunk, query}
-use Rattle.format.specs.File.{putPlace, join}
 use Rattle.format.proofs.Numbers.{length-bytes}
 use Rattle.format.proofs.Parts.{Narrow, narrow-at, headFits}
 
@@ -42,12 +40,15 @@ length-entries n cells = length-putAll (λ c. putEntry (c .entry)) 5 (λ c. leng
 
 pub length-row : (schema : List ℕ) (r : ℕ × List Cell) → length (row schema .put r) ≡ 1 + 5 * length (take (getD schema (r .0) 0) (r .1))
 unfolding row sequence byte
-length-row schema r = let e : length (entries (getD schema (r .0) 0) .put (r .1)) ≡ 5 * length (take (getD schema (r .0) 0) (r .1)) = length-entries (getD schema (r .0) 0) (r .1) in omega arith
+length-row schema r =
+    let e : length (entries (getD schema (r .0) 0) .put (r .1)) ≡ 5 * length (take (getD schema (r .0) 0) (r .1)) =
+    length-entries (getD schema (r .0) 0) (r .1) in omega arith
 
 pub length-relations : (n : ℕ) (widths : List ℕ) → length (relations .put (n, widths)) ≡ 1 + length (take n widths)
 unfolding relations sequence byte padded
 length-relations n widths =
-    let e : length (putAll (λ b. b ∷ []) (take n widths)) ≡ 1 * length (take n widths) = length-putAll (λ b. b ∷ []) 1 (λ b. refl) (take n widths) in omega arith
+    let e : length (putAll (λ b. b ∷ []) (take n widths)) ≡ 1 * length (take n widths) = length-putAll (λ b. b ∷ []) 1 (λ b. refl) (take n widths) in
+    omega arith
 
 pub length-dependencies : (schema : List ℕ) (n : ℕ) (ds : List Dependency) → length (dependencies schema .put (n, ds)) ≡ 1 + 3 * length (take n ds)
 unfolding dependencies sequence byte padded dependency
@@ -56,7 +57,8 @@ length-dependencies schema n ds =
 
 pub length-query : (schema : List ℕ) (q : Query)
     → length (query schema .put q)
-    ≡ 2 + (5 * length (take (cond (eqb (q .size) 0) 0 (q .arity)) (q .head)) + length (putAll (row schema .put) (take (q .size) (chunk (q .relations) (q .cells)))))
+    ≡ 2 + (5 * length (take (cond (eqb (q .size) 0) 0 (q .arity)) (q .head)) + length (putAll (row schema .put)
+    (take (q .size) (chunk (q .relations) (q .cells)))))
 unfolding query via sequence byte rows padded
 length-query schema q =
     let n : ℕ = cond (eqb (q .size) 0) 0 (q .arity) in

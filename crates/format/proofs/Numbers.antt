@@ -1,12 +1,12 @@
 -- Little-endian numbers: reading what was written, and writing what was read. One law for every number of bytes.
-use mathlib.Core.Path.{_≡_, refl, sym, ap, _∙_}
+use mathlib.Core.Path.{_≡_, refl, ap}
 use mathlib.Core.List.{List, [], _∷_, _++_}
 use Prim.Native.Nat.{ℕ, zero, suc, _+_, _*_, _^_, _/_, _%_, _≤_, _<_}
 use native.Mathlib.Nat.{pow-succ', div-lt-iff-lt-mul, not-suc-le-zero, le-of-suc-le-suc, mul-comm}
 use native.Mathlib.Omega.{arith}
-use lib.Dec.{ltb, lit<, eqb}
+use lib.Dec.{ltb, lit<}
 use borrow.Author.Tests.{ltb-true}
-use lib.ListN.{length, getD, take, drop}
+use lib.ListN.{length, take}
 use Rattle.lists.specs.Tests.{every}
 use Rattle.format.specs.Bytes.{number, bytesOf, Bytes}
 use Rattle.lists.proofs.Tests.{and-left, and-right}

@@ -1,29 +1,28 @@
 -- The two laws of each part of the file.
 use mathlib.Core.Path.{_≡_, refl, sym, ap, _∙_, subst}
-use mathlib.Core.Bool.{Bool, true, false, cond, not, _&&_}
-use mathlib.Core.List.{List, [], _∷_, _++_, append-assoc, map}
-use Prim.Native.Nat.{ℕ, zero, suc, _+_, _*_, _-_, _^_, _≤_, _<_, min}
+use mathlib.Core.Bool.{Bool, true, false, cond, _&&_}
+use mathlib.Core.List.{List, [], _∷_, _++_, map}
+use Prim.Native.Nat.{ℕ, zero, suc, _+_, _*_, _-_, _≤_}
 use native.Mathlib.Nat.{not-suc-le-zero, le-of-suc-le-suc}
 use native.Mathlib.Omega.{arith}
-use lib.Dec.{eqb, leb, ltb, lit<, lit≤}
-use lib.ListN.{length, take, drop, getD, replicate, length-append, length-take, length-drop, take-append-drop, drop-of-length-le}
-use lib.Seq.{take-at, drop-at, length-take-le, take-all}
-use borrow.Author.Tests.{eqb-true, eq-eqb, leb-true, le-leb, ltb-true, eqb-false, ne-eqb}
+use lib.Dec.{eqb, leb, ltb, lit≤}
+use lib.ListN.{length, take, drop, getD, replicate, length-append, take-append-drop}
+use lib.Seq.{take-at, drop-at, take-all}
+use borrow.Author.Tests.{eqb-true, eq-eqb, leb-true, le-leb}
 use Rattle.query.specs.declared.Entry.{Entry}
 use Rattle.query.specs.declared.Entry.the-variants.{Constant, Variable}
 use Rattle.query.specs.declared.Cell.{Cell}
 use Rattle.query.specs.declared.Query.{Query}
-use Rattle.query.specs.declared.Dependency.{Dependency}
-use Rattle.lists.specs.Tests.{between, every, inUse, isZero}
-use Rattle.query.specs.Rule.{blankEntry, blankCell, blankDependency, goodDependency, goodEntry, goodCell, noCell, noDependency}
+use Rattle.lists.specs.Tests.{between, every, isZero}
+use Rattle.query.specs.Rule.{blankCell, blankDependency, goodDependency, goodEntry, goodCell, noCell, noDependency}
 use Rattle.query.proofs.Shape.{blank-number, blank-cell, blank-dependency}
 use Rattle.format.specs.Bytes.{number, bytesOf, Bytes}
-use Rattle.format.specs.Format.{Reading, none, got, gotIf, Format, Lawful, byte, sequence, padded, via}
-use Rattle.format.specs.Parts.{relations, dependencyAt, dependency, dependencies, putEntry, isEntry, entryFrom, entry, entries, row, noRow, blankRow, rows, chunk, flat, Fields, queryWith, fieldsOf, fullCells, query}
-use Rattle.lists.proofs.Tests.{and-left, and-right, and-both, and-iff, every-take, every-drop, every-join, every-weaken, every-getD, every-same}
-use Rattle.format.proofs.Arrays.{bytes-append}
+use Rattle.format.specs.Format.{got, gotIf, Format, Lawful, byte, sequence, padded}
+use Rattle.format.specs.Parts.{relations, dependencyAt, dependency, dependencies, putEntry, isEntry, entryFrom, entry, entries, row, noRow, blankRow}
+use Rattle.format.specs.Parts.{rows, chunk, flat, Fields, queryWith, fieldsOf, fullCells, query}
+use Rattle.lists.proofs.Tests.{and-left, and-right, and-iff, every-join, every-weaken, every-same}
 use Rattle.format.proofs.Numbers.{number-bytes, bytes-number, length-bytes}
-use Rattle.format.proofs.Formats.{not-got, gotIf-true, byte-lawful, sequence-lawful, padded-lawful, via-lawful}
+use Rattle.format.proofs.Formats.{gotIf-true, byte-lawful, sequence-lawful, padded-lawful, via-lawful}
 
 -- ---- part 0 and part 1
 
@@ -88,7 +87,8 @@ five (x ∷ bytes) b h =
     rw (d, take-append-drop 4 bytes)
 
 -- the entry that a byte and a number stand for is good, and written so
-entryFrom-put : (tag n : ℕ) (t : Bool) → eqb tag 0 ≡ t → isEntry tag n ≡ true → (goodCell (entryFrom tag n) ≡ true) × (putEntry (entryFrom tag n .entry) ≡ tag ∷ bytesOf 4 n)
+entryFrom-put : (tag n : ℕ) (t : Bool) → eqb tag 0 ≡ t → isEntry tag n ≡ true
+    → (goodCell (entryFrom tag n) ≡ true) × (putEntry (entryFrom tag n .entry) ≡ tag ∷ bytesOf 4 n)
 unfolding putEntry
 entryFrom-put tag n true e h = let z : tag ≡ 0 = eqb-true tag 0 e in rw z (rw z at h, refl)
 entryFrom-put tag n false e h =
@@ -208,7 +208,8 @@ headFits size arity h = go (eqb size 0)
 fields-lawful : (schema : List ℕ) → Narrow schema → Lawful (fields schema)
 unfolding fields byte
 fields-lawful schema hs =
-    sequence-lawful (byte (λ n. leb n 8)) (λ arity. sequence (byte (λ n. leb n 12)) (λ size. sequence (entries (cond (eqb size 0) 0 arity)) (λ head. rows schema size)))
+    sequence-lawful (byte (λ n. leb n 8))
+    (λ arity. sequence (byte (λ n. leb n 12)) (λ size. sequence (entries (cond (eqb size 0) 0 arity)) (λ head. rows schema size)))
     (byte-lawful (λ n. leb n 8))
     (λ arity ha.
     sequence-lawful (byte (λ n. leb n 12)) (λ size. sequence (entries (cond (eqb size 0) 0 arity)) (λ head. rows schema size)) (byte-lawful (λ n. leb n 12))
@@ -240,7 +241,10 @@ query-lawful schema hs = via-lawful fullCells queryWith fieldsOf (fields schema)
     back : (q : Query) → fullCells q ≡ true → fields schema .good (fieldsOf q) ≡ true → queryWith (fieldsOf q) ≡ q
     back q full h =
         let l : length (q .cells) ≡ 96 = eqb-true (length (q .cells)) 96 full in
-        let k : length (chunk (q .relations) (q .cells)) ≡ 12 = rows-full schema (q .size) (chunk (q .relations) (q .cells)) (fields-rows schema (fieldsOf q) h) .0 in
-        let n : length (q .relations) ≡ 12 = sym (ap length (map-chunk (q .relations) (q .cells))) ∙ lib.ListN.length-map (chunk (q .relations) (q .cells)) (λ r. r .0) ∙ k in
-        let c : flat (chunk (q .relations) (q .cells)) ≡ q .cells = flat-chunk (q .relations) (q .cells) ∙ take-all (8 * length (q .relations)) (q .cells) (omega arith) in
+        let k : length (chunk (q .relations) (q .cells)) ≡ 12 =
+        rows-full schema (q .size) (chunk (q .relations) (q .cells)) (fields-rows schema (fieldsOf q) h) .0 in
+        let n : length (q .relations) ≡ 12 =
+        sym (ap length (map-chunk (q .relations) (q .cells))) ∙ lib.ListN.length-map (chunk (q .relations) (q .cells)) (λ r. r .0) ∙ k in
+        let c : flat (chunk (q .relations) (q .cells)) ≡ q .cells =
+        flat-chunk (q .relations) (q .cells) ∙ take-all (8 * length (q .relations)) (q .cells) (omega arith) in
         λ i. record { arity = q .arity; size = q .size; head = q .head; relations = map-chunk (q .relations) (q .cells) i; cells = c i }

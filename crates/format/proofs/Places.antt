@@ -1,25 +1,25 @@
 -- Query parts: what is written of a place is read back, and what is read is a good place, written as the same bytes.
 use mathlib.Core.Path.{_≡_, refl, sym, ap, _∙_, subst}
 use mathlib.Core.Bool.{Bool, true, false, cond, _&&_}
-use mathlib.Core.List.{List, [], _∷_, _++_, map, append-nil}
-use Prim.Native.Nat.{ℕ, zero, suc, _+_, _*_, _-_, _≤_, _<_}
+use mathlib.Core.List.{List, [], _∷_, _++_, map}
+use Prim.Native.Nat.{ℕ, zero, suc, _+_, _-_, _≤_}
 use native.Mathlib.Omega.{arith}
-use lib.Dec.{eqb, leb, ltb, lit≤}
-use lib.ListN.{length, take, drop, getD, replicate, length-map, take-append-drop}
+use lib.Dec.{eqb, lit≤}
+use lib.ListN.{length, take, drop, replicate, length-map, take-append-drop}
 use lib.Seq.{length-take-le}
-use borrow.Author.Tests.{eqb-true, eq-eqb}
-use Rattle.query.specs.declared.Cell.{Cell}
+use borrow.Author.Tests.{eqb-true}
 use Rattle.query.specs.declared.Query.{Query}
 use Rattle.record.specs.declared.Place.{Place}
-use Rattle.lists.specs.Tests.{every, isZero}
-use Rattle.query.specs.Rule.{blankCell, blankQuery, goodQuery, headSafe, noCell, noQuery}
+use Rattle.lists.specs.Tests.{every}
+use Rattle.query.specs.Rule.{blankQuery, goodQuery, headSafe, noQuery}
 use Rattle.record.specs.Rule.{goodPlace, noPlace}
-use Rattle.refusals.specs.Refusals.{_>>=_, badQuery, gives, refused, Reply}
+use Rattle.refusals.specs.Refusals.{_>>=_, badQuery, gives, refused}
 use Rattle.format.specs.Bytes.{Bytes}
-use Rattle.format.specs.Format.{Reading, none, got, Format, Lawful, byte, sequence, via, pad}
+use Rattle.format.specs.Format.{byte, sequence, via, pad}
 use Rattle.format.specs.Parts.{query}
-use Rattle.format.specs.File.{complete, isVacant, placeWith, safeQuery, readPlace, noneLeft, readPlaces, join, putPlace, oneMoreIfAny, upToFilled, shapedQuery}
-use Rattle.lists.proofs.Tests.{and-left, and-right, and-both, and-iff, every-same}
+use Rattle.format.specs.File.{complete, isVacant, placeWith, safeQuery, readPlace, noneLeft, readPlaces, join, putPlace, oneMoreIfAny, upToFilled}
+use Rattle.format.specs.File.{shapedQuery}
+use Rattle.lists.proofs.Tests.{and-left, and-right, and-both, and-iff}
 use Rattle.format.proofs.Arrays.{bytes-append}
 use Rattle.query.proofs.Shape.{blank-query}
 use Rattle.format.proofs.Parts.{Narrow, query-lawful}
@@ -53,11 +53,13 @@ pub query-part : (schema : List ℕ) (q : Query) → isVacant (query schema .put
 unfolding isVacant query via sequence byte
 query-part schema q = refl
 
-pub read-filled : (schema : List ℕ) → Narrow schema → (last : Bool) (p : Place) → sound schema p ≡ true → p .filled ≡ true → readPlace schema last (putPlace schema p) ≡ gives p
+pub read-filled : (schema : List ℕ) → Narrow schema → (last : Bool) (p : Place) → sound schema p ≡ true → p .filled ≡ true
+    → readPlace schema last (putPlace schema p) ≡ gives p
 unfolding readPlace putPlace safeQuery _>>=_
 read-filled schema hn last p h e =
     let k : (goodPlace schema p ≡ true) × (shapedQuery (p .query) ≡ true) = and-iff (goodPlace schema p) (shapedQuery (p .query)) .0 h in
-    let g : (goodQuery schema (p .query) ≡ true) × (headSafe schema (p .query) ≡ true) = and-iff (goodQuery schema (p .query)) (headSafe schema (p .query)) .0 (rw e at (k .0)) in
+    let g : (goodQuery schema (p .query) ≡ true) × (headSafe schema (p .query) ≡ true) =
+    and-iff (goodQuery schema (p .query)) (headSafe schema (p .query)) .0 (rw e at (k .0)) in
     let w : complete badQuery (query schema .get (query schema .put (p .query))) ≡ gives (p .query) =
     complete-put badQuery (query schema) (query-lawful schema hn) (p .query) (query-good schema (p .query) (k .1) (g .0)) in
     rw (e, query-part schema (p .query), w) (rw (g .1))
@@ -77,7 +79,8 @@ vacant-part (b ∷ c ∷ bytes) h = let z : _≡_ {A = ℕ} 0 1 = cc in absurd (
 abbrev Read : List ℕ → Bool → List ℕ → Place → Type 0
 Read schema last part p = (sound schema p ≡ true) × (putPlace schema p ≡ part) × (last ≡ true → p .filled ≡ true)
 
-read-place : (schema : List ℕ) → Narrow schema → (last : Bool) (part : List ℕ) (p : Place) → Bytes part → readPlace schema last part ≡ gives p → Read schema last part p
+read-place : (schema : List ℕ) → Narrow schema → (last : Bool) (part : List ℕ) (p : Place) → Bytes part → readPlace schema last part ≡ gives p
+    → Read schema last part p
 unfolding readPlace safeQuery putPlace
 read-place schema hn last part p hb e = vacancy (isVacant part) refl e
   where
@@ -96,7 +99,8 @@ read-place schema hn last part p hb e = vacancy (isVacant part) refl e
         let (shape, rule) = good-query schema q good in
         subst (Read schema last part) same (and-both _ _ (and-both _ _ rule safe) shape, put, λ l. refl)
 
-    vacancy : (t : Bool) → isVacant part ≡ t → cond t (cond last (refused badQuery) (gives noPlace)) (complete badQuery (query schema .get part) >>= safeQuery schema) ≡ gives p
+    vacancy : (t : Bool) → isVacant part ≡ t
+        → cond t (cond last (refused badQuery) (gives noPlace)) (complete badQuery (query schema .get part) >>= safeQuery schema) ≡ gives p
         → Read schema last part p
     vacancy true ev e = vacant last refl ev e
     vacancy false ev e = filled e
@@ -114,7 +118,8 @@ none-filled zero = refl
 none-filled (suc k) = ap oneMoreIfAny (none-filled k)
 
 -- one place more in front of places of which the last is filled
-one-more : (p : Place) (ps rest : List Place) (parts : List (List ℕ)) → (noneLeft parts ≡ true → p .filled ≡ true) → length ps ≡ length parts → upToFilled rest ≡ length ps
+one-more : (p : Place) (ps rest : List Place) (parts : List (List ℕ)) → (noneLeft parts ≡ true → p .filled ≡ true) → length ps ≡ length parts
+    → upToFilled rest ≡ length ps
     → upToFilled (p ∷ rest) ≡ suc (length ps)
 unfolding upToFilled noneLeft
 one-more p ps rest [] last l e = let f : p .filled ≡ true = last refl in rw (f, e)
@@ -124,7 +129,8 @@ one-more p ps rest (part ∷ parts) last l e = go (p .filled)
     go true = ap suc e
     go false = rw (e, l)
 
-pub read-places : (schema : List ℕ) → Narrow schema → (parts : List (List ℕ)) (places : List Place) → Bytes (join parts) → readPlaces schema parts ≡ gives places
+pub read-places : (schema : List ℕ) → Narrow schema → (parts : List (List ℕ)) (places : List Place) → Bytes (join parts)
+    → readPlaces schema parts ≡ gives places
     → AllRead schema parts places
 unfolding readPlaces every join
 read-places schema hn [] places hb e =
@@ -186,7 +192,8 @@ places-read schema hn (p ∷ ps) h =
     good : sound schema p ≡ true
     good = and-left (sound schema p) (every (sound schema) ps) h
 
-    split : (t : Bool) → p .filled ≡ t → (k : ℕ) → upToFilled ps ≡ k → readPlaces schema (map (putPlace schema) (take (upToFilled ps) ps)) ≡ gives (take (upToFilled ps) ps)
+    split : (t : Bool) → p .filled ≡ t → (k : ℕ) → upToFilled ps ≡ k
+        → readPlaces schema (map (putPlace schema) (take (upToFilled ps) ps)) ≡ gives (take (upToFilled ps) ps)
         → readPlaces schema (map (putPlace schema) (take (upToFilled (p ∷ ps)) (p ∷ ps))) ≡ gives (take (upToFilled (p ∷ ps)) (p ∷ ps))
     split true f k ek ih =
         rw (upTo-filled p ps f)

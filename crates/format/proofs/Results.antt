@@ -35,7 +35,8 @@ unfolding complete
 complete-put n f lf a h = let e : f .get (f .put a) ≡ got a [] = rw append-nil at (lf .get-put a [] h) in rw e
 
 -- what a part that is accepted holds
-pub complete-get : {A : Type 0} (n : ℕ) (f : Format A) → Lawful f → (part : List ℕ) (a : A) → Bytes part → complete n (f .get part) ≡ gives a → (f .good a ≡ true) × (f .put a ≡ part)
+pub complete-get : {A : Type 0} (n : ℕ) (f : Format A) → Lawful f → (part : List ℕ) (a : A) → Bytes part → complete n (f .get part) ≡ gives a
+    → (f .good a ≡ true) × (f .put a ≡ part)
 complete-get n f lf part a hb e =
     let k : (f .good a ≡ true) × (f .put a ++ [] ≡ part) = lf .put-get part a [] hb (complete-ok n (f .get part) a e) in
     (k .0, rw append-nil at (k .1))

@@ -3,13 +3,13 @@
 use mathlib.Core.Path.{_≡_, refl, sym, ap, _∙_, subst}
 use mathlib.Core.Bool.{Bool, true, false, cond, _&&_}
 use mathlib.Core.List.{List, [], _∷_, _++_, map}
-use Prim.Native.Nat.{ℕ, zero, suc, _+_, _*_, _-_, _≤_, _<_}
+use Prim.Native.Nat.{ℕ, _+_, _*_, _-_, _≤_}
 use native.Mathlib.Nat.{lt-of-le-of-lt}
 use native.Mathlib.Omega.{arith}
-use lib.Dec.{eqb, leb, ltb, lit≤}
-use lib.ListN.{length, take, drop, getD, replicate, length-map, take-append-drop, length-append}
+use lib.Dec.{eqb, lit≤}
+use lib.ListN.{length, take, drop, replicate, length-map, length-append}
 use lib.Seq.{length-take-le, take-at}
-use borrow.Author.Tests.{eqb-true, eq-eqb, leb-true}
+use borrow.Author.Tests.{eqb-true, eq-eqb}
 use Rattle.query.specs.declared.Dependency.{Dependency}
 use Rattle.record.specs.declared.Place.{Place}
 use Rattle.record.specs.declared.Record.{Record}
@@ -18,12 +18,14 @@ use Rattle.lists.specs.Tests.{every}
 use Rattle.record.specs.Rule.{goodPlace, goodRecord, noPlace}
 use Rattle.query.specs.Rule.{goodRelations, goodDependencies, goodQuery, headSafe, blankQuery}
 use Rattle.query.proofs.Good as good
-use Rattle.refusals.specs.Refusals.{_>>=_, badDependency, badRelations, gives, refused, Reply}
+use Rattle.refusals.specs.Refusals.{_>>=_, badDependency, badRelations, gives}
 use Rattle.format.specs.Bytes.{Bytes}
-use Rattle.format.specs.Format.{Format, Lawful, pad}
+use Rattle.format.specs.Format.{pad}
 use Rattle.format.specs.Parts.{relations, dependencies, query}
-use Rattle.format.specs.File.{complete, directory, join, assemble, readPlaces, recordWith, readParts, readAll, readFile, putPlace, upToFilled, partsOf, fileOf, shapedQuery, shaped}
-use Rattle.lists.proofs.Tests.{and-left, and-right, and-both, and-iff, every-take, every-drop, every-both, every-join, every-weaken, every-replicate, every-append-is}
+use Rattle.format.specs.File.{complete, directory, join, assemble, readPlaces, recordWith, readParts, readAll, readFile, putPlace, upToFilled, partsOf}
+use Rattle.format.specs.File.{fileOf, shapedQuery, shaped}
+use Rattle.lists.proofs.Tests.{and-left, and-right, and-both, and-iff, every-take, every-drop, every-both, every-weaken, every-replicate}
+use Rattle.lists.proofs.Tests.{every-append-is}
 use Rattle.lists.proofs.Loops.{replicate-drop}
 use Rattle.format.proofs.Arrays.{length-pad, bytes-append}
 use Rattle.format.proofs.Parts.{Narrow, relations-lawful, dependencies-lawful}
@@ -45,8 +47,10 @@ pub record SoundRecord (r : Record) : Type 0 where
 pub sound-record : (r : Record) → goodRecord r ≡ true → shaped r ≡ true → SoundRecord r
 unfolding goodRecord
 sound-record r h s =
-    let k : ((goodRelations (r .relations) (r .widths) ≡ true) × (goodDependencies (schemaOf r) (r .held) (r .dependencies) ≡ true)) × (every (goodPlace (schemaOf r)) (r .places) ≡ true) = simp and-iff at h in
-    let l : (((eqb (length (r .widths)) 8 ≡ true) × (eqb (length (r .dependencies)) 32 ≡ true)) × (eqb (length (r .places)) 8 ≡ true)) × (every (λ p. shapedQuery (p .query)) (r .places) ≡ true) = simp and-iff at s in
+    let k : ((goodRelations (r .relations) (r .widths) ≡ true) × (goodDependencies (schemaOf r) (r .held) (r .dependencies) ≡ true))
+    × (every (goodPlace (schemaOf r)) (r .places) ≡ true) = simp and-iff at h in
+    let l : (((eqb (length (r .widths)) 8 ≡ true) × (eqb (length (r .dependencies)) 32 ≡ true)) × (eqb (length (r .places)) 8 ≡ true))
+    × (every (λ p. shapedQuery (p .query)) (r .places) ≡ true) = simp and-iff at s in
     record {
       relations = k .0 .0;
       dependencies = k .0 .1;
@@ -60,9 +64,11 @@ pub sound-good : (r : Record) → SoundRecord r → (goodRecord r ≡ true) × (
 unfolding goodRecord
 sound-good r k =
     let good : every (goodPlace (schemaOf r)) (r .places) ≡ true =
-    every-weaken (sound (schemaOf r)) (goodPlace (schemaOf r)) (λ p g. and-left (goodPlace (schemaOf r) p) (shapedQuery (p .query)) g) (r .places) (k .places) in
+    every-weaken (sound (schemaOf r)) (goodPlace (schemaOf r)) (λ p g. and-left (goodPlace (schemaOf r) p) (shapedQuery (p .query)) g) (r .places) (k .places)
+    in
     let long : every (λ p. shapedQuery (p .query)) (r .places) ≡ true =
-    every-weaken (sound (schemaOf r)) (λ p. shapedQuery (p .query)) (λ p g. and-right (goodPlace (schemaOf r) p) (shapedQuery (p .query)) g) (r .places) (k .places) in (
+    every-weaken (sound (schemaOf r)) (λ p. shapedQuery (p .query)) (λ p g. and-right (goodPlace (schemaOf r) p) (shapedQuery (p .query)) g) (r .places)
+    (k .places) in (
       and-both _ _ (and-both _ _ (k .relations) (k .dependencies)) good,
       and-both _ _
           (and-both _ _ (and-both _ _ (eq-eqb (length (r .widths)) 8 (k .widths-long)) (eq-eqb (length (r .dependencies)) 32 (k .dependencies-long)))
@@ -76,8 +82,10 @@ pub parts-read : (r : Record) → SoundRecord r → readAll (partsOf r) ≡ give
 unfolding readAll partsOf readParts _>>=_
 parts-read r k =
     let e₀ : complete badRelations (relations .get (relations .put (r .relations, r .widths))) ≡ gives (r .relations, r .widths) =
-    complete-put badRelations relations relations-lawful (r .relations, r .widths) (relations-good (r .relations) (r .widths) (k .widths-long) (k .relations)) in
-    let e₁ : complete badDependency (dependencies (schemaOf r) .get (dependencies (schemaOf r) .put (r .held, r .dependencies))) ≡ gives (r .held, r .dependencies) =
+    complete-put badRelations relations relations-lawful (r .relations, r .widths) (relations-good (r .relations) (r .widths) (k .widths-long) (k .relations))
+    in
+    let e₁ : complete badDependency (dependencies (schemaOf r) .get (dependencies (schemaOf r) .put (r .held, r .dependencies)))
+    ≡ gives (r .held, r .dependencies) =
     complete-put badDependency (dependencies (schemaOf r)) (dependencies-lawful (schemaOf r)) (r .held, r .dependencies)
     (dependencies-good (schemaOf r) (r .held) (r .dependencies) (k .dependencies-long) (k .dependencies)) in
     let e₂ = places-read (schemaOf r) (good-narrow (r .relations) (r .widths) (k .relations)) (r .places) (k .places) in
@@ -108,7 +116,8 @@ take-places ps last =
 -- the record of good parts
 read-fields : (part0 part1 : List ℕ) (parts : List (List ℕ)) (rs : ℕ × List ℕ) (ds : ℕ × List Dependency) (ps : List Place)
     → Bytes part0 → Bytes part1 → Bytes (join parts) → length parts ≤ 8
-    → complete badRelations (relations .get part0) ≡ gives rs → complete badDependency (dependencies (take (rs .0) (rs .1)) .get part1) ≡ gives ds → readPlaces (take (rs .0) (rs .1)) parts ≡ gives ps
+    → complete badRelations (relations .get part0) ≡ gives rs → complete badDependency (dependencies (take (rs .0) (rs .1)) .get part1) ≡ gives ds
+    → readPlaces (take (rs .0) (rs .1)) parts ≡ gives ps
     → SoundRecord (recordWith rs ds ps) × (partsOf (recordWith rs ds ps) ≡ part0 ∷ part1 ∷ parts)
 unfolding partsOf
 read-fields part0 part1 parts rs ds ps b₀ b₁ b few e₀ e₁ e₂ =
@@ -137,11 +146,17 @@ read-parts : (part0 part1 : List ℕ) (parts : List (List ℕ)) (r : Record) →
     → readParts part0 part1 parts ≡ gives r → SoundRecord r × (partsOf r ≡ part0 ∷ part1 ∷ parts)
 unfolding readParts
 read-parts part0 part1 parts r b₀ b₁ b few e =
-    let (rs, e₀, f₀) = bind-ok (complete badRelations (relations .get part0)) (λ rs. complete badDependency (dependencies (take (rs .0) (rs .1)) .get part1) >>= (λ ds. readPlaces (take (rs .0) (rs .1)) parts >>= (λ ps. gives (recordWith rs ds ps)))) r e in
-    let (ds, e₁, f₁) = bind-ok (complete badDependency (dependencies (take (rs .0) (rs .1)) .get part1)) (λ ds. readPlaces (take (rs .0) (rs .1)) parts >>= (λ ps. gives (recordWith rs ds ps))) r f₀ in
+    let (rs, e₀, f₀) =
+    bind-ok (complete badRelations (relations .get part0))
+    (λ rs. complete badDependency (dependencies (take (rs .0) (rs .1)) .get part1) >>=
+    (λ ds. readPlaces (take (rs .0) (rs .1)) parts >>= (λ ps. gives (recordWith rs ds ps)))) r e in
+    let (ds, e₁, f₁) =
+    bind-ok (complete badDependency (dependencies (take (rs .0) (rs .1)) .get part1))
+    (λ ds. readPlaces (take (rs .0) (rs .1)) parts >>= (λ ps. gives (recordWith rs ds ps))) r f₀ in
     let (ps, e₂, f₂) = bind-ok (readPlaces (take (rs .0) (rs .1)) parts) (λ ps. gives (recordWith rs ds ps)) r f₁ in
     let same : recordWith rs ds ps ≡ r = cc in
-    subst (λ (r : Record). SoundRecord r × (partsOf r ≡ part0 ∷ part1 ∷ parts)) {x = recordWith rs ds ps} same (read-fields part0 part1 parts rs ds ps b₀ b₁ b few e₀ e₁ e₂)
+    subst (λ (r : Record). SoundRecord r × (partsOf r ≡ part0 ∷ part1 ∷ parts)) {x = recordWith rs ds ps} same
+    (read-fields part0 part1 parts rs ds ps b₀ b₁ b few e₀ e₁ e₂)
 
 -- ---- lengths
 
@@ -153,25 +168,29 @@ parts-few : (r : Record) → SoundRecord r → length (partsOf r) ≤ 10
 unfolding partsOf
 parts-few r k =
     let n : length (map (putPlace (schemaOf r)) (take (upToFilled (r .places)) (r .places))) ≡ upToFilled (r .places) =
-    length-map (take (upToFilled (r .places)) (r .places)) (putPlace (schemaOf r)) ∙ length-take-le (upToFilled (r .places)) (r .places) (upTo-fits (r .places)) in
+    length-map (take (upToFilled (r .places)) (r .places)) (putPlace (schemaOf r))
+    ∙ length-take-le (upToFilled (r .places)) (r .places) (upTo-fits (r .places)) in
     omega (arith, upTo-fits (r .places), k .places-long)
 
 place-short : (schema : List ℕ) (p : Place) → Narrow schema → sound schema p ≡ true → length (putPlace schema p) ≤ 534
 unfolding putPlace
 place-short schema p hn h = go (p .filled) (and-left (goodPlace schema p) (shapedQuery (p .query)) h)
   where
-    go : (t : Bool) → cond t (goodQuery schema (p .query) && headSafe schema (p .query)) (blankQuery (p .query)) ≡ true → length (cond t (query schema .put (p .query)) (255 ∷ [])) ≤ 534
+    go : (t : Bool) → cond t (goodQuery schema (p .query) && headSafe schema (p .query)) (blankQuery (p .query)) ≡ true
+        → length (cond t (query schema .put (p .query)) (255 ∷ [])) ≤ 534
     go true g =
         let q = good.good-query schema (p .query) (and-left (goodQuery schema (p .query)) (headSafe schema (p .query)) g) in
         query-short schema (p .query) hn (q .arity) (q .size)
     go false g = lit≤ tt
 
-join-short : (schema : List ℕ) (places : List Place) → Narrow schema → every (sound schema) places ≡ true → length (join (map (putPlace schema) places)) ≤ 534 * length places
+join-short : (schema : List ℕ) (places : List Place) → Narrow schema → every (sound schema) places ≡ true
+    → length (join (map (putPlace schema) places)) ≤ 534 * length places
 unfolding join every
 join-short schema [] hn h = lit≤ tt
 join-short schema (p ∷ ps) hn h =
     let ih : length (join (map (putPlace schema) ps)) ≤ 534 * length ps = join-short schema ps hn (and-right (sound schema p) (every (sound schema) ps) h) in
-    rw (length-append (putPlace schema p) (join (map (putPlace schema) ps))) (omega (arith, place-short schema p hn (and-left (sound schema p) (every (sound schema) ps) h)))
+    rw (length-append (putPlace schema p) (join (map (putPlace schema) ps)))
+    (omega (arith, place-short schema p hn (and-left (sound schema p) (every (sound schema) ps) h)))
 
 file-short : (r : Record) → SoundRecord r → length (assemble (partsOf r)) ≤ 4420
 unfolding partsOf join
@@ -182,11 +201,14 @@ file-short r k =
     let ps : List (List ℕ) = map (putPlace schema) (take n (r .places)) in
     let part0 : List ℕ = relations .put (r .relations, r .widths) in
     let part1 : List ℕ = dependencies schema .put (r .held, r .dependencies) in
-    let lp : length ps ≤ 8 = omega (arith, length-map (take n (r .places)) (putPlace schema), take-short n (r .places), upTo-fits (r .places), k .places-long) in
+    let lp : length ps ≤ 8 =
+    omega (arith, length-map (take n (r .places)) (putPlace schema), take-short n (r .places), upTo-fits (r .places), k .places-long) in
     let l₀ : length part0 ≤ 9 = omega (arith, length-relations (r .relations) (r .widths), lib.ListN.length-take (r .relations) (r .widths), k .widths-long) in
-    let l₁ : length part1 ≤ 97 = omega (arith, length-dependencies schema (r .held) (r .dependencies), lib.ListN.length-take (r .held) (r .dependencies), k .dependencies-long) in
+    let l₁ : length part1 ≤ 97 =
+    omega (arith, length-dependencies schema (r .held) (r .dependencies), lib.ListN.length-take (r .held) (r .dependencies), k .dependencies-long) in
     let l₂ : length (join ps) ≤ 534 * length ps =
-    rw (length-map (take n (r .places)) (putPlace schema)) (join-short schema (take n (r .places)) narrow (every-take (sound schema) n (r .places) (k .places))) in
+    rw (length-map (take n (r .places)) (putPlace schema)) (join-short schema (take n (r .places)) narrow (every-take (sound schema) n (r .places) (k .places)))
+    in
     let e : length (part0 ++ (part1 ++ join ps)) ≡ length part0 + (length part1 + length (join ps)) = simp length-append in
     omega (arith, length-assemble (part0 ∷ part1 ∷ ps))
 
@@ -218,7 +240,8 @@ unfolding readFile fileOf _>>=_
 record-read-back r h s =
     let k : SoundRecord r = sound-record r h s in
     let few : length (partsOf r) ≤ 10 = parts-few r k in
-    let e : directory (assemble (partsOf r)) ≡ gives (partsOf r) = directory-assemble (partsOf r) (parts-two r) few (lt-of-le-of-lt (file-short r k) (lit≤ tt)) in
+    let e : directory (assemble (partsOf r)) ≡ gives (partsOf r) =
+    directory-assemble (partsOf r) (parts-two r) few (lt-of-le-of-lt (file-short r k) (lit≤ tt)) in
     rw e (parts-read r k)
 
 -- No file is longer than 4,420 bytes

@@ -1,22 +1,23 @@
 -- What a format calls good is what the record's rule calls good, for arrays of their types' lengths.
-use mathlib.Core.Path.{_≡_, refl, sym, ap, _∙_, subst}
-use mathlib.Core.Bool.{Bool, true, false, cond, _&&_}
-use mathlib.Core.List.{List, [], _∷_, _++_, map}
-use Prim.Native.Nat.{ℕ, zero, suc, _+_, _*_, _-_, _≤_, _<_, min}
+use mathlib.Core.Path.{_≡_, refl, sym, ap, _∙_}
+use mathlib.Core.Bool.{Bool, true, false, _&&_}
+use mathlib.Core.List.{List, [], _∷_}
+use Prim.Native.Nat.{ℕ, zero, suc, _+_, _*_, _-_}
 use native.Mathlib.Omega.{arith}
-use lib.Dec.{eqb, leb, ltb}
-use lib.ListN.{length, take, drop, getD, replicate, length-append, length-take, length-drop, take-append-drop, length-map}
+use lib.Dec.{eqb, leb}
+use lib.ListN.{length, take, drop, length-drop, take-append-drop, length-map}
 use lib.Seq.{length-take-le, drop-drop}
-use borrow.Author.Tests.{eqb-true, eq-eqb, leb-true, le-leb}
+use borrow.Author.Tests.{eqb-true, eq-eqb}
 use Rattle.query.specs.declared.Cell.{Cell}
 use Rattle.query.specs.declared.Query.{Query}
 use Rattle.query.specs.declared.Dependency.{Dependency}
-use Rattle.lists.specs.Tests.{between, every, inUse, isZero}
-use Rattle.query.specs.Rule.{blankCell, blankDependency, blankQuery, goodDependency, goodCell, goodRow, goodRows, goodRelations, goodDependencies, goodQuery, headInUse, noCell, noQuery}
-use Rattle.format.specs.Format.{Format, byte, sequence, padded, via}
-use Rattle.format.specs.Parts.{relations, dependency, dependencies, entry, entries, row, noRow, blankRow, rows, chunk, flat, Fields, queryWith, fieldsOf, fullCells, query}
+use Rattle.lists.specs.Tests.{between, every, isZero}
+use Rattle.query.specs.Rule.{blankCell, blankDependency, goodDependency, goodRow, goodRows, goodRelations, goodDependencies, goodQuery}
+use Rattle.format.specs.Format.{byte, sequence, padded, via}
+use Rattle.format.specs.Parts.{relations, dependency, dependencies, entry, entries, row, blankRow, rows, chunk}
+use Rattle.format.specs.Parts.{query}
 use Rattle.format.specs.File.{shapedQuery}
-use Rattle.lists.proofs.Tests.{and-left, and-right, and-both, and-iff, every-append-is, every-take, every-drop, every-weaken, every-same}
+use Rattle.lists.proofs.Tests.{and-right, and-both, and-iff, every-append-is, every-weaken}
 use Rattle.format.proofs.Parts.{Narrow, map-chunk}
 
 -- ---- relations and dependencies
@@ -24,32 +25,38 @@ use Rattle.format.proofs.Parts.{Narrow, map-chunk}
 pub relations-good : (n : ℕ) (widths : List ℕ) → length widths ≡ 8 → goodRelations n widths ≡ true → relations .good (n, widths) ≡ true
 unfolding relations goodRelations sequence byte padded
 relations-good n widths l h =
-    let k : ((leb 1 n ≡ true) × (leb n 8 ≡ true)) × ((every (between 1 8) (take n widths) ≡ true) × (every isZero (drop n widths) ≡ true)) = simp and-iff at h in
+    let k : ((leb 1 n ≡ true) × (leb n 8 ≡ true)) × ((every (between 1 8) (take n widths) ≡ true) × (every isZero (drop n widths) ≡ true)) =
+    simp and-iff at h in
     simp and-iff (k .0, (eq-eqb (length widths) 8 l, k .1))
 
 pub good-relations : (p : ℕ × List ℕ) → relations .good p ≡ true → (length (p .1) ≡ 8) × (goodRelations (p .0) (p .1) ≡ true)
 unfolding relations goodRelations sequence byte padded
 good-relations p h =
-    let k : ((leb 1 (p .0) ≡ true) × (leb (p .0) 8 ≡ true)) × ((eqb (length (p .1)) 8 ≡ true) × ((every (between 1 8) (take (p .0) (p .1)) ≡ true) × (every isZero (drop (p .0) (p .1)) ≡ true))) = simp and-iff at h in
+    let k : ((leb 1 (p .0) ≡ true) × (leb (p .0) 8 ≡ true))
+    × ((eqb (length (p .1)) 8 ≡ true) × ((every (between 1 8) (take (p .0) (p .1)) ≡ true) × (every isZero (drop (p .0) (p .1)) ≡ true))) = simp and-iff at h in
     (eqb-true (length (p .1)) 8 (k .1 .0), simp and-iff (k .0, k .1 .1))
 
 -- no relation has more than 8 columns
 pub good-narrow : (n : ℕ) (widths : List ℕ) → goodRelations n widths ≡ true → Narrow (take n widths)
 unfolding goodRelations
 good-narrow n widths h =
-    let k : ((leb 1 n ≡ true) × (leb n 8 ≡ true)) × ((every (between 1 8) (take n widths) ≡ true) × (every isZero (drop n widths) ≡ true)) = simp and-iff at h in
+    let k : ((leb 1 n ≡ true) × (leb n 8 ≡ true)) × ((every (between 1 8) (take n widths) ≡ true) × (every isZero (drop n widths) ≡ true)) =
+    simp and-iff at h in
     every-weaken (between 1 8) (λ w. leb w 8) (λ w g. and-right (leb 1 w) (leb w 8) g) (take n widths) (k .1 .0)
 
-pub dependencies-good : (schema : List ℕ) (n : ℕ) (ds : List Dependency) → length ds ≡ 32 → goodDependencies schema n ds ≡ true → dependencies schema .good (n, ds) ≡ true
+pub dependencies-good : (schema : List ℕ) (n : ℕ) (ds : List Dependency) → length ds ≡ 32 → goodDependencies schema n ds ≡ true
+    → dependencies schema .good (n, ds) ≡ true
 unfolding dependencies goodDependencies sequence byte padded dependency
 dependencies-good schema n ds l h =
     let k : (leb n 32 ≡ true) × ((every (goodDependency schema) (take n ds) ≡ true) × (every blankDependency (drop n ds) ≡ true)) = simp and-iff at h in
     simp and-iff (k .0, (eq-eqb (length ds) 32 l, k .1))
 
-pub good-dependencies : (schema : List ℕ) (p : ℕ × List Dependency) → dependencies schema .good p ≡ true → (length (p .1) ≡ 32) × (goodDependencies schema (p .0) (p .1) ≡ true)
+pub good-dependencies : (schema : List ℕ) (p : ℕ × List Dependency) → dependencies schema .good p ≡ true
+    → (length (p .1) ≡ 32) × (goodDependencies schema (p .0) (p .1) ≡ true)
 unfolding dependencies goodDependencies sequence byte padded dependency
 good-dependencies schema p h =
-    let k : (leb (p .0) 32 ≡ true) × ((eqb (length (p .1)) 32 ≡ true) × ((every (goodDependency schema) (take (p .0) (p .1)) ≡ true) × (every blankDependency (drop (p .0) (p .1)) ≡ true))) = simp and-iff at h in
+    let k : (leb (p .0) 32 ≡ true) × ((eqb (length (p .1)) 32 ≡ true)
+    × ((every (goodDependency schema) (take (p .0) (p .1)) ≡ true) × (every blankDependency (drop (p .0) (p .1)) ≡ true))) = simp and-iff at h in
     (eqb-true (length (p .1)) 32 (k .1 .0), simp and-iff (k .0, k .1 .1))
 
 -- ---- rows
@@ -85,7 +92,8 @@ all-rows-blank [] [] l = refl
 all-rows-blank [] (c ∷ cells) l = absurd (omega arith)
 all-rows-blank (r ∷ rs) cells l =
     let e : eqb (length (take 8 cells)) 8 ≡ true = eq-eqb (length (take 8 cells)) 8 (length-take-le 8 cells (omega arith)) in
-    let ih : every blankRow (chunk rs (drop 8 cells)) ≡ (every isZero rs && every blankCell (drop 8 cells)) = all-rows-blank rs (drop 8 cells) (length-drop 8 cells ∙ omega arith) in
+    let ih : every blankRow (chunk rs (drop 8 cells)) ≡ (every isZero rs && every blankCell (drop 8 cells)) =
+    all-rows-blank rs (drop 8 cells) (length-drop 8 cells ∙ omega arith) in
     let c : every blankCell cells ≡ (every blankCell (take 8 cells) && every blankCell (drop 8 cells)) =
     sym (ap (every blankCell) (take-append-drop 8 cells)) ∙ every-append-is blankCell (take 8 cells) (drop 8 cells) in
     rw (e, ih, c) (swap-and (isZero r) (every blankCell (take 8 cells)) (every isZero rs) (every blankCell (drop 8 cells)))
@@ -108,18 +116,23 @@ query-good schema q hs h =
     let lr : length (q .relations) ≡ 12 = eqb-true (length (q .relations)) 12 (s .0 .1) in
     let lc : length (q .cells) ≡ 8 * length (q .relations) = eqb-true (length (q .cells)) 96 (s .1) ∙ omega arith in
     let k = simp and-iff at h in
-    let used : every (row schema .good) (take (q .size) (chunk (q .relations) (q .cells))) ≡ true = rw (rows-good schema (q .size) (q .relations) (q .cells) lc) (k .0 .0 .1) in
-    let unused : every blankRow (drop (q .size) (chunk (q .relations) (q .cells))) ≡ true = rw (rows-blank (q .size) (q .relations) (q .cells) lc) (and-both _ _ (k .0 .1) (k .1)) in
-    let l : eqb (length (chunk (q .relations) (q .cells))) 12 ≡ true = eq-eqb (length (chunk (q .relations) (q .cells))) 12 (length-chunk (q .relations) (q .cells) ∙ lr) in
+    let used : every (row schema .good) (take (q .size) (chunk (q .relations) (q .cells))) ≡ true =
+    rw (rows-good schema (q .size) (q .relations) (q .cells) lc) (k .0 .0 .1) in
+    let unused : every blankRow (drop (q .size) (chunk (q .relations) (q .cells))) ≡ true =
+    rw (rows-blank (q .size) (q .relations) (q .cells) lc) (and-both _ _ (k .0 .1) (k .1)) in
+    let l : eqb (length (chunk (q .relations) (q .cells))) 12 ≡ true =
+    eq-eqb (length (chunk (q .relations) (q .cells))) 12 (length-chunk (q .relations) (q .cells) ∙ lr) in
     simp and-iff (s .1, (k .0 .0 .0 .0 .0, (k .0 .0 .0 .0 .1, ((s .0 .0, k .0 .0 .0 .1), (l, (used, unused))))))
 
 pub good-query : (schema : List ℕ) (q : Query) → query schema .good q ≡ true → (shapedQuery q ≡ true) × (goodQuery schema q ≡ true)
 unfolding query via sequence byte entries padded rows entry goodQuery
 good-query schema q h =
     let k = simp and-iff at h in
-    let l : length (q .relations) ≡ 12 = sym (length-chunk (q .relations) (q .cells)) ∙ eqb-true (length (chunk (q .relations) (q .cells))) 12 (k .1 .1 .1 .1 .0) in
+    let l : length (q .relations) ≡ 12 =
+    sym (length-chunk (q .relations) (q .cells)) ∙ eqb-true (length (chunk (q .relations) (q .cells))) 12 (k .1 .1 .1 .1 .0) in
     let lc : length (q .cells) ≡ 8 * length (q .relations) = eqb-true (length (q .cells)) 96 (k .0) ∙ omega arith in
-    let used : goodRows schema (take (q .size) (q .relations)) (q .cells) ≡ true = sym (rows-good schema (q .size) (q .relations) (q .cells) lc) ∙ k .1 .1 .1 .1 .1 .0 in
+    let used : goodRows schema (take (q .size) (q .relations)) (q .cells) ≡ true =
+    sym (rows-good schema (q .size) (q .relations) (q .cells) lc) ∙ k .1 .1 .1 .1 .1 .0 in
     let unused : (every isZero (drop (q .size) (q .relations)) && every blankCell (drop (8 * q .size) (q .cells))) ≡ true =
     sym (rows-blank (q .size) (q .relations) (q .cells) lc) ∙ k .1 .1 .1 .1 .1 .1 in
     let u = simp and-iff at unused in (

@@ -59,7 +59,8 @@ chained-fits (suc n) due end table h =
     let f : due + number 2 (drop 2 table) ≤ end = chained-fits n (due + number 2 (drop 2 table)) end (drop 4 table) (k .1) in
     omega arith
 
-pair-fits : (n due end : ℕ) (table : List ℕ) (k : ℕ) → k < n → chained n due end table ≡ true → number 2 (drop (4 * k) table) + number 2 (drop 2 (drop (4 * k) table)) ≤ end
+pair-fits : (n due end : ℕ) (table : List ℕ) (k : ℕ) → k < n → chained n due end table ≡ true
+    → number 2 (drop (4 * k) table) + number 2 (drop 2 (drop (4 * k) table)) ≤ end
 unfolding chained
 pair-fits zero due end table k h c = absurd (omega arith)
 pair-fits (suc n) due end table zero h c =
@@ -74,7 +75,8 @@ pair-fits (suc n) due end table (suc k) h c =
     rw (← d) (pair-fits n (due + number 2 (drop 2 table)) end (drop 4 table) k (native.Mathlib.Nat.le-of-suc-le-suc h) (p .1))
 
 -- the stretch of each pair lies within the file
-pub stretch-fits : (file : List ℕ) (n due k : ℕ) → k < n → chained n due (length file) (drop 2 file) ≡ true → number 2 (tableAt file k) + number 2 (drop (4 + 4 * k) file) ≤ length file
+pub stretch-fits : (file : List ℕ) (n due k : ℕ) → k < n → chained n due (length file) (drop 2 file) ≡ true
+    → number 2 (tableAt file k) + number 2 (drop (4 + 4 * k) file) ≤ length file
 stretch-fits file n due k h c =
     let f = pair-fits n due (length file) (drop 2 file) k h c in
     let d : drop (4 * k) (drop 2 file) ≡ tableAt file k = drop-drop (4 * k) 2 file in

@@ -2,13 +2,12 @@
 use mathlib.Core.Bool.{Bool, true, false, cond, _&&_}
 use mathlib.Core.List.{List, [], _∷_, _++_, map}
 use Prim.Native.Nat.{ℕ, zero, suc, _+_, _*_}
-use lib.Dec.{eqb, ltb, leb}
-use lib.ListN.{length, getD, take, drop}
+use lib.Dec.{eqb, leb}
+use lib.ListN.{length, take, drop}
 use Rattle.query.specs.declared.Query.{Query}
 use Rattle.query.specs.declared.Dependency.{Dependency}
 use Rattle.record.specs.declared.Place.{Place}
 use Rattle.record.specs.declared.Record.{Record}
-use Rattle.record.specs.declared.Answer.{Answer}
 use Rattle.record.specs.declared.Answer.the-variants.{Done, Refused}
 use Rattle.record.specs.declared.Outcome.{Outcome}
 use Rattle.record.specs.View.{schemaOf}
@@ -17,7 +16,7 @@ use Rattle.query.specs.Rule.{headSafe}
 use Rattle.record.specs.Rule.{noPlace, blankRecord}
 use Rattle.refusals.specs.Refusals.{badDependency, badDirectory, badOffsets, badQuery, badRelations, unsafeHead, Reply, refused, gives, _>>=_}
 use Rattle.format.specs.Bytes.{number, bytesOf}
-use Rattle.format.specs.Format.{Reading, none, got, Format, pad}
+use Rattle.format.specs.Format.{Reading, none, got, pad}
 use Rattle.format.specs.Parts.{relations, dependencies, query}
 
 -- ---- the first fault decides

@@ -1,7 +1,7 @@
 -- Formats: which values are good, how they are written as bytes, and how they are read off the front of some bytes.
 -- The two laws of a format are `Lawful`; that they hold is in `proofs/`.
 use mathlib.Core.Path.{_≡_}
-use mathlib.Core.Bool.{Bool, true, false, cond, _&&_}
+use mathlib.Core.Bool.{Bool, true, false, _&&_}
 use mathlib.Core.List.{List, [], _∷_, _++_}
 use Prim.Native.Nat.{ℕ, zero, suc}
 use lib.Dec.{eqb}

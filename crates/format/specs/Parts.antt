@@ -1,8 +1,8 @@
 -- The parts of the file as formats: relations, dependencies and queries, as SPECIFICATION, The file, lists them.
 -- Arrays are those of the record: the elements in use are written, those after them are blank.
-use mathlib.Core.Bool.{Bool, true, false, cond, _&&_}
+use mathlib.Core.Bool.{Bool, cond, _&&_}
 use mathlib.Core.List.{List, [], _∷_, _++_, map}
-use Prim.Native.Nat.{ℕ, zero, suc}
+use Prim.Native.Nat.{ℕ}
 use lib.Dec.{eqb, ltb, leb}
 use lib.ListN.{length, getD, take, drop, replicate}
 use Rattle.query.specs.declared.Entry.{Entry}
@@ -11,9 +11,9 @@ use Rattle.query.specs.declared.Cell.{Cell}
 use Rattle.query.specs.declared.Query.{Query}
 use Rattle.query.specs.declared.Dependency.{Dependency}
 use Rattle.lists.specs.Tests.{between, every, isZero}
-use Rattle.query.specs.Rule.{blankCell, blankDependency, goodDependency, goodEntry, goodCell, noCell, noDependency}
+use Rattle.query.specs.Rule.{blankCell, blankDependency, goodDependency, goodCell, noCell, noDependency}
 use Rattle.format.specs.Bytes.{number, bytesOf}
-use Rattle.format.specs.Format.{Reading, none, gotIf, Format, byte, sequence, padded, via}
+use Rattle.format.specs.Format.{gotIf, Format, byte, sequence, padded, via}
 
 -- ---- part 0 and part 1
 

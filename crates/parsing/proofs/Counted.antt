@@ -4,13 +4,14 @@ use mathlib.Core.Bool.{Bool, true, false}
 use mathlib.Core.List.{List, [], _∷_}
 use Prim.Native.Nat.{ℕ, _+_, _≤_, _<_}
 use native.Mathlib.Omega.{arith}
-use lib.ListN.{length, drop, drop-of-length-le}
+use lib.ListN.{length, drop, set, replicate, drop-of-length-le}
 use lib.Seq.{drop-cons}
 use lib.Dec.{leb, leb·zero}
 use Rattle.lists.specs.Tests.{between}
-use Rattle.format.specs.Format.{Reading, none, got, gotIf, andThen, mapReading, Format, getByte, sequence}
+use Rattle.format.specs.Format.{Reading, none, got, gotIf, andThen, mapReading, Format, getByte, byte, sequence, padded}
 use Rattle.refusals.specs.Refusals.{gives, refused}
 use Rattle.format.specs.File.{complete}
+use Rattle.format.proofs.Filling.{Filling, filling-starts, filling-turns, filling-fails, filling-ends}
 use Rattle.parsing.specs.declared.ByteRead.the-variants.{Byte, NoByte}
 use Rattle.parsing.specs.internal.Read.{byteRead}
 
@@ -29,7 +30,8 @@ byte-front test (x ∷ bytes) b h =
     let u : test b ≡ true = ap test (sym e) ∙ t in
     (u, rw (e, u))
 
-pub byte-read : (test : ℕ → Bool) (s : List ℕ) (at b : ℕ) → Byte b ≡ byteRead (getByte test (drop at s)) → (test b ≡ true) × (getByte test (drop at s) ≡ got b (drop (at + 1) s))
+pub byte-read : (test : ℕ → Bool) (s : List ℕ) (at b : ℕ) → Byte b ≡ byteRead (getByte test (drop at s))
+    → (test b ≡ true) × (getByte test (drop at s) ≡ got b (drop (at + 1) s))
 byte-read test s at b h = let (t, e) = byte-front test (drop at s) b h in (t, e ∙ rw (lib.Seq.drop-drop 1 at s))
 
 pub byte-none : (o : Reading ℕ) → NoByte ≡ byteRead o → o ≡ none
@@ -49,19 +51,6 @@ module _ {A B : Type 0} (f : Format A) (g : A → Format B) (bytes : List ℕ) w
 
 -- ---- a part that is to hold one value and no more
 
-module _ {A B : Type 0} (m : ℕ) (f : A → B) (o : Reading A) (p : Reading B) (e : p ≡ mapReading f o) where
-  pub complete-fails : o ≡ none → complete m p ≡ refused m
-  unfolding complete mapReading
-  complete-fails n = rw (e, n)
-
-  pub complete-ends : (a : A) (s : List ℕ) (at : ℕ) → o ≡ got a (drop at s) → length s ≤ at → complete m p ≡ gives (f a)
-  unfolding complete mapReading
-  complete-ends a s at g h = rw (e, g, drop-of-length-le s {i = at} h)
-
-  pub complete-long : (a : A) (s : List ℕ) (at : ℕ) → o ≡ got a (drop at s) → at < length s → complete m p ≡ refused m
-  unfolding complete mapReading
-  complete-long a s at g h = rw (e, g, drop-cons s at 0 h)
-
 pub complete-none : {A : Type 0} (m : ℕ) (o : Reading A) → o ≡ none → complete m o ≡ refused m
 unfolding complete
 complete-none m o e = rw e
@@ -80,3 +69,50 @@ module _ {A : Type 0} (m : ℕ) (o : Reading A) (a : A) (s : List ℕ) (at : ℕ
   pub got-long : at < length s → complete m o ≡ refused m
   unfolding complete
   got-long h = rw (g, drop-cons s at 0 h)
+
+-- ---- a part that holds a count and then so many values
+
+module _ {A : Type 0} (test : ℕ → Bool) (total : ℕ) (blank : A) (isBlank : A → Bool) (f : Format A) (part : List ℕ) where
+  -- The format of the part
+  abbrev pub counted : Format (ℕ × List A)
+  counted = sequence (byte test) (λ n. padded total blank isBlank n f)
+
+  -- The values after the count, as the format reads them
+  pub values : ℕ → Reading (List A)
+  values n = padded total blank isBlank n f .get (drop 1 part)
+
+  -- What has been read: the count n, and i values, which stand in the array; the others are read from a position on
+  pub record Counting (n : ℕ) (xs : List A) (i at : ℕ) : Type 0 where
+    pub head : counted .get part ≡ mapReading (λ ys. (n, ys)) (values n)
+    pub rest : Filling (f .get) (values n) n xs i (drop at part)
+
+  pub counting-starts : (n : ℕ) → getByte test part ≡ got n (drop 1 part) → Counting n (replicate total blank) 0 1
+  unfolding byte padded values
+  counting-starts n e =
+      record {
+        head = sequence-got (byte test) (λ n. padded total blank isBlank n f) part n (drop 1 part) e;
+        rest = filling-starts (f .get) total blank n (drop 1 part);
+      }
+
+  -- there is no count
+  pub no-count : (m : ℕ) → getByte test part ≡ none → complete m (counted .get part) ≡ refused m
+  unfolding byte
+  no-count m e = complete-none m (counted .get part) (sequence-none (byte test) (λ n. padded total blank isBlank n f) part e)
+
+  module _ {n : ℕ} {xs : List A} {i at : ℕ} (c : Counting n xs i at) where
+    pub counting-turns : (x : A) (next : ℕ) → i < n → i < length xs → f .get (drop at part) ≡ got x (drop next part) → Counting n (set xs i x) (i + 1) next
+    counting-turns x next h l e = record { head = c .head; rest = filling-turns (c .rest) x (drop next part) h l e }
+
+    -- a value is bad, or the part too short
+    pub counting-fails : (m : ℕ) → i < n → f .get (drop at part) ≡ none → complete m (counted .get part) ≡ refused m
+    unfolding complete mapReading
+    counting-fails m h e = rw (c .head, filling-fails (c .rest) h e)
+
+    -- after the last value the part ends, or it is too long
+    pub counting-ends : (m : ℕ) → n ≤ i → length part ≤ at → complete m (counted .get part) ≡ gives (n, xs)
+    unfolding complete mapReading
+    counting-ends m h l = rw (c .head, filling-ends (c .rest) h, drop-of-length-le part {i = at} l)
+
+    pub counting-long : (m : ℕ) → n ≤ i → at < length part → complete m (counted .get part) ≡ refused m
+    unfolding complete mapReading
+    counting-long m h l = rw (c .head, filling-ends (c .rest) h, drop-cons part at 0 l)

@@ -31,7 +31,8 @@ module _ (schema s : List ℕ) (at : ℕ) where
   dependency-short h = let t : leb 3 (length (drop at s)) ≡ false = lt-leb 3 (length (drop at s)) (rw length-drop h) in rw t
 
   -- a dependency of which there are 3 bytes
-  dependency-at : (t : Bool) → 3 ≤ length s - at → goodDependency schema (dependencyOn s at) ≡ t → dependency schema .get (drop at s) ≡ gotIf t (dependencyOn s at) (drop 3 (drop at s))
+  dependency-at : (t : Bool) → 3 ≤ length s - at → goodDependency schema (dependencyOn s at) ≡ t
+      → dependency schema .get (drop at s) ≡ gotIf t (dependencyOn s at) (drop 3 (drop at s))
   unfolding dependency
   dependency-at t h g =
       let l : leb 3 (length (drop at s)) ≡ true = le-leb 3 (length (drop at s)) (rw length-drop h) in
@@ -53,7 +54,8 @@ gotIf-dependency true a d rest h = let p : a ≡ d = cc in ap (λ (b : Dependenc
 gotIf-dependency false a d rest h = let z : _≡_ {A = ℕ} 0 1 = cc in absurd (omega arith)
 
 -- what the answer says of the format's reading
-pub dependency-read : (schema bytes : List ℕ) (d : Dependency) → Found d ≡ dependencyRead (dependency schema .get bytes) → dependency schema .get bytes ≡ got d (drop 3 bytes)
+pub dependency-read : (schema bytes : List ℕ) (d : Dependency) → Found d ≡ dependencyRead (dependency schema .get bytes)
+    → dependency schema .get bytes ≡ got d (drop 3 bytes)
 unfolding dependency
 dependency-read schema bytes d h = gotIf-dependency (leb 3 (length bytes) && goodDependency schema (dependencyAt bytes)) (dependencyAt bytes) d (drop 3 bytes) h
 

@@ -99,7 +99,8 @@ gotIf-entry false c rest e h = let z : _≡_ {A = ℕ} 0 1 = cc in absurd (omega
 -- what the answer says of the format's reading
 pub entry-read : (bytes : List ℕ) (e : Entry) → Read e ≡ entryRead (entry .get bytes) → entry .get bytes ≡ got (record { entry = e }) (drop 5 bytes)
 unfolding entry
-entry-read bytes e = go (leb 5 (length bytes) && isEntry (getD bytes 0 0) (number 4 (drop 1 bytes))) (entryFrom (getD bytes 0 0) (number 4 (drop 1 bytes))) (drop 5 bytes)
+entry-read bytes e =
+    go (leb 5 (length bytes) && isEntry (getD bytes 0 0) (number 4 (drop 1 bytes))) (entryFrom (getD bytes 0 0) (number 4 (drop 1 bytes))) (drop 5 bytes)
   where
     go : (t : Bool) (c : Cell) (rest : List ℕ) → Read e ≡ entryRead (gotIf t c rest) → gotIf t c rest ≡ got (record { entry = e }) rest
     go t c rest h = gotIf-entry t c rest e h

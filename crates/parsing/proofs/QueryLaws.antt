@@ -40,11 +40,14 @@ module _ (schema part : List ℕ) where
     after-arity : query schema .get part ≡ mapReading (λ s. queryWith (arity, s)) (sizeOn arity .get (drop 1 part))
     unfolding query via byte
     after-arity =
-        ap (mapReading queryWith) (sequence-got (byte (λ n. leb n 8)) sizeOn part arity (drop 1 part) ea) ∙ map-map queryWith (λ s. (arity, s)) (sizeOn arity .get (drop 1 part))
+        ap (mapReading queryWith) (sequence-got (byte (λ n. leb n 8)) sizeOn part arity (drop 1 part) ea)
+        ∙ map-map queryWith (λ s. (arity, s)) (sizeOn arity .get (drop 1 part))
 
     pub no-size : getByte (λ n. leb n 12) (drop 1 part) ≡ none → query schema .get part ≡ none
     unfolding byte
-    no-size e = after-arity ∙ map-none (λ s. queryWith (arity, s)) (sizeOn arity .get (drop 1 part)) (sequence-none (byte (λ n. leb n 12)) (headOn arity) (drop 1 part) e)
+    no-size e =
+        after-arity ∙ map-none (λ s. queryWith (arity, s)) (sizeOn arity .get (drop 1 part))
+        (sequence-none (byte (λ n. leb n 12)) (headOn arity) (drop 1 part) e)
 
     module _ (size : ℕ) (es : getByte (λ n. leb n 12) (drop 1 part) ≡ got size (drop 2 part)) where
       after-size : query schema .get part ≡ mapReading (λ h. queryWith (arity, (size, h))) (headOn arity size .get (drop 2 part))
@@ -61,7 +64,8 @@ module _ (schema part : List ℕ) where
       pub after-head : (head : List Cell) (rest : List ℕ) → entries (cond (eqb size 0) 0 arity) .get (drop 2 part) ≡ got head rest
           → query schema .get part ≡ mapReading (λ rs. queryWith (arity, (size, (head, rs)))) (rows schema size .get rest)
       after-head head rest e =
-          after-size ∙ ap (mapReading (λ h. queryWith (arity, (size, h)))) (sequence-got (entries (cond (eqb size 0) 0 arity)) (λ head. rows schema size) (drop 2 part) head rest e)
+          after-size ∙ ap (mapReading (λ h. queryWith (arity, (size, h))))
+          (sequence-got (entries (cond (eqb size 0) 0 arity)) (λ head. rows schema size) (drop 2 part) head rest e)
           ∙ map-map (λ h. queryWith (arity, (size, h))) (λ rs. (head, rs)) (rows schema size .get rest)
 
 -- ---- a mapped reading that is to be the whole part

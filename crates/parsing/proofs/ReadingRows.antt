@@ -98,7 +98,8 @@ module _ (schema part : List ℕ) (start size : ℕ) (relations : List ℕ) (cel
   pub too-long : size ≤ r → at < length part → noRowsRead ≡ rowsRead (complete badQuery (Rows schema part start size))
   too-long h l = sym (ap rowsRead (got-long badQuery (Rows schema part start size) (chunk relations cells) part at (filling-ends (f .reading) h) l))
 
-  pub accepted : size ≤ r → length part ≤ at → record { good = true; relations = relations; cells = cells } ≡ rowsRead (complete badQuery (Rows schema part start size))
+  pub accepted : size ≤ r → length part ≤ at → record { good = true; relations = relations; cells = cells }
+      ≡ rowsRead (complete badQuery (Rows schema part start size))
   accepted h l =
       let w : complete badQuery (Rows schema part start size) ≡ gives (chunk relations cells) =
       got-ends badQuery (Rows schema part start size) (chunk relations cells) part at (filling-ends (f .reading) h) l in
@@ -127,7 +128,8 @@ module _ (schema part : List ℕ) (at r width : ℕ) (before cells : List Cell) 
   pub row-goes-on : (e : Entry) → o ≡ Read e → r < 12 → length before ≡ 96 → i < width
       → InRow schema part at r width before (set cells (8 * r + i) (record { entry = e })) (i + 1)
   row-goes-on e q few lb h =
-      let read : entry .get (drop (at + 1 + 5 * i) part) ≡ got (record { entry = e }) (drop 5 (drop (at + 1 + 5 * i) part)) = entry-read (drop (at + 1 + 5 * i) part) e (sym q ∙ p) in
+      let read : entry .get (drop (at + 1 + 5 * i) part) ≡ got (record { entry = e }) (drop 5 (drop (at + 1 + 5 * i) part)) =
+      entry-read (drop (at + 1 + 5 * i) part) e (sym q ∙ p) in
       let k : at + 1 + 5 * i + 5 ≡ at + 1 + 5 * (i + 1) = omega arith in
       let d : drop 5 (drop (at + 1 + 5 * i) part) ≡ drop (at + 1 + 5 * (i + 1)) part = drop-drop 5 (at + 1 + 5 * i) part ∙ ap (λ (m : ℕ). drop m part) k in
       let lr : length (g .row) ≡ 8 = g .long in
@@ -146,7 +148,8 @@ module _ (schema part : List ℕ) (at r width : ℕ) (before cells : List Cell) 
 
   pub row-stops : o ≡ NoEntry → i < width → row schema .get (drop at part) ≡ none
   row-stops q h =
-      row-bad schema part at (g .of .inside) (g .of .known) (rw (g .of .wide) (filling-fails (g .reading) h (entry-none (drop (at + 1 + 5 * i) part) (sym q ∙ p))))
+      row-bad schema part at (g .of .inside) (g .of .known)
+      (rw (g .of .wide) (filling-fails (g .reading) h (entry-none (drop (at + 1 + 5 * i) part) (sym q ∙ p))))
 
 -- a row that is read to its end is one row more
 pub row-ends : (schema part : List ℕ) (start size : ℕ) (relations : List ℕ) (before cells : List Cell) (at r width i : ℕ) → Narrow schema
@@ -171,7 +174,8 @@ row-ends schema part start size relations before cells at r width i narrow f g h
     let m : 96 - 8 * r - 8 ≡ 96 - 8 * (r + 1) = omega arith in
     let after : drop (8 * (r + 1)) (over before (8 * r) (g .row)) ≡ replicate (96 - 8 * (r + 1)) noCell =
     ap (λ (x : ℕ). drop x (over before (8 * r) (g .row))) (sym n) ∙ drop-past-over before (8 * r) 8 (g .row) (omega arith) lc
-    ∙ sym (drop-drop 8 (8 * r) before) ∙ ap (λ (cs : List Cell). drop 8 cs) (f .blank) ∙ replicate-drop 8 (96 - 8 * r) noCell ∙ ap (λ (x : ℕ). replicate x noCell) m in
+    ∙ sym (drop-drop 8 (8 * r) before) ∙ ap (λ (cs : List Cell). drop 8 cs) (f .blank) ∙ replicate-drop 8 (96 - 8 * r) noCell
+    ∙ ap (λ (x : ℕ). replicate x noCell) m in
     record {
       few = omega arith;
       inside = k′;

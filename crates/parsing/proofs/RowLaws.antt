@@ -59,7 +59,8 @@ module _ (schema s : List ℕ) (at : ℕ) where
       sequence-got (byte (λ r. ltb r (length schema))) (λ r. entries (getD schema r 0)) (drop at s) (getD s at 0) (drop (at + 1) s)
       (byte-good (λ r. ltb r (length schema)) s at h (lt-ltb (getD s at 0) (length schema) k) ∙ rw add-one)
 
-  pub row-bad : at < length s → getD s at 0 < length schema → entries (getD schema (getD s at 0) 0) .get (drop (at + 1) s) ≡ none → row schema .get (drop at s) ≡ none
+  pub row-bad : at < length s → getD s at 0 < length schema → entries (getD schema (getD s at 0) 0) .get (drop (at + 1) s) ≡ none
+      → row schema .get (drop at s) ≡ none
   unfolding mapReading
   row-bad h k e = row-known h k ∙ rw e
 
@@ -97,7 +98,8 @@ times-bounds (suc n) bytes cells rest e =
     let lr : length (drop 5 bytes) ≡ length bytes - 5 = lib.ListN.length-drop 5 bytes in
     let le′ : 5 * n ≤ length (drop 5 bytes) = rw er le in
     let k : 5 + 5 * n ≡ 5 * suc n = omega arith in
-    let d : drop (5 * suc n) bytes ≡ rest = sym (ap (λ (m : ℕ). drop m bytes) k) ∙ sym (drop-drop (5 * n) 5 bytes) ∙ ap (λ (b : List ℕ). drop (5 * n) b) er ∙ ed in
+    let d : drop (5 * suc n) bytes ≡ rest =
+    sym (ap (λ (m : ℕ). drop m bytes) k) ∙ sym (drop-drop (5 * n) 5 bytes) ∙ ap (λ (b : List ℕ). drop (5 * n) b) er ∙ ed in
     subst (λ (cs : List Cell). Ends (suc n) bytes cs rest) ep (ap suc lc, d, omega arith)
 
 pub entries-bounds : (n : ℕ) (bytes : List ℕ) (cells : List Cell) (rest : List ℕ) → n ≤ 8 → entries n .get bytes ≡ got cells rest
@@ -118,7 +120,8 @@ pub row-bounds : (schema s : List ℕ) (at : ℕ) (r : ℕ × List Cell) (rest :
     → (length (r .1) ≡ 8) × (drop (at + 1 + 5 * getD schema (r .0) 0) s ≡ rest) × (at + 1 + 5 * getD schema (r .0) 0 ≤ length s)
 unfolding row sequence byte
 row-bounds schema s at r rest narrow h e =
-    let (b, r₁, eb, e₁) = andThen-got (getByte (λ r. ltb r (length schema)) (drop at s)) (λ a rest. mapReading (λ b. (a, b)) (entries (getD schema a 0) .get rest)) r rest e in
+    let (b, r₁, eb, e₁) =
+    andThen-got (getByte (λ r. ltb r (length schema)) (drop at s)) (λ a rest. mapReading (λ b. (a, b)) (entries (getD schema a 0) .get rest)) r rest e in
     let (cs, es, ep) = mapReading-got (λ cs. (b, cs)) (entries (getD schema b 0) .get r₁) r rest e₁ in
     let (d₁, l₁) = byte-bounds (λ r. ltb r (length schema)) (drop at s) b r₁ eb in
     let (l, d, k) = entries-bounds (getD schema b 0) r₁ cs rest (narrow-at schema b narrow) es in
@@ -127,7 +130,8 @@ row-bounds schema s at r rest narrow h e =
     let ls : length (drop at s) ≡ length s - at = lib.ListN.length-drop at s in
     let d′ : drop (at + 1 + 5 * w) s ≡ rest =
     sym (drop-drop (5 * w) (at + 1) s) ∙ ap (λ (t : List ℕ). drop (5 * w) t) (sym (drop-drop 1 at s) ∙ d₁) ∙ d in
-    subst (λ (r : ℕ × List Cell). (length (r .1) ≡ 8) × (drop (at + 1 + 5 * getD schema (r .0) 0) s ≡ rest) × (at + 1 + 5 * getD schema (r .0) 0 ≤ length s)) {x = (b, cs)} ep
+    subst (λ (r : ℕ × List Cell). (length (r .1) ≡ 8) × (drop (at + 1 + 5 * getD schema (r .0) 0) s ≡ rest) × (at + 1 + 5 * getD schema (r .0) 0 ≤ length s))
+    {x = (b, cs)} ep
     (l, d′, omega arith)
 
 -- ---- rows in flat arrays
@@ -135,7 +139,8 @@ row-bounds schema s at r rest narrow h e =
 drop-over : {A : Type 0} (k : ℕ) (xs : List A) (i : ℕ) (ys : List A) → k ≤ length xs → drop k (over xs (k + i) ys) ≡ over (drop k xs) i ys
 drop-over k xs i ys h =
     let t : take (k + i) xs ≡ take k xs ++ take i (drop k xs) = lib.Seq.take-add k i xs in
-    let d : drop (k + i + length ys) xs ≡ drop (i + length ys) (drop k xs) = ap (λ (n : ℕ). drop n xs) (native.Mathlib.Nat.add-assoc k i (length ys)) ∙ sym (drop-drop (i + length ys) k xs) in
+    let d : drop (k + i + length ys) xs ≡ drop (i + length ys) (drop k xs) =
+    ap (λ (n : ℕ). drop n xs) (native.Mathlib.Nat.add-assoc k i (length ys)) ∙ sym (drop-drop (i + length ys) k xs) in
     let l : length (take k xs) ≡ k = length-take-le k xs h in
     rw (t, d, append-assoc (take k xs) (take i (drop k xs)) ys, append-assoc (take k xs) (take i (drop k xs) ++ ys) (drop (i + length ys) (drop k xs)))
     (drop-at (take k xs) (take i (drop k xs) ++ ys ++ drop (i + length ys) (drop k xs)) k l)
@@ -160,9 +165,11 @@ chunk-set (y ∷ rs) cells (suc r) x cs h l k =
     let n : 8 * suc r ≡ 8 + 8 * r = omega arith in
     let lt : 8 ≤ length cells = omega arith in
     let ld : length (drop 8 cells) ≡ 8 * length rs = lib.ListN.length-drop 8 cells ∙ omega arith in
-    let ih : chunk (set rs r x) (over (drop 8 cells) (8 * r) cs) ≡ set (chunk rs (drop 8 cells)) r (x, cs) = chunk-set rs (drop 8 cells) r x cs (native.Mathlib.Nat.le-of-suc-le-suc h) ld k in
+    let ih : chunk (set rs r x) (over (drop 8 cells) (8 * r) cs) ≡ set (chunk rs (drop 8 cells)) r (x, cs) =
+    chunk-set rs (drop 8 cells) r x cs (native.Mathlib.Nat.le-of-suc-le-suc h) ld k in
     let t : take 8 (over cells (8 * suc r) cs) ≡ take 8 cells = ap (λ (m : ℕ). take 8 (over cells m cs)) n ∙ take-over 8 cells (8 * r) cs lt in
-    let d : drop 8 (over cells (8 * suc r) cs) ≡ over (drop 8 cells) (8 * r) cs = ap (λ (m : ℕ). drop 8 (over cells m cs)) n ∙ drop-over 8 cells (8 * r) cs lt in
+    let d : drop 8 (over cells (8 * suc r) cs) ≡ over (drop 8 cells) (8 * r) cs =
+    ap (λ (m : ℕ). drop 8 (over cells m cs)) n ∙ drop-over 8 cells (8 * r) cs lt in
     ap {B = List (ℕ × List Cell)} (λ c. (y, c) ∷ chunk (set rs r x) (drop 8 (over cells (8 * suc r) cs))) t
     ∙ ap {B = List (ℕ × List Cell)} (λ c. (y, take 8 cells) ∷ chunk (set rs r x) c) d ∙ ap {B = List (ℕ × List Cell)} (λ c. (y, take 8 cells) ∷ c) ih
 
@@ -173,7 +180,8 @@ set-append-right {A = A} (x ∷ xs) ys i y =
     ap (λ (m : ℕ). set (x ∷ xs ++ ys) m y) n ∙ ap {B = List A} (λ zs. x ∷ zs) (set-append-right xs ys i y)
 
 -- a store into what is written over a list
-pub set-over : {A : Type 0} (xs : List A) (k i : ℕ) (y : A) (ys : List A) → k ≤ length xs → i < length ys → set (over xs k ys) (k + i) y ≡ over xs k (set ys i y)
+pub set-over : {A : Type 0} (xs : List A) (k i : ℕ) (y : A) (ys : List A) → k ≤ length xs → i < length ys
+    → set (over xs k ys) (k + i) y ≡ over xs k (set ys i y)
 set-over {A = A} xs k i y ys h l =
     let lt : length (take k xs) ≡ k = length-take-le k xs h in
     let la : k + i < length (take k xs ++ ys) = simp length-append (omega arith) in

@@ -60,7 +60,8 @@ accepts file n h = fitting (tableFits file) refl h
         → Parts n ≡ directoryRead (cond t (gives (stretches count file (drop 2 file))) (refused badOffsets)) → Accepted file n
     chaining f true c h =
         let e : count ≡ n = sym (length-stretches count file (drop 2 file)) ∙ sym (cc) in
-        let k : (leb 2 (length file) ≡ true) × (((leb 2 count ≡ true) × (leb count 10 ≡ true)) × (leb (2 + 4 * count) (length file) ≡ true)) = simp and-iff at f in
+        let k : (leb 2 (length file) ≡ true) × (((leb 2 count ≡ true) × (leb count 10 ≡ true)) × (leb (2 + 4 * count) (length file) ≡ true)) =
+        simp and-iff at f in
         subst (Accepted file) e
         (record {
           low = leb-true 2 count (k .1 .0 .0);
@@ -72,7 +73,9 @@ accepts file n h = fitting (tableFits file) refl h
     chaining f false c h = let z : _≡_ {A = ℕ} 0 1 = cc in absurd (omega arith)
 
     fitting : (t : Bool) → tableFits file ≡ t
-        → Parts n ≡ directoryRead (cond t (cond (chained count (2 + 4 * count) (length file) (drop 2 file)) (gives (stretches count file (drop 2 file))) (refused badOffsets)) (refused badDirectory))
+        → Parts n ≡ directoryRead (cond t
+        (cond (chained count (2 + 4 * count) (length file) (drop 2 file)) (gives (stretches count file (drop 2 file)))
+        (refused badOffsets)) (refused badDirectory))
         → Accepted file n
     fitting true f h = chaining f (chained count (2 + 4 * count) (length file) (drop 2 file)) refl h
     fitting false f h = let z : _≡_ {A = ℕ} 0 1 = cc in absurd (omega arith)

@@ -15,7 +15,8 @@ use Rattle.assembly.proofs.places_length.Statement.{statement}
 use Rattle.assembly.proofs.places_length.Tie as tie
 
 next : (schema : List ℕ) (places : List Place) (n k : ℕ) → n ≤ length places → k < n
-    → length (join (map (putPlace schema) (drop k (take n places)))) ≡ length (putPlace schema (getD places k pastPlace)) + length (join (map (putPlace schema) (drop (k + 1) (take n places))))
+    → length (join (map (putPlace schema) (drop k (take n places))))
+    ≡ length (putPlace schema (getD places k pastPlace)) + length (join (map (putPlace schema) (drop (k + 1) (take n places))))
 unfolding join
 next schema places n k l h =
     ap (λ (ps : List (List ℕ)). length (join ps)) (parts-next schema places n k l h)
@@ -46,7 +47,11 @@ array-copy-out-place c = search needs
 place-length-requires : tie.Need-place-length-requires Inv-loop μ-loop
 place-length-requires c κs =
     let l : length (c .before .before .before .args .t1) ≡ 8 = search needs in
-    (c .before .before .before .pre .0, every-getD (goodPlace (take (c .before .before .before .args .count) (c .before .before .before .args .widths))) (c .before .before .before .args .t1) (c .before .before .loop .k) pastPlace (c .before .before .before .pre .1 .0) (omega (arith, c .before .before .before .pre .1 .1)))
+    let start = c .before .before .before in (
+      start .pre .0,
+      every-getD (goodPlace (take (start .args .count) (start .args .widths))) (start .args .t1) (c .before .before .loop .k) pastPlace
+          (start .pre .1 .0) (omega (arith, start .pre .1 .1)),
+    )
 
 add-sum : tie.Need-add-sum Inv-loop μ-loop
 add-sum c =
@@ -61,14 +66,21 @@ loop-less c = search needs
 loop-again : tie.Need-loop-again Inv-loop μ-loop
 loop-again c =
     let l : length (c .before .before .before .before .args .t1) ≡ 8 = search needs in
-    let e = next (take (c .before .before .before .before .args .count) (c .before .before .before .before .args .widths)) (c .before .before .before .before .args .t1) (c .before .before .before .before .args .n) (c .before .before .before .loop .k) (omega (arith, c .before .before .before .before .pre .1 .1)) (c .before .before .loop-test .taken) in
-    (search needs, omega (arith, c .place-length .ensures .1), omega (arith, e, c .place-length .ensures .0, c .before .before .before .loop .inv .2))
+    let after-loop = c .before .before .before in
+    let start = after-loop .before in
+    let e =
+    next (take (start .args .count) (start .args .widths)) (start .args .t1) (start .args .n) (after-loop .loop .k) (omega (arith, start .pre .1 .1))
+    (c .before .before .loop-test .taken) in
+    (search needs, omega (arith, c .place-length .ensures .1), omega (arith, e, c .place-length .ensures .0, after-loop .loop .inv .2))
 
 returns : tie.Need-returns Inv-loop μ-loop
 returns c =
     let l : length (c .before .before .args .t1) ≡ 8 = search needs in
-    let e = none-left (take (c .before .before .args .count) (c .before .before .args .widths)) (c .before .before .args .t1) (c .before .before .args .n) (c .before .loop .k) (omega (arith, c .before .before .pre .1 .1)) (c .loop-test .left) in
-    (omega (arith, e, c .before .loop .inv .2), omega (arith, c .before .before .pre .1 .1))
+    let start = c .before .before in
+    let e =
+    none-left (take (start .args .count) (start .args .widths)) (start .args .t1) (start .args .n) (c .before .loop .k) (omega (arith, start .pre .1 .1))
+    (c .loop-test .left) in
+    (omega (arith, e, c .before .loop .inv .2), omega (arith, start .pre .1 .1))
 
 pub places-length-spec : {M : Type 1} → statement M
 places-length-spec =

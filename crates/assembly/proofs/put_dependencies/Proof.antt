@@ -31,7 +31,8 @@ module _ (before : List ℕ) (at held : ℕ) (list : List Dependency) (buffer : 
   room : at + 1 + 3 * i + 3 ≤ length buffer
   room = let k : length (take held list) ≡ held = length-take-le held list l in omega (arith, writing-room w past (omega arith))
 
-  goes-on : (next : List ℕ) → next ≡ over buffer (at + 1 + 3 * i) (putDependency (getD list i past)) → Writing putDependency before (at + 1) (take held list) next (at + 1 + 3 * (i + 1)) (i + 1)
+  goes-on : (next : List ℕ) → next ≡ over buffer (at + 1 + 3 * i) (putDependency (getD list i past))
+      → Writing putDependency before (at + 1) (take held list) next (at + 1 + 3 * (i + 1)) (i + 1)
   goes-on next e =
       let k : length (take held list) ≡ held = length-take-le held list l in
       let g : getD (take held list) i past ≡ getD list i past = getD-take held list i past h in
@@ -48,8 +49,11 @@ slice-write-buffer c = search needs
 
 loop-holds : tie.Need-loop-holds Inv-loop μ-loop
 loop-holds c =
-    let l : length (c .before .args .t4) ≡ 32 = search needs in
-    (omega arith, begins (set (c .before .args .buffer .now) (c .before .args .at) (c .before .args .held)) (c .before .args .at) (c .before .args .held) (c .before .args .t4) (omega (arith, c .before .pre .0)) (rw length-set (c .before .pre .1)))
+    let l : length (c .before .args .t4) ≡ 32 = search needs in (
+      omega arith,
+      begins (set (c .before .args .buffer .now) (c .before .args .at) (c .before .args .held)) (c .before .args .at) (c .before .args .held)
+          (c .before .args .t4) (omega (arith, c .before .pre .0)) (rw length-set (c .before .pre .1)),
+    )
 
 mul-d : tie.Need-mul-d Inv-loop μ-loop
 mul-d c = search needs
@@ -60,25 +64,40 @@ array-copy-out-d c = search needs
 add-put-dependency : tie.Need-add-put-dependency Inv-loop μ-loop
 add-put-dependency c =
     let l : length (c .before .before .before .before .before .args .t4) ≡ 32 = search needs in
-    let r = room (set (c .before .before .before .before .before .args .buffer .now) (c .before .before .before .before .before .args .at) (c .before .before .before .before .before .args .held)) (c .before .before .before .before .before .args .at) (c .before .before .before .before .before .args .held) (c .before .before .before .before .before .args .t4) (c .before .before .before .loop .buffer) (c .before .before .before .loop .i) (c .before .before .loop-test .taken) (omega (arith, c .before .before .before .before .before .pre .0)) (c .before .before .before .loop .inv .1) in
+    let after-loop = c .before .before .before in
+    let start = after-loop .before .before in
+    let r =
+    room (set (start .args .buffer .now) (start .args .at) (start .args .held)) (start .args .at) (start .args .held) (start .args .t4)
+    (after-loop .loop .buffer) (after-loop .loop .i) (c .before .before .loop-test .taken) (omega (arith, start .pre .0)) (after-loop .loop .inv .1) in
     omega (arith, r)
 
 mul-put-dependency : tie.Need-mul-put-dependency Inv-loop μ-loop
 mul-put-dependency c =
     let l : length (c .before .before .before .before .before .args .t4) ≡ 32 = search needs in
-    let r = room (set (c .before .before .before .before .before .args .buffer .now) (c .before .before .before .before .before .args .at) (c .before .before .before .before .before .args .held)) (c .before .before .before .before .before .args .at) (c .before .before .before .before .before .args .held) (c .before .before .before .before .before .args .t4) (c .before .before .before .loop .buffer) (c .before .before .before .loop .i) (c .before .before .loop-test .taken) (omega (arith, c .before .before .before .before .before .pre .0)) (c .before .before .before .loop .inv .1) in
+    let after-loop = c .before .before .before in
+    let start = after-loop .before .before in
+    let r =
+    room (set (start .args .buffer .now) (start .args .at) (start .args .held)) (start .args .at) (start .args .held) (start .args .t4)
+    (after-loop .loop .buffer) (after-loop .loop .i) (c .before .before .loop-test .taken) (omega (arith, start .pre .0)) (after-loop .loop .inv .1) in
     omega (arith, r)
 
 add-put-dependency-2 : tie.Need-add-put-dependency-2 Inv-loop μ-loop
 add-put-dependency-2 c =
     let l : length (c .before .before .before .before .before .args .t4) ≡ 32 = search needs in
-    let r = room (set (c .before .before .before .before .before .args .buffer .now) (c .before .before .before .before .before .args .at) (c .before .before .before .before .before .args .held)) (c .before .before .before .before .before .args .at) (c .before .before .before .before .before .args .held) (c .before .before .before .before .before .args .t4) (c .before .before .before .loop .buffer) (c .before .before .before .loop .i) (c .before .before .loop-test .taken) (omega (arith, c .before .before .before .before .before .pre .0)) (c .before .before .before .loop .inv .1) in
+    let after-loop = c .before .before .before in
+    let start = after-loop .before .before in
+    let r =
+    room (set (start .args .buffer .now) (start .args .at) (start .args .held)) (start .args .at) (start .args .held) (start .args .t4)
+    (after-loop .loop .buffer) (after-loop .loop .i) (c .before .before .loop-test .taken) (omega (arith, start .pre .0)) (after-loop .loop .inv .1) in
     omega (arith, r)
 
 put-dependency-requires : tie.Need-put-dependency-requires Inv-loop μ-loop
 put-dependency-requires c κs =
     let l : length (c .before .before .before .before .before .args .t4) ≡ 32 = search needs in
-    room (set (c .before .before .before .before .before .args .buffer .now) (c .before .before .before .before .before .args .at) (c .before .before .before .before .before .args .held)) (c .before .before .before .before .before .args .at) (c .before .before .before .before .before .args .held) (c .before .before .before .before .before .args .t4) (c .before .before .before .loop .buffer) (c .before .before .before .loop .i) (c .before .before .loop-test .taken) (omega (arith, c .before .before .before .before .before .pre .0)) (c .before .before .before .loop .inv .1)
+    let after-loop = c .before .before .before in
+    let start = after-loop .before .before in
+    room (set (start .args .buffer .now) (start .args .at) (start .args .held)) (start .args .at) (start .args .held) (start .args .t4)
+    (after-loop .loop .buffer) (after-loop .loop .i) (c .before .before .loop-test .taken) (omega (arith, start .pre .0)) (after-loop .loop .inv .1)
 
 add-i : tie.Need-add-i Inv-loop μ-loop
 add-i c = search needs
@@ -89,17 +108,29 @@ loop-less c = search needs
 loop-again : tie.Need-loop-again Inv-loop μ-loop
 loop-again c =
     let l : length (c .before .before .before .before .before .before .before .before .args .t4) ≡ 32 = search needs in
-    (search needs, goes-on (set (c .before .before .before .before .before .before .before .before .args .buffer .now) (c .before .before .before .before .before .before .before .before .args .at) (c .before .before .before .before .before .before .before .before .args .held)) (c .before .before .before .before .before .before .before .before .args .at) (c .before .before .before .before .before .before .before .before .args .held) (c .before .before .before .before .before .before .before .before .args .t4) (c .before .before .before .before .before .before .loop .buffer) (c .before .before .before .before .before .before .loop .i) (c .before .before .before .before .before .loop-test .taken) (omega (arith, c .before .before .before .before .before .before .before .before .pre .0)) (c .before .before .before .before .before .before .loop .inv .1) (c .before .before .put-dependency .last .0) (c .before .before .put-dependency .ensures))
+    let after-put-dependency = c .before .before in
+    let after-loop-test = after-put-dependency .before .before .before in
+    let after-loop = after-loop-test .before in
+    let start = after-loop .before .before in (
+      search needs,
+      goes-on (set (start .args .buffer .now) (start .args .at) (start .args .held)) (start .args .at) (start .args .held) (start .args .t4)
+          (after-loop .loop .buffer) (after-loop .loop .i) (after-loop-test .loop-test .taken) (omega (arith, start .pre .0)) (after-loop .loop .inv .1)
+          (after-put-dependency .put-dependency .last .0) (after-put-dependency .put-dependency .ensures),
+    )
 
 same-length : tie.Need-same-length Inv-loop μ-loop
 same-length c =
-    c .before .loop .inv .1 .long ∙ length-set (c .before .before .before .args .buffer .now) (c .before .before .before .args .at) (c .before .before .before .args .held)
+    let start = c .before .before .before in
+    c .before .loop .inv .1 .long ∙ length-set (start .args .buffer .now) (start .args .at) (start .args .held)
 
 returns : tie.Need-returns Inv-loop μ-loop
 returns c =
     let l : length (c .before .before .before .args .t4) ≡ 32 = search needs in
-    let k : length (take (c .before .before .before .args .held) (c .before .before .before .args .t4)) ≡ c .before .before .before .args .held = length-take-le (c .before .before .before .args .held) (c .before .before .before .args .t4) (omega (arith, c .before .before .before .pre .0)) in
-    byte-and-run (c .before .before .before .args .buffer .now) (c .before .before .before .args .at) (c .before .before .before .args .held) (putAll putDependency (take (c .before .before .before .args .held) (c .before .before .before .args .t4))) (c .before .loop .buffer) (omega (arith, c .before .before .before .pre .1))
+    let start = c .before .before .before in
+    let k : length (take (start .args .held) (start .args .t4)) ≡ start .args .held =
+    length-take-le (start .args .held) (start .args .t4) (omega (arith, start .pre .0)) in
+    byte-and-run (start .args .buffer .now) (start .args .at) (start .args .held) (putAll putDependency (take (start .args .held) (start .args .t4)))
+    (c .before .loop .buffer) (omega (arith, start .pre .1))
     (writing-ends (c .before .loop .inv .1) (omega arith) .0)
 
 pub put-dependencies-spec : {M : Type 1} → statement M

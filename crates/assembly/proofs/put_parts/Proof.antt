@@ -52,16 +52,41 @@ room c = omega (arith, parts-long (c .args .given) (c .pre .0) (widths-long c) (
 short : (c : tie.Start) → length (c .args .buffer .now) < 2 ^ 63
 short c = search needs
 
-first-run : (c : tie.After-put-relations) → Run (c .before .before .before .before .before .before .args .buffer .now) (c .before .before .before .before .before .before .args .start) ([] ++ relationBytes (c .before .before .before .before .before .before)) (c .put-relations .last .0) (second (c .before .before .before .before .before .before))
+abbrev first-run-start : tie.After-put-relations → tie.Start
+first-run-start c = c .before .before .before .before .before .before
+
+first-run : (c : tie.After-put-relations)
+    → Run (first-run-start c .args .buffer .now) (first-run-start c .args .start) ([] ++ relationBytes (first-run-start c)) (c .put-relations .last .0)
+    (second (first-run-start c))
 first-run c =
-    run-turns (run-starts (c .before .before .before .before .before .before .args .buffer .now) (c .before .before .before .before .before .before .args .start)) (relationBytes (c .before .before .before .before .before .before)) (c .put-relations .last .0) (second (c .before .before .before .before .before .before)) (omega (arith, relations-long (c .before .before .before .before .before .before), room (c .before .before .before .before .before .before))) (c .put-relations .ensures) (omega (arith, relations-long (c .before .before .before .before .before .before)))
+    let start′ = c .before .before .before .before .before .before in
+    run-turns (run-starts (start′ .args .buffer .now) (start′ .args .start)) (relationBytes start′) (c .put-relations .last .0) (second start′)
+    (omega (arith, relations-long start′, room start′)) (c .put-relations .ensures) (omega (arith, relations-long start′))
 
-second-run : (c : tie.After-put-dependencies) → Run (c .before .before .before .before .before .before .before .before .before .before .args .buffer .now) (c .before .before .before .before .before .before .before .before .before .before .args .start) ([] ++ relationBytes (c .before .before .before .before .before .before .before .before .before .before) ++ listBytes (c .before .before .before .before .before .before .before .before .before .before)) (c .put-dependencies .last .0) (third (c .before .before .before .before .before .before .before .before .before .before))
+abbrev second-run-start : tie.After-put-dependencies → tie.Start
+second-run-start c = c .before .before .before .before .before .before .before .before .before .before
+
+second-run : (c : tie.After-put-dependencies)
+    → Run (second-run-start c .args .buffer .now) (second-run-start c .args .start) ([] ++ relationBytes (second-run-start c) ++ listBytes (second-run-start c))
+    (c .put-dependencies .last .0) (third (second-run-start c))
 second-run c =
-    run-turns (first-run (c .before .before .before .before)) (listBytes (c .before .before .before .before .before .before .before .before .before .before)) (c .put-dependencies .last .0) (third (c .before .before .before .before .before .before .before .before .before .before)) (omega (arith, dependencies-long (c .before .before .before .before .before .before .before .before .before .before), room (c .before .before .before .before .before .before .before .before .before .before))) (c .put-dependencies .ensures) (omega (arith, dependencies-long (c .before .before .before .before .before .before .before .before .before .before)))
+    let earlier = c .before .before .before .before in
+    let earlier′ = earlier .before .before .before .before .before .before in
+    run-turns (first-run earlier) (listBytes earlier′) (c .put-dependencies .last .0) (third earlier′)
+    (omega (arith, dependencies-long earlier′, room earlier′)) (c .put-dependencies .ensures) (omega (arith, dependencies-long earlier′))
 
-third-run : (c : tie.After-put-places) → Run (c .before .before .before .before .before .before .before .before .before .before .before .before .before .before .args .buffer .now) (c .before .before .before .before .before .before .before .before .before .before .before .before .before .before .args .start) ([] ++ relationBytes (c .before .before .before .before .before .before .before .before .before .before .before .before .before .before) ++ listBytes (c .before .before .before .before .before .before .before .before .before .before .before .before .before .before) ++ placeBytes (c .before .before .before .before .before .before .before .before .before .before .before .before .before .before)) (c .put-places .last .0) (third (c .before .before .before .before .before .before .before .before .before .before .before .before .before .before) + length (placeBytes (c .before .before .before .before .before .before .before .before .before .before .before .before .before .before)))
-third-run c = run-turns (second-run (c .before .before .before .before)) (placeBytes (c .before .before .before .before .before .before .before .before .before .before .before .before .before .before)) (c .put-places .last .0) (third (c .before .before .before .before .before .before .before .before .before .before .before .before .before .before) + length (placeBytes (c .before .before .before .before .before .before .before .before .before .before .before .before .before .before))) (room (c .before .before .before .before .before .before .before .before .before .before .before .before .before .before)) (c .put-places .ensures) refl
+abbrev third-run-start : tie.After-put-places → tie.Start
+third-run-start c = c .before .before .before .before .before .before .before .before .before .before .before .before .before .before
+
+third-run : (c : tie.After-put-places)
+    → Run (third-run-start c .args .buffer .now) (third-run-start c .args .start)
+    ([] ++ relationBytes (third-run-start c) ++ listBytes (third-run-start c) ++ placeBytes (third-run-start c)) (c .put-places .last .0)
+    (third (third-run-start c) + length (placeBytes (third-run-start c)))
+third-run c =
+    let earlier = c .before .before .before .before in
+    let earlier′ = earlier .before .before .before .before .before .before .before .before .before .before in
+    run-turns (second-run earlier) (placeBytes earlier′) (c .put-places .last .0) (third earlier′ + length (placeBytes earlier′)) (room earlier′)
+    (c .put-places .ensures) refl
 
 -- ---- the needs
 add-first : tie.Need-add-first
@@ -86,15 +111,22 @@ add-second-2 : tie.Need-add-second-2
 add-second-2 c = omega (arith, room (c .before .before .before .before), short (c .before .before .before .before))
 
 put-relations-requires : tie.Need-put-relations-requires
-put-relations-requires c κs = (relations-bounds (c .before .before .before .before .before .args .given .relations) (c .before .before .before .before .before .args .given .widths) (good-record (c .before .before .before .before .before .args .given) (c .before .before .before .before .before .pre .0) .relations) .1, omega (arith, room (c .before .before .before .before .before)))
+put-relations-requires c κs =
+    let start = c .before .before .before .before .before in (
+      relations-bounds (start .args .given .relations) (start .args .given .widths) (good-record (start .args .given) (start .pre .0) .relations) .1,
+      omega (arith, room start),
+    )
 
 put-dependencies-requires : tie.Need-put-dependencies-requires
-put-dependencies-requires c κs = (good-record (c .before .before .before .before .before .before .before .before .before .args .given) (c .before .before .before .before .before .before .before .before .before .pre .0) .held, omega (arith, first-run (c .before .before .before) .long, room (c .before .before .before .before .before .before .before .before .before)))
+put-dependencies-requires c κs =
+    let start = c .before .before .before .before .before .before .before .before .before in
+    (good-record (start .args .given) (start .pre .0) .held, omega (arith, first-run (c .before .before .before) .long, room start))
 
 put-places-requires : tie.Need-put-places-requires
 put-places-requires c κs =
-    let parts = good-record (c .before .before .before .before .before .before .before .before .before .before .before .before .before .args .given) (c .before .before .before .before .before .before .before .before .before .before .before .before .before .pre .0) in
-    (parts .relations, (parts .places, (c .before .before .before .before .before .before .before .before .before .before .before .before .before .pre .1 .0, omega (arith, second-run (c .before .before .before) .long, room (c .before .before .before .before .before .before .before .before .before .before .before .before .before)))))
+    let start = c .before .before .before .before .before .before .before .before .before .before .before .before .before in
+    let parts = good-record (start .args .given) (start .pre .0) in
+    (parts .relations, (parts .places, (start .pre .1 .0, omega (arith, second-run (c .before .before .before) .long, room start))))
 
 same-length : tie.Need-same-length
 same-length c = third-run (c .before .before) .long

@@ -17,19 +17,22 @@ use Rattle.assembly.proofs.put_relations.Tie as tie
 abbrev one : ℕ → List ℕ
 one b = b ∷ []
 
-begins : (buffer : List ℕ) (at count : ℕ) (widths : List ℕ) → count ≤ length widths → at + 1 + count ≤ length buffer → Writing one buffer (at + 1) (take count widths) buffer (at + 1 + 0) 0
+begins : (buffer : List ℕ) (at count : ℕ) (widths : List ℕ) → count ≤ length widths → at + 1 + count ≤ length buffer
+    → Writing one buffer (at + 1) (take count widths) buffer (at + 1 + 0) 0
 begins buffer at count widths l h =
     let e : length (putAll one (take count widths)) ≡ 1 * length (take count widths) = length-putAll one 1 (λ b. refl) (take count widths) in
     let k : length (take count widths) ≡ count = length-take-le count widths l in
     rw (add-zero (at + 1)) (writing-starts one buffer (at + 1) (take count widths) (omega arith))
 
-room : (before : List ℕ) (at count : ℕ) (widths : List ℕ) (buffer : List ℕ) (i : ℕ) → i < count → count ≤ length widths → Writing one before (at + 1) (take count widths) buffer (at + 1 + i) i
+room : (before : List ℕ) (at count : ℕ) (widths : List ℕ) (buffer : List ℕ) (i : ℕ) → i < count → count ≤ length widths
+    → Writing one before (at + 1) (take count widths) buffer (at + 1 + i) i
     → at + 1 + i < length buffer
 room before at count widths buffer i h l w =
     let k : length (take count widths) ≡ count = length-take-le count widths l in
     omega (arith, writing-room w 0 (omega arith))
 
-goes-on : (before : List ℕ) (at count : ℕ) (widths : List ℕ) (buffer : List ℕ) (i : ℕ) → i < count → count ≤ length widths → Writing one before (at + 1) (take count widths) buffer (at + 1 + i) i
+goes-on : (before : List ℕ) (at count : ℕ) (widths : List ℕ) (buffer : List ℕ) (i : ℕ) → i < count → count ≤ length widths
+    → Writing one before (at + 1) (take count widths) buffer (at + 1 + i) i
     → Writing one before (at + 1) (take count widths) (set buffer (at + 1 + i) (getD widths i 0)) (at + 1 + (i + 1)) (i + 1)
 goes-on before at count widths buffer i h l w =
     let k : length (take count widths) ≡ count = length-take-le count widths l in
@@ -49,8 +52,11 @@ slice-write-buffer c = search needs
 
 loop-holds : tie.Need-loop-holds Inv-loop μ-loop
 loop-holds c =
-    let l : length (c .args .t4) ≡ 8 = search needs in
-    (omega arith, begins (set (c .args .buffer .now) (c .args .at) (c .args .count)) (c .args .at) (c .args .count) (c .args .t4) (omega (arith, c .pre .0)) (rw length-set (c .pre .1)))
+    let l : length (c .args .t4) ≡ 8 = search needs in (
+      omega arith,
+      begins (set (c .args .buffer .now) (c .args .at) (c .args .count)) (c .args .at) (c .args .count) (c .args .t4) (omega (arith, c .pre .0))
+          (rw length-set (c .pre .1)),
+    )
 
 array-read-buffer : tie.Need-array-read-buffer Inv-loop μ-loop
 array-read-buffer c = search needs
@@ -58,19 +64,27 @@ array-read-buffer c = search needs
 add-buffer : tie.Need-add-buffer Inv-loop μ-loop
 add-buffer c =
     let l : length (c .before .before .args .t4) ≡ 8 = search needs in
-    let r = room (set (c .before .before .args .buffer .now) (c .before .before .args .at) (c .before .before .args .count)) (c .before .before .args .at) (c .before .before .args .count) (c .before .before .args .t4) (c .before .loop .buffer) (c .before .loop .i) (c .loop-test .taken) (omega (arith, c .before .before .pre .0)) (c .before .loop .inv .1) in
+    let start = c .before .before in
+    let r =
+    room (set (start .args .buffer .now) (start .args .at) (start .args .count)) (start .args .at) (start .args .count) (start .args .t4)
+    (c .before .loop .buffer) (c .before .loop .i) (c .loop-test .taken) (omega (arith, start .pre .0)) (c .before .loop .inv .1) in
     omega arith
 
 add-buffer-2 : tie.Need-add-buffer-2 Inv-loop μ-loop
 add-buffer-2 c =
     let l : length (c .before .before .args .t4) ≡ 8 = search needs in
-    let r = room (set (c .before .before .args .buffer .now) (c .before .before .args .at) (c .before .before .args .count)) (c .before .before .args .at) (c .before .before .args .count) (c .before .before .args .t4) (c .before .loop .buffer) (c .before .loop .i) (c .loop-test .taken) (omega (arith, c .before .before .pre .0)) (c .before .loop .inv .1) in
+    let start = c .before .before in
+    let r =
+    room (set (start .args .buffer .now) (start .args .at) (start .args .count)) (start .args .at) (start .args .count) (start .args .t4)
+    (c .before .loop .buffer) (c .before .loop .i) (c .loop-test .taken) (omega (arith, start .pre .0)) (c .before .loop .inv .1) in
     omega arith
 
 slice-write-buffer-2 : tie.Need-slice-write-buffer-2 Inv-loop μ-loop
 slice-write-buffer-2 c =
     let l : length (c .before .before .args .t4) ≡ 8 = search needs in
-    room (set (c .before .before .args .buffer .now) (c .before .before .args .at) (c .before .before .args .count)) (c .before .before .args .at) (c .before .before .args .count) (c .before .before .args .t4) (c .before .loop .buffer) (c .before .loop .i) (c .loop-test .taken) (omega (arith, c .before .before .pre .0)) (c .before .loop .inv .1)
+    let start = c .before .before in
+    room (set (start .args .buffer .now) (start .args .at) (start .args .count)) (start .args .at) (start .args .count) (start .args .t4)
+    (c .before .loop .buffer) (c .before .loop .i) (c .loop-test .taken) (omega (arith, start .pre .0)) (c .before .loop .inv .1)
 
 add-i : tie.Need-add-i Inv-loop μ-loop
 add-i c = search needs
@@ -81,7 +95,11 @@ loop-less c = search needs
 loop-again : tie.Need-loop-again Inv-loop μ-loop
 loop-again c =
     let l : length (c .before .before .args .t4) ≡ 8 = search needs in
-    (search needs, goes-on (set (c .before .before .args .buffer .now) (c .before .before .args .at) (c .before .before .args .count)) (c .before .before .args .at) (c .before .before .args .count) (c .before .before .args .t4) (c .before .loop .buffer) (c .before .loop .i) (c .loop-test .taken) (omega (arith, c .before .before .pre .0)) (c .before .loop .inv .1))
+    let start = c .before .before in (
+      search needs,
+      goes-on (set (start .args .buffer .now) (start .args .at) (start .args .count)) (start .args .at) (start .args .count) (start .args .t4)
+          (c .before .loop .buffer) (c .before .loop .i) (c .loop-test .taken) (omega (arith, start .pre .0)) (c .before .loop .inv .1),
+    )
 
 same-length : tie.Need-same-length Inv-loop μ-loop
 same-length c =
@@ -91,8 +109,11 @@ returns : tie.Need-returns Inv-loop μ-loop
 unfolding relations sequence byte padded
 returns c =
     let l : length (c .before .before .args .t4) ≡ 8 = search needs in
-    let k : length (take (c .before .before .args .count) (c .before .before .args .t4)) ≡ c .before .before .args .count = length-take-le (c .before .before .args .count) (c .before .before .args .t4) (omega (arith, c .before .before .pre .0)) in
-    byte-and-run (c .before .before .args .buffer .now) (c .before .before .args .at) (c .before .before .args .count) (putAll one (take (c .before .before .args .count) (c .before .before .args .t4))) (c .before .loop .buffer) (omega (arith, c .before .before .pre .1))
+    let start = c .before .before in
+    let k : length (take (start .args .count) (start .args .t4)) ≡ start .args .count =
+    length-take-le (start .args .count) (start .args .t4) (omega (arith, start .pre .0)) in
+    byte-and-run (start .args .buffer .now) (start .args .at) (start .args .count) (putAll one (take (start .args .count) (start .args .t4)))
+    (c .before .loop .buffer) (omega (arith, start .pre .1))
     (writing-ends (c .before .loop .inv .1) (omega arith) .0)
 
 pub put-relations-spec : {M : Type 1} → statement M

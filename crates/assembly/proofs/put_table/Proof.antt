@@ -33,7 +33,14 @@ record At (schema before : List ℕ) (at start n : ℕ) (places : List Place) (b
 
 begins : (schema before : List ℕ) (at start n : ℕ) (places : List Place) → start ≤ 1000 → At schema before at start n places before start 0
 begins schema before at start n places h =
-    record { few = omega arith; small = omega arith; long = refl; rest = ap (λ (m : ℕ). over before m (tableOf start (map (putPlace schema) (take n places)))) (sym (add-zero at)) }
+    record {
+      few =
+          omega arith;
+      small =
+          omega arith;
+      long = refl;
+      rest = ap (λ (m : ℕ). over before m (tableOf start (map (putPlace schema) (take n places)))) (sym (add-zero at));
+    }
 
 parts-left : (schema : List ℕ) (places : List Place) (n k : ℕ) → n ≤ length places → length (partsFrom schema places n k) ≡ n - k
 parts-left schema places n k l =
@@ -44,7 +51,8 @@ table-cons : (due : ℕ) (p : List ℕ) (ps : List (List ℕ)) → tableOf due (
 unfolding tableOf
 table-cons due p ps = refl
 
-module _ (schema before : List ℕ) (at start n : ℕ) (places : List Place) (buffer : List ℕ) (due k : ℕ) (l : n ≤ length places) (room : at + 4 * n ≤ length before)
+module _ (schema before : List ℕ) (at start n : ℕ) (places : List Place) (buffer : List ℕ) (due k : ℕ) (l : n ≤ length places)
+    (room : at + 4 * n ≤ length before)
     (f : At schema before at start n places buffer due k) (h : k < n) where
   room-first : at + 4 * k + 2 ≤ length buffer
   room-first = omega (arith, f .long)
@@ -56,7 +64,8 @@ module _ (schema before : List ℕ) (at start n : ℕ) (places : List Place) (bu
     room-second : at + 4 * k + 2 + 2 ≤ length first
     room-second = omega (arith, first-long, f .long)
 
-    goes-on : (size : ℕ) → size ≡ length (putPlace schema (getD places k pastPlace)) → size ≤ 534 → (second : List ℕ) → second ≡ over first (at + 4 * k + 2) (bytesOf 2 size)
+    goes-on : (size : ℕ) → size ≡ length (putPlace schema (getD places k pastPlace)) → size ≤ 534 → (second : List ℕ)
+        → second ≡ over first (at + 4 * k + 2) (bytesOf 2 size)
         → At schema before at start n places second (due + size) (k + 1)
     goes-on size es small second e₂ =
         let p : List ℕ = putPlace schema (getD places k pastPlace) in
@@ -71,7 +80,8 @@ module _ (schema before : List ℕ) (at start n : ℕ) (places : List Place) (bu
         let split : tableOf due (partsFrom schema places n k) ≡ pair ++ more = ap (tableOf due) (parts-next schema places n k l h) ∙ table-cons due p ps in
         let n₁ : at + 4 * k + 2 ≡ at + 4 * k + length (bytesOf 2 due) = omega arith in
         let two : second ≡ over buffer (at + 4 * k) pair =
-        e₂ ∙ ap (λ (b : List ℕ). over b (at + 4 * k + 2) (bytesOf 2 size)) e₁ ∙ ap (λ (s : ℕ). over (over buffer (at + 4 * k) (bytesOf 2 due)) (at + 4 * k + 2) (bytesOf 2 s)) es
+        e₂ ∙ ap (λ (b : List ℕ). over b (at + 4 * k + 2) (bytesOf 2 size)) e₁
+        ∙ ap (λ (s : ℕ). over (over buffer (at + 4 * k) (bytesOf 2 due)) (at + 4 * k + 2) (bytesOf 2 s)) es
         ∙ ap (λ (j : ℕ). over (over buffer (at + 4 * k) (bytesOf 2 due)) j (bytesOf 2 (length p))) n₁
         ∙ over-over buffer (at + 4 * k) (bytesOf 2 due) (bytesOf 2 (length p)) (omega arith) in
         let n₂ : at + 4 * k + length pair ≡ at + 4 * (k + 1) = omega arith in
@@ -85,7 +95,8 @@ module _ (schema before : List ℕ) (at start n : ℕ) (places : List Place) (bu
           rest = f .rest ∙ ap (over buffer (at + 4 * k)) split ∙ three ∙ ap (λ (s : ℕ). over second (at + 4 * (k + 1)) (tableOf (due + s) ps)) (sym es);
         }
 
-ended : (schema before : List ℕ) (at start n : ℕ) (places : List Place) (buffer : List ℕ) (due k : ℕ) → n ≤ length places → At schema before at start n places buffer due k → n ≤ k
+ended : (schema before : List ℕ) (at start n : ℕ) (places : List Place) (buffer : List ℕ) (due k : ℕ) → n ≤ length places
+    → At schema before at start n places buffer due k → n ≤ k
     → buffer ≡ over before at (tableOf start (map (putPlace schema) (take n places)))
 unfolding tableOf
 ended schema before at start n places buffer due k l f h =
@@ -99,7 +110,8 @@ abbrev μ-loop : tie.MeasureT-loop
 
 loop-holds : tie.Need-loop-holds Inv-loop μ-loop
 loop-holds c =
-    begins (take (c .before .args .count) (c .before .args .widths)) (c .before .args .buffer .now) (c .before .args .at) (c .before .args .start) (c .before .args .n) (c .before .args .t4) (c .before .pre .1 .1 .0 .1)
+    begins (take (c .before .args .count) (c .before .args .widths)) (c .before .args .buffer .now) (c .before .args .at) (c .before .args .start)
+    (c .before .args .n) (c .before .args .t4) (c .before .pre .1 .1 .0 .1)
 
 mul-place : tie.Need-mul-place Inv-loop μ-loop
 mul-place c = search needs
@@ -110,46 +122,101 @@ array-copy-out-place c = search needs
 place-length-requires : tie.Need-place-length-requires Inv-loop μ-loop
 place-length-requires c κs =
     let l : length (c .before .before .before .before .args .t4) ≡ 8 = search needs in
-    (c .before .before .before .before .pre .0, every-getD (goodPlace (take (c .before .before .before .before .args .count) (c .before .before .before .before .args .widths))) (c .before .before .before .before .args .t4) (c .before .before .loop .k) pastPlace (c .before .before .before .before .pre .1 .0) (omega (arith, c .before .before .before .before .pre .1 .1 .0 .0)))
+    let start = c .before .before .before .before in (
+      start .pre .0,
+      every-getD (goodPlace (take (start .args .count) (start .args .widths))) (start .args .t4) (c .before .before .loop .k) pastPlace
+          (start .pre .1 .0) (omega (arith, start .pre .1 .1 .0 .0)),
+    )
 
 mul-put-word : tie.Need-mul-put-word Inv-loop μ-loop
 mul-put-word c =
     let l : length (c .before .before .before .before .before .before .args .t4) ≡ 8 = search needs in
-    omega (arith, room-first (take (c .before .before .before .before .before .before .args .count) (c .before .before .before .before .before .before .args .widths)) (c .before .before .before .before .before .before .args .buffer .now) (c .before .before .before .before .before .before .args .at) (c .before .before .before .before .before .before .args .start) (c .before .before .before .before .before .before .args .n) (c .before .before .before .before .before .before .args .t4) (c .before .before .before .before .loop .buffer) (c .before .before .before .before .loop .due) (c .before .before .before .before .loop .k) (omega (arith, c .before .before .before .before .before .before .pre .1 .1 .0 .0)) (c .before .before .before .before .before .before .pre .1 .1 .1) (c .before .before .before .before .loop .inv) (c .before .before .before .loop-test .taken))
+    let after-loop = c .before .before .before .before in
+    let start′ = after-loop .before .before in
+    omega (
+      arith,
+      room-first (take (start′ .args .count) (start′ .args .widths)) (start′ .args .buffer .now) (start′ .args .at) (start′ .args .start)
+          (start′ .args .n) (start′ .args .t4) (after-loop .loop .buffer) (after-loop .loop .due) (after-loop .loop .k) (omega (arith, start′ .pre .1 .1 .0 .0))
+          (start′ .pre .1 .1 .1) (after-loop .loop .inv) (c .before .before .before .loop-test .taken),
+    )
 
 add-put-word : tie.Need-add-put-word Inv-loop μ-loop
 add-put-word c =
     let l : length (c .before .before .before .before .before .before .args .t4) ≡ 8 = search needs in
-    omega (arith, room-first (take (c .before .before .before .before .before .before .args .count) (c .before .before .before .before .before .before .args .widths)) (c .before .before .before .before .before .before .args .buffer .now) (c .before .before .before .before .before .before .args .at) (c .before .before .before .before .before .before .args .start) (c .before .before .before .before .before .before .args .n) (c .before .before .before .before .before .before .args .t4) (c .before .before .before .before .loop .buffer) (c .before .before .before .before .loop .due) (c .before .before .before .before .loop .k) (omega (arith, c .before .before .before .before .before .before .pre .1 .1 .0 .0)) (c .before .before .before .before .before .before .pre .1 .1 .1) (c .before .before .before .before .loop .inv) (c .before .before .before .loop-test .taken))
+    let after-loop = c .before .before .before .before in
+    let start′ = after-loop .before .before in
+    omega (
+      arith,
+      room-first (take (start′ .args .count) (start′ .args .widths)) (start′ .args .buffer .now) (start′ .args .at) (start′ .args .start)
+          (start′ .args .n) (start′ .args .t4) (after-loop .loop .buffer) (after-loop .loop .due) (after-loop .loop .k) (omega (arith, start′ .pre .1 .1 .0 .0))
+          (start′ .pre .1 .1 .1) (after-loop .loop .inv) (c .before .before .before .loop-test .taken),
+    )
 
 put-word-requires : tie.Need-put-word-requires Inv-loop μ-loop
 put-word-requires c κs =
     let l : length (c .before .before .before .before .before .before .args .t4) ≡ 8 = search needs in
-    room-first (take (c .before .before .before .before .before .before .args .count) (c .before .before .before .before .before .before .args .widths)) (c .before .before .before .before .before .before .args .buffer .now) (c .before .before .before .before .before .before .args .at) (c .before .before .before .before .before .before .args .start) (c .before .before .before .before .before .before .args .n) (c .before .before .before .before .before .before .args .t4) (c .before .before .before .before .loop .buffer) (c .before .before .before .before .loop .due) (c .before .before .before .before .loop .k) (omega (arith, c .before .before .before .before .before .before .pre .1 .1 .0 .0)) (c .before .before .before .before .before .before .pre .1 .1 .1) (c .before .before .before .before .loop .inv) (c .before .before .before .loop-test .taken)
+    let after-loop = c .before .before .before .before in
+    let start′ = after-loop .before .before in
+    room-first (take (start′ .args .count) (start′ .args .widths)) (start′ .args .buffer .now) (start′ .args .at) (start′ .args .start) (start′ .args .n)
+    (start′ .args .t4) (after-loop .loop .buffer) (after-loop .loop .due) (after-loop .loop .k) (omega (arith, start′ .pre .1 .1 .0 .0)) (start′ .pre .1 .1 .1)
+    (after-loop .loop .inv) (c .before .before .before .loop-test .taken)
 
 mul-put-word-2 : tie.Need-mul-put-word-2 Inv-loop μ-loop
 mul-put-word-2 c =
     let l : length (c .before .before .before .before .before .before .before .before .before .before .args .t4) ≡ 8 = search needs in
-    omega (arith, room-first (take (c .before .before .before .before .before .before .before .before .before .before .args .count) (c .before .before .before .before .before .before .before .before .before .before .args .widths)) (c .before .before .before .before .before .before .before .before .before .before .args .buffer .now) (c .before .before .before .before .before .before .before .before .before .before .args .at) (c .before .before .before .before .before .before .before .before .before .before .args .start) (c .before .before .before .before .before .before .before .before .before .before .args .n) (c .before .before .before .before .before .before .before .before .before .before .args .t4) (c .before .before .before .before .before .before .before .before .loop .buffer) (c .before .before .before .before .before .before .before .before .loop .due) (c .before .before .before .before .before .before .before .before .loop .k) (omega (arith, c .before .before .before .before .before .before .before .before .before .before .pre .1 .1 .0 .0)) (c .before .before .before .before .before .before .before .before .before .before .pre .1 .1 .1) (c .before .before .before .before .before .before .before .before .loop .inv) (c .before .before .before .before .before .before .before .loop-test .taken))
+    let after-loop-test = c .before .before .before .before .before .before .before in
+    let after-loop = after-loop-test .before in
+    let start′ = after-loop .before .before in
+    omega (
+      arith,
+      room-first (take (start′ .args .count) (start′ .args .widths)) (start′ .args .buffer .now) (start′ .args .at) (start′ .args .start)
+          (start′ .args .n) (start′ .args .t4) (after-loop .loop .buffer) (after-loop .loop .due) (after-loop .loop .k) (omega (arith, start′ .pre .1 .1 .0 .0))
+          (start′ .pre .1 .1 .1) (after-loop .loop .inv) (after-loop-test .loop-test .taken),
+    )
 
 add-put-word-2 : tie.Need-add-put-word-2 Inv-loop μ-loop
 add-put-word-2 c =
     let l : length (c .before .before .before .before .before .before .before .before .before .before .args .t4) ≡ 8 = search needs in
-    omega (arith, room-first (take (c .before .before .before .before .before .before .before .before .before .before .args .count) (c .before .before .before .before .before .before .before .before .before .before .args .widths)) (c .before .before .before .before .before .before .before .before .before .before .args .buffer .now) (c .before .before .before .before .before .before .before .before .before .before .args .at) (c .before .before .before .before .before .before .before .before .before .before .args .start) (c .before .before .before .before .before .before .before .before .before .before .args .n) (c .before .before .before .before .before .before .before .before .before .before .args .t4) (c .before .before .before .before .before .before .before .before .loop .buffer) (c .before .before .before .before .before .before .before .before .loop .due) (c .before .before .before .before .before .before .before .before .loop .k) (omega (arith, c .before .before .before .before .before .before .before .before .before .before .pre .1 .1 .0 .0)) (c .before .before .before .before .before .before .before .before .before .before .pre .1 .1 .1) (c .before .before .before .before .before .before .before .before .loop .inv) (c .before .before .before .before .before .before .before .loop-test .taken))
+    let after-loop-test = c .before .before .before .before .before .before .before in
+    let after-loop = after-loop-test .before in
+    let start′ = after-loop .before .before in
+    omega (
+      arith,
+      room-first (take (start′ .args .count) (start′ .args .widths)) (start′ .args .buffer .now) (start′ .args .at) (start′ .args .start)
+          (start′ .args .n) (start′ .args .t4) (after-loop .loop .buffer) (after-loop .loop .due) (after-loop .loop .k) (omega (arith, start′ .pre .1 .1 .0 .0))
+          (start′ .pre .1 .1 .1) (after-loop .loop .inv) (after-loop-test .loop-test .taken),
+    )
 
 add-put-word-3 : tie.Need-add-put-word-3 Inv-loop μ-loop
 add-put-word-3 c =
     let l : length (c .before .before .before .before .before .before .before .before .before .before .args .t4) ≡ 8 = search needs in
-    omega (arith, room-first (take (c .before .before .before .before .before .before .before .before .before .before .args .count) (c .before .before .before .before .before .before .before .before .before .before .args .widths)) (c .before .before .before .before .before .before .before .before .before .before .args .buffer .now) (c .before .before .before .before .before .before .before .before .before .before .args .at) (c .before .before .before .before .before .before .before .before .before .before .args .start) (c .before .before .before .before .before .before .before .before .before .before .args .n) (c .before .before .before .before .before .before .before .before .before .before .args .t4) (c .before .before .before .before .before .before .before .before .loop .buffer) (c .before .before .before .before .before .before .before .before .loop .due) (c .before .before .before .before .before .before .before .before .loop .k) (omega (arith, c .before .before .before .before .before .before .before .before .before .before .pre .1 .1 .0 .0)) (c .before .before .before .before .before .before .before .before .before .before .pre .1 .1 .1) (c .before .before .before .before .before .before .before .before .loop .inv) (c .before .before .before .before .before .before .before .loop-test .taken))
+    let after-loop-test = c .before .before .before .before .before .before .before in
+    let after-loop = after-loop-test .before in
+    let start′ = after-loop .before .before in
+    omega (
+      arith,
+      room-first (take (start′ .args .count) (start′ .args .widths)) (start′ .args .buffer .now) (start′ .args .at) (start′ .args .start)
+          (start′ .args .n) (start′ .args .t4) (after-loop .loop .buffer) (after-loop .loop .due) (after-loop .loop .k) (omega (arith, start′ .pre .1 .1 .0 .0))
+          (start′ .pre .1 .1 .1) (after-loop .loop .inv) (after-loop-test .loop-test .taken),
+    )
 
 put-word-requires-2 : tie.Need-put-word-requires-2 Inv-loop μ-loop
 put-word-requires-2 c κs =
     let l : length (c .before .before .before .before .before .before .before .before .before .before .args .t4) ≡ 8 = search needs in
-    room-second (take (c .before .before .before .before .before .before .before .before .before .before .args .count) (c .before .before .before .before .before .before .before .before .before .before .args .widths)) (c .before .before .before .before .before .before .before .before .before .before .args .buffer .now) (c .before .before .before .before .before .before .before .before .before .before .args .at) (c .before .before .before .before .before .before .before .before .before .before .args .start) (c .before .before .before .before .before .before .before .before .before .before .args .n) (c .before .before .before .before .before .before .before .before .before .before .args .t4) (c .before .before .before .before .before .before .before .before .loop .buffer) (c .before .before .before .before .before .before .before .before .loop .due) (c .before .before .before .before .before .before .before .before .loop .k) (omega (arith, c .before .before .before .before .before .before .before .before .before .before .pre .1 .1 .0 .0)) (c .before .before .before .before .before .before .before .before .before .before .pre .1 .1 .1) (c .before .before .before .before .before .before .before .before .loop .inv) (c .before .before .before .before .before .before .before .loop-test .taken) (c .before .before .before .put-word .last .0) (c .before .before .before .put-word .ensures)
+    let after-put-word = c .before .before .before in
+    let after-loop-test = after-put-word .before .before .before .before in
+    let after-loop = after-loop-test .before in
+    let start′ = after-loop .before .before in
+    room-second (take (start′ .args .count) (start′ .args .widths)) (start′ .args .buffer .now) (start′ .args .at) (start′ .args .start) (start′ .args .n)
+    (start′ .args .t4) (after-loop .loop .buffer) (after-loop .loop .due) (after-loop .loop .k) (omega (arith, start′ .pre .1 .1 .0 .0)) (start′ .pre .1 .1 .1)
+    (after-loop .loop .inv) (after-loop-test .loop-test .taken) (after-put-word .put-word .last .0) (after-put-word .put-word .ensures)
 
 add-due : tie.Need-add-due Inv-loop μ-loop
 add-due c =
-    omega (arith, c .before .before .before .before .before .before .before .before .place-length .ensures .1, c .before .before .before .before .before .before .before .before .before .before .before .loop .inv .small, c .before .before .before .before .before .before .before .before .before .before .before .loop .inv .few, c .before .before .before .before .before .before .before .before .before .before .before .before .before .pre .1 .1 .0 .0)
+    let after-place-length = c .before .before .before .before .before .before .before .before in
+    let after-loop = after-place-length .before .before .before in
+    let start = after-loop .before .before in
+    omega (arith, after-place-length .place-length .ensures .1, after-loop .loop .inv .small, after-loop .loop .inv .few, start .pre .1 .1 .0 .0)
 
 add-k : tie.Need-add-k Inv-loop μ-loop
 add-k c = search needs
@@ -160,7 +227,17 @@ loop-less c = search needs
 loop-again : tie.Need-loop-again Inv-loop μ-loop
 loop-again c =
     let l : length (c .before .before .before .before .before .before .before .before .before .before .before .before .before .args .t4) ≡ 8 = search needs in
-    goes-on (take (c .before .before .before .before .before .before .before .before .before .before .before .before .before .args .count) (c .before .before .before .before .before .before .before .before .before .before .before .before .before .args .widths)) (c .before .before .before .before .before .before .before .before .before .before .before .before .before .args .buffer .now) (c .before .before .before .before .before .before .before .before .before .before .before .before .before .args .at) (c .before .before .before .before .before .before .before .before .before .before .before .before .before .args .start) (c .before .before .before .before .before .before .before .before .before .before .before .before .before .args .n) (c .before .before .before .before .before .before .before .before .before .before .before .before .before .args .t4) (c .before .before .before .before .before .before .before .before .before .before .before .loop .buffer) (c .before .before .before .before .before .before .before .before .before .before .before .loop .due) (c .before .before .before .before .before .before .before .before .before .before .before .loop .k) (omega (arith, c .before .before .before .before .before .before .before .before .before .before .before .before .before .pre .1 .1 .0 .0)) (c .before .before .before .before .before .before .before .before .before .before .before .before .before .pre .1 .1 .1) (c .before .before .before .before .before .before .before .before .before .before .before .loop .inv) (c .before .before .before .before .before .before .before .before .before .before .loop-test .taken) (c .before .before .before .before .before .before .put-word .last .0) (c .before .before .before .before .before .before .put-word .ensures) (c .before .before .before .before .before .before .before .before .place-length .result) (c .before .before .before .before .before .before .before .before .place-length .ensures .0) (c .before .before .before .before .before .before .before .before .place-length .ensures .1) (c .before .before .put-word2 .last .0) (c .before .before .put-word2 .ensures)
+    let after-put-word2 = c .before .before in
+    let after-put-word = after-put-word2 .before .before .before .before in
+    let after-place-length = after-put-word .before .before in
+    let after-loop-test = after-place-length .before .before in
+    let after-loop = after-loop-test .before in
+    let start′ = after-loop .before .before in
+    goes-on (take (start′ .args .count) (start′ .args .widths)) (start′ .args .buffer .now) (start′ .args .at) (start′ .args .start) (start′ .args .n)
+    (start′ .args .t4) (after-loop .loop .buffer) (after-loop .loop .due) (after-loop .loop .k) (omega (arith, start′ .pre .1 .1 .0 .0)) (start′ .pre .1 .1 .1)
+    (after-loop .loop .inv) (after-loop-test .loop-test .taken) (after-put-word .put-word .last .0) (after-put-word .put-word .ensures)
+    (after-place-length .place-length .result) (after-place-length .place-length .ensures .0) (after-place-length .place-length .ensures .1)
+    (after-put-word2 .put-word2 .last .0) (after-put-word2 .put-word2 .ensures)
 
 same-length : tie.Need-same-length Inv-loop μ-loop
 same-length c =
@@ -169,7 +246,10 @@ same-length c =
 returns : tie.Need-returns Inv-loop μ-loop
 returns c =
     let l : length (c .before .before .before .args .t4) ≡ 8 = search needs in
-    ended (take (c .before .before .before .args .count) (c .before .before .before .args .widths)) (c .before .before .before .args .buffer .now) (c .before .before .before .args .at) (c .before .before .before .args .start) (c .before .before .before .args .n) (c .before .before .before .args .t4) (c .before .loop .buffer) (c .before .loop .due) (c .before .loop .k) (omega (arith, c .before .before .before .pre .1 .1 .0 .0)) (c .before .loop .inv) (c .loop-test .left)
+    let start′ = c .before .before .before in
+    ended (take (start′ .args .count) (start′ .args .widths)) (start′ .args .buffer .now) (start′ .args .at) (start′ .args .start) (start′ .args .n)
+    (start′ .args .t4) (c .before .loop .buffer) (c .before .loop .due) (c .before .loop .k) (omega (arith, start′ .pre .1 .1 .0 .0)) (c .before .loop .inv)
+    (c .loop-test .left)
 
 pub put-table-spec : {M : Type 1} → statement M
 put-table-spec =

@@ -22,7 +22,8 @@ last-place [] p false e = rw e
 last-place (q ∷ ps) p t e = go t (q .filled) (last-place ps p t e)
   where
     go : (t u : Bool) → upToFilled (ps ++ (p ∷ [])) ≡ cond t (suc (length ps)) (upToFilled ps)
-        → cond u (suc (upToFilled (ps ++ (p ∷ [])))) (oneMoreIfAny (upToFilled (ps ++ (p ∷ [])))) ≡ cond t (suc (suc (length ps))) (cond u (suc (upToFilled ps)) (oneMoreIfAny (upToFilled ps)))
+        → cond u (suc (upToFilled (ps ++ (p ∷ [])))) (oneMoreIfAny (upToFilled (ps ++ (p ∷ []))))
+        ≡ cond t (suc (suc (length ps))) (cond u (suc (upToFilled ps)) (oneMoreIfAny (upToFilled ps)))
     go true true ih = ap suc ih
     go true false ih = ap oneMoreIfAny ih
     go false true ih = ap suc ih

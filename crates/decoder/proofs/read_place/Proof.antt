@@ -42,7 +42,8 @@ module _ (schema part : List ℕ) (last : Bool) where
     unfolding readPlace _>>=_
     bad-query n e = rw (v, e)
 
-    good-query-part : (q : Query) (t : Bool) → complete badQuery (query schema .get part) ≡ gives q → headSafe schema q ≡ t → readPlace schema last part ≡ cond t (gives (placeWith q)) (refused unsafeHead)
+    good-query-part : (q : Query) (t : Bool) → complete badQuery (query schema .get part) ≡ gives q → headSafe schema q ≡ t
+        → readPlace schema last part ≡ cond t (gives (placeWith q)) (refused unsafeHead)
     unfolding readPlace _>>=_ safeQuery
     good-query-part q t e h = rw (v, e, h)
 
@@ -59,7 +60,8 @@ query-some (gives q) r e g = ap (λ (r : QueryRead). gives (r .query)) (sym e)
 query-some (refused n) r e g = let t : r .good ≡ false = ap (λ (r : QueryRead). r .good) e in let z : _≡_ {A = ℕ} 0 1 = cc in absurd (omega arith)
 
 -- a query that was read keeps the limits of its sizes
-read-sizes : (schema part : List ℕ) (q : Query) → Narrow schema → Bytes part → complete badQuery (query schema .get part) ≡ gives q → (q .arity ≤ 8) × (q .size ≤ 12)
+read-sizes : (schema part : List ℕ) (q : Query) → Narrow schema → Bytes part → complete badQuery (query schema .get part) ≡ gives q
+    → (q .arity ≤ 8) × (q .size ≤ 12)
 read-sizes schema part q narrow hb e =
     let (good, put) = complete-get badQuery (query schema) (query-lawful schema narrow) part q hb e in
     let g = stored.good-query schema q (good-query schema q good .1) in
@@ -73,15 +75,20 @@ no-place-read-requires c κs = search needs
 
 returns : tie.Need-returns
 returns c =
-    c .no-place-read .ensures ∙ sym (ap placeRead (vacant-last (take (c .before .before .before .before .before .args .count) (c .before .before .before .before .before .args .widths)) (c .before .before .before .before .before .args .part .now) (c .before .before .before .before .before .args .last) (sym (c .before .before .before .is-vacant .ensures) ∙ c .before .before .if1 .taken) (c .before .if2 .taken)))
+    let start = c .before .before .before .before .before in
+    c .no-place-read .ensures ∙ sym (ap placeRead
+    (vacant-last (take (start .args .count) (start .args .widths)) (start .args .part .now) (start .args .last)
+    (sym (c .before .before .before .is-vacant .ensures) ∙ c .before .before .if1 .taken) (c .before .if2 .taken)))
 
 no-place-requires : tie.Need-no-place-requires
 no-place-requires c κs = search needs
 
 returns-2 : tie.Need-returns-2
 returns-2 c =
+    let start = c .before .before .before .before .before in
     (λ i. record { answer = Done; place = c .no-place .ensures i })
-    ∙ sym (ap placeRead (vacant-place (take (c .before .before .before .before .before .args .count) (c .before .before .before .before .before .args .widths)) (c .before .before .before .before .before .args .part .now) (c .before .before .before .before .before .args .last) (sym (c .before .before .before .is-vacant .ensures) ∙ c .before .before .if1 .taken) (c .before .if2 .left)))
+    ∙ sym (ap placeRead (vacant-place (take (start .args .count) (start .args .widths)) (start .args .part .now) (start .args .last)
+    (sym (c .before .before .before .is-vacant .ensures) ∙ c .before .before .if1 .taken) (c .before .if2 .left)))
 
 read-query-requires : tie.Need-read-query-requires
 read-query-requires c κs = search needs
@@ -91,8 +98,15 @@ no-place-read-requires-2 c κs = search needs
 
 returns-3 : tie.Need-returns-3
 returns-3 c =
-    c .no-place-read2 .ensures ∙ sym (ap placeRead (bad-query (take (c .before .before .before .before .before .before .before .args .count) (c .before .before .before .before .before .before .before .args .widths)) (c .before .before .before .before .before .before .before .args .part .now) (c .before .before .before .before .before .before .before .args .last) (sym (c .before .before .before .before .before .is-vacant .ensures) ∙ c .before .before .before .before .if1 .left) 5
-    (query-bad (query (take (c .before .before .before .before .before .before .before .args .count) (c .before .before .before .before .before .before .before .args .widths)) .get (c .before .before .before .before .before .before .before .args .part .now)) (c .before .before .before .read-query .result) (c .before .before .before .read-query .ensures) (not-true (c .before .before .before .read-query .result .good) (c .before .if3 .taken)))))
+    let after-read-query = c .before .before .before in
+    let after-if1 = after-read-query .before in
+    let after-is-vacant = after-if1 .before in
+    let start = after-is-vacant .before .before in
+    c .no-place-read2 .ensures ∙ sym (ap placeRead
+    (bad-query (take (start .args .count) (start .args .widths)) (start .args .part .now) (start .args .last)
+    (sym (after-is-vacant .is-vacant .ensures) ∙ after-if1 .if1 .left) 5
+    (query-bad (query (take (start .args .count) (start .args .widths)) .get (start .args .part .now)) (after-read-query .read-query .result)
+    (after-read-query .read-query .ensures) (not-true (after-read-query .read-query .result .good) (c .before .if3 .taken)))))
 
 head-safe-requires : tie.Need-head-safe-requires
 head-safe-requires c κs =
@@ -107,12 +121,17 @@ head-safe-requires c κs =
 
 returns-4 : tie.Need-returns-4
 returns-4 c =
-    let s = c .before .before .before .before .before .before .before .before .before in
+    let after-read-query = c .before .before .before .before .before in
+    let after-if1 = after-read-query .before in
+    let after-is-vacant = after-if1 .before in
+    let s = after-is-vacant .before .before in
     let schema = take (s .args .count) (s .args .widths) in
     let part = s .args .part .now in
-    let read = c .before .before .before .before .before .read-query in
-    let e = query-some (complete badQuery (query schema .get part)) (read .result) (read .ensures) (not-false (read .result .good) (c .before .before .before .if3 .left)) in
-    let v = sym (c .before .before .before .before .before .before .before .is-vacant .ensures) ∙ c .before .before .before .before .before .before .if1 .left in
+    let read = after-read-query .read-query in
+    let e =
+    query-some (complete badQuery (query schema .get part)) (read .result) (read .ensures)
+    (not-false (read .result .good) (c .before .before .before .if3 .left)) in
+    let v = sym (after-is-vacant .is-vacant .ensures) ∙ after-if1 .if1 .left in
     sym (ap placeRead (good-query-part schema part (s .args .last) v (read .result .query) true e (sym (c .before .head-safe .ensures) ∙ c .if4 .taken)))
 
 no-place-read-requires-3 : tie.Need-no-place-read-requires-3
@@ -120,13 +139,18 @@ no-place-read-requires-3 c κs = search needs
 
 returns-5 : tie.Need-returns-5
 returns-5 c =
-    let s = c .before .before .before .before .before .before .before .before .before .before in
+    let after-if3 = c .before .before .before .before in
+    let after-read-query = after-if3 .before .before in
+    let after-if1 = after-read-query .before in
+    let after-is-vacant = after-if1 .before in
+    let s = after-is-vacant .before .before in
     let schema = take (s .args .count) (s .args .widths) in
     let part = s .args .part .now in
-    let read = c .before .before .before .before .before .before .read-query in
-    let e = query-some (complete badQuery (query schema .get part)) (read .result) (read .ensures) (not-false (read .result .good) (c .before .before .before .before .if3 .left)) in
-    let v = sym (c .before .before .before .before .before .before .before .before .is-vacant .ensures) ∙ c .before .before .before .before .before .before .before .if1 .left in
-    c .no-place-read3 .ensures ∙ sym (ap placeRead (good-query-part schema part (s .args .last) v (read .result .query) false e (sym (c .before .before .head-safe .ensures) ∙ c .before .if4 .left)))
+    let read = after-read-query .read-query in
+    let e = query-some (complete badQuery (query schema .get part)) (read .result) (read .ensures) (not-false (read .result .good) (after-if3 .if3 .left)) in
+    let v = sym (after-is-vacant .is-vacant .ensures) ∙ after-if1 .if1 .left in
+    c .no-place-read3 .ensures ∙ sym (ap placeRead
+    (good-query-part schema part (s .args .last) v (read .result .query) false e (sym (c .before .before .head-safe .ensures) ∙ c .before .if4 .left)))
 
 pub read-place-spec : {M : Type 1} → statement M
 read-place-spec =

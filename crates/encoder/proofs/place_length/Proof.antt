@@ -18,36 +18,54 @@ cast-rows-length c = search needs
 
 rows-length-requires : tie.Need-rows-length-requires
 rows-length-requires c κs =
-    (c .before .before .before .before .pre .0, filled-sizes (take (c .before .before .before .before .args .count) (c .before .before .before .before .args .widths)) (c .before .before .before .before .args .place) (c .before .before .before .if1 .taken) (c .before .before .before .before .pre .1) .1)
+    let start = c .before .before .before .before in (
+      start .pre .0,
+      filled-sizes (take (start .args .count) (start .args .widths)) (start .args .place) (c .before .before .before .if1 .taken)
+          (start .pre .1) .1,
+    )
 
 mul-result : tie.Need-mul-result
 mul-result c =
-    let sizes = filled-sizes (take (c .before .before .before .before .before .args .count) (c .before .before .before .before .before .args .widths)) (c .before .before .before .before .before .args .place) (c .before .before .before .before .if1 .taken) (c .before .before .before .before .before .pre .1) in
-    let fits : c .before .head-in-use .result ≤ 8 = rw (c .before .head-in-use .ensures) (headFits (c .before .before .before .before .before .args .place .query .size) (c .before .before .before .before .before .args .place .query .arity) (sizes .0)) in
+    let after-if1 = c .before .before .before .before in
+    let start = after-if1 .before in
+    let sizes = filled-sizes (take (start .args .count) (start .args .widths)) (start .args .place) (after-if1 .if1 .taken) (start .pre .1) in
+    let fits : c .before .head-in-use .result ≤ 8 =
+    rw (c .before .head-in-use .ensures) (headFits (start .args .place .query .size) (start .args .place .query .arity) (sizes .0)) in
     omega (arith, c .rows-length .ensures .1)
 
 add-result : tie.Need-add-result
 add-result c =
-    let sizes = filled-sizes (take (c .before .before .before .before .before .args .count) (c .before .before .before .before .before .args .widths)) (c .before .before .before .before .before .args .place) (c .before .before .before .before .if1 .taken) (c .before .before .before .before .before .pre .1) in
-    let fits : c .before .head-in-use .result ≤ 8 = rw (c .before .head-in-use .ensures) (headFits (c .before .before .before .before .before .args .place .query .size) (c .before .before .before .before .before .args .place .query .arity) (sizes .0)) in
+    let after-if1 = c .before .before .before .before in
+    let start = after-if1 .before in
+    let sizes = filled-sizes (take (start .args .count) (start .args .widths)) (start .args .place) (after-if1 .if1 .taken) (start .pre .1) in
+    let fits : c .before .head-in-use .result ≤ 8 =
+    rw (c .before .head-in-use .ensures) (headFits (start .args .place .query .size) (start .args .place .query .arity) (sizes .0)) in
     omega (arith, c .rows-length .ensures .1)
 
 add-result-2 : tie.Need-add-result-2
 add-result-2 c =
-    let sizes = filled-sizes (take (c .before .before .before .before .before .args .count) (c .before .before .before .before .before .args .widths)) (c .before .before .before .before .before .args .place) (c .before .before .before .before .if1 .taken) (c .before .before .before .before .before .pre .1) in
-    let fits : c .before .head-in-use .result ≤ 8 = rw (c .before .head-in-use .ensures) (headFits (c .before .before .before .before .before .args .place .query .size) (c .before .before .before .before .before .args .place .query .arity) (sizes .0)) in
+    let after-if1 = c .before .before .before .before in
+    let start = after-if1 .before in
+    let sizes = filled-sizes (take (start .args .count) (start .args .widths)) (start .args .place) (after-if1 .if1 .taken) (start .pre .1) in
+    let fits : c .before .head-in-use .result ≤ 8 =
+    rw (c .before .head-in-use .ensures) (headFits (start .args .place .query .size) (start .args .place .query .arity) (sizes .0)) in
     omega (arith, c .rows-length .ensures .1)
 
 returns : tie.Need-returns
 returns c =
-    let sizes = filled-sizes (take (c .before .before .before .before .before .args .count) (c .before .before .before .before .before .args .widths)) (c .before .before .before .before .before .args .place) (c .before .before .before .before .if1 .taken) (c .before .before .before .before .before .pre .1) in
-    let fits : c .before .head-in-use .result ≤ 8 = rw (c .before .head-in-use .ensures) (headFits (c .before .before .before .before .before .args .place .query .size) (c .before .before .before .before .before .args .place .query .arity) (sizes .0)) in
     let q = c .before .before .before .before .before .args .place .query in
     let lh : length (q .head) ≡ 8 = search (mapped-length, needs) in
     let lr : length (q .relations) ≡ 12 = search (mapped-length, needs) in
-    let lc : length (q .cells) ≡ 96 = search (mapped-length, needs) in (
-      query-exact (take (c .before .before .before .before .before .args .count) (c .before .before .before .before .before .args .widths)) (good-narrow (c .before .before .before .before .before .args .count) (c .before .before .before .before .before .args .widths) (c .before .before .before .before .before .pre .0)) q (c .before .head-in-use .result) (c .rows-length .result) lh lr lc
-          (c .before .head-in-use .ensures) fits (c .rows-length .ensures .0) ∙ sym (ap length (filled-part (take (c .before .before .before .before .before .args .count) (c .before .before .before .before .before .args .widths)) (c .before .before .before .before .before .args .place) (c .before .before .before .before .if1 .taken))),
+    let lc : length (q .cells) ≡ 96 = search (mapped-length, needs) in
+    let after-if1 = c .before .before .before .before in
+    let start = after-if1 .before in
+    let schema = take (start .args .count) (start .args .widths) in
+    let head = c .before .head-in-use in
+    let sizes = filled-sizes schema (start .args .place) (after-if1 .if1 .taken) (start .pre .1) in
+    let fits : head .result ≤ 8 = rw (head .ensures) (headFits (q .size) (q .arity) (sizes .0)) in (
+      query-exact schema (good-narrow (start .args .count) (start .args .widths) (start .pre .0)) q (head .result) (c .rows-length .result) lh lr lc
+          (head .ensures) fits (c .rows-length .ensures .0)
+          ∙ sym (ap length (filled-part schema (start .args .place) (after-if1 .if1 .taken))),
       omega (arith, c .rows-length .ensures .1),
     )
 

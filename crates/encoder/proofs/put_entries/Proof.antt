@@ -20,19 +20,22 @@ use Rattle.encoder.proofs.put_entries.Tie as tie
 abbrev putCell : Cell → List ℕ
 putCell c = putEntry (c .entry)
 
-begins : (buffer : List ℕ) (at n : ℕ) (cells : List Cell) → n ≤ length cells → at + 5 * n ≤ length buffer → Writing putCell buffer at (take n cells) buffer (at + 0) 0
+begins : (buffer : List ℕ) (at n : ℕ) (cells : List Cell) → n ≤ length cells → at + 5 * n ≤ length buffer
+    → Writing putCell buffer at (take n cells) buffer (at + 0) 0
 begins buffer at n cells l h =
     let e : length (putAll putCell (take n cells)) ≡ 5 * length (take n cells) = length-putAll putCell 5 (λ c. length-entry (c .entry)) (take n cells) in
     let k : length (take n cells) ≡ n = length-take-le n cells l in
     rw add-zero (writing-starts putCell buffer at (take n cells) (omega arith))
 
-room : (before : List ℕ) (at n : ℕ) (cells : List Cell) (buffer : List ℕ) (i : ℕ) → i < n → n ≤ length cells → Writing putCell before at (take n cells) buffer (at + 5 * i) i
+room : (before : List ℕ) (at n : ℕ) (cells : List Cell) (buffer : List ℕ) (i : ℕ) → i < n → n ≤ length cells
+    → Writing putCell before at (take n cells) buffer (at + 5 * i) i
     → at + 5 * i + 5 ≤ length buffer
 room before at n cells buffer i h l w =
     let k : length (take n cells) ≡ n = length-take-le n cells l in
     omega (arith, writing-room w noCell (omega arith), length-entry (getD (take n cells) i noCell .entry))
 
-goes-on : (before : List ℕ) (at n : ℕ) (cells : List Cell) (buffer next : List ℕ) (i : ℕ) → i < n → n ≤ length cells → Writing putCell before at (take n cells) buffer (at + 5 * i) i
+goes-on : (before : List ℕ) (at n : ℕ) (cells : List Cell) (buffer next : List ℕ) (i : ℕ) → i < n → n ≤ length cells
+    → Writing putCell before at (take n cells) buffer (at + 5 * i) i
     → next ≡ over buffer (at + 5 * i) (putEntry (getD cells i noCell .entry)) → Writing putCell before at (take n cells) next (at + 5 * (i + 1)) (i + 1)
 goes-on before at n cells buffer next i h l w e =
     let k : length (take n cells) ≡ n = length-take-le n cells l in
@@ -47,8 +50,11 @@ abbrev μ-loop : tie.MeasureT-loop
 
 loop-holds : tie.Need-loop-holds Inv-loop μ-loop
 loop-holds c =
-    let l : length (c .before .args .t3) ≡ 8 = search needs in
-    (omega arith, begins (c .before .args .buffer .now) (c .before .args .at) (c .before .args .n) (c .before .args .t3) (omega (arith, c .before .pre .0)) (c .before .pre .1))
+    let l : length (c .before .args .t3) ≡ 8 = search needs in (
+      omega arith,
+      begins (c .before .args .buffer .now) (c .before .args .at) (c .before .args .n) (c .before .args .t3) (omega (arith, c .before .pre .0))
+          (c .before .pre .1),
+    )
 
 mul-cell : tie.Need-mul-cell Inv-loop μ-loop
 mul-cell c = search needs
@@ -59,19 +65,31 @@ array-copy-out-cell c = search needs
 mul-put-entry : tie.Need-mul-put-entry Inv-loop μ-loop
 mul-put-entry c =
     let l : length (c .before .before .before .before .before .args .t3) ≡ 8 = search needs in
-    let r = room (c .before .before .before .before .before .args .buffer .now) (c .before .before .before .before .before .args .at) (c .before .before .before .before .before .args .n) (c .before .before .before .before .before .args .t3) (c .before .before .before .loop .buffer) (c .before .before .before .loop .i) (c .before .before .loop-test .taken) (omega (arith, c .before .before .before .before .before .pre .0)) (c .before .before .before .loop .inv .1) in
+    let after-loop = c .before .before .before in
+    let start = after-loop .before .before in
+    let r =
+    room (start .args .buffer .now) (start .args .at) (start .args .n) (start .args .t3) (after-loop .loop .buffer) (after-loop .loop .i)
+    (c .before .before .loop-test .taken) (omega (arith, start .pre .0)) (after-loop .loop .inv .1) in
     omega arith
 
 add-put-entry : tie.Need-add-put-entry Inv-loop μ-loop
 add-put-entry c =
     let l : length (c .before .before .before .before .before .args .t3) ≡ 8 = search needs in
-    let r = room (c .before .before .before .before .before .args .buffer .now) (c .before .before .before .before .before .args .at) (c .before .before .before .before .before .args .n) (c .before .before .before .before .before .args .t3) (c .before .before .before .loop .buffer) (c .before .before .before .loop .i) (c .before .before .loop-test .taken) (omega (arith, c .before .before .before .before .before .pre .0)) (c .before .before .before .loop .inv .1) in
+    let after-loop = c .before .before .before in
+    let start = after-loop .before .before in
+    let r =
+    room (start .args .buffer .now) (start .args .at) (start .args .n) (start .args .t3) (after-loop .loop .buffer) (after-loop .loop .i)
+    (c .before .before .loop-test .taken) (omega (arith, start .pre .0)) (after-loop .loop .inv .1) in
     omega arith
 
 put-entry-requires : tie.Need-put-entry-requires Inv-loop μ-loop
 put-entry-requires c κs =
     let l : length (c .before .before .before .before .before .args .t3) ≡ 8 = search needs in
-    let r = room (c .before .before .before .before .before .args .buffer .now) (c .before .before .before .before .before .args .at) (c .before .before .before .before .before .args .n) (c .before .before .before .before .before .args .t3) (c .before .before .before .loop .buffer) (c .before .before .before .loop .i) (c .before .before .loop-test .taken) (omega (arith, c .before .before .before .before .before .pre .0)) (c .before .before .before .loop .inv .1) in
+    let after-loop = c .before .before .before in
+    let start = after-loop .before .before in
+    let r =
+    room (start .args .buffer .now) (start .args .at) (start .args .n) (start .args .t3) (after-loop .loop .buffer) (after-loop .loop .i)
+    (c .before .before .loop-test .taken) (omega (arith, start .pre .0)) (after-loop .loop .inv .1) in
     r
 
 add-i : tie.Need-add-i Inv-loop μ-loop
@@ -83,7 +101,16 @@ loop-less c = search needs
 loop-again : tie.Need-loop-again Inv-loop μ-loop
 loop-again c =
     let l : length (c .before .before .before .before .before .before .before .before .args .t3) ≡ 8 = search needs in
-    (search needs, goes-on (c .before .before .before .before .before .before .before .before .args .buffer .now) (c .before .before .before .before .before .before .before .before .args .at) (c .before .before .before .before .before .before .before .before .args .n) (c .before .before .before .before .before .before .before .before .args .t3) (c .before .before .before .before .before .before .loop .buffer) (c .before .before .put-entry .last .0) (c .before .before .before .before .before .before .loop .i) (c .before .before .before .before .before .loop-test .taken) (omega (arith, c .before .before .before .before .before .before .before .before .pre .0)) (c .before .before .before .before .before .before .loop .inv .1) (c .before .before .put-entry .ensures))
+    let after-put-entry = c .before .before in
+    let after-loop-test = after-put-entry .before .before .before in
+    let after-loop = after-loop-test .before in
+    let start = after-loop .before .before in (
+      search needs,
+      goes-on (start .args .buffer .now) (start .args .at) (start .args .n) (start .args .t3) (after-loop .loop .buffer)
+          (after-put-entry .put-entry .last .0) (after-loop .loop .i) (after-loop-test .loop-test .taken) (omega (arith, start .pre .0))
+          (after-loop .loop .inv .1)
+          (after-put-entry .put-entry .ensures),
+    )
 
 same-length : tie.Need-same-length Inv-loop μ-loop
 same-length c =
@@ -93,7 +120,9 @@ returns : tie.Need-returns Inv-loop μ-loop
 unfolding entries padded entry
 returns c =
     let l : length (c .before .before .before .args .t3) ≡ 8 = search needs in
-    let k : length (take (c .before .before .before .args .n) (c .before .before .before .args .t3)) ≡ c .before .before .before .args .n = length-take-le (c .before .before .before .args .n) (c .before .before .before .args .t3) (omega (arith, c .before .before .before .pre .0)) in
+    let start = c .before .before .before in
+    let k : length (take (start .args .n) (start .args .t3)) ≡ start .args .n =
+    length-take-le (start .args .n) (start .args .t3) (omega (arith, start .pre .0)) in
     writing-ends (c .before .loop .inv .1) (omega arith) .0
 
 pub put-entries-spec : {M : Type 1} → statement M

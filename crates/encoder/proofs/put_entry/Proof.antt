@@ -27,7 +27,10 @@ same-length c = search needs
 returns : tie.Need-returns
 unfolding putEntry
 returns c =
-    c .before .before .put-tagged .ensures ∙ ap (λ (e : Entry). over (c .before .before .before .before .before .before .before .before .args .buffer .now) (c .before .before .before .before .before .before .before .before .args .at) (putEntry e)) (sym (c .before .before .before .before .before .entry .given .1))
+    let after-entry = c .before .before .before .before .before in
+    let start = after-entry .before .before .before in
+    c .before .before .put-tagged .ensures
+    ∙ ap (λ (e : Entry). over (start .args .buffer .now) (start .args .at) (putEntry e)) (sym (after-entry .entry .given .1))
 
 same-length-2 : tie.Need-same-length-2
 same-length-2 c = search needs
@@ -35,7 +38,10 @@ same-length-2 c = search needs
 returns-2 : tie.Need-returns-2
 unfolding putEntry
 returns-2 c =
-    c .before .before .put-tagged2 .ensures ∙ ap (λ (e : Entry). over (c .before .before .before .before .before .before .before .before .args .buffer .now) (c .before .before .before .before .before .before .before .before .args .at) (putEntry e)) (sym (c .before .before .before .before .before .entry2 .given .1))
+    let after-entry2 = c .before .before .before .before .before in
+    let start = after-entry2 .before .before .before in
+    c .before .before .put-tagged2 .ensures
+    ∙ ap (λ (e : Entry). over (start .args .buffer .now) (start .args .at) (putEntry e)) (sym (after-entry2 .entry2 .given .1))
 
 pub put-entry-spec : {M : Type 1} → statement M
 put-entry-spec =

@@ -9,8 +9,15 @@ use Rattle.encoder.proofs.put_place.Tie as tie
 
 put-query-requires : tie.Need-put-query-requires
 put-query-requires c κs =
-    let e = filled-part (take (c .before .before .before .before .args .count) (c .before .before .before .before .args .widths)) (c .before .before .before .before .args .place) (c .before .before .if1 .taken) in
-    (c .before .before .before .before .pre .0, (filled-sizes (take (c .before .before .before .before .args .count) (c .before .before .before .before .args .widths)) (c .before .before .before .before .args .place) (c .before .before .if1 .taken) (c .before .before .before .before .pre .1 .0), rw e at (c .before .before .before .before .pre .1 .1)))
+    let after-if1 = c .before .before in
+    let start = after-if1 .before .before in
+    let e = filled-part (take (start .args .count) (start .args .widths)) (start .args .place) (after-if1 .if1 .taken) in (
+      start .pre .0,
+      (
+        filled-sizes (take (start .args .count) (start .args .widths)) (start .args .place) (after-if1 .if1 .taken) (start .pre .1 .0),
+        rw e at (start .pre .1 .1),
+      ),
+    )
 
 same-length : tie.Need-same-length
 same-length c =
@@ -18,7 +25,9 @@ same-length c =
 
 returns : tie.Need-returns
 returns c =
-    let e = filled-part (take (c .before .before .before .before .before .before .before .args .count) (c .before .before .before .before .before .before .before .args .widths)) (c .before .before .before .before .before .before .before .args .place) (c .before .before .before .before .before .if1 .taken) in
+    let after-if1 = c .before .before .before .before .before in
+    let start = after-if1 .before .before in
+    let e = filled-part (take (start .args .count) (start .args .widths)) (start .args .place) (after-if1 .if1 .taken) in
     rw e (c .before .before .put-query .ensures)
 
 slice-write-buffer : tie.Need-slice-write-buffer

@@ -33,7 +33,8 @@ rowBytes schema q = putAll (row schema .put) (take (q .size) (chunk (q .relation
 abbrev opened : List ℕ → ℕ → Query → List ℕ
 opened buffer at q = set (set buffer at (q .arity)) (at + 1) (q .size)
 
-module _ (schema buffer : List ℕ) (at : ℕ) (q : Query) (lh : length (q .head) ≡ 8) (ha : q .arity ≤ 8) (room : at + length (query schema .put q) ≤ length buffer)
+module _ (schema buffer : List ℕ) (at : ℕ) (q : Query) (lh : length (q .head) ≡ 8) (ha : q .arity ≤ 8)
+    (room : at + length (query schema .put q) ≤ length buffer)
     (used : ℕ) (eu : used ≡ cond (eqb (q .size) 0) 0 (q .arity)) where
   used-fits : used ≤ 8
   used-fits = rw eu (headFits (q .size) (q .arity) ha)
@@ -65,7 +66,9 @@ module _ (schema buffer : List ℕ) (at : ℕ) (q : Query) (lh : length (q .head
     room-rows = omega (arith, second-long, total)
 
     second-over : second ≡ over buffer at (q .arity ∷ q .size ∷ (headBytes used q))
-    second-over = e₂ ∙ ap (λ (b : List ℕ). over b (at + 2) (headBytes used q)) opened-over ∙ over-over buffer at (q .arity ∷ q .size ∷ []) (headBytes used q) (omega (arith, total, head-long))
+    second-over =
+        e₂ ∙ ap (λ (b : List ℕ). over b (at + 2) (headBytes used q)) opened-over
+        ∙ over-over buffer at (q .arity ∷ q .size ∷ []) (headBytes used q) (omega (arith, total, head-long))
 
     module _ (third : List ℕ) (e₃ : third ≡ over second (at + 2 + 5 * used) (rowBytes schema q)) where
       third-long : length third ≡ length buffer
@@ -75,7 +78,8 @@ module _ (schema buffer : List ℕ) (at : ℕ) (q : Query) (lh : length (q .head
       third-over =
           let front : List ℕ = q .arity ∷ q .size ∷ (headBytes used q) in
           let n : at + 2 + 5 * used ≡ at + length front = omega (arith, head-long) in
-          e₃ ∙ ap (λ (b : List ℕ). over b (at + 2 + 5 * used) (rowBytes schema q)) second-over ∙ ap (λ (m : ℕ). over (over buffer at front) m (rowBytes schema q)) n
+          e₃ ∙ ap (λ (b : List ℕ). over b (at + 2 + 5 * used) (rowBytes schema q)) second-over
+          ∙ ap (λ (m : ℕ). over (over buffer at front) m (rowBytes schema q)) n
           ∙ over-over buffer at front (rowBytes schema q) (omega (arith, total, head-long)) ∙ ap (over buffer at) (sym put-pieces)
 
 -- ---- what holds at each place, proved where it first does
@@ -89,13 +93,36 @@ two : (c : tie.Start) → c .args .at + 2 ≤ length (c .args .buffer .now)
 two c = omega (arith, length-query (take (c .args .count) (c .args .widths)) (c .args .q), c .pre .1 .1)
 
 used : (c : tie.After-head-in-use) → c .head-in-use .result ≤ 8
-used c = used-fits (take (c .before .before .args .count) (c .before .before .args .widths)) (c .before .before .args .buffer .now) (c .before .before .args .at) (c .before .before .args .q) (head-cells (c .before .before)) (c .before .before .pre .1 .0 .0) (c .before .before .pre .1 .1) (c .head-in-use .result) (c .head-in-use .ensures)
+used c =
+    let start = c .before .before in
+    used-fits (take (start .args .count) (start .args .widths)) (start .args .buffer .now) (start .args .at) (start .args .q) (head-cells start)
+    (start .pre .1 .0 .0) (start .pre .1 .1) (c .head-in-use .result) (c .head-in-use .ensures)
 
-rows-fit : (c : tie.After-put-entries) → c .before .before .before .before .before .args .at + 2 + 5 * c .before .before .before .head-in-use .result + length (rowBytes (take (c .before .before .before .before .before .args .count) (c .before .before .before .before .before .args .widths)) (c .before .before .before .before .before .args .q)) ≤ length (c .put-entries .last .0)
-rows-fit c = room-rows (take (c .before .before .before .before .before .args .count) (c .before .before .before .before .before .args .widths)) (c .before .before .before .before .before .args .buffer .now) (c .before .before .before .before .before .args .at) (c .before .before .before .before .before .args .q) (head-cells (c .before .before .before .before .before)) (c .before .before .before .before .before .pre .1 .0 .0) (c .before .before .before .before .before .pre .1 .1) (c .before .before .before .head-in-use .result) (c .before .before .before .head-in-use .ensures) (c .put-entries .last .0) (c .put-entries .ensures)
+abbrev rows-fit-start : tie.After-put-entries → tie.Start
+rows-fit-start c = c .before .before .before .before .before
+
+rows-fit : (c : tie.After-put-entries)
+    → rows-fit-start c .args .at + 2 + 5 * c .before .before .before .head-in-use .result
+    + length (rowBytes (take (rows-fit-start c .args .count) (rows-fit-start c .args .widths)) (rows-fit-start c .args .q)) ≤ length (c .put-entries .last .0)
+rows-fit c =
+    let after-head-in-use = c .before .before .before in
+    let start = after-head-in-use .before .before in
+    room-rows (take (start .args .count) (start .args .widths)) (start .args .buffer .now) (start .args .at) (start .args .q) (head-cells start)
+    (start .pre .1 .0 .0) (start .pre .1 .1) (after-head-in-use .head-in-use .result) (after-head-in-use .head-in-use .ensures) (c .put-entries .last .0)
+    (c .put-entries .ensures)
 
 rows-at : (c : tie.After-put-entries) → c .before .before .before .before .before .args .at + 2 + 5 * c .before .before .before .head-in-use .result < 2 ^ 63
-rows-at c = omega (arith, rows-fit c, second-long (take (c .before .before .before .before .before .args .count) (c .before .before .before .before .before .args .widths)) (c .before .before .before .before .before .args .buffer .now) (c .before .before .before .before .before .args .at) (c .before .before .before .before .before .args .q) (head-cells (c .before .before .before .before .before)) (c .before .before .before .before .before .pre .1 .0 .0) (c .before .before .before .before .before .pre .1 .1) (c .before .before .before .head-in-use .result) (c .before .before .before .head-in-use .ensures) (c .put-entries .last .0) (c .put-entries .ensures), short (c .before .before .before .before .before))
+rows-at c =
+    let after-head-in-use = c .before .before .before in
+    let start = after-head-in-use .before .before in
+    omega (
+      arith,
+      rows-fit c,
+      second-long (take (start .args .count) (start .args .widths)) (start .args .buffer .now) (start .args .at) (start .args .q)
+          (head-cells start) (start .pre .1 .0 .0) (start .pre .1 .1) (after-head-in-use .head-in-use .result) (after-head-in-use .head-in-use .ensures)
+          (c .put-entries .last .0) (c .put-entries .ensures),
+      short start,
+    )
 
 -- ---- the needs
 slice-write-buffer : tie.Need-slice-write-buffer
@@ -114,7 +141,13 @@ add-put-entries : tie.Need-add-put-entries
 add-put-entries c = omega (arith, two (c .before .before .before .before), short (c .before .before .before .before))
 
 put-entries-requires : tie.Need-put-entries-requires
-put-entries-requires c κs = (used (c .before .before), room-head (take (c .before .before .before .before .args .count) (c .before .before .before .before .args .widths)) (c .before .before .before .before .args .buffer .now) (c .before .before .before .before .args .at) (c .before .before .before .before .args .q) (head-cells (c .before .before .before .before)) (c .before .before .before .before .pre .1 .0 .0) (c .before .before .before .before .pre .1 .1) (c .before .before .head-in-use .result) (c .before .before .head-in-use .ensures))
+put-entries-requires c κs =
+    let after-head-in-use = c .before .before in
+    let start = after-head-in-use .before .before in (
+      used after-head-in-use,
+      room-head (take (start .args .count) (start .args .widths)) (start .args .buffer .now) (start .args .at) (start .args .q)
+          (head-cells start) (start .pre .1 .0 .0) (start .pre .1 .1) (after-head-in-use .head-in-use .result) (after-head-in-use .head-in-use .ensures),
+    )
 
 add-put-rows : tie.Need-add-put-rows
 add-put-rows c = omega (arith, rows-at (c .before .before .before .before .before))
@@ -129,14 +162,39 @@ cast-put-rows : tie.Need-cast-put-rows
 cast-put-rows c = search needs
 
 put-rows-requires : tie.Need-put-rows-requires
-put-rows-requires c κs = (c .before .before .before .before .before .before .before .before .before .before .pre .0, (c .before .before .before .before .before .before .before .before .before .before .pre .1 .0 .1, rows-fit (c .before .before .before .before .before)))
+put-rows-requires c κs =
+    let earlier = c .before .before .before .before .before in
+    let start = earlier .before .before .before .before .before in
+    (start .pre .0, (start .pre .1 .0 .1, rows-fit earlier))
 
 same-length : tie.Need-same-length
-same-length c = third-long (take (c .before .before .before .before .before .before .before .before .before .before .before .before .before .args .count) (c .before .before .before .before .before .before .before .before .before .before .before .before .before .args .widths)) (c .before .before .before .before .before .before .before .before .before .before .before .before .before .args .buffer .now) (c .before .before .before .before .before .before .before .before .before .before .before .before .before .args .at) (c .before .before .before .before .before .before .before .before .before .before .before .before .before .args .q) (head-cells (c .before .before .before .before .before .before .before .before .before .before .before .before .before)) (c .before .before .before .before .before .before .before .before .before .before .before .before .before .pre .1 .0 .0) (c .before .before .before .before .before .before .before .before .before .before .before .before .before .pre .1 .1) (c .before .before .before .before .before .before .before .before .before .before .before .head-in-use .result) (c .before .before .before .before .before .before .before .before .before .before .before .head-in-use .ensures) (c .before .before .before .before .before .before .before .before .put-entries .last .0) (c .before .before .before .before .before .before .before .before .put-entries .ensures) (c .before .before .put-rows .last .0) (c .before .before .put-rows .ensures .0)
+same-length c =
+    let after-put-rows = c .before .before in
+    let after-put-entries = after-put-rows .before .before .before .before .before .before in
+    let after-head-in-use = after-put-entries .before .before .before in
+    let start = after-head-in-use .before .before in
+    third-long (take (start .args .count) (start .args .widths)) (start .args .buffer .now) (start .args .at) (start .args .q) (head-cells start)
+    (start .pre .1 .0 .0) (start .pre .1 .1) (after-head-in-use .head-in-use .result) (after-head-in-use .head-in-use .ensures)
+    (after-put-entries .put-entries .last .0) (after-put-entries .put-entries .ensures) (after-put-rows .put-rows .last .0)
+    (after-put-rows .put-rows .ensures .0)
 
 returns : tie.Need-returns
 returns c =
-    (third-over (take (c .before .before .before .before .before .before .before .before .before .before .before .before .before .args .count) (c .before .before .before .before .before .before .before .before .before .before .before .before .before .args .widths)) (c .before .before .before .before .before .before .before .before .before .before .before .before .before .args .buffer .now) (c .before .before .before .before .before .before .before .before .before .before .before .before .before .args .at) (c .before .before .before .before .before .before .before .before .before .before .before .before .before .args .q) (head-cells (c .before .before .before .before .before .before .before .before .before .before .before .before .before)) (c .before .before .before .before .before .before .before .before .before .before .before .before .before .pre .1 .0 .0) (c .before .before .before .before .before .before .before .before .before .before .before .before .before .pre .1 .1) (c .before .before .before .before .before .before .before .before .before .before .before .head-in-use .result) (c .before .before .before .before .before .before .before .before .before .before .before .head-in-use .ensures) (c .before .before .before .before .before .before .before .before .put-entries .last .0) (c .before .before .before .before .before .before .before .before .put-entries .ensures) (c .before .before .put-rows .last .0) (c .before .before .put-rows .ensures .0), omega (arith, c .before .before .put-rows .ensures .1, total (take (c .before .before .before .before .before .before .before .before .before .before .before .before .before .args .count) (c .before .before .before .before .before .before .before .before .before .before .before .before .before .args .widths)) (c .before .before .before .before .before .before .before .before .before .before .before .before .before .args .buffer .now) (c .before .before .before .before .before .before .before .before .before .before .before .before .before .args .at) (c .before .before .before .before .before .before .before .before .before .before .before .before .before .args .q) (head-cells (c .before .before .before .before .before .before .before .before .before .before .before .before .before)) (c .before .before .before .before .before .before .before .before .before .before .before .before .before .pre .1 .0 .0) (c .before .before .before .before .before .before .before .before .before .before .before .before .before .pre .1 .1) (c .before .before .before .before .before .before .before .before .before .before .before .head-in-use .result) (c .before .before .before .before .before .before .before .before .before .before .before .head-in-use .ensures)))
+    let after-put-rows = c .before .before in
+    let after-put-entries = after-put-rows .before .before .before .before .before .before in
+    let after-head-in-use = after-put-entries .before .before .before in
+    let start = after-head-in-use .before .before in (
+      third-over (take (start .args .count) (start .args .widths)) (start .args .buffer .now) (start .args .at) (start .args .q) (head-cells start)
+          (start .pre .1 .0 .0) (start .pre .1 .1) (after-head-in-use .head-in-use .result) (after-head-in-use .head-in-use .ensures)
+          (after-put-entries .put-entries .last .0) (after-put-entries .put-entries .ensures) (after-put-rows .put-rows .last .0)
+          (after-put-rows .put-rows .ensures .0),
+      omega (
+        arith,
+        after-put-rows .put-rows .ensures .1,
+        total (take (start .args .count) (start .args .widths)) (start .args .buffer .now) (start .args .at) (start .args .q) (head-cells start)
+            (start .pre .1 .0 .0) (start .pre .1 .1) (after-head-in-use .head-in-use .result) (after-head-in-use .head-in-use .ensures),
+      ),
+    )
 
 pub put-query-spec : {M : Type 1} → statement M
 put-query-spec =

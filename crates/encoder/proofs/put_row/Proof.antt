@@ -30,15 +30,20 @@ add-result-2 c = search needs
 
 same-length : tie.Need-same-length
 same-length c =
-    c .before .before .put-entries .kept .0 ∙ length-set (c .before .before .before .before .before .args .buffer .now) (c .before .before .before .before .before .args .at) (c .before .before .before .before .before .args .relation)
+    let start = c .before .before .before .before .before in
+    c .before .before .put-entries .kept .0 ∙ length-set (start .args .buffer .now) (start .args .at) (start .args .relation)
 
 returns : tie.Need-returns
 returns c =
-    let buffer = c .before .before .before .before .before .args .buffer .now in
-    let at = c .before .before .before .before .before .args .at in
-    let relation = c .before .before .before .before .before .args .relation in
-    let bytes = entries (c .before .before .before .before .before .args .width) .put (c .before .before .before .before .before .args .cells) in
-    (c .before .before .put-entries .ensures ∙ ap (λ (n : ℕ). over (set buffer at relation) n bytes) (add-one at) ∙ over-set buffer at relation bytes (omega (arith, c .before .before .before .before .before .pre .1)), refl)
+    let start = c .before .before .before .before .before in
+    let buffer = start .args .buffer .now in
+    let at = start .args .at in
+    let relation = start .args .relation in
+    let bytes = entries (start .args .width) .put (start .args .cells) in (
+      c .before .before .put-entries .ensures ∙ ap (λ (n : ℕ). over (set buffer at relation) n bytes) (add-one at)
+          ∙ over-set buffer at relation bytes (omega (arith, start .pre .1)),
+      refl,
+    )
 
 pub put-row-spec : {M : Type 1} → statement M
 put-row-spec =

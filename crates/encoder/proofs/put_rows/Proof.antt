@@ -23,7 +23,8 @@ chunk-at [] cells r h = absurd (omega arith)
 chunk-at (x ∷ named) cells zero h = refl
 chunk-at (x ∷ named) cells (suc r) h =
     let m : 8 + 8 * r ≡ 8 * suc r = omega arith in
-    chunk-at named (drop 8 cells) r (le-of-suc-le-suc h) ∙ ap (λ (cs : List Cell). (getD named r 0, take 8 cs)) (drop-drop (8 * r) 8 cells ∙ ap (λ (n : ℕ). drop n cells) m)
+    chunk-at named (drop 8 cells) r (le-of-suc-le-suc h)
+    ∙ ap (λ (cs : List Cell). (getD named r 0, take 8 cs)) (drop-drop (8 * r) 8 cells ∙ ap (λ (n : ℕ). drop n cells) m)
 
 module _ (schema before : List ℕ) (start size : ℕ) (named : List ℕ) (cells : List Cell) (buffer : List ℕ) (at r : ℕ) (h : r < size) (few : size ≤ 12)
     (ln : length named ≡ 12) (lc : length cells ≡ 96) (w : Writing (row schema .put) before start (take size (chunk named cells)) buffer at r)
@@ -47,7 +48,8 @@ module _ (schema before : List ℕ) (start size : ℕ) (named : List ℕ) (cells
   room : at + 1 + 5 * width ≤ length buffer
   room = omega (arith, writing-room w noRow (rw rows-long h), bytes-long)
 
-  goes-on : (line : List Cell) (next : List ℕ) (to : ℕ) → line ≡ take 8 (drop (8 * r) cells) → next ≡ over buffer at (getD named r 0 ∷ entries width .put line) → to ≡ at + 1 + 5 * width
+  goes-on : (line : List Cell) (next : List ℕ) (to : ℕ) → line ≡ take 8 (drop (8 * r) cells) → next ≡ over buffer at (getD named r 0 ∷ entries width .put line)
+      → to ≡ at + 1 + 5 * width
       → Writing (row schema .put) before start (take size (chunk named cells)) next to (r + 1)
   goes-on line next to el en et =
       writing-turns w noRow next to (rw rows-long h)
@@ -62,8 +64,11 @@ abbrev μ-loop : tie.MeasureT-loop
 μ-loop buffer₀ start size cells count widths named at₀ r₀ buffer at r = size - r
 
 loop-holds : tie.Need-loop-holds Inv-loop μ-loop
-loop-holds c =
-    (omega arith, writing-starts (row (take (c .before .args .count) (c .before .args .widths)) .put) (c .before .args .buffer .now) (c .before .args .start) (take (c .before .args .size) (chunk (c .before .args .t4) (c .before .args .cells))) (c .before .pre .1 .1))
+loop-holds c = (
+  omega arith,
+  writing-starts (row (take (c .before .args .count) (c .before .args .widths)) .put) (c .before .args .buffer .now) (c .before .args .start)
+      (take (c .before .args .size) (chunk (c .before .args .t4) (c .before .args .cells))) (c .before .pre .1 .1),
+)
 
 array-read-relation : tie.Need-array-read-relation Inv-loop μ-loop
 array-read-relation c = search needs
@@ -78,7 +83,16 @@ put-row-requires : tie.Need-put-row-requires Inv-loop μ-loop
 put-row-requires c κs =
     let ln : length (c .before .before .before .before .before .before .before .args .t4) ≡ 12 = search needs in
     let lc : length (c .before .before .before .before .before .before .before .args .cells) ≡ 96 = search needs in
-    (c .before .before .before .width-of .ensures .1, room (take (c .before .before .before .before .before .before .before .args .count) (c .before .before .before .before .before .before .before .args .widths)) (c .before .before .before .before .before .before .before .args .buffer .now) (c .before .before .before .before .before .before .before .args .start) (c .before .before .before .before .before .before .before .args .size) (c .before .before .before .before .before .before .before .args .t4) (c .before .before .before .before .before .before .before .args .cells) (c .before .before .before .before .before .loop .buffer) (c .before .before .before .before .before .loop .at) (c .before .before .before .before .before .loop .r) (c .before .before .before .before .loop-test .taken) (c .before .before .before .before .before .before .before .pre .1 .0) ln lc (c .before .before .before .before .before .loop .inv .1) (c .before .before .before .width-of .result) (c .before .before .before .width-of .ensures .0) (c .before .before .before .width-of .ensures .1))
+    let after-width-of = c .before .before .before in
+    let after-loop-test = after-width-of .before in
+    let after-loop = after-loop-test .before in
+    let start′ = after-loop .before .before in (
+      after-width-of .width-of .ensures .1,
+      room (take (start′ .args .count) (start′ .args .widths)) (start′ .args .buffer .now) (start′ .args .start) (start′ .args .size) (start′ .args .t4)
+          (start′ .args .cells) (after-loop .loop .buffer) (after-loop .loop .at) (after-loop .loop .r) (after-loop-test .loop-test .taken) (start′ .pre .1 .0)
+          ln lc
+          (after-loop .loop .inv .1) (after-width-of .width-of .result) (after-width-of .width-of .ensures .0) (after-width-of .width-of .ensures .1),
+    )
 
 add-r : tie.Need-add-r Inv-loop μ-loop
 add-r c = search needs
@@ -90,7 +104,19 @@ loop-again : tie.Need-loop-again Inv-loop μ-loop
 loop-again c =
     let ln : length (c .before .before .before .before .before .before .before .before .before .before .args .t4) ≡ 12 = search needs in
     let lc : length (c .before .before .before .before .before .before .before .before .before .before .args .cells) ≡ 96 = search needs in
-    (search needs, goes-on (take (c .before .before .before .before .before .before .before .before .before .before .args .count) (c .before .before .before .before .before .before .before .before .before .before .args .widths)) (c .before .before .before .before .before .before .before .before .before .before .args .buffer .now) (c .before .before .before .before .before .before .before .before .before .before .args .start) (c .before .before .before .before .before .before .before .before .before .before .args .size) (c .before .before .before .before .before .before .before .before .before .before .args .t4) (c .before .before .before .before .before .before .before .before .before .before .args .cells) (c .before .before .before .before .before .before .before .before .loop .buffer) (c .before .before .before .before .before .before .before .before .loop .at) (c .before .before .before .before .before .before .before .before .loop .r) (c .before .before .before .before .before .before .before .loop-test .taken) (c .before .before .before .before .before .before .before .before .before .before .pre .1 .0) ln lc (c .before .before .before .before .before .before .before .before .loop .inv .1) (c .before .before .before .before .before .before .width-of .result) (c .before .before .before .before .before .before .width-of .ensures .0) (c .before .before .before .before .before .before .width-of .ensures .1) (c .before .before .before .before .before .row-of .result .cells) (c .before .before .put-row .last .0) (c .before .before .put-row .result) (c .before .before .before .before .before .row-of .ensures) (c .before .before .put-row .ensures .0) (c .before .before .put-row .ensures .1))
+    let after-put-row = c .before .before in
+    let after-row-of = after-put-row .before .before .before in
+    let after-width-of = after-row-of .before in
+    let after-loop-test = after-width-of .before in
+    let after-loop = after-loop-test .before in
+    let start′ = after-loop .before .before in (
+      search needs,
+      goes-on (take (start′ .args .count) (start′ .args .widths)) (start′ .args .buffer .now) (start′ .args .start) (start′ .args .size)
+          (start′ .args .t4) (start′ .args .cells) (after-loop .loop .buffer) (after-loop .loop .at) (after-loop .loop .r) (after-loop-test .loop-test .taken)
+          (start′ .pre .1 .0) ln lc (after-loop .loop .inv .1) (after-width-of .width-of .result) (after-width-of .width-of .ensures .0)
+          (after-width-of .width-of .ensures .1) (after-row-of .row-of .result .cells) (after-put-row .put-row .last .0) (after-put-row .put-row .result)
+          (after-row-of .row-of .ensures) (after-put-row .put-row .ensures .0) (after-put-row .put-row .ensures .1),
+    )
 
 same-length : tie.Need-same-length Inv-loop μ-loop
 same-length c =
@@ -100,8 +126,9 @@ returns : tie.Need-returns Inv-loop μ-loop
 returns c =
     let ln : length (c .before .before .before .args .t4) ≡ 12 = search needs in
     let lc : length (c .before .before .before .args .cells) ≡ 96 = search needs in
-    let k : length (take (c .before .before .before .args .size) (chunk (c .before .before .before .args .t4) (c .before .before .before .args .cells))) ≡ c .before .before .before .args .size =
-    length-take-le (c .before .before .before .args .size) (chunk (c .before .before .before .args .t4) (c .before .before .before .args .cells)) (rw length-chunk (omega (arith, c .before .before .before .pre .1 .0))) in
+    let start = c .before .before .before in
+    let k : length (take (start .args .size) (chunk (start .args .t4) (start .args .cells))) ≡ start .args .size =
+    length-take-le (start .args .size) (chunk (start .args .t4) (start .args .cells)) (rw length-chunk (omega (arith, start .pre .1 .0))) in
     writing-ends (c .before .loop .inv .1) (omega arith)
 
 pub put-rows-spec : {M : Type 1} → statement M

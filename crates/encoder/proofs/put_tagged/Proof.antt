@@ -52,7 +52,8 @@ same-length c = search needs
 returns : tie.Need-returns
 unfolding bytesOf
 returns c =
-    five-stores (c .args .buffer .now) (c .args .at) (c .args .tag) (c .args .n % 256) (c .args .n / 256 % 256) (c .args .n / 256 / 256 % 256) (c .args .n / 256 / 256 / 256 % 256) (c .pre)
+    five-stores (c .args .buffer .now) (c .args .at) (c .args .tag) (c .args .n % 256) (c .args .n / 256 % 256) (c .args .n / 256 / 256 % 256)
+    (c .args .n / 256 / 256 / 256 % 256) (c .pre)
 
 pub put-tagged-spec : {M : Type 1} → statement M
 put-tagged-spec =

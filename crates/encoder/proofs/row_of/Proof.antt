@@ -19,7 +19,8 @@ covered xs copy l =
     let d : drop (0 + length xs) copy ≡ [] = drop-of-length-le copy {i = 0 + length xs} (omega arith) in
     sym (ap (λ (ys : List Cell). xs ++ ys) d ∙ append-nil xs)
 
-turn : (xs copy : List Cell) (c : ℕ) (v : Cell) → c < length xs → c < length copy → v ≡ getD xs c noCell → over copy c (drop c xs) ≡ over (set copy c v) (c + 1) (drop (c + 1) xs)
+turn : (xs copy : List Cell) (c : ℕ) (v : Cell) → c < length xs → c < length copy → v ≡ getD xs c noCell
+    → over copy c (drop c xs) ≡ over (set copy c v) (c + 1) (drop (c + 1) xs)
 turn xs copy c v h l e = rw (drop-cons xs c noCell h, e, add-one) (sym (over-set copy c (getD xs c noCell) (drop (suc c) xs) l))
 
 run-length : (cells : List Cell) (r : ℕ) → length cells ≡ 96 → r < 12 → length (take 8 (drop (8 * r) cells)) ≡ 8
@@ -71,13 +72,15 @@ loop-again c =
     let cells = c .before .before .before .args .t1 in
     let r = c .before .before .before .args .r in
     let l : length cells ≡ 96 = search needs in
+    let after-loop = c .before .before in
     let run = run-length cells r l (c .before .before .before .pre) in
-    let copy = c .before .before .loop .copy in
-    let i = c .before .before .loop .c in
-    let inv = c .before .before .loop .inv in (
+    let copy = after-loop .loop .copy in
+    let i = after-loop .loop .c in
+    let inv = after-loop .loop .inv in (
       search needs,
       length-set copy i (getD cells (8 * r + i) noCell) ∙ inv .1,
-      inv .2 ∙ turn (take 8 (drop (8 * r) cells)) copy i (getD cells (8 * r + i) noCell) (omega arith) (omega arith) (run-at cells r i (c .before .loop-test .taken)),
+      inv .2 ∙ turn (take 8 (drop (8 * r) cells)) copy i (getD cells (8 * r + i) noCell) (omega arith) (omega arith)
+          (run-at cells r i (c .before .loop-test .taken)),
     )
 
 returns : tie.Need-returns Inv-loop μ-loop
@@ -86,7 +89,8 @@ returns c =
     let r = c .before .before .args .r in
     let l : length cells ≡ 96 = search needs in
     let run = run-length cells r l (c .before .before .pre) in
-    let done : drop (c .before .loop .c) (take 8 (drop (8 * r) cells)) ≡ [] = drop-of-length-le (take 8 (drop (8 * r) cells)) {i = c .before .loop .c} (omega arith) in
+    let done : drop (c .before .loop .c) (take 8 (drop (8 * r) cells)) ≡ [] =
+    drop-of-length-le (take 8 (drop (8 * r) cells)) {i = c .before .loop .c} (omega arith) in
     sym (c .before .loop .inv .2 ∙ ap (over (c .before .loop .copy) (c .before .loop .c)) done ∙ over-nil (c .before .loop .copy) (c .before .loop .c))
 
 pub row-of-spec : {M : Type 1} → statement M

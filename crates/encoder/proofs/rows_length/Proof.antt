@@ -59,14 +59,21 @@ loop-less c = search needs
 loop-again : tie.Need-loop-again Inv-loop μ-loop
 loop-again c =
     let l : length (c .before .before .before .args .t2) ≡ 12 = search needs in
-    let e = next (take (c .before .before .before .args .count) (c .before .before .before .args .widths)) (c .before .before .before .args .t2) (c .before .before .before .args .size) (c .before .before .loop .r) (c .before .loop-test .taken) (omega (arith, c .before .before .before .pre .1)) in
-    (search needs, omega (arith, c .width-of .ensures .1), omega (arith, e, c .width-of .ensures .0, c .before .before .loop .inv .2))
+    let after-loop = c .before .before in
+    let start = after-loop .before in
+    let e =
+    next (take (start .args .count) (start .args .widths)) (start .args .t2) (start .args .size) (after-loop .loop .r) (c .before .loop-test .taken)
+    (omega (arith, start .pre .1)) in
+    (search needs, omega (arith, c .width-of .ensures .1), omega (arith, e, c .width-of .ensures .0, after-loop .loop .inv .2))
 
 returns : tie.Need-returns Inv-loop μ-loop
 returns c =
     let l : length (c .before .before .args .t2) ≡ 12 = search needs in
-    let e = none-left (take (c .before .before .args .count) (c .before .before .args .widths)) (c .before .before .args .t2) (c .before .before .args .size) (c .before .loop .r) (c .loop-test .left) (omega (arith, c .before .before .pre .1)) in
-    (omega (arith, e, c .before .loop .inv .2), omega (arith, c .before .before .pre .1))
+    let start = c .before .before in
+    let e =
+    none-left (take (start .args .count) (start .args .widths)) (start .args .t2) (start .args .size) (c .before .loop .r) (c .loop-test .left)
+    (omega (arith, start .pre .1)) in
+    (omega (arith, e, c .before .loop .inv .2), omega (arith, start .pre .1))
 
 pub rows-length-spec : {M : Type 1} → statement M
 rows-length-spec =

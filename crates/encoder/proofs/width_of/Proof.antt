@@ -10,7 +10,8 @@ use Rattle.format.proofs.Rules.{good-narrow}
 use Rattle.encoder.proofs.width_of.Statement.{statement}
 use Rattle.encoder.proofs.width_of.Tie as tie
 
-bounded : (count : ℕ) (widths : List ℕ) (relation r : ℕ) → goodRelations count widths ≡ true → r ≡ getD (take count widths) relation 0 → (r ≡ getD (take count widths) relation 0) × (r ≤ 8)
+bounded : (count : ℕ) (widths : List ℕ) (relation r : ℕ) → goodRelations count widths ≡ true → r ≡ getD (take count widths) relation 0
+    → (r ≡ getD (take count widths) relation 0) × (r ≤ 8)
 bounded count widths relation r good e = (e, rw e (narrow-at (take count widths) relation (good-narrow count widths good)))
 
 width-of-requires : tie.Need-width-of-requires

@@ -12,7 +12,7 @@ use Rattle.refusals.specs.Refusals.{badDependency}
 use Rattle.query.specs.declared.Dependency.{Dependency}
 use Rattle.lists.specs.Tests.{between}
 use Rattle.query.specs.Rule.{blankDependency, noDependency}
-use Rattle.format.specs.Format.{Reading, got, mapReading, getByte, byte, padded}
+use Rattle.format.specs.Format.{got, getByte}
 use Rattle.format.specs.Parts.{dependency, dependencies}
 use Rattle.format.specs.File.{complete}
 use Rattle.parsing.specs.declared.ByteRead.{ByteRead}
@@ -22,70 +22,60 @@ use Rattle.parsing.specs.declared.DependencyRead.the-variants.{Found, No
 use Rattle.parsing.specs.internal.Read.{byteRead}
 use Rattle.parsing.specs.internal.Read.{dependencyRead, noDependencies, dependenciesRead}
 use Rattle.parsing.proofs.Dependencies.{dependency-read, dependency-none}
-use Rattle.format.proofs.Filling.{Filling, filling-starts, filling-turns, filling-fails, filling-ends}
-use Rattle.parsing.proofs.Counted.{byte-read, byte-none, no-low, sequence-none, sequence-got, complete-none, complete-fails, complete-ends, complete-long}
+use Rattle.parsing.proofs.Counted.{byte-read, byte-none, no-low, Counting, counting-starts, counting-turns, counting-fails, counting-ends}
+use Rattle.parsing.proofs.Counted.{counting-long, no-count}
 use Rattle.parsing.proofs.read_dependencies.Statement.{statement}
 use Rattle.parsing.proofs.read_dependencies.Tie as tie
 
--- The dependencies after the count, as the format reads them
-Held : List ℕ → List ℕ → ℕ → Reading (List Dependency)
-Held schema part n = padded 32 noDependency blankDependency n (dependency schema) .get (drop 1 part)
-
--- What the count says of the whole part
-abbrev Head : List ℕ → List ℕ → ℕ → Type 0
-Head schema part n = dependencies schema .get part ≡ mapReading (λ ds. (n, ds)) (Held schema part n)
-
--- What has been read of the dependencies
+-- What has been read of the part
 abbrev At : List ℕ → List ℕ → ℕ → List Dependency → ℕ → Type 0
-At schema part n ds i = Filling (dependency schema .get) (Held schema part n) n ds i (drop (1 + 3 * i) part)
+At schema part n ds i = Counting (λ n. leb n 32) 32 noDependency blankDependency (dependency schema) part n ds i (1 + 3 * i)
 
-begins : (schema part : List ℕ) (n : ℕ) → Byte n ≡ byteRead (getByte (between 0 32) part) → (n ≤ 32) × Head schema part n × At schema part n (replicate 32 noDependency) 0
-unfolding dependencies byte padded Held
-begins schema part n h =
-    let (t, e) = byte-read (λ n. leb n 32) part 0 n (rw no-low at h) in (
-      leb-true n 32 t,
-      sequence-got (byte (λ n. leb n 32)) (λ n. padded 32 noDependency blankDependency n (dependency schema)) part n (drop 1 part) e,
-      filling-starts (dependency schema .get) 32 noDependency n (drop 1 part),
-    )
+module _ (schema part : List ℕ) where
+  begins : (n : ℕ) → Byte n ≡ byteRead (getByte (between 0 32) part) → (n ≤ 32) × At schema part n (replicate 32 noDependency) 0
+  begins n h =
+      let (t, e) = byte-read (λ n. leb n 32) part 0 n (rw no-low at h) in
+      (leb-true n 32 t, counting-starts (λ n. leb n 32) 32 noDependency blankDependency (dependency schema) part n e)
 
-goes-on : (schema part : List ℕ) (n : ℕ) (ds : List Dependency) (i : ℕ) (r : DependencyRead) (d : Dependency) → At schema part n ds i → i < n → i < length ds
-    → r ≡ dependencyRead (dependency schema .get (drop (1 + 3 * i) part)) → r ≡ Found d → At schema part n (set ds i d) (i + 1)
-goes-on schema part n ds i r d f h l p q =
-    let e : dependency schema .get (drop (1 + 3 * i) part) ≡ got d (drop 3 (drop (1 + 3 * i) part)) = dependency-read schema (drop (1 + 3 * i) part) d (sym q ∙ p) in
-    let k : 1 + 3 * i + 3 ≡ 1 + 3 * (i + 1) = omega arith in
-    let m : drop 3 (drop (1 + 3 * i) part) ≡ drop (1 + 3 * (i + 1)) part = drop-drop 3 (1 + 3 * i) part ∙ ap (λ (j : ℕ). drop j part) k in
-    filling-turns f d (drop (1 + 3 * (i + 1)) part) h l (e ∙ ap (λ (rest : List ℕ). got d rest) m)
+  no-dependencies-read : (r : ByteRead) → r ≡ byteRead (getByte (between 0 32) part) → r ≡ NoByte
+      → noDependencies ≡ dependenciesRead (complete badDependency (dependencies schema .get part))
+  unfolding dependencies
+  no-dependencies-read r p q =
+      sym (ap dependenciesRead (no-count (λ n. leb n 32) 32 noDependency blankDependency (dependency schema) part badDependency
+      (byte-none (getByte (λ n. leb n 32) part) (rw no-low at (sym q ∙ p)))))
 
-no-count : (schema part : List ℕ) (r : ByteRead) → r ≡ byteRead (getByte (between 0 32) part) → r ≡ NoByte → noDependencies ≡ dependenciesRead (complete badDependency (dependencies schema .get part))
-unfolding dependencies byte
-no-count schema part r p q =
-    sym (ap dependenciesRead (complete-none badDependency (dependencies schema .get part)
-    (sequence-none (byte (λ n. leb n 32)) (λ n. padded 32 noDependency blankDependency n (dependency schema)) part
-    (byte-none (getByte (λ n. leb n 32) part) (rw no-low at (sym q ∙ p))))))
+  module _ (n : ℕ) (ds : List Dependency) (i : ℕ) (f : At schema part n ds i) where
+    module _ (h : i < n) (r : DependencyRead) (p : r ≡ dependencyRead (dependency schema .get (drop (1 + 3 * i) part))) where
+      goes-on : (d : Dependency) → i < length ds → r ≡ Found d → At schema part n (set ds i d) (i + 1)
+      goes-on d l q =
+          let e : dependency schema .get (drop (1 + 3 * i) part) ≡ got d (drop 3 (drop (1 + 3 * i) part)) =
+          dependency-read schema (drop (1 + 3 * i) part) d (sym q ∙ p) in
+          let k : 1 + 3 * i + 3 ≡ 1 + 3 * (i + 1) = omega arith in
+          let m : drop 3 (drop (1 + 3 * i) part) ≡ drop (1 + 3 * (i + 1)) part = drop-drop 3 (1 + 3 * i) part ∙ ap (λ (j : ℕ). drop j part) k in
+          counting-turns (λ n. leb n 32) 32 noDependency blankDependency (dependency schema) part f d (1 + 3 * (i + 1)) h l
+          (e ∙ ap (λ (rest : List ℕ). got d rest) m)
 
-fails : (schema part : List ℕ) (n : ℕ) (ds : List Dependency) (i : ℕ) (r : DependencyRead) → Head schema part n → At schema part n ds i → i < n
-    → r ≡ dependencyRead (dependency schema .get (drop (1 + 3 * i) part)) → r ≡ NoDependency → noDependencies ≡ dependenciesRead (complete badDependency (dependencies schema .get part))
-fails schema part n ds i r hd f h p q =
-    sym (ap dependenciesRead (complete-fails badDependency (λ ds. (n, ds)) (Held schema part n) (dependencies schema .get part) hd
-    (filling-fails f h (dependency-none (dependency schema .get (drop (1 + 3 * i) part)) (sym q ∙ p)))))
+      fails : r ≡ NoDependency → noDependencies ≡ dependenciesRead (complete badDependency (dependencies schema .get part))
+      unfolding dependencies
+      fails q =
+          sym (ap dependenciesRead (counting-fails (λ n. leb n 32) 32 noDependency blankDependency (dependency schema) part f badDependency h
+          (dependency-none (dependency schema .get (drop (1 + 3 * i) part)) (sym q ∙ p))))
 
--- the whole reading, after the last turn
-ended : (schema part : List ℕ) (n : ℕ) (ds : List Dependency) (i : ℕ) → At schema part n ds i → i ≤ n → n ≤ i → Held schema part n ≡ got ds (drop (1 + 3 * n) part)
-ended schema part n ds i f h l = let e : i ≡ n = omega arith in filling-ends f l ∙ ap (λ (k : ℕ). got ds (drop (1 + 3 * k) part)) e
+    module _ (high : i ≤ n) (l : n ≤ i) where
+      too-long : 1 + 3 * n < length part → noDependencies ≡ dependenciesRead (complete badDependency (dependencies schema .get part))
+      unfolding dependencies
+      too-long t =
+          sym (ap dependenciesRead (counting-long (λ n. leb n 32) 32 noDependency blankDependency (dependency schema) part f badDependency l (omega arith)))
 
-too-long : (schema part : List ℕ) (n : ℕ) (ds : List Dependency) (i : ℕ) → Head schema part n → At schema part n ds i → i ≤ n → n ≤ i → 1 + 3 * n < length part
-    → noDependencies ≡ dependenciesRead (complete badDependency (dependencies schema .get part))
-too-long schema part n ds i hd f h l t =
-    sym (ap dependenciesRead (complete-long badDependency (λ ds. (n, ds)) (Held schema part n) (dependencies schema .get part) hd ds part (1 + 3 * n) (ended schema part n ds i f h l) t))
-
-accepted : (schema part : List ℕ) (n : ℕ) (ds : List Dependency) (i : ℕ) → Head schema part n → At schema part n ds i → i ≤ n → n ≤ i → length part ≤ 1 + 3 * n
-    → record { good = true; held = n; dependencies = ds } ≡ dependenciesRead (complete badDependency (dependencies schema .get part))
-accepted schema part n ds i hd f h l t =
-    sym (ap dependenciesRead (complete-ends badDependency (λ ds. (n, ds)) (Held schema part n) (dependencies schema .get part) hd ds part (1 + 3 * n) (ended schema part n ds i f h l) t))
+      accepted : length part ≤ 1 + 3 * n
+          → record { good = true; held = n; dependencies = ds } ≡ dependenciesRead (complete badDependency (dependencies schema .get part))
+      unfolding dependencies
+      accepted t =
+          sym (ap dependenciesRead (counting-ends (λ n. leb n 32) 32 noDependency blankDependency (dependency schema) part f badDependency l (omega arith)))
 
 abbrev Inv-loop : tie.InvT-loop
 Inv-loop part count widths held n dependencies₀ i₀ dependencies i =
-    (i ≤ n) × (n ≤ 32) × (length dependencies ≡ 32) × Head (take count widths) part n × At (take count widths) part n dependencies i
+    (i ≤ n) × (n ≤ 32) × (length dependencies ≡ 32) × At (take count widths) part n dependencies i
 
 abbrev μ-loop : tie.MeasureT-loop
 μ-loop part count widths held n dependencies₀ i₀ dependencies i = n - i
@@ -104,15 +94,22 @@ no-dependencies-requires c κs = search needs
 
 returns : tie.Need-returns Inv-loop μ-loop
 returns c =
-    c .no-dependencies .ensures ∙ no-count (take (c .before .before .before .before .before .args .count) (c .before .before .before .before .before .args .widths)) (c .before .before .before .before .before .args .part .now) (c .before .before .before .read-byte .result) (c .before .before .before .read-byte .ensures) (c .before .enum-told .given .1)
+    let after-read-byte = c .before .before .before in
+    let start = after-read-byte .before .before in
+    c .no-dependencies .ensures ∙ no-dependencies-read (take (start .args .count) (start .args .widths)) (start .args .part .now)
+    (after-read-byte .read-byte .result)
+    (after-read-byte .read-byte .ensures) (c .before .enum-told .given .1)
 
 cast-n : tie.Need-cast-n Inv-loop μ-loop
 cast-n c = search needs
 
 loop-holds : tie.Need-loop-holds Inv-loop μ-loop
 loop-holds c =
-    let (few, hd, f) = begins (take (c .before .before .before .before .before .args .count) (c .before .before .before .before .before .args .widths)) (c .before .before .before .before .before .args .part .now) (c .before .held .given .0 .0) (sym (c .before .held .given .1) ∙ c .before .before .before .read-byte .ensures) in
-    (omega arith, few, refl, hd, f)
+    let start = c .before .before .before .before .before in
+    let (few, f) =
+    begins (take (start .args .count) (start .args .widths)) (start .args .part .now) (c .before .held .given .0 .0)
+    (sym (c .before .held .given .1) ∙ c .before .before .before .read-byte .ensures) in
+    (omega arith, few, refl, f)
 
 mul-read-dependency : tie.Need-mul-read-dependency Inv-loop μ-loop
 mul-read-dependency c = search needs
@@ -134,9 +131,15 @@ no-dependencies-requires-2 c κs = search needs
 
 returns-2 : tie.Need-returns-2 Inv-loop μ-loop
 returns-2 c =
+    let after-read-dependency = c .before .before .before in
+    let after-loop-test = after-read-dependency .before in
+    let after-loop = after-loop-test .before in
+    let after-held = after-loop .before .before in
+    let start = after-held .before .before .before .before in
     c .no-dependencies2 .ensures
-    ∙ fails (take (c .before .before .before .before .before .before .before .before .before .before .before .args .count) (c .before .before .before .before .before .before .before .before .before .before .before .args .widths)) (c .before .before .before .before .before .before .before .before .before .before .before .args .part .now) (c .before .before .before .before .before .before .before .held .given .0 .0) (c .before .before .before .before .before .loop .dependencies) (c .before .before .before .before .before .loop .i) (c .before .before .before .read-dependency .result) (c .before .before .before .before .before .loop .inv .3) (c .before .before .before .before .before .loop .inv .4) (c .before .before .before .before .loop-test .taken)
-    (c .before .before .before .read-dependency .ensures) (c .before .enum-told2 .given .1)
+    ∙ fails (take (start .args .count) (start .args .widths)) (start .args .part .now) (after-held .held .given .0 .0) (after-loop .loop .dependencies)
+    (after-loop .loop .i) (after-loop .loop .inv .3) (after-loop-test .loop-test .taken) (after-read-dependency .read-dependency .result)
+    (after-read-dependency .read-dependency .ensures) (c .before .enum-told2 .given .1)
 
 mul-dependencies : tie.Need-mul-dependencies Inv-loop μ-loop
 mul-dependencies c = search needs
@@ -151,14 +154,17 @@ loop-less : tie.Need-loop-less Inv-loop μ-loop
 loop-less c = search needs
 
 loop-again : tie.Need-loop-again Inv-loop μ-loop
-loop-again c = (
-  search needs,
-  c .before .before .before .before .before .loop .inv .1,
-  length-set (c .before .before .before .before .before .loop .dependencies) (c .before .before .before .before .before .loop .i) (c .before .d .given .0 .0) ∙ c .before .before .before .before .before .loop .inv .2,
-  c .before .before .before .before .before .loop .inv .3,
-  goes-on _ _ _ (c .before .before .before .before .before .loop .dependencies) (c .before .before .before .before .before .loop .i) (c .before .before .before .read-dependency .result) (c .before .d .given .0 .0) (c .before .before .before .before .before .loop .inv .4) (c .before .before .before .before .loop-test .taken)
-      (omega arith) (c .before .before .before .read-dependency .ensures) (c .before .d .given .1),
-)
+loop-again c =
+    let after-read-dependency = c .before .before .before in
+    let after-loop-test = after-read-dependency .before in
+    let after-loop = after-loop-test .before in (
+      search needs,
+      after-loop .loop .inv .1,
+      length-set (after-loop .loop .dependencies) (after-loop .loop .i) (c .before .d .given .0 .0) ∙ after-loop .loop .inv .2,
+      goes-on _ _ _ (after-loop .loop .dependencies) (after-loop .loop .i) (after-loop .loop .inv .3) (after-loop-test .loop-test .taken)
+          (after-read-dependency .read-dependency .result) (after-read-dependency .read-dependency .ensures) (c .before .d .given .0 .0) (omega arith)
+          (c .before .d .given .1),
+    )
 
 mul-if1 : tie.Need-mul-if1 Inv-loop μ-loop
 mul-if1 c = search needs
@@ -171,11 +177,20 @@ no-dependencies-requires-3 c κs = search needs
 
 returns-3 : tie.Need-returns-3 Inv-loop μ-loop
 returns-3 c =
-    c .no-dependencies3 .ensures ∙ too-long (take (c .before .before .before .before .before .before .before .before .before .args .count) (c .before .before .before .before .before .before .before .before .before .args .widths)) (c .before .before .before .before .before .before .before .before .before .args .part .now) (c .before .before .before .before .before .held .given .0 .0) (c .before .before .before .loop .dependencies) (c .before .before .before .loop .i) (c .before .before .before .loop .inv .3) (c .before .before .before .loop .inv .4) (c .before .before .before .loop .inv .0) (c .before .before .loop-test .left) (c .before .if1 .taken)
+    let after-loop = c .before .before .before in
+    let after-held = after-loop .before .before in
+    let start = after-held .before .before .before .before in
+    c .no-dependencies3 .ensures ∙ too-long (take (start .args .count) (start .args .widths)) (start .args .part .now) (after-held .held .given .0 .0)
+    (after-loop .loop .dependencies) (after-loop .loop .i) (after-loop .loop .inv .3) (after-loop .loop .inv .0)
+    (c .before .before .loop-test .left) (c .before .if1 .taken)
 
 returns-4 : tie.Need-returns-4 Inv-loop μ-loop
 returns-4 c =
-    accepted (take (c .before .before .before .before .before .before .before .before .args .count) (c .before .before .before .before .before .before .before .before .args .widths)) (c .before .before .before .before .before .before .before .before .args .part .now) (c .before .before .before .before .held .given .0 .0) (c .before .before .loop .dependencies) (c .before .before .loop .i) (c .before .before .loop .inv .3) (c .before .before .loop .inv .4) (c .before .before .loop .inv .0) (c .before .loop-test .left) (c .if1 .left)
+    let after-loop = c .before .before in
+    let after-held = after-loop .before .before in
+    let start = after-held .before .before .before .before in
+    accepted (take (start .args .count) (start .args .widths)) (start .args .part .now) (after-held .held .given .0 .0) (after-loop .loop .dependencies)
+    (after-loop .loop .i) (after-loop .loop .inv .3) (after-loop .loop .inv .0) (c .before .loop-test .left) (c .if1 .left)
 
 pub read-dependencies-spec : {M : Type 1} → statement M
 read-dependencies-spec =

@@ -42,17 +42,21 @@ dependency-good-requires c κs = search needs
 
 returns-3 : tie.Need-returns-3
 returns-3 c =
-    let schema = take (c .before .before .before .before .before .before .before .before .args .count) (c .before .before .before .before .before .before .before .before .args .widths) in
-    let part = c .before .before .before .before .before .before .before .before .args .part .now in
-    let at = c .before .before .before .before .before .before .before .before .args .at in
-    found-dependency schema part at (c .before .before .before .before .before .if2 .left) (c .before .dependency-good .result) (c .before .dependency-good .ensures) (c .if3 .taken)
+    let after-if2 = c .before .before .before .before .before in
+    let start = after-if2 .before .before .before in
+    let schema = take (start .args .count) (start .args .widths) in
+    let part = start .args .part .now in
+    let at = start .args .at in
+    found-dependency schema part at (after-if2 .if2 .left) (c .before .dependency-good .result) (c .before .dependency-good .ensures) (c .if3 .taken)
 
 returns-4 : tie.Need-returns-4
 returns-4 c =
-    let schema = take (c .before .before .before .before .before .before .before .before .args .count) (c .before .before .before .before .before .before .before .before .args .widths) in
-    let part = c .before .before .before .before .before .before .before .before .args .part .now in
-    let at = c .before .before .before .before .before .before .before .before .args .at in
-    bad-dependency schema part at (c .before .before .before .before .before .if2 .left) (c .before .dependency-good .result) (c .before .dependency-good .ensures) (c .if3 .left)
+    let after-if2 = c .before .before .before .before .before in
+    let start = after-if2 .before .before .before in
+    let schema = take (start .args .count) (start .args .widths) in
+    let part = start .args .part .now in
+    let at = start .args .at in
+    bad-dependency schema part at (after-if2 .if2 .left) (c .before .dependency-good .result) (c .before .dependency-good .ensures) (c .if3 .left)
 
 pub read-dependency-spec : {M : Type 1} → statement M
 read-dependency-spec =

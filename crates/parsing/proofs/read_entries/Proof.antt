@@ -73,8 +73,12 @@ enum-told c = search needs
 
 returns : tie.Need-returns Inv-loop μ-loop
 returns c =
-    fails (c .before .before .before .before .before .before .args .s .now) (c .before .before .before .before .before .before .args .at) (c .before .before .before .before .before .before .args .n) (c .before .before .before .before .loop .cells) (c .before .before .before .before .loop .i) (c .before .before .read-entry .result) (c .before .before .before .before .loop .inv .2) (c .before .before .before .loop-test .taken)
-    (c .before .before .read-entry .ensures) (c .enum-told .given .1)
+    let after-read-entry = c .before .before in
+    let after-loop = after-read-entry .before .before in
+    let start = after-loop .before .before in
+    fails (start .args .s .now) (start .args .at) (start .args .n) (after-loop .loop .cells) (after-loop .loop .i) (after-read-entry .read-entry .result)
+    (after-loop .loop .inv .2) (c .before .before .before .loop-test .taken)
+    (after-read-entry .read-entry .ensures) (c .enum-told .given .1)
 
 add-i : tie.Need-add-i Inv-loop μ-loop
 add-i c = search needs
@@ -83,12 +87,17 @@ loop-less : tie.Need-loop-less Inv-loop μ-loop
 loop-less c = search needs
 
 loop-again : tie.Need-loop-again Inv-loop μ-loop
-loop-again c = (
-  search needs,
-  length-set (c .before .before .before .before .before .loop .cells) (c .before .before .before .before .before .loop .i) (record { entry = c .before .e .given .0 .0 }) ∙ c .before .before .before .before .before .loop .inv .1,
-  goes-on (c .before .before .before .before .before .before .before .args .s .now) (c .before .before .before .before .before .before .before .args .at) (c .before .before .before .before .before .before .before .args .n) (c .before .before .before .before .before .loop .cells) (c .before .before .before .before .before .loop .i) (c .before .before .before .read-entry .result) (c .before .e .given .0 .0) (c .before .before .before .before .before .loop .inv .2) (c .before .before .before .before .loop-test .taken)
-      (omega arith) (c .before .before .before .read-entry .ensures) (c .before .e .given .1),
-)
+loop-again c =
+    let after-read-entry = c .before .before .before in
+    let after-loop-test = after-read-entry .before in
+    let after-loop = after-loop-test .before in
+    let start = after-loop .before .before in (
+      search needs,
+      length-set (after-loop .loop .cells) (after-loop .loop .i) (record { entry = c .before .e .given .0 .0 }) ∙ after-loop .loop .inv .1,
+      goes-on (start .args .s .now) (start .args .at) (start .args .n) (after-loop .loop .cells) (after-loop .loop .i) (after-read-entry .read-entry .result)
+          (c .before .e .given .0 .0) (after-loop .loop .inv .2) (after-loop-test .loop-test .taken)
+          (omega arith) (after-read-entry .read-entry .ensures) (c .before .e .given .1),
+    )
 
 returns-2 : tie.Need-returns-2 Inv-loop μ-loop
 returns-2 c =

@@ -31,31 +31,46 @@ word32-requires c κs = search needs
 
 returns-3 : tie.Need-returns-3
 returns-3 c =
-    no-entry (c .before .before .before .before .before .before .before .args .s .now) (c .before .before .before .before .before .before .before .args .at) (c .before .before .word32 .result) (c .before .before .before .before .if2 .left) (c .before .before .word32 .ensures)
-    (constant-bad _ (c .before .before .word32 .result) (c .before .if3 .taken) (c .if4 .taken))
+    let after-word32 = c .before .before in
+    let after-if2 = after-word32 .before .before in
+    let start = after-if2 .before .before .before in
+    no-entry (start .args .s .now) (start .args .at) (after-word32 .word32 .result) (after-if2 .if2 .left) (after-word32 .word32 .ensures)
+    (constant-bad _ (after-word32 .word32 .result) (c .before .if3 .taken) (c .if4 .taken))
 
 returns-4 : tie.Need-returns-4
 returns-4 c =
-    constant-entry (c .before .before .before .before .before .before .before .args .s .now) (c .before .before .before .before .before .before .before .args .at) (c .before .before .word32 .result) (c .before .before .before .before .if2 .left) (c .before .before .word32 .ensures)
+    let after-word32 = c .before .before in
+    let after-if2 = after-word32 .before .before in
+    let start = after-if2 .before .before .before in
+    constant-entry (start .args .s .now) (start .args .at) (after-word32 .word32 .result) (after-if2 .if2 .left) (after-word32 .word32 .ensures)
     (c .before .if3 .taken) (c .if4 .left)
 
 returns-5 : tie.Need-returns-5
 returns-5 c =
-    no-entry (c .before .before .before .before .before .before .before .before .args .s .now) (c .before .before .before .before .before .before .before .before .args .at) (c .before .before .before .word32 .result) (c .before .before .before .before .before .if2 .left) (c .before .before .before .word32 .ensures)
-    (variable-bad _ (c .before .before .before .word32 .result) (c .before .if5 .taken) (c .if6 .taken))
+    let after-word32 = c .before .before .before in
+    let after-if2 = after-word32 .before .before in
+    let start = after-if2 .before .before .before in
+    no-entry (start .args .s .now) (start .args .at) (after-word32 .word32 .result) (after-if2 .if2 .left) (after-word32 .word32 .ensures)
+    (variable-bad _ (after-word32 .word32 .result) (c .before .if5 .taken) (c .if6 .taken))
 
 cast-t13 : tie.Need-cast-t13
 cast-t13 c = search needs
 
 returns-6 : tie.Need-returns-6
 returns-6 c =
-    variable-entry (c .before .before .before .before .before .before .before .before .args .s .now) (c .before .before .before .before .before .before .before .before .args .at) (c .before .before .before .word32 .result) (c .before .before .before .before .before .if2 .left) (c .before .before .before .word32 .ensures)
+    let after-word32 = c .before .before .before in
+    let after-if2 = after-word32 .before .before in
+    let start = after-if2 .before .before .before in
+    variable-entry (start .args .s .now) (start .args .at) (after-word32 .word32 .result) (after-if2 .if2 .left) (after-word32 .word32 .ensures)
     (c .before .if5 .taken) (c .if6 .left)
 
 returns-7 : tie.Need-returns-7
 returns-7 c =
-    no-entry (c .before .before .before .before .before .before .before .args .s .now) (c .before .before .before .before .before .before .before .args .at) (c .before .before .word32 .result) (c .before .before .before .before .if2 .left) (c .before .before .word32 .ensures)
-    (tag-bad _ (c .before .before .word32 .result) (c .before .if3 .left) (c .if5 .left))
+    let after-word32 = c .before .before in
+    let after-if2 = after-word32 .before .before in
+    let start = after-if2 .before .before .before in
+    no-entry (start .args .s .now) (start .args .at) (after-word32 .word32 .result) (after-if2 .if2 .left) (after-word32 .word32 .ensures)
+    (tag-bad _ (after-word32 .word32 .result) (c .before .if3 .left) (c .if5 .left))
 
 pub read-entry-spec : {M : Type 1} → statement M
 read-entry-spec =

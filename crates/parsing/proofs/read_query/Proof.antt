@@ -33,7 +33,8 @@ record Sizes (part : List ℕ) (arity size : ℕ) : Type 0 where
   size-fits : size ≤ 12
   long : 2 ≤ length part
 
-first : (part : List ℕ) (r : ByteRead) (arity : ℕ) → r ≡ byteRead (getByte (between 0 8) part) → r ≡ Byte arity → (leb arity 8 ≡ true) × (getByte (λ n. leb n 8) part ≡ got arity (drop 1 part))
+first : (part : List ℕ) (r : ByteRead) (arity : ℕ) → r ≡ byteRead (getByte (between 0 8) part) → r ≡ Byte arity
+    → (leb arity 8 ≡ true) × (getByte (λ n. leb n 8) part ≡ got arity (drop 1 part))
 first part r arity e q = byte-read (λ n. leb n 8) part 0 arity (rw no-low at (sym q ∙ e))
 
 sizes : (part : List ℕ) (r r′ : ByteRead) (arity size : ℕ) → r ≡ byteRead (getByte (between 0 8) part) → r ≡ Byte arity
@@ -62,23 +63,32 @@ head-ends part arity size used front z eu ef g =
 
 bad-rows : (schema part : List ℕ) (arity size used : ℕ) (front : CellsRead) (rs : RowsRead) → Sizes part arity size → used ≡ cond (eqb size 0) 0 arity
     → front ≡ cellsRead (entries used .get (drop 2 part)) → front .good ≡ true
-    → rs ≡ rowsRead (complete badQuery (rows schema size .get (drop (2 + 5 * used) part))) → rs .good ≡ false → noQueryRead ≡ queryRead (complete badQuery (query schema .get part))
+    → rs ≡ rowsRead (complete badQuery (rows schema size .get (drop (2 + 5 * used) part))) → rs .good ≡ false
+    → noQueryRead ≡ queryRead (complete badQuery (query schema .get part))
 bad-rows schema part arity size used front rs z eu ef g er b =
     let (e, k) = head-ends part arity size used front z eu ef g in
     let h = after-head schema part arity (z .arity-read) size (z .size-read) (front .cells) (drop (2 + 5 * used) part) e in
     let (n, w) = rows-bad (complete badQuery (rows schema size .get (drop (2 + 5 * used) part))) rs er b in
-    sym (ap queryRead (ap (complete badQuery) h ∙ complete-map-refused badQuery (λ rs. queryWith (arity, (size, (front .cells, rs)))) (rows schema size .get (drop (2 + 5 * used) part)) n w))
+    sym (ap queryRead (ap (complete badQuery) h
+    ∙ complete-map-refused badQuery (λ rs. queryWith (arity, (size, (front .cells, rs)))) (rows schema size .get (drop (2 + 5 * used) part)) n w))
 
 accepts : (schema part : List ℕ) (arity size used : ℕ) (front : CellsRead) (rs : RowsRead) → Sizes part arity size → used ≡ cond (eqb size 0) 0 arity
     → front ≡ cellsRead (entries used .get (drop 2 part)) → front .good ≡ true
     → rs ≡ rowsRead (complete badQuery (rows schema size .get (drop (2 + 5 * used) part))) → rs .good ≡ true
-    → record { good = true; query = record { arity = arity; size = size; head = front .cells; relations = rs .relations; cells = rs .cells } } ≡ queryRead (complete badQuery (query schema .get part))
+    → record {
+      good =
+          true;
+      query =
+          record { arity = arity; size = size; head = front .cells; relations = rs .relations; cells = rs .cells };
+    }
+    ≡ queryRead (complete badQuery (query schema .get part))
 accepts schema part arity size used front rs z eu ef g er b =
     let (e, k) = head-ends part arity size used front z eu ef g in
     let h = after-head schema part arity (z .arity-read) size (z .size-read) (front .cells) (drop (2 + 5 * used) part) e in
     let (all, w, r, c) = rows-some (complete badQuery (rows schema size .get (drop (2 + 5 * used) part))) rs er b in
     let done : complete badQuery (query schema .get part) ≡ gives (queryWith (arity, (size, (front .cells, all)))) =
-    ap (complete badQuery) h ∙ complete-map-ok badQuery (λ rs. queryWith (arity, (size, (front .cells, rs)))) (rows schema size .get (drop (2 + 5 * used) part)) all w in
+    ap (complete badQuery) h ∙ complete-map-ok badQuery (λ rs. queryWith (arity, (size, (front .cells, rs)))) (rows schema size .get (drop (2 + 5 * used) part))
+    all w in
     (λ i. record { good = true; query = record { arity = arity; size = size; head = front .cells; relations = r i; cells = c i } }) ∙ sym (ap queryRead done)
 
 read-byte-requires : tie.Need-read-byte-requires
@@ -95,7 +105,11 @@ no-query-read-requires c κs = search needs
 
 returns : tie.Need-returns
 returns c =
-    c .no-query-read .ensures ∙ refuses (take (c .before .before .before .before .before .args .count) (c .before .before .before .before .before .args .widths)) (c .before .before .before .before .before .args .part .now) (no-arity (take (c .before .before .before .before .before .args .count) (c .before .before .before .before .before .args .widths)) (c .before .before .before .before .before .args .part .now) (byte-none (getByte (λ n. leb n 8) (c .before .before .before .before .before .args .part .now)) (rw no-low at (sym (c .before .enum-told .given .1) ∙ c .before .before .before .read-byte .ensures))))
+    let start = c .before .before .before .before .before in
+    c .no-query-read .ensures ∙ refuses (take (start .args .count) (start .args .widths)) (start .args .part .now)
+    (no-arity (take (start .args .count) (start .args .widths)) (start .args .part .now)
+    (byte-none (getByte (λ n. leb n 8) (start .args .part .now))
+    (rw no-low at (sym (c .before .enum-told .given .1) ∙ c .before .before .before .read-byte .ensures))))
 
 read-byte-requires-2 : tie.Need-read-byte-requires-2
 read-byte-requires-2 c κs = search needs
@@ -111,36 +125,92 @@ no-query-read-requires-2 c κs = search needs
 
 returns-2 : tie.Need-returns-2
 returns-2 c =
-    let (t, ea) = first (c .before .before .before .before .before .before .before .before .before .args .part .now) (c .before .before .before .before .before .before .before .read-byte .result) (c .before .before .before .before .before .arity .given .0 .0) (c .before .before .before .before .before .before .before .read-byte .ensures) (c .before .before .before .before .before .arity .given .1) in
-    c .no-query-read2 .ensures ∙ refuses (take (c .before .before .before .before .before .before .before .before .before .args .count) (c .before .before .before .before .before .before .before .before .before .args .widths)) (c .before .before .before .before .before .before .before .before .before .args .part .now) (no-size (take (c .before .before .before .before .before .before .before .before .before .args .count) (c .before .before .before .before .before .before .before .before .before .args .widths)) (c .before .before .before .before .before .before .before .before .before .args .part .now) (c .before .before .before .before .before .arity .given .0 .0) ea (byte-none (getByte (λ n. leb n 12) (drop 1 (c .before .before .before .before .before .before .before .before .before .args .part .now))) (rw no-low at (sym (c .before .enum-told2 .given .1) ∙ c .before .before .before .read-byte2 .ensures))))
+    let after-arity = c .before .before .before .before .before in
+    let after-read-byte = after-arity .before .before in
+    let start = after-read-byte .before .before in
+    let (t, ea) =
+    first (start .args .part .now) (after-read-byte .read-byte .result) (after-arity .arity .given .0 .0) (after-read-byte .read-byte .ensures)
+    (after-arity .arity .given .1) in
+    c .no-query-read2 .ensures ∙ refuses (take (start .args .count) (start .args .widths)) (start .args .part .now)
+    (no-size (take (start .args .count) (start .args .widths)) (start .args .part .now) (after-arity .arity .given .0 .0) ea
+    (byte-none (getByte (λ n. leb n 12) (drop 1 (start .args .part .now)))
+    (rw no-low at (sym (c .before .enum-told2 .given .1) ∙ c .before .before .before .read-byte2 .ensures))))
 
 head-in-use-requires : tie.Need-head-in-use-requires
 head-in-use-requires c κs = search needs
 
 read-entries-requires : tie.Need-read-entries-requires
 read-entries-requires c κs =
-    let z = (sizes (c .before .before .before .before .before .before .before .before .before .before .args .part .now) (c .before .before .before .before .before .before .before .before .read-byte .result) (c .before .before .before .before .read-byte2 .result) (c .before .before .before .before .before .before .arity .given .0 .0) (c .before .before .size .given .0 .0) (c .before .before .before .before .before .before .before .before .read-byte .ensures) (c .before .before .before .before .before .before .arity .given .1) (c .before .before .before .before .read-byte2 .ensures) (c .before .before .size .given .1)) in
-    (z .long, rw (c .head-in-use .ensures) (headFits (c .before .before .size .given .0 .0) (c .before .before .before .before .before .before .arity .given .0 .0) (z .arity-fits)))
+    let after-size = c .before .before in
+    let after-read-byte2 = after-size .before .before in
+    let after-arity = after-read-byte2 .before .before in
+    let after-read-byte = after-arity .before .before in
+    let start = after-read-byte .before .before in
+    let z =
+    (sizes (start .args .part .now) (after-read-byte .read-byte .result) (after-read-byte2 .read-byte2 .result) (after-arity .arity .given .0 .0)
+    (after-size .size .given .0 .0) (after-read-byte .read-byte .ensures) (after-arity .arity .given .1) (after-read-byte2 .read-byte2 .ensures)
+    (after-size .size .given .1)) in
+    (z .long, rw (c .head-in-use .ensures) (headFits (after-size .size .given .0 .0) (after-arity .arity .given .0 .0) (z .arity-fits)))
 
 no-query-read-requires-3 : tie.Need-no-query-read-requires-3
 no-query-read-requires-3 c κs = search needs
 
 returns-3 : tie.Need-returns-3
 returns-3 c =
-    let z = (sizes (c .before .before .before .before .before .before .before .before .before .before .before .before .before .before .args .part .now) (c .before .before .before .before .before .before .before .before .before .before .before .before .read-byte .result) (c .before .before .before .before .before .before .before .before .read-byte2 .result) (c .before .before .before .before .before .before .before .before .before .before .arity .given .0 .0) (c .before .before .before .before .before .before .size .given .0 .0) (c .before .before .before .before .before .before .before .before .before .before .before .before .read-byte .ensures) (c .before .before .before .before .before .before .before .before .before .before .arity .given .1) (c .before .before .before .before .before .before .before .before .read-byte2 .ensures) (c .before .before .before .before .before .before .size .given .1)) in
-    let e = cells-bad (entries (c .before .before .before .before .head-in-use .result) .get (drop 2 (c .before .before .before .before .before .before .before .before .before .before .before .before .before .before .args .part .now))) (c .before .before .before .read-entries .result) (c .before .before .before .read-entries .ensures) (not-true (c .before .before .before .read-entries .result .good) (c .before .if1 .taken)) in
-    c .no-query-read3 .ensures ∙ refuses (take (c .before .before .before .before .before .before .before .before .before .before .before .before .before .before .args .count) (c .before .before .before .before .before .before .before .before .before .before .before .before .before .before .args .widths)) (c .before .before .before .before .before .before .before .before .before .before .before .before .before .before .args .part .now) (no-head (take (c .before .before .before .before .before .before .before .before .before .before .before .before .before .before .args .count) (c .before .before .before .before .before .before .before .before .before .before .before .before .before .before .args .widths)) (c .before .before .before .before .before .before .before .before .before .before .before .before .before .before .args .part .now) (c .before .before .before .before .before .before .before .before .before .before .arity .given .0 .0) (z .arity-read) (c .before .before .before .before .before .before .size .given .0 .0) (z .size-read) (rw (← c .before .before .before .before .head-in-use .ensures) e))
+    let after-read-entries = c .before .before .before in
+    let after-head-in-use = after-read-entries .before in
+    let after-size = after-head-in-use .before .before in
+    let after-read-byte2 = after-size .before .before in
+    let after-arity = after-read-byte2 .before .before in
+    let after-read-byte = after-arity .before .before in
+    let start = after-read-byte .before .before in
+    let z =
+    (sizes (start .args .part .now) (after-read-byte .read-byte .result) (after-read-byte2 .read-byte2 .result) (after-arity .arity .given .0 .0)
+    (after-size .size .given .0 .0) (after-read-byte .read-byte .ensures) (after-arity .arity .given .1) (after-read-byte2 .read-byte2 .ensures)
+    (after-size .size .given .1)) in
+    let e =
+    cells-bad (entries (after-head-in-use .head-in-use .result) .get (drop 2 (start .args .part .now))) (after-read-entries .read-entries .result)
+    (after-read-entries .read-entries .ensures) (not-true (after-read-entries .read-entries .result .good) (c .before .if1 .taken)) in
+    c .no-query-read3 .ensures ∙ refuses (take (start .args .count) (start .args .widths)) (start .args .part .now)
+    (no-head (take (start .args .count) (start .args .widths)) (start .args .part .now) (after-arity .arity .given .0 .0) (z .arity-read)
+    (after-size .size .given .0 .0) (z .size-read) (rw (← after-head-in-use .head-in-use .ensures) e))
 
 mul-read-rows : tie.Need-mul-read-rows
 mul-read-rows c =
-    let z = (sizes (c .before .before .before .before .before .before .before .before .before .before .before .before .before .args .part .now) (c .before .before .before .before .before .before .before .before .before .before .before .read-byte .result) (c .before .before .before .before .before .before .before .read-byte2 .result) (c .before .before .before .before .before .before .before .before .before .arity .given .0 .0) (c .before .before .before .before .before .size .given .0 .0) (c .before .before .before .before .before .before .before .before .before .before .before .read-byte .ensures) (c .before .before .before .before .before .before .before .before .before .arity .given .1) (c .before .before .before .before .before .before .before .read-byte2 .ensures) (c .before .before .before .before .before .size .given .1)) in
-    let ends = head-ends (c .before .before .before .before .before .before .before .before .before .before .before .before .before .args .part .now) (c .before .before .before .before .before .before .before .before .before .arity .given .0 .0) (c .before .before .before .before .before .size .given .0 .0) (c .before .before .before .head-in-use .result) (c .before .before .read-entries .result) z (c .before .before .before .head-in-use .ensures) (c .before .before .read-entries .ensures) (not-false (c .before .before .read-entries .result .good) (c .if1 .left)) .1 in
+    let after-read-entries = c .before .before in
+    let after-head-in-use = after-read-entries .before in
+    let after-size = after-head-in-use .before .before in
+    let after-read-byte2 = after-size .before .before in
+    let after-arity = after-read-byte2 .before .before in
+    let after-read-byte = after-arity .before .before in
+    let start = after-read-byte .before .before in
+    let z =
+    (sizes (start .args .part .now) (after-read-byte .read-byte .result) (after-read-byte2 .read-byte2 .result) (after-arity .arity .given .0 .0)
+    (after-size .size .given .0 .0) (after-read-byte .read-byte .ensures) (after-arity .arity .given .1) (after-read-byte2 .read-byte2 .ensures)
+    (after-size .size .given .1)) in
+    let ends =
+    head-ends (start .args .part .now) (after-arity .arity .given .0 .0) (after-size .size .given .0 .0) (after-head-in-use .head-in-use .result)
+    (after-read-entries .read-entries .result) z (after-head-in-use .head-in-use .ensures) (after-read-entries .read-entries .ensures)
+    (not-false (after-read-entries .read-entries .result .good) (c .if1 .left)) .1 in
     omega arith
 
 add-read-rows : tie.Need-add-read-rows
 add-read-rows c =
-    let z = (sizes (c .before .before .before .before .before .before .before .before .before .before .before .before .before .args .part .now) (c .before .before .before .before .before .before .before .before .before .before .before .read-byte .result) (c .before .before .before .before .before .before .before .read-byte2 .result) (c .before .before .before .before .before .before .before .before .before .arity .given .0 .0) (c .before .before .before .before .before .size .given .0 .0) (c .before .before .before .before .before .before .before .before .before .before .before .read-byte .ensures) (c .before .before .before .before .before .before .before .before .before .arity .given .1) (c .before .before .before .before .before .before .before .read-byte2 .ensures) (c .before .before .before .before .before .size .given .1)) in
-    let ends = head-ends (c .before .before .before .before .before .before .before .before .before .before .before .before .before .args .part .now) (c .before .before .before .before .before .before .before .before .before .arity .given .0 .0) (c .before .before .before .before .before .size .given .0 .0) (c .before .before .before .head-in-use .result) (c .before .before .read-entries .result) z (c .before .before .before .head-in-use .ensures) (c .before .before .read-entries .ensures) (not-false (c .before .before .read-entries .result .good) (c .if1 .left)) .1 in
+    let after-read-entries = c .before .before in
+    let after-head-in-use = after-read-entries .before in
+    let after-size = after-head-in-use .before .before in
+    let after-read-byte2 = after-size .before .before in
+    let after-arity = after-read-byte2 .before .before in
+    let after-read-byte = after-arity .before .before in
+    let start = after-read-byte .before .before in
+    let z =
+    (sizes (start .args .part .now) (after-read-byte .read-byte .result) (after-read-byte2 .read-byte2 .result) (after-arity .arity .given .0 .0)
+    (after-size .size .given .0 .0) (after-read-byte .read-byte .ensures) (after-arity .arity .given .1) (after-read-byte2 .read-byte2 .ensures)
+    (after-size .size .given .1)) in
+    let ends =
+    head-ends (start .args .part .now) (after-arity .arity .given .0 .0) (after-size .size .given .0 .0) (after-head-in-use .head-in-use .result)
+    (after-read-entries .read-entries .result) z (after-head-in-use .head-in-use .ensures) (after-read-entries .read-entries .ensures)
+    (not-false (after-read-entries .read-entries .result .good) (c .if1 .left)) .1 in
     omega arith
 
 cast-read-rows : tie.Need-cast-read-rows
@@ -148,23 +218,64 @@ cast-read-rows c = search needs
 
 read-rows-requires : tie.Need-read-rows-requires
 read-rows-requires c κs =
-    let z = (sizes (c .before .before .before .before .before .before .before .before .before .before .before .before .before .args .part .now) (c .before .before .before .before .before .before .before .before .before .before .before .read-byte .result) (c .before .before .before .before .before .before .before .read-byte2 .result) (c .before .before .before .before .before .before .before .before .before .arity .given .0 .0) (c .before .before .before .before .before .size .given .0 .0) (c .before .before .before .before .before .before .before .before .before .before .before .read-byte .ensures) (c .before .before .before .before .before .before .before .before .before .arity .given .1) (c .before .before .before .before .before .before .before .read-byte2 .ensures) (c .before .before .before .before .before .size .given .1)) in
-    let ends = head-ends (c .before .before .before .before .before .before .before .before .before .before .before .before .before .args .part .now) (c .before .before .before .before .before .before .before .before .before .arity .given .0 .0) (c .before .before .before .before .before .size .given .0 .0) (c .before .before .before .head-in-use .result) (c .before .before .read-entries .result) z (c .before .before .before .head-in-use .ensures) (c .before .before .read-entries .ensures) (not-false (c .before .before .read-entries .result .good) (c .if1 .left)) .1 in
-    (c .before .before .before .before .before .before .before .before .before .before .before .before .before .pre, (ends, z .size-fits))
+    let after-read-entries = c .before .before in
+    let after-head-in-use = after-read-entries .before in
+    let after-size = after-head-in-use .before .before in
+    let after-read-byte2 = after-size .before .before in
+    let after-arity = after-read-byte2 .before .before in
+    let after-read-byte = after-arity .before .before in
+    let start = after-read-byte .before .before in
+    let z =
+    (sizes (start .args .part .now) (after-read-byte .read-byte .result) (after-read-byte2 .read-byte2 .result) (after-arity .arity .given .0 .0)
+    (after-size .size .given .0 .0) (after-read-byte .read-byte .ensures) (after-arity .arity .given .1) (after-read-byte2 .read-byte2 .ensures)
+    (after-size .size .given .1)) in
+    let ends =
+    head-ends (start .args .part .now) (after-arity .arity .given .0 .0) (after-size .size .given .0 .0) (after-head-in-use .head-in-use .result)
+    (after-read-entries .read-entries .result) z (after-head-in-use .head-in-use .ensures) (after-read-entries .read-entries .ensures)
+    (not-false (after-read-entries .read-entries .result .good) (c .if1 .left)) .1 in
+    (start .pre, (ends, z .size-fits))
 
 no-query-read-requires-4 : tie.Need-no-query-read-requires-4
 no-query-read-requires-4 c κs = search needs
 
 returns-4 : tie.Need-returns-4
 returns-4 c =
+    let after-read-rows = c .before .before .before in
+    let after-if1 = after-read-rows .before in
+    let after-read-entries = after-if1 .before .before in
+    let after-head-in-use = after-read-entries .before in
+    let after-size = after-head-in-use .before .before in
+    let after-read-byte2 = after-size .before .before in
+    let after-arity = after-read-byte2 .before .before in
+    let after-read-byte = after-arity .before .before in
+    let start = after-read-byte .before .before in
     c .no-query-read4 .ensures
-    ∙ bad-rows (take (c .before .before .before .before .before .before .before .before .before .before .before .before .before .before .before .before .before .args .count) (c .before .before .before .before .before .before .before .before .before .before .before .before .before .before .before .before .before .args .widths)) (c .before .before .before .before .before .before .before .before .before .before .before .before .before .before .before .before .before .args .part .now) (c .before .before .before .before .before .before .before .before .before .before .before .before .before .arity .given .0 .0) (c .before .before .before .before .before .before .before .before .before .size .given .0 .0) (c .before .before .before .before .before .before .before .head-in-use .result) (c .before .before .before .before .before .before .read-entries .result) (c .before .before .before .read-rows .result)
-    (sizes (c .before .before .before .before .before .before .before .before .before .before .before .before .before .before .before .before .before .args .part .now) (c .before .before .before .before .before .before .before .before .before .before .before .before .before .before .before .read-byte .result) (c .before .before .before .before .before .before .before .before .before .before .before .read-byte2 .result) (c .before .before .before .before .before .before .before .before .before .before .before .before .before .arity .given .0 .0) (c .before .before .before .before .before .before .before .before .before .size .given .0 .0) (c .before .before .before .before .before .before .before .before .before .before .before .before .before .before .before .read-byte .ensures) (c .before .before .before .before .before .before .before .before .before .before .before .before .before .arity .given .1) (c .before .before .before .before .before .before .before .before .before .before .before .read-byte2 .ensures) (c .before .before .before .before .before .before .before .before .before .size .given .1)) (c .before .before .before .before .before .before .before .head-in-use .ensures) (c .before .before .before .before .before .before .read-entries .ensures) (not-false (c .before .before .before .before .before .before .read-entries .result .good) (c .before .before .before .before .if1 .left)) (c .before .before .before .read-rows .ensures) (not-true (c .before .before .before .read-rows .result .good) (c .before .if2 .taken))
+    ∙ bad-rows (take (start .args .count) (start .args .widths)) (start .args .part .now) (after-arity .arity .given .0 .0) (after-size .size .given .0 .0)
+    (after-head-in-use .head-in-use .result) (after-read-entries .read-entries .result) (after-read-rows .read-rows .result)
+    (sizes (start .args .part .now) (after-read-byte .read-byte .result) (after-read-byte2 .read-byte2 .result) (after-arity .arity .given .0 .0)
+    (after-size .size .given .0 .0) (after-read-byte .read-byte .ensures) (after-arity .arity .given .1) (after-read-byte2 .read-byte2 .ensures)
+    (after-size .size .given .1)) (after-head-in-use .head-in-use .ensures) (after-read-entries .read-entries .ensures)
+    (not-false (after-read-entries .read-entries .result .good) (after-if1 .if1 .left)) (after-read-rows .read-rows .ensures)
+    (not-true (after-read-rows .read-rows .result .good) (c .before .if2 .taken))
 
 returns-5 : tie.Need-returns-5
 returns-5 c =
-    accepts (take (c .before .before .before .before .before .before .before .before .before .before .before .before .before .before .before .before .before .before .before .args .count) (c .before .before .before .before .before .before .before .before .before .before .before .before .before .before .before .before .before .before .before .args .widths)) (c .before .before .before .before .before .before .before .before .before .before .before .before .before .before .before .before .before .before .before .args .part .now) (c .before .before .before .before .before .before .before .before .before .before .before .before .before .before .before .arity .given .0 .0) (c .before .before .before .before .before .before .before .before .before .before .before .size .given .0 .0) (c .before .before .before .before .before .before .before .before .before .head-in-use .result) (c .before .before .before .before .before .before .before .before .read-entries .result) (c .before .before .before .before .before .read-rows .result)
-    (sizes (c .before .before .before .before .before .before .before .before .before .before .before .before .before .before .before .before .before .before .before .args .part .now) (c .before .before .before .before .before .before .before .before .before .before .before .before .before .before .before .before .before .read-byte .result) (c .before .before .before .before .before .before .before .before .before .before .before .before .before .read-byte2 .result) (c .before .before .before .before .before .before .before .before .before .before .before .before .before .before .before .arity .given .0 .0) (c .before .before .before .before .before .before .before .before .before .before .before .size .given .0 .0) (c .before .before .before .before .before .before .before .before .before .before .before .before .before .before .before .before .before .read-byte .ensures) (c .before .before .before .before .before .before .before .before .before .before .before .before .before .before .before .arity .given .1) (c .before .before .before .before .before .before .before .before .before .before .before .before .before .read-byte2 .ensures) (c .before .before .before .before .before .before .before .before .before .before .before .size .given .1)) (c .before .before .before .before .before .before .before .before .before .head-in-use .ensures) (c .before .before .before .before .before .before .before .before .read-entries .ensures) (not-false (c .before .before .before .before .before .before .before .before .read-entries .result .good) (c .before .before .before .before .before .before .if1 .left)) (c .before .before .before .before .before .read-rows .ensures) (not-false (c .before .before .before .before .before .read-rows .result .good) (c .before .before .before .if2 .left))
+    let after-read-rows = c .before .before .before .before .before in
+    let after-if1 = after-read-rows .before in
+    let after-read-entries = after-if1 .before .before in
+    let after-head-in-use = after-read-entries .before in
+    let after-size = after-head-in-use .before .before in
+    let after-read-byte2 = after-size .before .before in
+    let after-arity = after-read-byte2 .before .before in
+    let after-read-byte = after-arity .before .before in
+    let start = after-read-byte .before .before in
+    accepts (take (start .args .count) (start .args .widths)) (start .args .part .now) (after-arity .arity .given .0 .0) (after-size .size .given .0 .0)
+    (after-head-in-use .head-in-use .result) (after-read-entries .read-entries .result) (after-read-rows .read-rows .result)
+    (sizes (start .args .part .now) (after-read-byte .read-byte .result) (after-read-byte2 .read-byte2 .result) (after-arity .arity .given .0 .0)
+    (after-size .size .given .0 .0) (after-read-byte .read-byte .ensures) (after-arity .arity .given .1) (after-read-byte2 .read-byte2 .ensures)
+    (after-size .size .given .1)) (after-head-in-use .head-in-use .ensures) (after-read-entries .read-entries .ensures)
+    (not-false (after-read-entries .read-entries .result .good) (after-if1 .if1 .left)) (after-read-rows .read-rows .ensures)
+    (not-false (after-read-rows .read-rows .result .good) (c .before .before .before .if2 .left))
 
 pub read-query-spec : {M : Type 1} → statement M
 read-query-spec =

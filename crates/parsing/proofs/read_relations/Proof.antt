@@ -9,7 +9,7 @@ use lib.ListN.{length, drop, set, replicate, length-set}
 use borrow.Author.Tests.{leb-true}
 use Rattle.refusals.specs.Refusals.{badRelations}
 use Rattle.lists.specs.Tests.{between, isZero}
-use Rattle.format.specs.Format.{Reading, got, mapReading, getByte, byte, padded}
+use Rattle.format.specs.Format.{getByte, byte}
 use Rattle.format.specs.Parts.{relations}
 use Rattle.format.specs.File.{complete}
 use Rattle.lists.proofs.Tests.{and-iff}
@@ -17,67 +17,54 @@ use Rattle.parsing.specs.declared.ByteRead.{ByteRead}
 use Rattle.parsing.specs.declared.ByteRead.the-variants.{Byte, NoByte}
 use Rattle.parsing.specs.internal.Read.{byteRead}
 use Rattle.parsing.specs.internal.Read.{noRelations, relationsRead}
-use Rattle.format.proofs.Filling.{Filling, filling-starts, filling-turns, filling-fails, filling-ends}
-use Rattle.parsing.proofs.Counted.{byte-read, byte-none, sequence-none, sequence-got, complete-none, complete-fails, complete-ends, complete-long}
+use Rattle.parsing.proofs.Counted.{byte-read, byte-none, Counting, counting-starts, counting-turns, counting-fails, counting-ends, counting-long}
+use Rattle.parsing.proofs.Counted.{no-count}
 use Rattle.parsing.proofs.read_relations.Statement.{statement}
 use Rattle.parsing.proofs.read_relations.Tie as tie
 
--- The widths after the count, as the format reads them
-Widths : List ℕ → ℕ → Reading (List ℕ)
-Widths part n = padded 8 0 isZero n (byte (between 1 8)) .get (drop 1 part)
-
--- What the count says of the whole part
-abbrev Head : List ℕ → ℕ → Type 0
-Head part n = relations .get part ≡ mapReading (λ ws. (n, ws)) (Widths part n)
-
--- What has been read of the widths
+-- What has been read of the part
 abbrev At : List ℕ → ℕ → List ℕ → ℕ → Type 0
-At part n widths i = Filling (getByte (between 1 8)) (Widths part n) n widths i (drop (1 + i) part)
+At part n widths i = Counting (between 1 8) 8 0 isZero (byte (between 1 8)) part n widths i (1 + i)
 
-begins : (part : List ℕ) (n : ℕ) → Byte n ≡ byteRead (getByte (between 1 8) part) → (n ≤ 8) × Head part n × At part n (replicate 8 0) 0
-unfolding relations byte padded Widths
-begins part n h =
-    let (t, e) = byte-read (between 1 8) part 0 n h in
-    let k : (leb 1 n ≡ true) × (leb n 8 ≡ true) = simp and-iff at t in (
-      leb-true n 8 (k .1),
-      sequence-got (byte (between 1 8)) (λ n. padded 8 0 isZero n (byte (between 1 8))) part n (drop 1 part) e,
-      filling-starts (getByte (between 1 8)) 8 0 n (drop 1 part),
-    )
+module _ (part : List ℕ) where
+  begins : (n : ℕ) → Byte n ≡ byteRead (getByte (between 1 8) part) → (n ≤ 8) × At part n (replicate 8 0) 0
+  begins n h =
+      let (t, e) = byte-read (between 1 8) part 0 n h in
+      let k : (leb 1 n ≡ true) × (leb n 8 ≡ true) = simp and-iff at t in
+      (leb-true n 8 (k .1), counting-starts (between 1 8) 8 0 isZero (byte (between 1 8)) part n e)
 
-goes-on : (part : List ℕ) (n : ℕ) (widths : List ℕ) (i : ℕ) (r : ByteRead) (w : ℕ) → At part n widths i → i < n → i < length widths
-    → r ≡ byteRead (getByte (between 1 8) (drop (1 + i) part)) → r ≡ Byte w → At part n (set widths i w) (i + 1)
-goes-on part n widths i r w f h l p q =
-    let (t, e) = byte-read (between 1 8) part (1 + i) w (sym q ∙ p) in
-    let k : 1 + i + 1 ≡ 1 + (i + 1) = omega arith in
-    filling-turns f w (drop (1 + (i + 1)) part) h l (e ∙ rw k)
+  no-relations-read : (r : ByteRead) → r ≡ byteRead (getByte (between 1 8) part) → r ≡ NoByte
+      → noRelations ≡ relationsRead (complete badRelations (relations .get part))
+  unfolding relations
+  no-relations-read r p q =
+      sym (ap relationsRead (no-count (between 1 8) 8 0 isZero (byte (between 1 8)) part badRelations (byte-none (getByte (between 1 8) part) (sym q ∙ p))))
 
-no-count : (part : List ℕ) (r : ByteRead) → r ≡ byteRead (getByte (between 1 8) part) → r ≡ NoByte → noRelations ≡ relationsRead (complete badRelations (relations .get part))
-unfolding relations byte
-no-count part r p q =
-    sym (ap relationsRead (complete-none badRelations (relations .get part)
-    (sequence-none (byte (between 1 8)) (λ n. padded 8 0 isZero n (byte (between 1 8))) part (byte-none (getByte (between 1 8) part) (sym q ∙ p)))))
+  module _ (n : ℕ) (widths : List ℕ) (i : ℕ) (f : At part n widths i) where
+    module _ (h : i < n) (r : ByteRead) (p : r ≡ byteRead (getByte (between 1 8) (drop (1 + i) part))) where
+      goes-on : (w : ℕ) → i < length widths → r ≡ Byte w → At part n (set widths i w) (i + 1)
+      unfolding byte
+      goes-on w l q =
+          let (t, e) = byte-read (between 1 8) part (1 + i) w (sym q ∙ p) in
+          let k : 1 + i + 1 ≡ 1 + (i + 1) = omega arith in
+          counting-turns (between 1 8) 8 0 isZero (byte (between 1 8)) part f w (1 + (i + 1)) h l (e ∙ rw k)
 
-fails : (part : List ℕ) (n : ℕ) (widths : List ℕ) (i : ℕ) (r : ByteRead) → Head part n → At part n widths i → i < n
-    → r ≡ byteRead (getByte (between 1 8) (drop (1 + i) part)) → r ≡ NoByte → noRelations ≡ relationsRead (complete badRelations (relations .get part))
-fails part n widths i r hd f h p q =
-    sym (ap relationsRead (complete-fails badRelations (λ ws. (n, ws)) (Widths part n) (relations .get part) hd (filling-fails f h (byte-none (getByte (between 1 8) (drop (1 + i) part)) (sym q ∙ p)))))
+      fails : r ≡ NoByte → noRelations ≡ relationsRead (complete badRelations (relations .get part))
+      unfolding relations byte
+      fails q =
+          sym (ap relationsRead (counting-fails (between 1 8) 8 0 isZero (byte (between 1 8)) part f badRelations h
+          (byte-none (getByte (between 1 8) (drop (1 + i) part)) (sym q ∙ p))))
 
--- the whole reading, after the last turn
-ended : (part : List ℕ) (n : ℕ) (widths : List ℕ) (i : ℕ) → At part n widths i → i ≤ n → n ≤ i → Widths part n ≡ got widths (drop (1 + n) part)
-ended part n widths i f h l = let e : i ≡ n = omega arith in filling-ends f l ∙ ap (λ (k : ℕ). got widths (drop (1 + k) part)) e
+    module _ (high : i ≤ n) (l : n ≤ i) where
+      too-long : 1 + n < length part → noRelations ≡ relationsRead (complete badRelations (relations .get part))
+      unfolding relations
+      too-long t = sym (ap relationsRead (counting-long (between 1 8) 8 0 isZero (byte (between 1 8)) part f badRelations l (omega arith)))
 
-too-long : (part : List ℕ) (n : ℕ) (widths : List ℕ) (i : ℕ) → Head part n → At part n widths i → i ≤ n → n ≤ i → 1 + n < length part
-    → noRelations ≡ relationsRead (complete badRelations (relations .get part))
-too-long part n widths i hd f h l t =
-    sym (ap relationsRead (complete-long badRelations (λ ws. (n, ws)) (Widths part n) (relations .get part) hd widths part (1 + n) (ended part n widths i f h l) t))
-
-accepted : (part : List ℕ) (n : ℕ) (widths : List ℕ) (i : ℕ) → Head part n → At part n widths i → i ≤ n → n ≤ i → length part ≤ 1 + n
-    → record { good = true; count = n; widths = widths } ≡ relationsRead (complete badRelations (relations .get part))
-accepted part n widths i hd f h l t =
-    sym (ap relationsRead (complete-ends badRelations (λ ws. (n, ws)) (Widths part n) (relations .get part) hd widths part (1 + n) (ended part n widths i f h l) t))
+      accepted : length part ≤ 1 + n → record { good = true; count = n; widths = widths } ≡ relationsRead (complete badRelations (relations .get part))
+      unfolding relations
+      accepted t = sym (ap relationsRead (counting-ends (between 1 8) 8 0 isZero (byte (between 1 8)) part f badRelations l (omega arith)))
 
 abbrev Inv-loop : tie.InvT-loop
-Inv-loop part count n widths₀ i₀ widths i = (i ≤ n) × (n ≤ 8) × (length widths ≡ 8) × Head part n × At part n widths i
+Inv-loop part count n widths₀ i₀ widths i = (i ≤ n) × (n ≤ 8) × (length widths ≡ 8) × At part n widths i
 
 abbrev μ-loop : tie.MeasureT-loop
 μ-loop part count n widths₀ i₀ widths i = n - i
@@ -96,15 +83,20 @@ no-relations-requires c κs = search needs
 
 returns : tie.Need-returns Inv-loop μ-loop
 returns c =
-    c .no-relations .ensures ∙ no-count (c .before .before .before .before .before .args .part .now) (c .before .before .before .read-byte .result) (c .before .before .before .read-byte .ensures) (c .before .enum-told .given .1)
+    let after-read-byte = c .before .before .before in
+    let start = after-read-byte .before .before in
+    c .no-relations .ensures ∙ no-relations-read (start .args .part .now) (after-read-byte .read-byte .result) (after-read-byte .read-byte .ensures)
+    (c .before .enum-told .given .1)
 
 cast-n : tie.Need-cast-n Inv-loop μ-loop
 cast-n c = search needs
 
 loop-holds : tie.Need-loop-holds Inv-loop μ-loop
 loop-holds c =
-    let (few, hd, f) = begins (c .before .before .before .before .before .args .part .now) (c .before .count .given .0 .0) (sym (c .before .count .given .1) ∙ c .before .before .before .read-byte .ensures) in
-    (omega arith, few, refl, hd, f)
+    let start = c .before .before .before .before .before in
+    let (few, f) =
+    begins (start .args .part .now) (c .before .count .given .0 .0) (sym (c .before .count .given .1) ∙ c .before .before .before .read-byte .ensures) in
+    (omega arith, few, refl, f)
 
 add-read-byte : tie.Need-add-read-byte Inv-loop μ-loop
 add-read-byte c = search needs
@@ -123,9 +115,12 @@ no-relations-requires-2 c κs = search needs
 
 returns-2 : tie.Need-returns-2 Inv-loop μ-loop
 returns-2 c =
+    let after-read-byte2 = c .before .before .before in
+    let after-loop-test = after-read-byte2 .before in
+    let after-loop = after-loop-test .before in
     c .no-relations2 .ensures
-    ∙ fails _ _ (c .before .before .before .before .before .loop .widths) (c .before .before .before .before .before .loop .i) (c .before .before .before .read-byte2 .result) (c .before .before .before .before .before .loop .inv .3) (c .before .before .before .before .before .loop .inv .4) (c .before .before .before .before .loop-test .taken)
-    (c .before .before .before .read-byte2 .ensures) (c .before .enum-told2 .given .1)
+    ∙ fails _ _ (after-loop .loop .widths) (after-loop .loop .i) (after-loop .loop .inv .3) (after-loop-test .loop-test .taken)
+    (after-read-byte2 .read-byte2 .result) (after-read-byte2 .read-byte2 .ensures) (c .before .enum-told2 .given .1)
 
 array-write-widths : tie.Need-array-write-widths Inv-loop μ-loop
 array-write-widths c = search needs
@@ -137,14 +132,17 @@ loop-less : tie.Need-loop-less Inv-loop μ-loop
 loop-less c = search needs
 
 loop-again : tie.Need-loop-again Inv-loop μ-loop
-loop-again c = (
-  search needs,
-  c .before .before .before .before .before .loop .inv .1,
-  length-set (c .before .before .before .before .before .loop .widths) (c .before .before .before .before .before .loop .i) (c .before .width .given .0 .0) ∙ c .before .before .before .before .before .loop .inv .2,
-  c .before .before .before .before .before .loop .inv .3,
-  goes-on _ _ (c .before .before .before .before .before .loop .widths) (c .before .before .before .before .before .loop .i) (c .before .before .before .read-byte2 .result) (c .before .width .given .0 .0) (c .before .before .before .before .before .loop .inv .4) (c .before .before .before .before .loop-test .taken)
-      (omega arith) (c .before .before .before .read-byte2 .ensures) (c .before .width .given .1),
-)
+loop-again c =
+    let after-read-byte2 = c .before .before .before in
+    let after-loop-test = after-read-byte2 .before in
+    let after-loop = after-loop-test .before in (
+      search needs,
+      after-loop .loop .inv .1,
+      length-set (after-loop .loop .widths) (after-loop .loop .i) (c .before .width .given .0 .0) ∙ after-loop .loop .inv .2,
+      goes-on _ _ (after-loop .loop .widths) (after-loop .loop .i) (after-loop .loop .inv .3) (after-loop-test .loop-test .taken)
+          (after-read-byte2 .read-byte2 .result) (after-read-byte2 .read-byte2 .ensures) (c .before .width .given .0 .0) (omega arith)
+          (c .before .width .given .1),
+    )
 
 add-if1 : tie.Need-add-if1 Inv-loop μ-loop
 add-if1 c = search needs
@@ -154,11 +152,15 @@ no-relations-requires-3 c κs = search needs
 
 returns-3 : tie.Need-returns-3 Inv-loop μ-loop
 returns-3 c =
-    c .no-relations3 .ensures ∙ too-long _ _ (c .before .before .before .loop .widths) (c .before .before .before .loop .i) (c .before .before .before .loop .inv .3) (c .before .before .before .loop .inv .4) (c .before .before .before .loop .inv .0) (c .before .before .loop-test .left) (c .before .if1 .taken)
+    let after-loop = c .before .before .before in
+    c .no-relations3 .ensures ∙ too-long _ _ (after-loop .loop .widths) (after-loop .loop .i) (after-loop .loop .inv .3) (after-loop .loop .inv .0)
+    (c .before .before .loop-test .left) (c .before .if1 .taken)
 
 returns-4 : tie.Need-returns-4 Inv-loop μ-loop
 returns-4 c =
-    accepted _ _ (c .before .before .loop .widths) (c .before .before .loop .i) (c .before .before .loop .inv .3) (c .before .before .loop .inv .4) (c .before .before .loop .inv .0) (c .before .loop-test .left) (c .if1 .left)
+    let after-loop = c .before .before in
+    accepted _ _ (after-loop .loop .widths) (after-loop .loop .i) (after-loop .loop .inv .3) (after-loop .loop .inv .0)
+    (c .before .loop-test .left) (c .if1 .left)
 
 pub read-relations-spec : {M : Type 1} → statement M
 read-relations-spec =

@@ -36,12 +36,17 @@ record At (rs : ℕ × List ℕ) (ds : ℕ × List Dependency) (schema file : Li
   low : 2 ≤ k
   high : k ≤ n
   long : length places ≡ 8
-  rest : recordRead rs ds (readPlaces schema (stretches (n - 2) file (drop 10 file))) ≡ recordOver rs ds places (k - 2) (readPlaces schema (stretches (n - k) file (tableAt file k)))
+  rest : recordRead rs ds (readPlaces schema (stretches (n - 2) file (drop 10 file)))
+      ≡ recordOver rs ds places (k - 2) (readPlaces schema (stretches (n - k) file (tableAt file k)))
 
 module _ (rs : ℕ × List ℕ) (ds : ℕ × List Dependency) where
   starts : (o : Reply (List Place)) → recordRead rs ds o ≡ recordOver rs ds (replicate 8 noPlace) 0 o
   starts (gives ps) =
-      λ i. record { answer = Done; «record» = record { relations = rs .0; widths = rs .1; held = ds .0; dependencies = ds .1; places = pad-over 8 noPlace ps i } }
+      λ i. record {
+        answer =
+            Done;
+        «record» = record { relations = rs .0; widths = rs .1; held = ds .0; dependencies = ds .1; places = pad-over 8 noPlace ps i };
+      }
   starts (refused m) = refl
 
   begins : (schema file : List ℕ) (n : ℕ) (p : Place) → p ≡ noPlace → 2 ≤ n → At rs ds schema file n (replicate 8 p) 2
@@ -71,7 +76,8 @@ split : (schema : List ℕ) (p : List ℕ) (ps : List (List ℕ)) (place : Place
 unfolding readPlaces _>>=_
 split schema p ps place e = rw e
 
-split-refused : (schema : List ℕ) (p : List ℕ) (ps : List (List ℕ)) (m : ℕ) → readPlace schema (noneLeft ps) p ≡ refused m → readPlaces schema (p ∷ ps) ≡ refused m
+split-refused : (schema : List ℕ) (p : List ℕ) (ps : List (List ℕ)) (m : ℕ) → readPlace schema (noneLeft ps) p ≡ refused m
+    → readPlaces schema (p ∷ ps) ≡ refused m
 unfolding readPlaces _>>=_
 split-refused schema p ps m e = rw e
 
@@ -79,7 +85,11 @@ stored : (rs : ℕ × List ℕ) (ds : ℕ × List Dependency) (places : List Pla
     → recordOver rs ds places i (o >>= (λ ps. gives (place ∷ ps))) ≡ recordOver rs ds (set places i place) (suc i) o
 unfolding _>>=_
 stored rs ds places i place (gives ps) h =
-    λ j. record { answer = Done; «record» = record { relations = rs .0; widths = rs .1; held = ds .0; dependencies = ds .1; places = sym (over-set places i place ps h) j } }
+    λ j. record {
+      answer =
+          Done;
+      «record» = record { relations = rs .0; widths = rs .1; held = ds .0; dependencies = ds .1; places = sym (over-set places i place ps h) j };
+    }
 stored rs ds places i place (refused m) h = refl
 
 -- the place reader's answer
@@ -91,7 +101,8 @@ place-none : (o : Reply Place) (r : PlaceRead) (m : ℕ) → r ≡ placeRead o �
 place-none (gives p) r m e g = let t : r .answer ≡ Done = ap (λ (r : PlaceRead). r .answer) e in let z : _≡_ {A = ℕ} 0 1 = cc in absurd (omega arith)
 place-none (refused l) r m e g = let t : r .answer ≡ Refused l = ap (λ (r : PlaceRead). r .answer) e in let s : l ≡ m = cc in rw s
 
-module _ (rs : ℕ × List ℕ) (ds : ℕ × List Dependency) (schema file : List ℕ) (n : ℕ) (places : List Place) (k : ℕ) (f : At rs ds schema file n places k) (h : k < n) (few : n ≤ 10)
+module _ (rs : ℕ × List ℕ) (ds : ℕ × List Dependency) (schema file : List ℕ) (n : ℕ) (places : List Place) (k : ℕ) (f : At rs ds schema file n places k)
+    (h : k < n) (few : n ≤ 10)
     (p : List ℕ) (ep : p ≡ stretch file (tableAt file k)) (r : PlaceRead) (er : r ≡ placeRead (readPlace schema (eqb (k + 1) n) p)) where
   others : List (List ℕ)
   others = stretches (n - (k + 1)) file (tableAt file (k + 1))
@@ -132,7 +143,11 @@ unfolding readPlaces stretches
 ended rs ds schema file n places k f h =
     let m : n - k ≡ 0 = omega arith in
     sym (f .rest ∙ ap (λ (j : ℕ). recordOver rs ds places (k - 2) (readPlaces schema (stretches j file (tableAt file k)))) m
-    ∙ (λ i. record { answer = Done; «record» = record { relations = rs .0; widths = rs .1; held = ds .0; dependencies = ds .1; places = over-nil places (k - 2) i } }))
+    ∙ (λ i. record {
+      answer =
+          Done;
+      «record» = record { relations = rs .0; widths = rs .1; held = ds .0; dependencies = ds .1; places = over-nil places (k - 2) i };
+    }))
 
 abbrev Inv-loop : tie.InvT-loop
 Inv-loop file n count widths held dependencies places₀ k₀ places k = At (count, widths) (held, dependencies) (take count widths) file n places k
@@ -145,11 +160,16 @@ no-place-requires c κs = search needs
 
 loop-holds : tie.Need-loop-holds Inv-loop μ-loop
 loop-holds c =
-    begins (c .before .before .args .count, c .before .before .args .widths) (c .before .before .args .held, c .before .before .args .dependencies) (take (c .before .before .args .count) (c .before .before .args .widths)) (c .before .before .args .file .now) (c .before .before .args .n) (c .no-place .result) (c .no-place .ensures) (c .before .before .pre .1 .0 .0)
+    let start = c .before .before in
+    begins (start .args .count, start .args .widths) (start .args .held, start .args .dependencies) (take (start .args .count) (start .args .widths))
+    (start .args .file .now) (start .args .n) (c .no-place .result) (c .no-place .ensures) (start .pre .1 .0 .0)
 
 part-requires : tie.Need-part-requires Inv-loop μ-loop
 part-requires c κs =
-    (omega (arith, c .before .before .before .before .pre .1 .0 .2), stretch-fits (c .before .before .before .before .args .file .now) (c .before .before .before .before .args .n) (2 + 4 * c .before .before .before .before .args .n) (c .before .loop .k) (c .loop-test .taken) (c .before .before .before .before .pre .1 .1))
+    let start = c .before .before .before .before in (
+      omega (arith, start .pre .1 .0 .2),
+      stretch-fits (start .args .file .now) (start .args .n) (2 + 4 * start .args .n) (c .before .loop .k) (c .loop-test .taken) (start .pre .1 .1),
+    )
 
 add-read-place : tie.Need-add-read-place Inv-loop μ-loop
 add-read-place c = search needs
@@ -177,7 +197,16 @@ refusal-requires c κs = search needs
 
 returns : tie.Need-returns Inv-loop μ-loop
 returns c =
-    c .refusal .ensures ∙ stops (c .before .before .before .before .before .before .before .before .before .before .args .count, c .before .before .before .before .before .before .before .before .before .before .args .widths) (c .before .before .before .before .before .before .before .before .before .before .args .held, c .before .before .before .before .before .before .before .before .before .before .args .dependencies) (take (c .before .before .before .before .before .before .before .before .before .before .args .count) (c .before .before .before .before .before .before .before .before .before .before .args .widths)) (c .before .before .before .before .before .before .before .before .before .before .args .file .now) (c .before .before .before .before .before .before .before .before .before .before .args .n) (c .before .before .before .before .before .before .before .loop .places) (c .before .before .before .before .before .before .before .loop .k) (c .before .before .before .before .before .before .before .loop .inv) (c .before .before .before .before .before .before .loop-test .taken) (c .before .before .before .before .before .before .before .before .before .before .pre .1 .0 .1) (now (c .before .before .before .before .before .part .result)) (c .before .before .before .before .before .part .ensures) (c .before .before .before .before .read-place .result) (c .before .before .before .before .read-place .ensures) (c .before .before .answer .given .0 .0) (c .before .before .answer .given .1)
+    let after-answer = c .before .before in
+    let after-read-place = after-answer .before .before in
+    let after-part = after-read-place .before in
+    let after-loop-test = after-part .before in
+    let after-loop = after-loop-test .before in
+    let start = after-loop .before .before .before in
+    c .refusal .ensures ∙ stops (start .args .count, start .args .widths) (start .args .held, start .args .dependencies)
+    (take (start .args .count) (start .args .widths)) (start .args .file .now) (start .args .n) (after-loop .loop .places) (after-loop .loop .k)
+    (after-loop .loop .inv) (after-loop-test .loop-test .taken) (start .pre .1 .0 .1) (now (after-part .part .result)) (after-part .part .ensures)
+    (after-read-place .read-place .result) (after-read-place .read-place .ensures) (after-answer .answer .given .0 .0) (after-answer .answer .given .1)
 
 add-k : tie.Need-add-k Inv-loop μ-loop
 add-k c = search needs
@@ -187,11 +216,21 @@ loop-less c = search needs
 
 loop-again : tie.Need-loop-again Inv-loop μ-loop
 loop-again c =
-    goes-on (c .before .before .before .before .before .before .before .before .before .args .count, c .before .before .before .before .before .before .before .before .before .args .widths) (c .before .before .before .before .before .before .before .before .before .args .held, c .before .before .before .before .before .before .before .before .before .args .dependencies) (take (c .before .before .before .before .before .before .before .before .before .args .count) (c .before .before .before .before .before .before .before .before .before .args .widths)) (c .before .before .before .before .before .before .before .before .before .args .file .now) (c .before .before .before .before .before .before .before .before .before .args .n) (c .before .before .before .before .before .before .loop .places) (c .before .before .before .before .before .before .loop .k) (c .before .before .before .before .before .before .loop .inv) (c .before .before .before .before .before .loop-test .taken) (c .before .before .before .before .before .before .before .before .before .pre .1 .0 .1) (now (c .before .before .before .before .part .result)) (c .before .before .before .before .part .ensures) (c .before .before .before .read-place .result) (c .before .before .before .read-place .ensures) (c .before .enum-told .given .1)
+    let after-read-place = c .before .before .before in
+    let after-part = after-read-place .before in
+    let after-loop-test = after-part .before in
+    let after-loop = after-loop-test .before in
+    let start = after-loop .before .before .before in
+    goes-on (start .args .count, start .args .widths) (start .args .held, start .args .dependencies) (take (start .args .count) (start .args .widths))
+    (start .args .file .now) (start .args .n) (after-loop .loop .places) (after-loop .loop .k) (after-loop .loop .inv) (after-loop-test .loop-test .taken)
+    (start .pre .1 .0 .1) (now (after-part .part .result)) (after-part .part .ensures) (after-read-place .read-place .result)
+    (after-read-place .read-place .ensures) (c .before .enum-told .given .1)
 
 returns-2 : tie.Need-returns-2 Inv-loop μ-loop
 returns-2 c =
-    ended (c .before .before .before .before .args .count, c .before .before .before .before .args .widths) (c .before .before .before .before .args .held, c .before .before .before .before .args .dependencies) (take (c .before .before .before .before .args .count) (c .before .before .before .before .args .widths)) (c .before .before .before .before .args .file .now) (c .before .before .before .before .args .n) (c .before .loop .places) (c .before .loop .k) (c .before .loop .inv) (c .loop-test .left)
+    let start = c .before .before .before .before in
+    ended (start .args .count, start .args .widths) (start .args .held, start .args .dependencies) (take (start .args .count) (start .args .widths))
+    (start .args .file .now) (start .args .n) (c .before .loop .places) (c .before .loop .k) (c .before .loop .inv) (c .loop-test .left)
 
 pub read-places-spec : {M : Type 1} → statement M
 read-places-spec =

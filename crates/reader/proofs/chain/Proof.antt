@@ -52,7 +52,10 @@ cast-size c = search needs
 
 returns : tie.Need-returns Inv-loop μ-loop
 returns c =
-    sym (c .before .before .before .before .loop .inv .2 ∙ chained-breaks (c .before .before .before .before .before .before .args .file .now) (c .before .before .before .before .before .before .args .n) (c .before .before .before .before .loop .due) (c .before .before .before .before .loop .k) (c .before .before .before .loop-test .taken) (λ e. c .if1 .taken (c .before .before .word16 .ensures .0 ∙ e)))
+    let after-loop = c .before .before .before .before in
+    let start = after-loop .before .before in
+    sym (after-loop .loop .inv .2 ∙ chained-breaks (start .args .file .now) (start .args .n) (after-loop .loop .due) (after-loop .loop .k)
+    (c .before .before .before .loop-test .taken) (λ e. c .if1 .taken (c .before .before .word16 .ensures .0 ∙ e)))
 
 add-due-2 : tie.Need-add-due-2 Inv-loop μ-loop
 add-due-2 c = search needs
@@ -64,15 +67,20 @@ loop-less : tie.Need-loop-less Inv-loop μ-loop
 loop-less c = search needs
 
 loop-again : tie.Need-loop-again Inv-loop μ-loop
-loop-again c = (
-  search needs,
-  omega (arith, c .before .word162 .ensures .1),
-  c .before .before .before .before .loop .inv .2 ∙ chained-turns (c .before .before .before .before .before .before .args .file .now) (c .before .before .before .before .before .before .args .n) (c .before .before .before .before .loop .due) (c .before .before .before .before .loop .k) (c .before .before .before .loop-test .taken) (c .before .word162 .result) (sym (c .before .before .word16 .ensures .0) ∙ c .if1 .left) (c .before .word162 .ensures .0),
-)
+loop-again c =
+    let after-loop = c .before .before .before .before in
+    let start = after-loop .before .before in (
+      search needs,
+      omega (arith, c .before .word162 .ensures .1),
+      after-loop .loop .inv .2 ∙ chained-turns (start .args .file .now) (start .args .n) (after-loop .loop .due) (after-loop .loop .k)
+          (c .before .before .before .loop-test .taken) (c .before .word162 .result) (sym (c .before .before .word16 .ensures .0) ∙ c .if1 .left)
+          (c .before .word162 .ensures .0),
+    )
 
 returns-2 : tie.Need-returns-2 Inv-loop μ-loop
 returns-2 c =
-    sym (c .before .loop .inv .2 ∙ chained-ends (c .before .before .before .args .file .now) (c .before .before .before .args .n) (c .before .loop .due) (c .before .loop .k) (c .loop-test .left))
+    let start = c .before .before .before in
+    sym (c .before .loop .inv .2 ∙ chained-ends (start .args .file .now) (start .args .n) (c .before .loop .due) (c .before .loop .k) (c .loop-test .left))
 
 pub chain-spec : {M : Type 1} → statement M
 chain-spec =

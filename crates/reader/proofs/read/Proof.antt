@@ -16,7 +16,8 @@ enum-known-n c = search needs
 
 read-parts-requires : tie.Need-read-parts-requires
 read-parts-requires c κs =
-    let a = accepts (c .before .before .before .before .before .args .file .now) (c .before .n .given .0 .0) (sym (c .before .n .given .1) ∙ c .before .before .before .read-directory .ensures) in
+    let start = c .before .before .before .before .before in
+    let a = accepts (start .args .file .now) (c .before .n .given .0 .0) (sym (c .before .n .given .1) ∙ c .before .before .before .read-directory .ensures) in
     ((a .low, a .high, a .fits), a .chain)
 
 enum-known-number : tie.Need-enum-known-number
@@ -28,12 +29,23 @@ refusal-requires c κs = search needs
 returns : tie.Need-returns
 unfolding readFile _>>=_
 returns c =
-    c .read-parts .ensures ∙ sym (ap outcomeOf (ap (λ (o : Reply (List (List ℕ))). o >>= readAll) (accepts (c .before .before .before .before .before .before .args .file .now) (c .before .before .n .given .0 .0) (sym (c .before .before .n .given .1) ∙ c .before .before .before .before .read-directory .ensures) .parts)))
+    let after-n = c .before .before in
+    let after-read-directory = after-n .before .before in
+    let start = after-read-directory .before .before in
+    c .read-parts .ensures ∙ sym (ap outcomeOf
+    (ap (λ (o : Reply (List (List ℕ))). o >>= readAll)
+    (accepts (start .args .file .now) (after-n .n .given .0 .0) (sym (after-n .n .given .1) ∙ after-read-directory .read-directory .ensures) .parts)))
 
 returns-2 : tie.Need-returns-2
 unfolding readFile _>>=_
 returns-2 c =
-    c .refusal .ensures ∙ sym (ap outcomeOf (ap (λ (o : Reply (List (List ℕ))). o >>= readAll) (refuses (directory (c .before .before .before .before .before .before .args .file .now)) (c .before .before .number .given .0 .0) (sym (c .before .before .number .given .1) ∙ c .before .before .before .before .read-directory .ensures))))
+    let after-number = c .before .before in
+    let after-read-directory = after-number .before .before in
+    let start = after-read-directory .before .before in
+    c .refusal .ensures ∙ sym (ap outcomeOf
+    (ap (λ (o : Reply (List (List ℕ))). o >>= readAll)
+    (refuses (directory (start .args .file .now)) (after-number .number .given .0 .0)
+    (sym (after-number .number .given .1) ∙ after-read-directory .read-directory .ensures))))
 
 pub read-spec : {M : Type 1} → statement M
 read-spec =

@@ -21,11 +21,14 @@ cast-n c = search needs
 
 returns-2 : tie.Need-returns-2
 returns-2 c =
-    sym (ap directoryRead (too-few (c .before .before .before .before .args .file .now) (c .before .word16 .result) (c .before .word16 .ensures .0) (c .if2 .taken)))
+    let start = c .before .before .before .before in
+    sym (ap directoryRead (too-few (start .args .file .now) (c .before .word16 .result) (c .before .word16 .ensures .0) (c .if2 .taken)))
 
 returns-3 : tie.Need-returns-3
 returns-3 c =
-    sym (ap directoryRead (too-many (c .before .before .before .before .before .args .file .now) (c .before .before .word16 .result) (c .before .before .word16 .ensures .0) (c .if3 .taken)))
+    let after-word16 = c .before .before in
+    let start = after-word16 .before .before .before in
+    sym (ap directoryRead (too-many (start .args .file .now) (after-word16 .word16 .result) (after-word16 .word16 .ensures .0) (c .if3 .taken)))
 
 mul-if4 : tie.Need-mul-if4
 mul-if4 c = search needs
@@ -35,20 +38,31 @@ add-if4 c = search needs
 
 returns-4 : tie.Need-returns-4
 returns-4 c =
-    sym (ap directoryRead (cut-table (c .before .before .before .before .before .before .args .file .now) (c .before .before .before .word16 .result) (c .before .before .before .word16 .ensures .0) (c .if4 .taken)))
+    let after-word16 = c .before .before .before in
+    let start = after-word16 .before .before .before in
+    sym (ap directoryRead (cut-table (start .args .file .now) (after-word16 .word16 .result) (after-word16 .word16 .ensures .0) (c .if4 .taken)))
 
 chain-requires : tie.Need-chain-requires
 chain-requires c κs = search needs
 
 returns-5 : tie.Need-returns-5
 returns-5 c =
-    let n = c .before .before .before .before .before .word16 .result in
-    let file = c .before .before .before .before .before .before .before .before .args .file .now in
-    ap Parts (sym (length-stretches n file (drop 2 file))) ∙ sym (ap directoryRead (full-table (c .before .before .before .before .before .before .before .before .args .file .now) (c .before .before .before .before .before .word16 .result) (c .before .before .before .before .before .word16 .ensures .0) (c .before .before .before .before .if2 .left) (c .before .before .before .if3 .left) (c .before .before .if4 .left) true (sym (c .before .chain .ensures) ∙ c .if5 .taken)))
+    let after-if2 = c .before .before .before .before in
+    let after-word16 = after-if2 .before in
+    let start = after-word16 .before .before .before in
+    let n = after-word16 .word16 .result in
+    let file = start .args .file .now in
+    ap Parts (sym (length-stretches n file (drop 2 file)))
+    ∙ sym (ap directoryRead (full-table (start .args .file .now) (after-word16 .word16 .result) (after-word16 .word16 .ensures .0) (after-if2 .if2 .left)
+    (c .before .before .before .if3 .left) (c .before .before .if4 .left) true (sym (c .before .chain .ensures) ∙ c .if5 .taken)))
 
 returns-6 : tie.Need-returns-6
 returns-6 c =
-    sym (ap directoryRead (full-table (c .before .before .before .before .before .before .before .before .args .file .now) (c .before .before .before .before .before .word16 .result) (c .before .before .before .before .before .word16 .ensures .0) (c .before .before .before .before .if2 .left) (c .before .before .before .if3 .left) (c .before .before .if4 .left) false (sym (c .before .chain .ensures) ∙ c .if5 .left)))
+    let after-if2 = c .before .before .before .before in
+    let after-word16 = after-if2 .before in
+    let start = after-word16 .before .before .before in
+    sym (ap directoryRead (full-table (start .args .file .now) (after-word16 .word16 .result) (after-word16 .word16 .ensures .0) (after-if2 .if2 .left)
+    (c .before .before .before .if3 .left) (c .before .before .if4 .left) false (sym (c .before .chain .ensures) ∙ c .if5 .left)))
 
 pub read-directory-spec : {M : Type 1} → statement M
 read-directory-spec =

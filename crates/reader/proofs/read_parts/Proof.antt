@@ -67,7 +67,8 @@ module _ (part0 part1 : List ℕ) (parts : List (List ℕ)) where
   bad-relations-part w = rw w
 
   module _ (rs : ℕ × List ℕ) (w₀ : complete badRelations (relations .get part0) ≡ gives rs) where
-    bad-dependencies-part : complete badDependency (dependencies (take (rs .0) (rs .1)) .get part1) ≡ refused badDependency → readParts part0 part1 parts ≡ refused badDependency
+    bad-dependencies-part : complete badDependency (dependencies (take (rs .0) (rs .1)) .get part1) ≡ refused badDependency
+        → readParts part0 part1 parts ≡ refused badDependency
     unfolding readParts _>>=_
     bad-dependencies-part w = rw (w₀, w)
 
@@ -82,17 +83,20 @@ module _ (part0 part1 : List ℕ) (parts : List (List ℕ)) where
 
 -- ---- the whole file, part by part
 
-module _ (file : List ℕ) (n : ℕ) (low : 2 ≤ n) (part0 part1 : List ℕ) (e₀ : part0 ≡ stretch file (tableAt file 0)) (e₁ : part1 ≡ stretch file (tableAt file 1)) where
-  all : readAll (stretches n file (drop 2 file)) ≡ readParts part0 part1 (stretches (n - 2) file (drop 10 file))
-  unfolding readAll
-  all = ap readAll (first-two file n low) ∙ rw (e₀, e₁)
+module _ (file : List ℕ) (n : ℕ) (low : 2 ≤ n) (part0 part1 : List ℕ) (e₀ : part0 ≡ stretch file (tableAt file 0)) (e₁ : part1 ≡ stretch file (tableAt file 1))
+  where
+    all : readAll (stretches n file (drop 2 file)) ≡ readParts part0 part1 (stretches (n - 2) file (drop 10 file))
+    unfolding readAll
+    all = ap readAll (first-two file n low) ∙ rw (e₀, e₁)
 
-module _ (file : List ℕ) (n : ℕ) (low : 2 ≤ n) (part0 : List ℕ) (e₀ : part0 ≡ stretch file (tableAt file 0)) (rs : RelationsRead) (er : rs ≡ relationsRead (complete badRelations (relations .get part0))) where
+module _ (file : List ℕ) (n : ℕ) (low : 2 ≤ n) (part0 : List ℕ) (e₀ : part0 ≡ stretch file (tableAt file 0)) (rs : RelationsRead)
+    (er : rs ≡ relationsRead (complete badRelations (relations .get part0))) where
   refuses-relations : rs .good ≡ false → outcomeOf (refused badRelations) ≡ outcomeOf (readAll (stretches n file (drop 2 file)))
   refuses-relations g =
       let (m, w) = relations-bad (complete badRelations (relations .get part0)) rs er g in
       let w′ = complete-refused badRelations (relations .get part0) m w in
-      sym (ap outcomeOf (all file n low part0 (stretch file (tableAt file 1)) e₀ refl ∙ bad-relations-part part0 (stretch file (tableAt file 1)) (stretches (n - 2) file (drop 10 file)) w′))
+      sym (ap outcomeOf (all file n low part0 (stretch file (tableAt file 1)) e₀ refl
+      ∙ bad-relations-part part0 (stretch file (tableAt file 1)) (stretches (n - 2) file (drop 10 file)) w′))
 
   good-count : Bytes file → rs .good ≡ true → goodRelations (rs .count) (rs .widths) ≡ true
   good-count hb g =
@@ -107,7 +111,8 @@ module _ (file : List ℕ) (n : ℕ) (low : 2 ≤ n) (part0 : List ℕ) (e₀ : 
         let w₀ = relations-some (complete badRelations (relations .get part0)) rs er g₀ in
         let (m, w) = dependencies-bad (complete badDependency (dependencies (take (rs .count) (rs .widths)) .get part1)) ds ed g in
         let w₁ = complete-refused badDependency (dependencies (take (rs .count) (rs .widths)) .get part1) m w in
-        sym (ap outcomeOf (all file n low part0 part1 e₀ e₁ ∙ bad-dependencies-part part0 part1 (stretches (n - 2) file (drop 10 file)) (rs .count, rs .widths) w₀ w₁))
+        sym (ap outcomeOf (all file n low part0 part1 e₀ e₁
+        ∙ bad-dependencies-part part0 part1 (stretches (n - 2) file (drop 10 file)) (rs .count, rs .widths) w₀ w₁))
 
     reads-places : ds .good ≡ true
         → recordRead (rs .count, rs .widths) (ds .held, ds .dependencies) (readPlaces (take (rs .count) (rs .widths)) (stretches (n - 2) file (drop 10 file)))
@@ -115,11 +120,14 @@ module _ (file : List ℕ) (n : ℕ) (low : 2 ≤ n) (part0 : List ℕ) (e₀ : 
     reads-places g₁ =
         let w₀ = relations-some (complete badRelations (relations .get part0)) rs er g₀ in
         let w₁ = dependencies-some (complete badDependency (dependencies (take (rs .count) (rs .widths)) .get part1)) ds ed g₁ in
-        sym (ap outcomeOf (all file n low part0 part1 e₀ e₁) ∙ parts-places part0 part1 (stretches (n - 2) file (drop 10 file)) (rs .count, rs .widths) w₀ (ds .held, ds .dependencies) w₁)
+        sym (ap outcomeOf (all file n low part0 part1 e₀ e₁)
+        ∙ parts-places part0 part1 (stretches (n - 2) file (drop 10 file)) (rs .count, rs .widths) w₀ (ds .held, ds .dependencies) w₁)
 
 part-requires : tie.Need-part-requires
-part-requires c κs =
-    (omega (arith, c .before .pre .0 .2), stretch-fits (c .before .args .file .now) (c .before .args .n) (2 + 4 * c .before .args .n) 0 (omega (arith, c .before .pre .0 .0)) (c .before .pre .1))
+part-requires c κs = (
+  omega (arith, c .before .pre .0 .2),
+  stretch-fits (c .before .args .file .now) (c .before .args .n) (2 + 4 * c .before .args .n) 0 (omega (arith, c .before .pre .0 .0)) (c .before .pre .1),
+)
 
 read-relations-requires : tie.Need-read-relations-requires
 read-relations-requires c κs = search needs
@@ -129,31 +137,77 @@ refusal-requires c κs = search needs
 
 returns : tie.Need-returns
 returns c =
-    c .refusal .ensures ∙ refuses-relations (c .before .before .before .before .before .before .args .file .now) (c .before .before .before .before .before .before .args .n) (c .before .before .before .before .before .before .pre .0 .0) (now (c .before .before .before .before .part .result)) (c .before .before .before .before .part .ensures) (c .before .before .before .read-relations .result) (c .before .before .before .read-relations .ensures) (not-true (c .before .before .before .read-relations .result .good) (c .before .if1 .taken))
+    let after-read-relations = c .before .before .before in
+    let after-part = after-read-relations .before in
+    let start = after-part .before .before in
+    c .refusal .ensures ∙ refuses-relations (start .args .file .now) (start .args .n) (start .pre .0 .0) (now (after-part .part .result))
+    (after-part .part .ensures) (after-read-relations .read-relations .result) (after-read-relations .read-relations .ensures)
+    (not-true (after-read-relations .read-relations .result .good) (c .before .if1 .taken))
 
 part-requires-2 : tie.Need-part-requires-2
 part-requires-2 c κs =
-    (omega (arith, c .before .before .before .before .before .before .pre .0 .2), stretch-fits (c .before .before .before .before .before .before .args .file .now) (c .before .before .before .before .before .before .args .n) (2 + 4 * c .before .before .before .before .before .before .args .n) 1 (omega (arith, c .before .before .before .before .before .before .pre .0 .0)) (c .before .before .before .before .before .before .pre .1))
+    let start = c .before .before .before .before .before .before in (
+      omega (arith, start .pre .0 .2),
+      stretch-fits (start .args .file .now) (start .args .n) (2 + 4 * start .args .n) 1 (omega (arith, start .pre .0 .0)) (start .pre .1),
+    )
 
 read-dependencies-requires : tie.Need-read-dependencies-requires
 read-dependencies-requires c κs =
-    good-count (c .before .before .before .before .before .before .before .args .file .now) (c .before .before .before .before .before .before .before .args .n) (c .before .before .before .before .before .before .before .pre .0 .0) (now (c .before .before .before .before .before .part .result)) (c .before .before .before .before .before .part .ensures) (c .before .before .before .before .read-relations .result) (c .before .before .before .before .read-relations .ensures) (bytes-known (c .before .before .before .before .before .before .before .args .file .now) (λ i. c .before .before .before .before .before .before .shared-slice-known .given i .fits)) (not-false (c .before .before .before .before .read-relations .result .good) (c .before .before .if1 .left))
+    let after-read-relations = c .before .before .before .before in
+    let after-part = after-read-relations .before in
+    let after-shared-slice-known = after-part .before in
+    let start = after-shared-slice-known .before in
+    good-count (start .args .file .now) (start .args .n) (start .pre .0 .0) (now (after-part .part .result)) (after-part .part .ensures)
+    (after-read-relations .read-relations .result) (after-read-relations .read-relations .ensures)
+    (bytes-known (start .args .file .now)
+    (λ i. after-shared-slice-known .shared-slice-known .given i .fits)) (not-false (after-read-relations .read-relations .result .good)
+    (c .before .before .if1 .left))
 
 refusal-requires-2 : tie.Need-refusal-requires-2
 refusal-requires-2 c κs = search needs
 
 returns-2 : tie.Need-returns-2
 returns-2 c =
-    c .refusal2 .ensures ∙ refuses-dependencies (c .before .before .before .before .before .before .before .before .before .before .before .args .file .now) (c .before .before .before .before .before .before .before .before .before .before .before .args .n) (c .before .before .before .before .before .before .before .before .before .before .before .pre .0 .0) (now (c .before .before .before .before .before .before .before .before .before .part .result)) (c .before .before .before .before .before .before .before .before .before .part .ensures) (c .before .before .before .before .before .before .before .before .read-relations .result) (c .before .before .before .before .before .before .before .before .read-relations .ensures) (now (c .before .before .before .before .part2 .result)) (c .before .before .before .before .part2 .ensures) (not-false (c .before .before .before .before .before .before .before .before .read-relations .result .good) (c .before .before .before .before .before .before .if1 .left)) (c .before .before .before .read-dependencies .result) (c .before .before .before .read-dependencies .ensures) (not-true (c .before .before .before .read-dependencies .result .good) (c .before .if2 .taken))
+    let after-read-dependencies = c .before .before .before in
+    let after-part2 = after-read-dependencies .before in
+    let after-if1 = after-part2 .before .before in
+    let after-read-relations = after-if1 .before .before in
+    let after-part = after-read-relations .before in
+    let start = after-part .before .before in
+    c .refusal2 .ensures ∙ refuses-dependencies (start .args .file .now) (start .args .n) (start .pre .0 .0) (now (after-part .part .result))
+    (after-part .part .ensures) (after-read-relations .read-relations .result) (after-read-relations .read-relations .ensures)
+    (now (after-part2 .part2 .result)) (after-part2 .part2 .ensures) (not-false (after-read-relations .read-relations .result .good) (after-if1 .if1 .left))
+    (after-read-dependencies .read-dependencies .result) (after-read-dependencies .read-dependencies .ensures)
+    (not-true (after-read-dependencies .read-dependencies .result .good) (c .before .if2 .taken))
 
 read-places-requires : tie.Need-read-places-requires
 read-places-requires c κs =
-    (good-count (c .before .before .before .before .before .before .before .before .before .before .before .args .file .now) (c .before .before .before .before .before .before .before .before .before .before .before .args .n) (c .before .before .before .before .before .before .before .before .before .before .before .pre .0 .0) (now (c .before .before .before .before .before .before .before .before .before .part .result)) (c .before .before .before .before .before .before .before .before .before .part .ensures) (c .before .before .before .before .before .before .before .before .read-relations .result) (c .before .before .before .before .before .before .before .before .read-relations .ensures) (bytes-known (c .before .before .before .before .before .before .before .before .before .before .before .args .file .now) (λ i. c .before .before .before .before .before .before .before .before .before .before .shared-slice-known .given i .fits)) (not-false (c .before .before .before .before .before .before .before .before .read-relations .result .good) (c .before .before .before .before .before .before .if1 .left)), (c .before .before .before .before .before .before .before .before .before .before .before .pre .0, c .before .before .before .before .before .before .before .before .before .before .before .pre .1))
+    let after-if1 = c .before .before .before .before .before .before in
+    let after-read-relations = after-if1 .before .before in
+    let after-part = after-read-relations .before in
+    let after-shared-slice-known = after-part .before in
+    let start = after-shared-slice-known .before in (
+      good-count (start .args .file .now) (start .args .n) (start .pre .0 .0) (now (after-part .part .result)) (after-part .part .ensures)
+          (after-read-relations .read-relations .result) (after-read-relations .read-relations .ensures)
+          (bytes-known (start .args .file .now)
+          (λ i. after-shared-slice-known .shared-slice-known .given i .fits)) (not-false (after-read-relations .read-relations .result .good)
+          (after-if1 .if1 .left)),
+      (start .pre .0, start .pre .1),
+    )
 
 returns-3 : tie.Need-returns-3
 returns-3 c =
-    let s = c .before .before .before .before .before .before .before .before .before .before .before .before in
-    c .read-places .ensures ∙ reads-places (s .args .file .now) (s .args .n) (s .pre .0 .0) (now (c .before .before .before .before .before .before .before .before .before .before .part .result)) (c .before .before .before .before .before .before .before .before .before .before .part .ensures) (c .before .before .before .before .before .before .before .before .before .read-relations .result) (c .before .before .before .before .before .before .before .before .before .read-relations .ensures) (now (c .before .before .before .before .before .part2 .result)) (c .before .before .before .before .before .part2 .ensures) (not-false (c .before .before .before .before .before .before .before .before .before .read-relations .result .good) (c .before .before .before .before .before .before .before .if1 .left)) (c .before .before .before .before .read-dependencies .result) (c .before .before .before .before .read-dependencies .ensures) (not-false (c .before .before .before .before .read-dependencies .result .good) (c .before .before .if2 .left))
+    let after-read-dependencies = c .before .before .before .before in
+    let after-part2 = after-read-dependencies .before in
+    let after-if1 = after-part2 .before .before in
+    let after-read-relations = after-if1 .before .before in
+    let after-part = after-read-relations .before in
+    let s = after-part .before .before in
+    c .read-places .ensures ∙ reads-places (s .args .file .now) (s .args .n) (s .pre .0 .0) (now (after-part .part .result)) (after-part .part .ensures)
+    (after-read-relations .read-relations .result) (after-read-relations .read-relations .ensures) (now (after-part2 .part2 .result))
+    (after-part2 .part2 .ensures) (not-false (after-read-relations .read-relations .result .good) (after-if1 .if1 .left))
+    (after-read-dependencies .read-dependencies .result) (after-read-dependencies .read-dependencies .ensures)
+    (not-false (after-read-dependencies .read-dependencies .result .good) (c .before .before .if2 .left))
 
 pub read-parts-spec : {M : Type 1} → statement M
 read-parts-spec =

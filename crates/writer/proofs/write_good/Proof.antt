@@ -45,7 +45,9 @@ counts c = relations-bounds (c .args .given .relations) (c .args .given .widths)
 
 -- The directory, where n parts are places
 abbrev directory : tie.Start → ℕ → List ℕ
-directory c n = directoryBytes n (1 + c .args .given .relations) (1 + 3 * c .args .given .held) (map (putPlace (schemaOf (c .args .given))) (take n (c .args .given .places)))
+directory c n =
+    directoryBytes n (1 + c .args .given .relations) (1 + 3 * c .args .given .held)
+    (map (putPlace (schemaOf (c .args .given))) (take n (c .args .given .places)))
 
 -- The length of the file
 abbrev fileLength : tie.Start → ℕ → ℕ → ℕ
@@ -54,26 +56,69 @@ fileLength c n others = 2 + 4 * (n + 2) + (1 + c .args .given .relations) + (1 +
 held : (c : tie.After-up-to-filled) → c .up-to-filled .result ≤ length (c .before .before .before .before .args .given .places)
 held c = rw (places-long (c .before .before .before .before)) (c .up-to-filled .ensures .1)
 
-lengths : (c : tie.After-places-length) → (length (directory (c .before .before .before .before .before) (c .before .up-to-filled .result)) ≡ 2 + 4 * (c .before .up-to-filled .result + 2))
-    × (fileLength (c .before .before .before .before .before) (c .before .up-to-filled .result) (c .places-length .result) ≡ length (fileOf (c .before .before .before .before .before .args .given)))
-lengths c =
-    file-long (c .before .before .before .before .before .args .given) (c .before .before .before .before .before .pre) (widths-long (c .before .before .before .before .before)) (list-long (c .before .before .before .before .before)) (c .before .up-to-filled .result) (c .places-length .result) (c .before .up-to-filled .ensures .0) (held (c .before)) (c .places-length .ensures .0)
+abbrev lengths-start : tie.After-places-length → tie.Start
+lengths-start c = c .before .before .before .before .before
 
-parts : (c : tie.After-places-length) → 1 + c .before .before .before .before .before .args .given .relations + (1 + 3 * c .before .before .before .before .before .args .given .held) + c .places-length .result ≡ length (partBytes (c .before .before .before .before .before .args .given) (c .before .up-to-filled .result))
-parts c = omega (arith, parts-long (c .before .before .before .before .before .args .given) (c .before .before .before .before .before .pre) (widths-long (c .before .before .before .before .before)) (list-long (c .before .before .before .before .before)) (c .before .up-to-filled .result), c .places-length .ensures .0)
+lengths : (c : tie.After-places-length)
+    → (length (directory (lengths-start c) (c .before .up-to-filled .result)) ≡ 2 + 4 * (c .before .up-to-filled .result + 2))
+    × (fileLength (lengths-start c) (c .before .up-to-filled .result) (c .places-length .result) ≡ length (fileOf (lengths-start c .args .given)))
+lengths c =
+    let start = c .before .before .before .before .before in
+    file-long (start .args .given) (start .pre) (widths-long start) (list-long start) (c .before .up-to-filled .result) (c .places-length .result)
+    (c .before .up-to-filled .ensures .0) (held (c .before)) (c .places-length .ensures .0)
+
+abbrev parts-start : tie.After-places-length → tie.Start
+parts-start c = c .before .before .before .before .before
+
+parts : (c : tie.After-places-length)
+    → 1 + parts-start c .args .given .relations + (1 + 3 * parts-start c .args .given .held) + c .places-length .result
+    ≡ length (partBytes (parts-start c .args .given) (c .before .up-to-filled .result))
+parts c =
+    let start = c .before .before .before .before .before in
+    omega (
+      arith,
+      parts-long (start .args .given) (start .pre) (widths-long start) (list-long start) (c .before .up-to-filled .result),
+      c .places-length .ensures .0,
+    )
+
+abbrev first-run-up-to-filled : tie.After-put-directory → tie.After-up-to-filled
+first-run-up-to-filled c = c .before .before .before .before
+
+abbrev first-run-start : tie.After-put-directory → tie.Start
+first-run-start c = c .before .before .before .before .before .before .before .before
 
 first-run : (c : tie.After-put-directory)
-    → Run (c .before .before .before .before .before .before .before .before .args .buffer .now) 0 ([] ++ directory (c .before .before .before .before .before .before .before .before) (c .before .before .before .before .up-to-filled .result)) (c .put-directory .last .0) (2 + 4 * (c .before .before .before .before .up-to-filled .result + 2))
+    → Run (first-run-start c .args .buffer .now) 0 ([] ++ directory (first-run-start c) (first-run-up-to-filled c .up-to-filled .result))
+    (c .put-directory .last .0) (2 + 4 * (first-run-up-to-filled c .up-to-filled .result + 2))
 first-run c =
-    run-turns (run-starts (c .before .before .before .before .before .before .before .before .args .buffer .now) 0) (directory (c .before .before .before .before .before .before .before .before) (c .before .before .before .before .up-to-filled .result)) (c .put-directory .last .0) (2 + 4 * (c .before .before .before .before .up-to-filled .result + 2))
-    (omega (arith, lengths (c .before .before .before) .0, c .before .before .if1 .left)) (c .put-directory .ensures) (omega (arith, lengths (c .before .before .before) .0))
+    let earlier = c .before .before .before in
+    let after-up-to-filled = earlier .before in
+    let start = after-up-to-filled .before .before .before .before in
+    run-turns (run-starts (start .args .buffer .now) 0) (directory start (after-up-to-filled .up-to-filled .result)) (c .put-directory .last .0)
+    (2 + 4 * (after-up-to-filled .up-to-filled .result + 2))
+    (omega (arith, lengths earlier .0, c .before .before .if1 .left)) (c .put-directory .ensures) (omega (arith, lengths earlier .0))
+
+abbrev second-run-up-to-filled : tie.After-put-parts → tie.After-up-to-filled
+second-run-up-to-filled c = c .before .before .before .before .before .before .before .before
+
+abbrev second-run-start : tie.After-put-parts → tie.Start
+second-run-start c = c .before .before .before .before .before .before .before .before .before .before .before .before
 
 second-run : (c : tie.After-put-parts)
-    → Run (c .before .before .before .before .before .before .before .before .before .before .before .before .args .buffer .now) 0 ([] ++ directory (c .before .before .before .before .before .before .before .before .before .before .before .before) (c .before .before .before .before .before .before .before .before .up-to-filled .result) ++ partBytes (c .before .before .before .before .before .before .before .before .before .before .before .before .args .given) (c .before .before .before .before .before .before .before .before .up-to-filled .result)) (c .put-parts .last .0)
-    (2 + 4 * (c .before .before .before .before .before .before .before .before .up-to-filled .result + 2) + length (partBytes (c .before .before .before .before .before .before .before .before .before .before .before .before .args .given) (c .before .before .before .before .before .before .before .before .up-to-filled .result)))
+    → Run (second-run-start c .args .buffer .now) 0
+    ([] ++ directory (second-run-start c) (second-run-up-to-filled c .up-to-filled .result) ++ partBytes (second-run-start c .args .given)
+    (second-run-up-to-filled c .up-to-filled .result)) (c .put-parts .last .0)
+    (2 + 4 * (second-run-up-to-filled c .up-to-filled .result + 2)
+    + length (partBytes (second-run-start c .args .given) (second-run-up-to-filled c .up-to-filled .result)))
 second-run c =
-    run-turns (first-run (c .before .before .before .before)) (partBytes (c .before .before .before .before .before .before .before .before .before .before .before .before .args .given) (c .before .before .before .before .before .before .before .before .up-to-filled .result)) (c .put-parts .last .0) (2 + 4 * (c .before .before .before .before .before .before .before .before .up-to-filled .result + 2) + length (partBytes (c .before .before .before .before .before .before .before .before .before .before .before .before .args .given) (c .before .before .before .before .before .before .before .before .up-to-filled .result)))
-    (omega (arith, parts (c .before .before .before .before .before .before .before), c .before .before .before .before .before .before .if1 .left)) (c .put-parts .ensures) refl
+    let earlier = c .before .before .before .before in
+    let after-if1 = earlier .before .before in
+    let earlier′ = after-if1 .before in
+    let after-up-to-filled = earlier′ .before in
+    let start = after-up-to-filled .before .before .before .before in
+    run-turns (first-run earlier) (partBytes (start .args .given) (after-up-to-filled .up-to-filled .result)) (c .put-parts .last .0)
+    (2 + 4 * (after-up-to-filled .up-to-filled .result + 2) + length (partBytes (start .args .given) (after-up-to-filled .up-to-filled .result)))
+    (omega (arith, parts earlier′, after-if1 .if1 .left)) (c .put-parts .ensures) refl
 
 -- ---- the needs
 up-to-filled-requires : tie.Need-up-to-filled-requires
@@ -112,21 +157,32 @@ add-size-3 : tie.Need-add-size-3
 add-size-3 c = omega (arith, c .before .up-to-filled .ensures .1, counts (c .before .before .before .before .before))
 
 add-size-4 : tie.Need-add-size-4
-add-size-4 c = omega (arith, c .before .up-to-filled .ensures .1, counts (c .before .before .before .before .before), good-record (c .before .before .before .before .before .args .given) (c .before .before .before .before .before .pre) .held)
+add-size-4 c =
+    let start = c .before .before .before .before .before in
+    omega (arith, c .before .up-to-filled .ensures .1, counts start, good-record (start .args .given) (start .pre) .held)
 
 add-size-5 : tie.Need-add-size-5
-add-size-5 c = omega (arith, c .before .up-to-filled .ensures .1, counts (c .before .before .before .before .before), good-record (c .before .before .before .before .before .args .given) (c .before .before .before .before .before .pre) .held, c .places-length .ensures .1)
+add-size-5 c =
+    let start = c .before .before .before .before .before in
+    omega (arith, c .before .up-to-filled .ensures .1, counts start, good-record (start .args .given) (start .pre) .held, c .places-length .ensures .1)
 
 returns : tie.Need-returns
-returns c = refused (c .before .before .before .before .before .before .args .given) (c .before .before .before .before .before .before .pre) (c .before .before .before .before .before .before .args .buffer .now) (fileLength (c .before .before .before .before .before .before) (c .before .before .up-to-filled .result) (c .before .places-length .result)) (lengths (c .before) .1) (c .if1 .taken)
+returns c =
+    let start = c .before .before .before .before .before .before in
+    refused (start .args .given) (start .pre) (start .args .buffer .now)
+    (fileLength start (c .before .before .up-to-filled .result) (c .before .places-length .result)) (lengths (c .before) .1) (c .if1 .taken)
 
 put-directory-requires : tie.Need-put-directory-requires
 put-directory-requires c κs =
-    let parts = good-record (c .before .before .before .before .before .before .before .args .given) (c .before .before .before .before .before .before .before .pre) in (
+    let start = c .before .before .before .before .before .before .before in
+    let parts = good-record (start .args .given) (start .pre) in (
       parts .relations,
       (
         parts .places,
-        ((c .before .before .before .up-to-filled .ensures .1, omega (arith, counts (c .before .before .before .before .before .before .before)), omega (arith, good-record (c .before .before .before .before .before .before .before .args .given) (c .before .before .before .before .before .before .before .pre) .held)), omega (arith, c .before .if1 .left)),
+        (
+          (c .before .before .before .up-to-filled .ensures .1, omega (arith, counts start), omega (arith, parts .held)),
+          omega (arith, c .before .if1 .left),
+        ),
       ),
     )
 
@@ -140,19 +196,35 @@ add-put-parts-2 : tie.Need-add-put-parts-2
 add-put-parts-2 c = omega (arith, c .before .before .before .before .before .before .before .up-to-filled .ensures .1)
 
 put-parts-requires : tie.Need-put-parts-requires
-put-parts-requires c κs = (c .before .before .before .before .before .before .before .before .before .before .before .pre, (c .before .before .before .before .before .before .before .up-to-filled .ensures .1, omega (arith, first-run (c .before .before .before) .long, parts (c .before .before .before .before .before .before), c .before .before .before .before .before .if1 .left)))
+put-parts-requires c κs =
+    let after-if1 = c .before .before .before .before .before in
+    let earlier = after-if1 .before in
+    let after-up-to-filled = earlier .before in
+    let start = after-up-to-filled .before .before .before .before in (
+      start .pre,
+      (
+        after-up-to-filled .up-to-filled .ensures .1,
+        omega (arith, first-run (c .before .before .before) .long, parts earlier, after-if1 .if1 .left),
+      ),
+    )
 
 same-length : tie.Need-same-length
 same-length c = second-run (c .before .before) .long
 
 returns-2 : tie.Need-returns-2
 returns-2 c =
-    let given = c .before .before .before .before .before .before .before .before .before .before .before .before .before .before .args .given in
-    let good = c .before .before .before .before .before .before .before .before .before .before .before .before .before .before .pre in
-    let buffer = c .before .before .before .before .before .before .before .before .before .before .before .before .before .before .args .buffer .now in
-    let n = c .before .before .before .before .before .before .before .before .before .before .up-to-filled .result in
-    let split = file-split given good (widths-long (c .before .before .before .before .before .before .before .before .before .before .before .before .before .before)) (list-long (c .before .before .before .before .before .before .before .before .before .before .before .before .before .before)) n (c .before .before .before .before .before .before .before .before .before .before .up-to-filled .ensures .0) (held (c .before .before .before .before .before .before .before .before .before .before)) in
-    done given good buffer (fileLength (c .before .before .before .before .before .before .before .before .before .before .before .before .before .before) n (c .before .before .before .before .before .before .before .before .before .places-length .result)) (lengths (c .before .before .before .before .before .before .before .before .before) .1) (c .before .before .put-parts .last .0) (c .before .before .before .before .before .before .before .before .if1 .left) (second-run (c .before .before) .written ∙ ap (over buffer 0) (sym split))
+    let after-put-parts = c .before .before in
+    let after-if1 = after-put-parts .before .before .before .before .before .before in
+    let after-places-length = after-if1 .before in
+    let after-up-to-filled = after-places-length .before in
+    let start = after-up-to-filled .before .before .before .before in
+    let given = start .args .given in
+    let good = start .pre in
+    let buffer = start .args .buffer .now in
+    let n = after-up-to-filled .up-to-filled .result in
+    let split = file-split given good (widths-long start) (list-long start) n (after-up-to-filled .up-to-filled .ensures .0) (held after-up-to-filled) in
+    done given good buffer (fileLength start n (after-places-length .places-length .result)) (lengths after-places-length .1)
+    (after-put-parts .put-parts .last .0) (after-if1 .if1 .left) (second-run after-put-parts .written ∙ ap (over buffer 0) (sym split))
 
 pub write-good-spec : {M : Type 1} → statement M
 write-good-spec =
