@@ -11,7 +11,6 @@ use record::calls::number;
 use record::calls::place_at;
 use record::calls::stored;
 ghost use mathlib.Core.Path.{_≡_};
-ghost use Prim.Native.Nat.{_<_};
 ghost use Rattle.comparison.specs.Comparison.{pairRefusal, Compared, CheckedMapping};
 ghost use Rattle.comparison.specs.internal.Pairs.{paired, numberIn, bare, Comparable, Compares};
 
