@@ -24,8 +24,8 @@ use Rattle.theory.specs.Determined.{subset, adds, growOn, growFor, closure, det
 use Rattle.query.specs.declared.Dependency as stored
 use Rattle.query.specs.View.{columnsFrom, columnsOf, dependencyOf, maskOf}
 use Rattle.lists.specs.Tests.{every}
-use Rattle.query.specs.Rule.{rightNarrow, noDependency}
-use Rattle.closure.specs.Closure.{addRight, nextMask, growMask}
+use Rattle.query.specs.Rule.{noDependency}
+use Rattle.closure.specs.internal.Closure.{addRight, nextMask, growMask, rightNarrow}
 use Rattle.lists.proofs.Tests.{and-left, every-getD}
 use Rattle.closure.proofs.Masks.{Same, same-columns, same-more, subset-mask, bit-shift, columns-in, mask-columns, columns-count}
 

@@ -12,13 +12,13 @@ use Rattle.record.specs.Calls.{storedAt, queryAt}
 use Rattle.query.specs.declared.Cell.{Cell}
 use Rattle.query.specs.declared.Query.{Query}
 use Rattle.query.specs.declared.Dependency.{Dependency}
-use Rattle.record.specs.declared.Place.{Place}
+use Rattle.query.specs.declared.Place.{Place}
 use Rattle.record.specs.declared.Record.{Record}
 use Rattle.query.specs.View.{entriesOf, rowsOf, queryOf}
 use Rattle.record.specs.View.{schemaOf, dependenciesOf}
 use Rattle.lists.specs.Tests.{every, between}
-use Rattle.record.specs.Rule.{goodPlace, goodRecord}
-use Rattle.query.specs.Rule.{goodQuery, goodRelations, goodDependencies, noCell, noQuery}
+use Rattle.record.specs.Rule.{goodRecord}
+use Rattle.query.specs.Rule.{goodQuery, goodRelations, goodDependencies, noCell, noQuery, goodPlace}
 use Rattle.lists.proofs.Tests.{and-left, and-right}
 use Rattle.query.proofs.Good.{good-query}
 use Rattle.query.proofs.Shape.{row-count}

@@ -11,13 +11,13 @@ use native.Mathlib.Omega.{arith}
 use lib.ListN.{length, getD, replicate}
 use Rattle.query.specs.declared.Cell.{Cell}
 use Rattle.query.specs.declared.Query.{Query}
-use Rattle.record.specs.declared.Place.{Place}
+use Rattle.query.specs.declared.Place.{Place}
 use Rattle.record.specs.declared.Record.{Record}
 use Rattle.query.specs.View.{queryOf}
 use Rattle.record.specs.View.{schemaOf, dependenciesOf}
 use Rattle.lists.specs.Tests.{every, between}
-use Rattle.query.specs.Rule.{blankQuery, goodQuery, headSafe, noCell, noQuery}
-use Rattle.record.specs.Rule.{goodPlace, goodRecord, noPlace}
+use Rattle.query.specs.Rule.{blankQuery, goodQuery, headSafe, noCell, noQuery, goodPlace, noPlace}
+use Rattle.record.specs.Rule.{goodRecord}
 use Rattle.record.specs.Calls.{isFilled, storedAt, queryAt}
 use Rattle.record.proofs.Good.{good-record}
 use Rattle.query.proofs.Good.{good-query}

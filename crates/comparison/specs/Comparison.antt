@@ -11,8 +11,7 @@ use Rattle.query.specs.declared.Query.{Query}
 use Rattle.record.specs.declared.Record.{Record}
 use Rattle.query.specs.View.{entriesOf, queryOf}
 use Rattle.record.specs.View.{schemaOf, dependenciesOf}
-use Rattle.query.specs.Rule.{goodQuery, noCell, noQuery}
-use Rattle.record.specs.Rule.{noPlace}
+use Rattle.query.specs.Rule.{goodQuery, noCell, noQuery, noPlace}
 use Rattle.refusals.specs.Refusals.{Condition, firstHolding, headsDiffer, Reply, refused, gives, reply}
 use Rattle.record.specs.Calls.{broken, above, vacant, storedAt, queryAt}
 use Rattle.mapping.specs.Mapped.{imagesOf}

@@ -3,7 +3,7 @@ use query::Cell;
 use query::Entry;
 use query::Query;
 use record::Answer;
-use record::Place;
+use query::Place;
 use record::calls;
 ghost use mathlib.Core.Path.{_≡_};
 ghost use mathlib.Core.Bool.{true};

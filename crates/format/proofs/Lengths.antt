@@ -12,7 +12,7 @@ use Rattle.query.specs.declared.Entry.the-variants.{Constant, Variable}
 use Rattle.query.specs.declared.Cell.{Cell}
 use Rattle.query.specs.declared.Query.{Query}
 use Rattle.query.specs.declared.Dependency.{Dependency}
-use Rattle.record.specs.declared.Place.{Place}
+use Rattle.query.specs.declared.Place.{Place}
 use Rattle.format.specs.Format.{Format, byte, sequence, padded, via, putAll}
 use Rattle.format.specs.Parts.{relations, dependency, dependencies, putEntry, entry, entries, row, rows, chunk, query}
 use Rattle.format.specs.File.{putPlace, join}

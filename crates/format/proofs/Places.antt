@@ -10,10 +10,9 @@ use lib.Seq.{length-take-le}
 use borrow.Author.Tests.{eqb-true, eq-eqb}
 use Rattle.query.specs.declared.Cell.{Cell}
 use Rattle.query.specs.declared.Query.{Query}
-use Rattle.record.specs.declared.Place.{Place}
+use Rattle.query.specs.declared.Place.{Place}
 use Rattle.lists.specs.Tests.{every, isZero}
-use Rattle.query.specs.Rule.{blankCell, blankQuery, goodQuery, headSafe, noCell, noQuery}
-use Rattle.record.specs.Rule.{goodPlace, noPlace}
+use Rattle.query.specs.Rule.{blankCell, blankQuery, goodQuery, headSafe, noCell, noQuery, goodPlace, noPlace}
 use Rattle.refusals.specs.Refusals.{badQuery}
 use Rattle.format.specs.Bytes.{Bytes}
 use Rattle.format.specs.Format.{Reading, none, got, Format, Lawful, byte, sequence, via, pad}

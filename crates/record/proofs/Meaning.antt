@@ -23,12 +23,12 @@ use Rattle.record.specs.declared.Columns.the-variants as columns
 use Rattle.query.specs.View.{columnsFrom, columnsOf, maskOf}
 use Rattle.record.specs.View.{schemaOf, dependenciesOf}
 use Rattle.lists.specs.Tests.{between, every}
-use Rattle.query.specs.Rule.{goodSet, goodRelations, goodDependency, goodQuery, headSafe}
-use Rattle.record.specs.Rule.{goodRecord, noPlace, blankRecord}
+use Rattle.query.specs.Rule.{goodSet, goodRelations, goodDependency, goodQuery, headSafe, noPlace}
+use Rattle.record.specs.Rule.{goodRecord, blankRecord}
 use Rattle.refusals.specs.Refusals.{firstHolding}
 use Rattle.record.specs.Calls.{concluded, broken, above, vacant, filled, withPlace, withDependency, emptyRecord, openRecord, addDependency, putQuery, dropQuery, columnsAnswer, determinedColumns}
 use Rattle.record.specs.Meaning.{OpenKeeps, AddKeeps, PutKeeps, DropKeeps, BlankBroken, DeterminedMeans}
-use Rattle.closure.specs.Closure.{growMask}
+use Rattle.closure.specs.internal.Closure.{growMask}
 use Rattle.record.proofs.Good.{good-record}
 use Rattle.query.proofs.Good.{good-set}
 use Rattle.record.proofs.Stored.{narrow, dependencies-fit}

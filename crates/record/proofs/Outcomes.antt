@@ -23,11 +23,11 @@ use Rattle.record.specs.declared.Columns.the-variants as columns
 use Rattle.query.specs.View.{columnsOf, maskOf}
 use Rattle.record.specs.View.{schemaOf, dependenciesOf}
 use Rattle.lists.specs.Tests.{between, every, isZero}
-use Rattle.query.specs.Rule.{goodSet, rightNarrow, blankDependency, goodRelations, goodDependency, goodQuery, headSafe}
-use Rattle.record.specs.Rule.{blankRecord, goodRecord, noPlace}
+use Rattle.query.specs.Rule.{goodSet, blankDependency, goodRelations, goodDependency, goodQuery, headSafe, noPlace}
+use Rattle.record.specs.Rule.{blankRecord, goodRecord}
 use Rattle.refusals.specs.Refusals.{firstHolding}
 use Rattle.record.specs.Calls.{concluded, broken, above, vacant, filled, placeAt, filledPlace, vacantPlace, withPlace, withDependency, emptyRecord, openRecord, addDependency, putQuery, dropQuery, determinedColumns}
-use Rattle.closure.specs.Closure.{growMask}
+use Rattle.closure.specs.internal.Closure.{growMask, rightNarrow}
 use Rattle.lists.proofs.Tests.{every-replicate, every-weaken, used-good}
 use Rattle.record.proofs.Good.{good-record}
 use Rattle.query.proofs.Good.{good-dependency, good-set}

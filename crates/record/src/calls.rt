@@ -3,17 +3,15 @@ use crate::Answer;
 use crate::Columns;
 use crate::Lookup;
 use crate::Outcome;
-use crate::Place;
 use crate::Record;
 use query::Dependency;
+use query::Place;
 use query::Query;
 ghost use mathlib.Core.Path.{_≡_};
 ghost use mathlib.Core.Option.{none, some};
-ghost use mathlib.Core.Bool.{true};
-ghost use mathlib.Core.List.{_++_};
-ghost use Prim.Native.Nat.{_-_, _<_, _≤_};
-ghost use lib.ListN.{length, replicate};
-ghost use Rattle.record.specs.Rule.{noPlace, blankRecord};
+ghost use Prim.Native.Nat.{_<_};
+ghost use Rattle.query.specs.Rule.{noPlace};
+ghost use Rattle.record.specs.Rule.{blankRecord};
 ghost use Rattle.record.specs.Calls.{concluded, placeAt, filledPlace, vacantPlace, storedAt, emptyRecord, openRecord, addDependency, putQuery, dropQuery, determinedColumns, numberOf};
 
 // A call is done.
@@ -103,18 +101,6 @@ pub fn blank_record() -> Record
     opened(0, [0; 8])
 }
 
-// At most 8 widths, and 0 for each that is not in use.
-fn padded_widths(widths: &[u8]) -> [u8; 8]
-    requires { ⌜ length (now widths) ≤ 8 ⌝ }
-    ensures { λ r. ⌜ r ≡ now (widths .entry) ++ replicate (8 - length (now (widths .entry))) 0 ⌝ }
-{
-    let mut padded = [0u8; 8];
-    for i in 0..widths.len() {
-        padded[i] = widths[i];
-    }
-    padded
-}
-
 impl Record {
     // Open a record from relation widths.
     pub fn open(widths: &[u8]) -> Outcome
@@ -124,7 +110,7 @@ impl Record {
             return refused(refusals::BAD_RELATIONS, blank_record());
         }
         let relations = widths.len() as u8;
-        let padded = padded_widths(widths);
+        let padded = limits::padded_widths(widths);
         if !limits::relations_good(relations, padded) {
             return refused(refusals::BAD_RELATIONS, blank_record());
         }

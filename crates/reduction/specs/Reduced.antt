@@ -11,8 +11,8 @@ use Rattle.record.specs.declared.Record.{Record}
 use Rattle.record.specs.declared.Answer.the-variants as answer
 use Rattle.query.specs.View.{queryOf}
 use Rattle.record.specs.View.{schemaOf, dependenciesOf}
-use Rattle.record.specs.Rule.{goodRecord, noPlace}
-use Rattle.query.specs.Rule.{noCell}
+use Rattle.record.specs.Rule.{goodRecord}
+use Rattle.query.specs.Rule.{noCell, noPlace}
 use Rattle.refusals.specs.Refusals.{Condition, firstHolding}
 use Rattle.record.specs.Calls.{broken, above, vacant, filled, withPlace, storedAt, queryAt}
 use Rattle.mapping.specs.Mapped.{imagesOf}

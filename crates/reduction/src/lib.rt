@@ -6,7 +6,7 @@ use query::Entry;
 use query::Query;
 use record::Answer;
 use record::Lookup;
-use record::Place;
+use query::Place;
 use record::Record;
 ghost use mathlib.Core.Path.{_≡_};
 ghost use mathlib.Core.Bool.{true};

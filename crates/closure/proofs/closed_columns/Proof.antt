@@ -7,7 +7,7 @@ use native.Mathlib.Nat.{sub-zero}
 use lib.ListN.{take}
 use borrow.Author.Needs.{needs}
 use Rattle.query.specs.View.{dependencyOf}
-use Rattle.closure.specs.Closure.{growMask}
+use Rattle.closure.specs.internal.Closure.{growMask}
 use Rattle.closure.proofs.Closure.{grow-step, grow-end}
 use Rattle.closure.proofs.closed_columns.Statement.{statement}
 use Rattle.closure.proofs.closed_columns.Tie as tie

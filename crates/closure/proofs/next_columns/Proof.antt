@@ -13,7 +13,7 @@ use Rattle.theory.specs.Database as database
 use Rattle.theory.specs.Determined.{adds}
 use Rattle.query.specs.View.{columnsOf, dependencyOf}
 use Rattle.query.specs.Rule.{noDependency}
-use Rattle.closure.specs.Closure.{addRight, nextMask}
+use Rattle.closure.specs.internal.Closure.{addRight, nextMask}
 use Rattle.lists.proofs.Tests.{shifted-one}
 use Rattle.closure.proofs.Closure.{Passing, passing-start, passing-finds, passing-goes, passing-ends, held-length, held-at, right-at}
 use Rattle.closure.proofs.next_columns.Statement.{statement}

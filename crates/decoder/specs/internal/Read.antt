@@ -5,10 +5,9 @@ use Prim.Native.Nat.{ℕ}
 use lib.ListN.{replicate}
 use Rattle.query.specs.declared.Cell.{Cell}
 use Rattle.query.specs.declared.Query.{Query}
-use Rattle.record.specs.declared.Place.{Place}
+use Rattle.query.specs.declared.Place.{Place}
 use Rattle.record.specs.declared.Answer.the-variants.{Done, Refused}
-use Rattle.query.specs.Rule.{noCell, noQuery}
-use Rattle.record.specs.Rule.{noPlace}
+use Rattle.query.specs.Rule.{noCell, noQuery, noPlace}
 use Rattle.format.specs.Format.{Reading, none, got}
 use Rattle.format.specs.Parts.{flat}
 use Rattle.format.specs.File.{Result, ok, refused}

@@ -5,7 +5,7 @@ use lib.ListN.{take}
 use borrow.Author.Needs.{needs}
 use Rattle.theory.specs.Query.{variablesOf, rowEntries}
 use Rattle.query.specs.View.{rowsOf}
-use Rattle.query.specs.Rule.{safeEntry}
+use Rattle.limits.specs.internal.Entries.{safeEntry}
 use Rattle.limits.proofs.head_cell_safe.Statement.{statement}
 use Rattle.limits.proofs.head_cell_safe.Tie as tie
 

@@ -9,7 +9,8 @@ use borrow.Author.Needs.{needs}
 use Rattle.theory.specs.Query.{variablesOf, rowEntries}
 use Rattle.query.specs.View.{rowsOf}
 use Rattle.lists.specs.Tests.{every}
-use Rattle.query.specs.Rule.{safeCell, noCell}
+use Rattle.limits.specs.internal.Entries.{safeCell}
+use Rattle.query.specs.Rule.{noCell}
 use Rattle.lists.proofs.Loops.{mapped-length, Remains, turn-passes, turn-fails, turns-end, every-start}
 use Rattle.limits.proofs.Variables.{rowVariables, head-safe-is}
 use Rattle.limits.proofs.head_safe.Statement.{statement}

@@ -7,7 +7,8 @@ use lib.ListN.{length, take, drop, getD}
 use borrow.Author.Needs.{needs}
 use Rattle.theory.specs.Query.{member, variablesOf}
 use Rattle.query.specs.View.{entriesOf}
-use Rattle.query.specs.Rule.{namesVariable, noCell}
+use Rattle.limits.specs.internal.Entries.{namesVariable}
+use Rattle.query.specs.Rule.{noCell}
 use Rattle.lists.proofs.Loops.{Sought, search-finds, search-passes, search-ends, stretch-length, stretch-getD}
 use Rattle.limits.proofs.Variables.{cells-start}
 use Rattle.limits.proofs.row_has.Statement.{statement}

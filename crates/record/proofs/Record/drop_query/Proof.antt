@@ -9,7 +9,8 @@ use borrow.Author.Tests.{not-true, not-false}
 use borrow.Author.Needs.{needs}
 use Rattle.record.specs.declared.Record.{Record}
 use Rattle.record.specs.declared.Lookup.the-variants as lookup
-use Rattle.record.specs.Rule.{goodRecord, noPlace}
+use Rattle.query.specs.Rule.{noPlace}
+use Rattle.record.specs.Rule.{goodRecord}
 use Rattle.record.specs.Calls.{concluded, numberOf, filledPlace, withPlace}
 use Rattle.record.proofs.Refusals.{filled-at}
 use Rattle.record.proofs.Outcomes.{drop-broken, drop-refused, drop-done}

@@ -7,8 +7,8 @@ use borrow.Author.Needs.{needs}
 use Rattle.record.specs.declared.Record.{Record}
 use Rattle.record.specs.View.{schemaOf}
 use Rattle.lists.specs.Tests.{every}
-use Rattle.query.specs.Rule.{goodRelations, goodDependencies}
-use Rattle.record.specs.Rule.{goodPlace, goodRecord}
+use Rattle.query.specs.Rule.{goodRelations, goodDependencies, goodPlace}
+use Rattle.record.specs.Rule.{goodRecord}
 use Rattle.record.proofs.Record.is_good.Statement.{statement}
 use Rattle.record.proofs.Record.is_good.Tie as tie
 

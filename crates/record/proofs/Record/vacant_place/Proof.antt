@@ -5,11 +5,11 @@ use Prim.Native.Nat.{_<_}
 use native.Mathlib.Omega.{arith}
 use lib.ListN.{length, getD}
 use borrow.Author.Needs.{needs}
-use Rattle.record.specs.declared.Place.{Place}
-use Rattle.record.specs.Rule.{noPlace}
+use Rattle.query.specs.declared.Place.{Place}
+use Rattle.query.specs.Rule.{noPlace}
 use Rattle.record.specs.Calls.{isFilled}
 use Rattle.lists.proofs.Loops.{mapped-length, getD-any}
-use Rattle.record.proofs.Shape.{pastPlace}
+use Rattle.query.proofs.Shape.{pastPlace}
 use Rattle.record.proofs.Refusals.{vacant-high, vacant-no, vacant-yes}
 use Rattle.record.proofs.Record.vacant_place.Statement.{statement}
 use Rattle.record.proofs.Record.vacant_place.Tie as tie

@@ -4,10 +4,10 @@ use Prim.Native.Nat.{_<_}
 use native.Mathlib.Omega.{arith}
 use lib.ListN.{length}
 use borrow.Author.Needs.{needs}
-use Rattle.record.specs.declared.Place.{Place}
-use Rattle.record.specs.Rule.{noPlace}
+use Rattle.query.specs.declared.Place.{Place}
+use Rattle.query.specs.Rule.{noPlace}
 use Rattle.lists.proofs.Loops.{mapped-length, getD-any}
-use Rattle.record.proofs.Shape.{pastPlace}
+use Rattle.query.proofs.Shape.{pastPlace}
 use Rattle.record.proofs.calls.stored.Statement.{statement}
 use Rattle.record.proofs.calls.stored.Tie as tie
 

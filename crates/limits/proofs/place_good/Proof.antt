@@ -1,4 +1,4 @@
--- `record::rule::place_good` meets its contract: the tests are those of `goodPlace` in its order.
+-- `limits::place_good` meets its contract: the tests are those of `goodPlace` in its order.
 -- Assumes nothing.
 use mathlib.Core.Path.{_≡_, sym, _∙_}
 use mathlib.Core.Bool.{true, false}
@@ -7,12 +7,11 @@ use Prim.Native.Nat.{ℕ}
 use lib.ListN.{take}
 use borrow.Author.Tests.{not-true, not-false}
 use borrow.Author.Needs.{needs}
-use Rattle.record.specs.declared.Place.{Place}
-use Rattle.query.specs.Rule.{goodQuery, headSafe, blankQuery}
-use Rattle.record.specs.Rule.{goodPlace}
+use Rattle.query.specs.declared.Place.{Place}
+use Rattle.query.specs.Rule.{goodPlace, goodQuery, headSafe, blankQuery}
 use Rattle.query.proofs.Good.{good-query}
-use Rattle.record.proofs.rule.place_good.Statement.{statement}
-use Rattle.record.proofs.rule.place_good.Tie as tie
+use Rattle.limits.proofs.place_good.Statement.{statement}
+use Rattle.limits.proofs.place_good.Tie as tie
 
 module _ (schema : List ℕ) (p : Place) where
   stops : p .filled ≡ true → goodQuery schema (p .query) ≡ false → false ≡ goodPlace schema p

@@ -1,4 +1,4 @@
--- `record::calls::padded_widths` meets its contract. Invariant: the first i widths are stored, and 0 stands after them.
+-- `limits::padded_widths` meets its contract. Invariant: the first i widths are stored, and 0 stands after them.
 -- Assumes nothing.
 use mathlib.Core.Path.{_≡_, refl, ap, _∙_}
 use mathlib.Core.List.{List, _++_}
@@ -8,8 +8,8 @@ use lib.Seq.{take-length}
 use lib.ListN.{length, getD, set, replicate}
 use borrow.Author.Needs.{needs}
 use Rattle.lists.proofs.Loops.{filledTo, filled-next}
-use Rattle.record.proofs.calls.padded_widths.Statement.{statement}
-use Rattle.record.proofs.calls.padded_widths.Tie as tie
+use Rattle.limits.proofs.padded_widths.Statement.{statement}
+use Rattle.limits.proofs.padded_widths.Tie as tie
 
 abbrev Inv-loop : tie.InvT-loop
 Inv-loop widths padded₀ i₀ i-end padded i = (i ≤ length widths) × (i-end ≡ length widths) × (padded ≡ filledTo 8 0 widths i)
