@@ -1,9 +1,9 @@
 // A query part, read off bytes: numbers, entries, rows, then the query that the part holds.
 use query::Cell;
 use query::Entry;
+use query::Place;
 use query::Query;
 use record::Answer;
-use query::Place;
 use record::calls;
 ghost use mathlib.Core.Path.{_≡_};
 ghost use mathlib.Core.Bool.{true};

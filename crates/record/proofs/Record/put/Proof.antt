@@ -2,11 +2,12 @@
 -- Assumes nothing.
 use mathlib.Core.Path.{_≡_, sym, ap, _∙_}
 use mathlib.Core.Bool.{true}
-use mathlib.Core.Option.{some}
+use mathlib.Core.Option.{none, some}
 use Prim.Native.Nat.{ℕ, _<_}
 use native.Mathlib.Omega.{arith}
 use borrow.Author.Tests.{not-true, not-false}
 use borrow.Author.Needs.{needs}
+use Rattle.record.specs.declared.Record.{Record}
 use Rattle.record.specs.declared.Lookup.the-variants as lookup
 use Rattle.record.specs.View.{schemaOf}
 use Rattle.record.specs.Rule.{goodRecord}
@@ -114,35 +115,25 @@ returns-5 c =
     ∙ put-filled (c .before .before .before .before .before .before .before .before .before .before .before .before .before .before .before .args .self) (c .before .before .before .before .before .before .before .before .before .before .before .before .before .before .before .args .place) (c .before .before .before .before .before .before .before .before .before .before .before .before .before .before .before .args .q) (good (c .before .before .before .before .before .before .before .before .before .before .before .before)) (low (c .before .before .before .before .before .before .before .before .before)) (fit (c .before .before .before .before .before .before .before)) (safe (c .before .before .before .before .before)) (told .0 .0)
     (sym (c .before .before .before .before .vacant-place .ensures) ∙ told .1)
 
-mul-t15 : tie.Need-mul-t15
-mul-t15 c =
+with-place-requires : tie.Need-with-place-requires
+with-place-requires c κs =
     let self = c .before .before .before .before .before .before .before .before .before .before .before .before .before .before .args .self in
     let place = c .before .before .before .before .before .before .before .before .before .before .before .before .before .before .args .place in
     let at = c .before .found .given .0 .0 in
     let is : vacantPlace self place ≡ lookup.At at = sym (c .before .before .before .vacant-place .ensures) ∙ c .before .found .given .1 in
-    let inside : at < 8 = omega (arith, vacant-at self place at is .0, vacant-at self place at is .1) in
-    record { fits = omega arith }
-
-element-set-from-next : tie.Need-element-set-from-next
-element-set-from-next c =
-    let self = c .before .before .before .before .before .before .before .before .before .before .before .before .before .before .args .self in
-    let place = c .before .before .before .before .before .before .before .before .before .before .before .before .before .before .args .place in
-    let at = c .before .found .given .0 .0 in
-    let is : vacantPlace self place ≡ lookup.At at = sym (c .before .before .before .vacant-place .ensures) ∙ c .before .found .given .1 in
-    let inside : at < 8 = omega (arith, vacant-at self place at is .0, vacant-at self place at is .1) in
-    search needs
+    omega (arith, vacant-at self place at is .0, vacant-at self place at is .1)
 
 done-requires : tie.Need-done-requires
 done-requires c κs = search needs
 
 returns-6 : tie.Need-returns-6
 returns-6 c =
-    let self = c .before .before .before .before .before .before .before .before .before .before .before .before .before .before .before .args .self in
-    let place = c .before .before .before .before .before .before .before .before .before .before .before .before .before .before .before .args .place in
-    let at = c .before .before .found .given .0 .0 in
-    let is : vacantPlace self place ≡ lookup.At at = sym (c .before .before .before .before .vacant-place .ensures) ∙ c .before .before .found .given .1 in
-    let inside : at < 8 = omega (arith, vacant-at self place at is .0, vacant-at self place at is .1) in
-    c .done .ensures ∙ put-done self place (c .before .before .before .before .before .before .before .before .before .before .before .before .before .before .before .args .q) (good (c .before .before .before .before .before .before .before .before .before .before .before .before)) (low (c .before .before .before .before .before .before .before .before .before)) (fit (c .before .before .before .before .before .before .before)) (safe (c .before .before .before .before .before)) at is
+    let self = c .before .before .before .before .before .before .before .before .before .before .before .before .before .before .before .before .args .self in
+    let place = c .before .before .before .before .before .before .before .before .before .before .before .before .before .before .before .before .args .place in
+    let at = c .before .before .before .found .given .0 .0 in
+    let is : vacantPlace self place ≡ lookup.At at = sym (c .before .before .before .before .before .vacant-place .ensures) ∙ c .before .before .before .found .given .1 in
+    c .done .ensures ∙ ap (λ (after : Record). concluded none after after) (c .before .with-place .ensures)
+    ∙ put-done self place (c .before .before .before .before .before .before .before .before .before .before .before .before .before .before .before .before .args .q) (good (c .before .before .before .before .before .before .before .before .before .before .before .before .before)) (low (c .before .before .before .before .before .before .before .before .before .before)) (fit (c .before .before .before .before .before .before .before .before)) (safe (c .before .before .before .before .before .before)) at is
 
 pub put-spec : {M : Type 1} → statement M
 put-spec =
@@ -169,7 +160,6 @@ put-spec =
     number-requires-2
     refused-requires-5
     returns-5
-    mul-t15
-    element-set-from-next
+    with-place-requires
     done-requires
     returns-6)
