@@ -90,8 +90,3 @@ good-dependency schema d e =
       left = ltb-true _ _ (and-right (a && b) f e3);
       right = ltb-true _ _ (and-right (a && b && f) g e);
     }
-
-pub make-dependency : (schema : List ℕ) (d : Dependency) → GoodDependency schema d → goodDependency schema d ≡ true
-unfolding goodDependency goodSet
-make-dependency schema d g =
-    rw (lt-ltb _ _ (g .relation), ne-eqb _ _ (g .nonempty), lt-ltb _ _ (g .left), lt-ltb _ _ (g .right))

@@ -18,7 +18,8 @@ use Rattle.theory.specs.Query.{Row, column, member, _∈_}
 use Rattle.theory.specs.Database.{Database, Dependency, Agree, Obeys, Sound}
 use Rattle.theory.specs.Chase.{firstPassing}
 use Rattle.theory.specs.Determined.{Determines, FitsColumns, Ascending, subset, adds, growOn, growFor, closure, columnsIn, determined}
-use Rattle.theory.proofs.Lists.{and-left, and-right, and-both, mem-cases, member-mem, mem-member, member-not-mem}
+use Rattle.lists.proofs.Tests.{and-left, and-right, and-both}
+use Rattle.theory.proofs.Lists.{mem-cases, member-mem, mem-member, member-not-mem}
 use Rattle.theory.proofs.Members.{_⊆_}
 use Rattle.theory.proofs.Step.{firstPassing-found, firstPassing-nothing}
 
@@ -327,12 +328,6 @@ closure-complete widths ds fits relation held left c less determines =
     (two-obeys widths ds fits relation left) (zeros relation (getD widths relation 0))
     (marks relation (getD widths relation 0) (closure ds relation left)) (List·Memᴰ·head refl) (List·Memᴰ·tail (List·Memᴰ·head refl)) refl refl
     (λ b at. two-agree relation (getD widths relation 0) (closure ds relation left) b (closure-more ds relation left b at)))
-
--- The closure is exact: it has just the columns that the left set determines
-pub closure-exact : (widths : List ℕ) (ds : List Dependency) → ((d : Dependency) → d ∈ ds → FitsColumns widths d) → (relation : ℕ) → relation < length widths
-    → (left : List ℕ) (c : ℕ) → c < getD widths relation 0 → Determines widths ds relation left c ↔ (c ∈ closure ds relation left)
-closure-exact widths ds fits relation held left c less =
-    (closure-complete widths ds fits relation held left c less, closure-sound widths ds relation left c)
 
 -- ---- 5. the determined columns
 

@@ -266,21 +266,6 @@ module _ (ds : List Dependency) (S T : Query) (result : Reduction ds S T) where
       (λ there. Memᴰ·append-right (chase ds S .query .head) (rowEntries-part (result .rows) x there))
       (List·Memᴰ·append-cases (T .head) at)
 
-  -- so none that the source has not, but for constant 0,
-  pub reduction-entries : (x : Entry) → x ∈ T .head ++ rowEntries (T .rows) → (x ≡ constant 0) ⊎ (x ∈ S .head ++ rowEntries (S .rows))
-  reduction-entries x at = chase-entries ds S x (result-entries x at)
-
-  -- no variable that the source has not,
-  pub reduction-variables : (v : ℕ) → v ∈ variables T → v ∈ variables S
-  reduction-variables v at =
-      chase-variables ds S v
-      (mem-variablesOf v (chase ds S .query .head ++ rowEntries (chase ds S .query .rows))
-      (result-entries (variable v) (variablesOf-mem v (T .head ++ rowEntries (T .rows)) at)))
-
-  -- and constants below the base that the source's are below
-  pub reduction-constants : (base : ℕ) → 0 < base → ConstantsBelow base S → ConstantsBelow base T
-  reduction-constants base positive below = below-part base (chase ds S .query) T (result .head) (result .rows) (chase-constants ds S base positive below)
-
 -- A result of a well-formed query is well-formed
 pub reduction-wellformed : (widths : List ℕ) (ds : List Dependency) (S T : Query) → WellFormed widths S → Reduction ds S T → WellFormed widths T
 reduction-wellformed widths ds S T well result = record { rows-fit = λ r at. chased .rows-fit r (result .rows r at); head-safe = safe }
@@ -306,13 +291,6 @@ reduction-wellformed widths ds S T well result = record { rows-fit = λ r at. ch
 abbrev pub withRows : Query → List (Row Entry) → Query
 withRows q rows = record { head = q .head; rows = rows }
 
--- If T maps to T', which has its head and some of its rows, and T cannot be mapped into itself without a row that T' still has, then neither can T'
-pub core-once : {r : Row Entry} (T T' : Query) → T' .head ≡ T .head → Mapping T T' → (at : r ∈ T .rows) (at' : r ∈ T' .rows)
-    → without (T' .rows) at' ⊆ without (T .rows) at → (Mapping T (dropRow T at) → ⊥) → Mapping T' (dropRow T' at') → ⊥
-core-once T T' same f at at' part needed g =
-    needed (mapping-part T T (dropRow T' at') (dropRow T at) refl (f .1 .carries .not-never) (λ r there. there) (sym same) part
-    (mapping-compose T T' (dropRow T' at') f g))
-
 -- The state of one pass over the rows of q: the kept rows, then those that are still to be tried. They are rows of q, q maps to them, and no kept row can go
 pub record OnePass (q : Query) (kept rest : List (Row Entry)) : Type 0 where
   pub rows : kept ++ rest ⊆ q .rows
@@ -335,27 +313,6 @@ pass-drop q kept r rest pass f = record {
       (mapping-compose (withRows q (kept ++ r ∷ rest)) (withRows q (kept ++ rest)) (withRows q (without kept at ++ rest)) f g));
 }
 
--- A row that stands there once more goes
-pub pass-repeat : (q : Query) (kept : List (Row Entry)) (r : Row Entry) (rest : List (Row Entry)) → OnePass q kept (r ∷ rest) → r ∈ kept ++ rest → OnePass q kept rest
-pass-repeat q kept r rest pass again =
-    pass-drop q kept r rest pass
-    (mapping-inclusion (withRows q (kept ++ r ∷ rest)) (withRows q (kept ++ rest)) (some-of-member (kept ++ r ∷ rest) (Memᴰ·append-right kept (List·Memᴰ·head refl))) refl
-    (λ s at. left s (List·Memᴰ·append-cases kept at)))
-  where
-    left : (s : Row Entry) → (s ∈ kept) ⊎ (s ∈ r ∷ rest) → s ∈ kept ++ rest
-    left s (inl at) = Memᴰ·append-left rest at
-    left s (inr (List·Memᴰ·head same)) = Memᴰ·cast same again
-    left s (inr (List·Memᴰ·tail at)) = Memᴰ·append-right kept at
-
--- What the rows of the pass map to is what q maps to: a search for the mapping may start from either
-pub pass-source : (q : Query) (kept rest : List (Row Entry)) → OnePass q kept rest → q .rows ≢ [] → (U : Query)
-    → Mapping q U ↔ Mapping (withRows q (kept ++ rest)) U
-pass-source q kept rest pass some U =
-    let f : Mapping q (withRows q (kept ++ rest)) = pass .receives some in (
-      mapping-part q (withRows q (kept ++ rest)) U U refl (mapping-target q (withRows q (kept ++ rest)) f) (pass .rows) refl (λ r at. at),
-      mapping-compose q (withRows q (kept ++ rest)) U f,
-    )
-
 -- Any other row is kept
 pub pass-keep : (q : Query) (kept : List (Row Entry)) (r : Row Entry) (rest : List (Row Entry)) → OnePass q kept (r ∷ rest)
     → (Mapping (withRows q (kept ++ r ∷ rest)) (withRows q (kept ++ rest)) → ⊥) → OnePass q (kept ++ (r ∷ [])) rest
@@ -375,16 +332,6 @@ pass-keep q kept r rest pass none = record {
     cases s (inr found) f =
         none (subst (λ rows. Mapping (withRows q (kept ++ r ∷ rest)) (withRows q (rows ++ rest)))
         (found .1 ∙ ap (λ rows. kept ++ rows) (without-singleton (found .0)) ∙ append-nil kept) f)
-
--- The rows still to be tried may change places, and repeats may go
-pub pass-reorder : (q : Query) (kept rest rest' : List (Row Entry)) → rest ⊆ rest' → rest' ⊆ rest → OnePass q kept rest → OnePass q kept rest'
-pass-reorder q kept rest rest' into back pass = record {
-  rows = λ s at. pass .rows s (append-part kept back s at);
-  receives = λ some. mapping-part q q (withRows q (kept ++ rest)) (withRows q (kept ++ rest')) refl some (λ s at. at) refl (append-part kept into) (pass .receives some);
-  needed = λ s at f. pass .needed s at
-      (mapping-part (withRows q (kept ++ rest')) (withRows q (kept ++ rest)) (withRows q (without kept at ++ rest')) (withRows q (without kept at ++ rest))
-      refl (some-of-member (kept ++ rest) (Memᴰ·append-left rest at)) (append-part kept into) refl (append-part (without kept at) back) f);
-}
 
 -- When none is left to be tried, the kept rows are a core
 pub pass-core : (q : Query) (kept : List (Row Entry)) → OnePass q kept [] → Core (withRows q kept)

@@ -358,11 +358,3 @@ answer-mapping D q t = (
 
     rows-back : map (mapRow number) (map (mapRow constant) D) ≡ D
     rows-back = map-map (mapRow number) (mapRow constant) D ∙ map-agree (λ r. mapRow number (mapRow constant r)) (λ r. r) D (λ r at. row-back r) ∙ map-id D
-
--- Whether t is an answer is decidable
-pub answer-dec : (D : Database) (q : Query) (t : List ℕ) → Dec (Answer D q t)
-answer-dec D q t = go (mapping-dec q (asQuery D t))
-  where
-    go : Dec (Mapping q (asQuery D t)) → Dec (Answer D q t)
-    go (yes f) = yes (answer-mapping D q t .1 f)
-    go (no nothing) = no (λ answer. nothing (answer-mapping D q t .0 answer))
