@@ -82,7 +82,8 @@ subset-same [] known other same = refl
 subset-same (m ∷ ms) known other same = ap₂ _&&_ (same m) (subset-same ms known other same)
 
 -- Two lists of the same columns let the same dependencies add
-adds-same : (relation : ℕ) (known other : List ℕ) → ((c : ℕ) → member c known ≡ member c other) → (d : Dependency) → adds relation known d ≡ adds relation other d
+adds-same : (relation : ℕ) (known other : List ℕ) → ((c : ℕ) → member c known ≡ member c other) → (d : Dependency)
+    → adds relation known d ≡ adds relation other d
 unfolding adds
 adds-same relation known other same d =
     ap₂ (λ (t u : Bool). eqb (d .relation) relation && t && not u) (subset-same (d .left) known other same) (same (d .right))

@@ -60,7 +60,8 @@ column-is w start cells c h =
     ∙ ap (λ (x : Cell). entryOf (x .entry)) (stretch-getD start w cells c noCell h)
 
 -- Head entry i
-pub head-is : (schema : List ℕ) (q : Query) (i : ℕ) → i < q .arity → getD (queryOf schema q .head) i (theory.constant 0) ≡ entryOf (getD (q .head) i noCell .entry)
+pub head-is : (schema : List ℕ) (q : Query) (i : ℕ) → i < q .arity
+    → getD (queryOf schema q .head) i (theory.constant 0) ≡ entryOf (getD (q .head) i noCell .entry)
 head-is schema q i h = column-is (q .arity) 0 (q .head) i h ∙ ap (λ (k : ℕ). entryOf (getD (q .head) k noCell .entry)) (omega arith)
 
 -- ---- 2. values that are not in use
@@ -126,7 +127,8 @@ pastPlace = record { filled = false; query = record { arity = 0; size = 0; head 
 module _ (schema : List ℕ) (q : Query) (good : goodQuery schema q ≡ true) where
   pub head-padded : q .head ≡ take (headInUse q) (q .head) ++ replicate (length (q .head) - headInUse q) noCell
   head-padded =
-      padded (headInUse q) goodCell blankCell (q .head) noCell blank-cell (used-blank (headInUse q) goodCell blankCell (q .head) (good-query schema q good .head))
+      padded (headInUse q) goodCell blankCell (q .head) noCell blank-cell
+      (used-blank (headInUse q) goodCell blankCell (q .head) (good-query schema q good .head))
 
   pub relations-padded : q .relations ≡ take (q .size) (q .relations) ++ replicate (length (q .relations) - q .size) 0
   relations-padded = padded (q .size) isZero isZero (q .relations) 0 blank-number (good-query schema q good .named)

@@ -107,7 +107,8 @@ holds-meaning (reduces ds q head rows count) e =
     }
 holds-meaning (chasesTo ds q result count) e =
     let facts = and-three (overSchema ds q) (sameQuery (chase ds q .query) result) (eqb (chase ds q .count) count) e in
-    subst₂ (λ chased n. Chases ds q chased n) (sameQuery-true (chase ds q .query) result (facts .1)) (eqb-true (chase ds q .count) count (facts .2)) (chase-chases ds q)
+    subst₂ (λ chased n. Chases ds q chased n) (sameQuery-true (chase ds q .query) result (facts .1)) (eqb-true (chase ds q .count) count (facts .2))
+    (chase-chases ds q)
 holds-meaning (compares ds p q true) e =
     let facts = and-three (overSchema ds p) (overSchema ds q) (Bool·beq (contained ds p q) true) e in
     contained-exact schema ds p q (rows-fit ds p (facts .0)) .0 (beq-true (contained ds p q) true (facts .2))

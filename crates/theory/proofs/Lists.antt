@@ -1,4 +1,5 @@
--- Laws of lists that any proof may cite: truth values, options, and whether a list is empty; membership in a list, its map and its columns; lists without repeats and how long they are;
+-- Laws of lists that any proof may cite: truth values, options, and whether a list is empty; membership in a list, its map and its columns; lists
+-- without repeats and how long they are;
 -- `member` and `distinct` of numbers. A membership is a position.
 -- Laws of `length`, `take`, `drop` and `getD` alone are the library's (`lib.Seq`). Assumes nothing.
 use mathlib.Core.Path.{_≡_, refl, sym, _∙_, ap, ap₂}

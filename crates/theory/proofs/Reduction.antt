@@ -1,12 +1,16 @@
--- Reduction: equal answers, minimality, and one pass over the rows (Chandra and Merlin, "Optimal implementation of conjunctive queries in relational data bases", 1977;
+-- Reduction: equal answers, minimality, and one pass over the rows (Chandra and Merlin, "Optimal implementation of conjunctive queries in relational
+-- data bases", 1977;
 -- with functional dependencies Maier, Mendelzon and Sagiv, "Testing implications of data dependencies", 1979).
 --   1. Cores. A core mapped into some of its own rows needs as many of them as it has: otherwise, by the pigeonhole principle, one of its rows could go.
 --   2. Answers. A result has the answers of the chased query, since each maps to the other; so those of the source. A mapping leads from the source to it.
 --      Two results map to each other, so by 1 they have equally many rows.
---   3. Minimality. Freeze the result T. Its head is an answer of T there, so of a rival R, by some α. The α-images of R's rows are a part of the frozen T, so they obey the
---      dependencies; the head is an answer of R on them alone, so of T, by some β. Thawed, β maps T into as many of its rows as R has. By 1, R has no fewer rows than T.
+-- 3. Minimality. Freeze the result T. Its head is an answer of T there, so of a rival R, by some α. The α-images of R's rows are a part of the frozen
+-- T, so they obey the
+-- dependencies; the head is an answer of R on them alone, so of T, by some β. Thawed, β maps T into as many of its rows as R has. By 1, R has no
+-- fewer rows than T.
 --      R is not chased, and its constants may be any.
---   4. What a result keeps. It has at most as many rows as the source, and its variables and constants. A mapping that fixes the head keeps each head variable in a row.
+-- 4. What a result keeps. It has at most as many rows as the source, and its variables and constants. A mapping that fixes the head keeps each head
+-- variable in a row.
 --   5. One pass. Once a row cannot go, it cannot go later either: so trying each row once gives a core.
 --   6. Losing rows one at a time leads to every result, up to the order of rows.
 -- Assumes nothing.
@@ -76,7 +80,8 @@ pub core-reordered : (T U : Query) → Reordered T U → Core T → Core U
 core-reordered T U order core r at f =
     let inclusion : Mapping T U = mapping-inclusion T U (some-of-member (T .rows) (order .back r at)) (order .head) (order .into) in
     let small : length (T .rows) ≤ length (without (U .rows) at) =
-    core-least T (dropRow U at) core (order .head) (λ s there. order .back s (without-part (U .rows) at s there)) (mapping-compose T U (dropRow U at) inclusion f) in
+    core-least T (dropRow U at) core (order .head) (λ s there. order .back s (without-part (U .rows) at s there))
+    (mapping-compose T U (dropRow U at) inclusion f) in
     omega (arith, small, without-length (U .rows) at, order .size)
 
 -- ---- 2. Answers
@@ -97,8 +102,11 @@ module _ (ds : List Dependency) (S T : Query) (result : Reduction ds S T) where
   reduction-answers D obeys t = (λ answer. to (chase-answers ds S D obeys t .0 answer), λ answer. chase-answers ds S D obeys t .1 (from answer))
     where
       to : Answer D (chase ds S .query) t → Answer D T t
-      to answer =
-          (answer .0, carries-fewer itself (answer .0) (chase ds S .query) T D t (result .head) (reduction-some (answer .1 .not-never)) (result .rows) (answer .1))
+      to answer = (
+        answer .0,
+        carries-fewer itself (answer .0) (chase ds S .query) T D t (result .head) (reduction-some (answer .1 .not-never)) (result .rows)
+            (answer .1),
+      )
 
       from : Answer D T t → Answer D (chase ds S .query) t
       from answer = answer-along D (chase ds S .query) T (result .receives (reduction-some-chased (answer .1 .not-never))) t answer
@@ -215,7 +223,8 @@ module _ (T R : Query) (base : ℕ) (rival : Answer (frozenRows base T) R (froze
       let small : length (T .rows) ≤ length (P .rows) = core-least T P core refl part onto in
       omega (arith, small, length-map (images (rival .0) R) (mapRow (thaw base)), length-map (R .rows) (mapRow (valueOf itself (rival .0))))
 
--- If on every sound database that obeys, R has exactly the answers of T, and T is a core of which the frozen rows are sound and obey, then R has at least as many rows as T.
+-- If on every sound database that obeys, R has exactly the answers of T, and T is a core of which the frozen rows are sound and obey, then R has at
+-- least as many rows as T.
 -- The conclusion is a proposition, so α and β may be taken from the truncations
 core-minimal : (widths : List ℕ) (ds : List Dependency) (T R : Query) (base : ℕ) → ConstantsBelow base T → Core T
     → Sound widths (frozenRows base T) → Obeys ds (frozenRows base T) → Equivalent widths ds T R → T .rows ≢ [] → length (T .rows) ≤ length (R .rows)
@@ -308,7 +317,8 @@ pass-drop q kept r rest pass f = record {
   rows = λ s at. pass .rows s (insert-part kept r rest s at);
   receives = λ some. mapping-compose q (withRows q (kept ++ r ∷ rest)) (withRows q (kept ++ rest)) (pass .receives some) f;
   needed = λ s at g. pass .needed s at
-      (mapping-part (withRows q (kept ++ r ∷ rest)) (withRows q (kept ++ r ∷ rest)) (withRows q (without kept at ++ rest)) (withRows q (without kept at ++ r ∷ rest))
+      (mapping-part (withRows q (kept ++ r ∷ rest)) (withRows q (kept ++ r ∷ rest)) (withRows q (without kept at ++ rest))
+      (withRows q (without kept at ++ r ∷ rest))
       refl (f .1 .carries .not-never) (λ t there. there) refl (insert-part (without kept at) r rest)
       (mapping-compose (withRows q (kept ++ r ∷ rest)) (withRows q (kept ++ rest)) (withRows q (without kept at ++ rest)) f g));
 }
@@ -328,7 +338,8 @@ pass-keep q kept r rest pass none = record {
         → Mapping (withRows q (kept ++ r ∷ rest)) (withRows q (rows ++ rest)) → ⊥
     cases s (inl found) f =
         pass .needed s (found .0)
-        (subst (λ rows. Mapping (withRows q (kept ++ r ∷ rest)) (withRows q rows)) (ap (λ rows. rows ++ rest) (found .1) ∙ append-snoc (without kept (found .0)) r rest) f)
+        (subst (λ rows. Mapping (withRows q (kept ++ r ∷ rest)) (withRows q rows))
+        (ap (λ rows. rows ++ rest) (found .1) ∙ append-snoc (without kept (found .0)) r rest) f)
     cases s (inr found) f =
         none (subst (λ rows. Mapping (withRows q (kept ++ r ∷ rest)) (withRows q (rows ++ rest)))
         (found .1 ∙ ap (λ rows. kept ++ rows) (without-singleton (found .0)) ∙ append-nil kept) f)

@@ -35,8 +35,12 @@ loop-less c = search needs
 loop-again : tie.Need-loop-again Inv-loop μ-loop
 loop-again c =
     let widths = c .before .before .before .args .widths .now in
-    let i = c .before .before .loop .i in
-    (search needs, search needs, ap (λ (l : List ℕ). set l i (getD widths i 0)) (c .before .before .loop .inv .2) ∙ filled-next 8 0 widths i (search needs) (search needs))
+    let i = c .before .before .loop .i in (
+      search needs,
+      search needs,
+      ap (λ (l : List ℕ). set l i (getD widths i 0)) (c .before .before .loop .inv .2) ∙ filled-next 8 0 widths i (search needs)
+          (search needs),
+    )
 
 returns : tie.Need-returns Inv-loop μ-loop
 returns c =

@@ -27,21 +27,31 @@ query-good-requires : tie.Need-query-good-requires
 query-good-requires c κs = search needs
 
 returns : tie.Need-returns
-returns c = stops (take (c .before .before .before .before .args .relations) (c .before .before .before .before .args .widths)) (c .before .before .before .before .args .p) (c .before .before .if1 .taken) (sym (c .before .query-good .ensures) ∙ not-true _ (c .if2 .taken))
+returns c =
+    stops (take (c .before .before .before .before .args .relations) (c .before .before .before .before .args .widths))
+    (c .before .before .before .before .args .p) (c .before .before .if1 .taken) (sym (c .before .query-good .ensures) ∙ not-true _ (c .if2 .taken))
 
 head-safe-requires : tie.Need-head-safe-requires
 head-safe-requires c κs =
-    let good = good-query (take (c .before .before .before .before .args .relations) (c .before .before .before .before .args .widths)) (c .before .before .before .before .args .p .query) (sym (c .before .query-good .ensures) ∙ not-false _ (c .if2 .left)) in
+    let good =
+    good-query (take (c .before .before .before .before .args .relations) (c .before .before .before .before .args .widths))
+    (c .before .before .before .before .args .p .query) (sym (c .before .query-good .ensures) ∙ not-false _ (c .if2 .left))
+    in
     (c .before .before .before .before .pre, good .arity, good .size)
 
 query-blank-requires : tie.Need-query-blank-requires
 query-blank-requires c κs = search needs
 
 returns-2 : tie.Need-returns-2
-returns-2 c = c .head-safe .ensures ∙ goes (take (c .before .before .before .before .before .args .relations) (c .before .before .before .before .before .args .widths)) (c .before .before .before .before .before .args .p) (c .before .before .before .if1 .taken) (sym (c .before .before .query-good .ensures) ∙ not-false _ (c .before .if2 .left))
+returns-2 c =
+    c .head-safe .ensures ∙ goes (take (c .before .before .before .before .before .args .relations) (c .before .before .before .before .before .args .widths))
+    (c .before .before .before .before .before .args .p) (c .before .before .before .if1 .taken)
+    (sym (c .before .before .query-good .ensures) ∙ not-false _ (c .before .if2 .left))
 
 returns-3 : tie.Need-returns-3
-returns-3 c = c .query-blank .ensures ∙ vacant (take (c .before .before .before .args .relations) (c .before .before .before .args .widths)) (c .before .before .before .args .p) (c .before .if1 .left)
+returns-3 c =
+    c .query-blank .ensures ∙ vacant (take (c .before .before .before .args .relations) (c .before .before .before .args .widths))
+    (c .before .before .before .args .p) (c .before .if1 .left)
 
 pub place-good-spec : {M : Type 1} → statement M
 place-good-spec =

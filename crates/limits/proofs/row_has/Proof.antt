@@ -45,8 +45,10 @@ returns c =
     let cells = c .before .before .before .before .before .args .t1 in
     let below : at < width = search needs in
     let inside : at < length (take width (drop start cells)) = rw (stretch-length start width cells (omega arith)) below in
-    let seen : c .before .cell-names .result ≡ namesVariable (c .before .before .before .before .before .args .v) (getD (take width (drop start cells)) at noCell) =
-    c .before .cell-names .ensures ∙ ap (namesVariable (c .before .before .before .before .before .args .v)) (sym (stretch-getD start width cells at noCell below))
+    let seen : c .before .cell-names .result ≡ namesVariable (c .before .before .before .before .before .args .v)
+    (getD (take width (drop start cells)) at noCell) =
+    c .before .cell-names .ensures ∙ ap (namesVariable (c .before .before .before .before .before .args .v))
+    (sym (stretch-getD start width cells at noCell below))
     in
     search-finds (c .before .before .before .before .loop .inv .2) noCell inside seen (c .if1 .taken)
 
@@ -64,8 +66,10 @@ loop-again c =
     let cells = c .before .before .before .before .before .args .t1 in
     let below : at < width = search needs in
     let inside : at < length (take width (drop start cells)) = rw (stretch-length start width cells (omega arith)) below in
-    let seen : c .before .cell-names .result ≡ namesVariable (c .before .before .before .before .before .args .v) (getD (take width (drop start cells)) at noCell) =
-    c .before .cell-names .ensures ∙ ap (namesVariable (c .before .before .before .before .before .args .v)) (sym (stretch-getD start width cells at noCell below))
+    let seen : c .before .cell-names .result ≡ namesVariable (c .before .before .before .before .before .args .v)
+    (getD (take width (drop start cells)) at noCell) =
+    c .before .cell-names .ensures ∙ ap (namesVariable (c .before .before .before .before .before .args .v))
+    (sym (stretch-getD start width cells at noCell below))
     in
     (search needs, search needs, search-passes (c .before .before .before .before .loop .inv .2) noCell inside seen (c .if1 .left))
 

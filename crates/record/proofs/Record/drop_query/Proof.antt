@@ -24,7 +24,9 @@ refused-requires : tie.Need-refused-requires
 refused-requires c κs = search needs
 
 returns : tie.Need-returns
-returns c = c .refused .ensures ∙ drop-broken (c .before .before .before .args .self) (c .before .before .before .args .place) (sym (c .before .before .is-good .ensures) ∙ not-true _ (c .before .if1 .taken))
+returns c =
+    c .refused .ensures ∙ drop-broken (c .before .before .before .args .self) (c .before .before .before .args .place)
+    (sym (c .before .before .is-good .ensures) ∙ not-true _ (c .before .if1 .taken))
 
 filled-place-requires : tie.Need-filled-place-requires
 filled-place-requires c κs = search needs
@@ -45,7 +47,9 @@ returns-2 : tie.Need-returns-2
 returns-2 c =
     let self = c .before .before .before .before .before .before .before .args .self in
     let place = c .before .before .before .before .before .before .before .args .place in
-    let good : goodRecord self ≡ true = sym (c .before .before .before .before .before .before .is-good .ensures) ∙ not-false _ (c .before .before .before .before .before .if1 .left) in
+    let good : goodRecord self ≡ true =
+    sym (c .before .before .before .before .before .before .is-good .ensures) ∙ not-false _ (c .before .before .before .before .before .if1 .left)
+    in
     let told = c .before .before .enum-told .given in
     let number : c .before .number .result ≡ told .0 .0 = c .before .number .ensures ∙ ap numberOf (told .1) in
     c .refused2 .ensures ∙ ap (λ (n : ℕ). concluded (some n) self self) number
@@ -70,9 +74,16 @@ returns-3 c =
     let self = c .before .before .before .before .before .before .before .before .before .args .self in
     let place = c .before .before .before .before .before .before .before .before .before .args .place in
     let at = c .before .before .before .before .found .given .0 .0 in
-    let is : filledPlace self place ≡ lookup.At at = sym (c .before .before .before .before .before .before .filled-place .ensures) ∙ c .before .before .before .before .found .given .1 in
-    let good : goodRecord self ≡ true = sym (c .before .before .before .before .before .before .before .before .is-good .ensures) ∙ not-false _ (c .before .before .before .before .before .before .before .if1 .left) in
-    let stored : withPlace self at (c .before .before .no-place .result) ≡ withPlace self at noPlace = ap (withPlace self at) (c .before .before .no-place .ensures) in
+    let is : filledPlace self place ≡ lookup.At at =
+    sym (c .before .before .before .before .before .before .filled-place .ensures) ∙ c .before .before .before .before .found .given .1
+    in
+    let good : goodRecord self ≡ true =
+    sym (c .before .before .before .before .before .before .before .before .is-good .ensures) ∙ not-false _
+    (c .before .before .before .before .before .before .before .if1 .left)
+    in
+    let stored : withPlace self at (c .before .before .no-place .result) ≡ withPlace self at noPlace =
+    ap (withPlace self at) (c .before .before .no-place .ensures)
+    in
     c .done .ensures ∙ ap (λ (after : Record). concluded none after after) (c .before .with-place .ensures ∙ stored) ∙ drop-done self place good at is
 
 pub drop-query-spec : {M : Type 1} → statement M
