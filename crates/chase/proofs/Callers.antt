@@ -13,7 +13,7 @@ use Rattle.query.specs.declared.Query.{Query}
 use Rattle.query.specs.declared.Dependency.{Dependency}
 use Rattle.query.specs.View.{queryOf, heldOf}
 use Rattle.lists.specs.Tests.{every, between, isZero, inUse}
-use Rattle.query.specs.Rule.{blankDependency, goodRelations, goodDependency, goodDependencies, goodQuery, headSafe, noDependency}
+use Rattle.query.specs.Rule.{blankDependency, goodRelations, goodSet, goodDependency, goodDependencies, goodQuery, headSafe, noDependency}
 use Rattle.chase.specs.declared.Chased.{Chased}
 use Rattle.chase.specs.Outcome.{Chasable, IsChased}
 use Rattle.lists.proofs.Tests.{every-weaken}
@@ -50,7 +50,7 @@ width-le schema widths r =
 
 -- The right column of a good dependency is below 8
 good-right : (schema : List ℕ) → every (between 1 8) schema ≡ true → (d : Dependency) → goodDependency schema d ≡ true → ltb (d .right) 8 ≡ true
-unfolding goodDependency
+unfolding goodDependency goodSet
 good-right schema widths d good =
     let right : d .right < getD schema (d .relation) 0
     = ltb-true

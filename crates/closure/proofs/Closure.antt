@@ -24,8 +24,8 @@ use Rattle.theory.specs.Determined.{subset, adds, growOn, growFor, closure, det
 use Rattle.query.specs.declared.Dependency as stored
 use Rattle.query.specs.View.{columnsFrom, columnsOf, dependencyOf, maskOf}
 use Rattle.lists.specs.Tests.{every}
-use Rattle.query.specs.Rule.{rightNarrow, noDependency}
-use Rattle.closure.specs.Closure.{addRight, nextMask, growMask}
+use Rattle.query.specs.Rule.{noDependency}
+use Rattle.closure.specs.internal.Closure.{addRight, nextMask, growMask, rightNarrow}
 use Rattle.lists.proofs.Tests.{and-left, every-getD}
 use Rattle.closure.proofs.Masks.{Same, same-columns, same-more, subset-mask, bit-shift, columns-in, mask-columns, columns-count}
 
@@ -82,7 +82,8 @@ subset-same [] known other same = refl
 subset-same (m ∷ ms) known other same = ap₂ _&&_ (same m) (subset-same ms known other same)
 
 -- Two lists of the same columns let the same dependencies add
-adds-same : (relation : ℕ) (known other : List ℕ) → ((c : ℕ) → member c known ≡ member c other) → (d : Dependency) → adds relation known d ≡ adds relation other d
+adds-same : (relation : ℕ) (known other : List ℕ) → ((c : ℕ) → member c known ≡ member c other) → (d : Dependency)
+    → adds relation known d ≡ adds relation other d
 unfolding adds
 adds-same relation known other same d =
     ap₂ (λ (t u : Bool). eqb (d .relation) relation && t && not u) (subset-same (d .left) known other same) (same (d .right))

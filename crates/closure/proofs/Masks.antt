@@ -4,7 +4,8 @@ use mathlib.Core.Path.{_≡_, refl, sym, ap, ap₂, _∙_}
 use mathlib.Core.Bool.{Bool, true, false, cond, _&&_, _||_}
 use mathlib.Core.List.{List, _∷_}
 use Prim.Native.Nat.{ℕ, zero, suc, _+_, _*_, _/_, _%_, _^_, _<_, min, max}
-use native.Mathlib.Nat.{two-pow-succ, mod-lt, div-one, div-div-eq-div-mul, pow-succ', div-add-mod', zero-mul, one-mul, mul-one, mul-add, add-mul, add-comm, add-zero}
+use native.Mathlib.Nat.{two-pow-succ, mod-lt, div-one, div-div-eq-div-mul, pow-succ', div-add-mod', zero-mul}
+use native.Mathlib.Nat.{one-mul, mul-one, mul-add, add-mul, add-comm, add-zero}
 use native.Mathlib.Omega.{arith}
 use lib.Dec.{eqb, lit<, eqb·zero-suc, eqb·suc-zero, eqb·suc-suc}
 use lib.Bits.{bitAnd, bitOr, and-step, or-step, and-zero-l}
@@ -121,7 +122,11 @@ bit-power (suc k) (suc c) =
 pub same-more : (known : List ℕ) (mask c : ℕ) → Same known mask → Same (c ∷ known) (bitOr mask (2 ^ c))
 unfolding member
 same-more known mask c same =
-    record { at = λ k. ap (λ (t : Bool). cond (eqb k c) true t) (same .at k) ∙ or-cond (eqb k c) (bit mask k) ∙ ap (λ (t : Bool). bit mask k || t) (sym (bit-power c k)) ∙ sym (bit-or mask (2 ^ c) k) }
+    record {
+      at =
+          λ k. ap (λ (t : Bool). cond (eqb k c) true t) (same .at k) ∙ or-cond (eqb k c) (bit mask k) ∙ ap (λ (t : Bool). bit mask k || t) (sym (bit-power c k))
+          ∙ sym (bit-or mask (2 ^ c) k);
+    }
   where
     or-cond : (t b : Bool) → cond t true b ≡ b || t
     or-cond true true = refl

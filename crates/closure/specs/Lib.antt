@@ -1,2 +1,2 @@
--- The closure of a set of columns, on masks.
-pub mod Closure
+-- The closure of a set of columns on masks is this crate's own.
+pub mod internal

@@ -7,9 +7,8 @@ ghost use Prim.Native.Nat.{_-_, _<_, _≤_};
 ghost use lib.ListN.{take};
 ghost use Rattle.theory.specs.Determined.{adds};
 ghost use Rattle.query.specs.View.{columnsOf, dependencyOf};
-ghost use Rattle.closure.specs.Closure.{nextMask, growMask};
+ghost use Rattle.closure.specs.internal.Closure.{nextMask, growMask, rightNarrow};
 ghost use Rattle.lists.specs.Tests.{every};
-ghost use Rattle.query.specs.Rule.{rightNarrow};
 
 // Whether a dependency adds its right column to the known columns of a relation.
 fn adds_column(d: Dependency, relation: u8, mask: u8) -> bool

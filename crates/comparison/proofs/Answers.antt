@@ -16,8 +16,8 @@ use Rattle.record.specs.declared.Record.{Record}
 use Rattle.query.specs.View.{entriesOf, rowsOf, queryOf, imagesOf}
 use Rattle.record.specs.View.{schemaOf}
 use Rattle.lists.specs.Tests.{every, between}
-use Rattle.record.specs.Rule.{goodPlace, goodRecord}
-use Rattle.query.specs.Rule.{goodQuery, goodRelations, goodDependencies, noQuery}
+use Rattle.record.specs.Rule.{goodRecord}
+use Rattle.query.specs.Rule.{goodQuery, goodRelations, goodDependencies, noQuery, goodPlace}
 use Rattle.lists.proofs.Tests.{and-left, and-right}
 use Rattle.query.proofs.Good.{good-query}
 use Rattle.query.proofs.Shape.{row-count}

@@ -18,8 +18,9 @@ use Rattle.comparison.specs.Comparison.{pairRefusal, verdictOn, judged, chasedA
 use Rattle.theory.specs.Query as theory
 use Rattle.refusals.specs.Refusals.{badRecord, noSuchPlace, placeVacant}
 use Rattle.refusals.proofs.Refusals.{none-holds}
-use Rattle.record.specs.declared.Place.{Place}
-use Rattle.record.specs.Rule.{goodRecord, noPlace}
+use Rattle.query.specs.declared.Place.{Place}
+use Rattle.query.specs.Rule.{noPlace}
+use Rattle.record.specs.Rule.{goodRecord}
 use Rattle.lists.proofs.Tests.{below-or-past}
 use Rattle.evaluation.specs.Evaluated.{answerWords}
 use Rattle.database.specs.declared.Answered.{Answered}

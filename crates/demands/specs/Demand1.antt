@@ -13,7 +13,7 @@ use Rattle.query.specs.declared.Cell.{Cell}
 use Rattle.query.specs.declared.Dependency.{Dependency}
 use Rattle.query.specs.declared.Query.{Query}
 use Rattle.query.specs.View.{columnsOf, entriesOf, maskOf}
-use Rattle.query.specs.Rule.{noCell, noQuery}
+use Rattle.query.specs.Rule.{noCell, noQuery, noPlace}
 use Rattle.record.specs.declared.Record.{Record}
 use Rattle.record.specs.declared.Answer.{Answer}
 use Rattle.record.specs.declared.Answer.the-variants as answer
@@ -21,7 +21,7 @@ use Rattle.record.specs.declared.Outcome.{Outcome}
 use Rattle.record.specs.declared.Columns.{Columns}
 use Rattle.record.specs.declared.Columns.the-variants as columns
 use Rattle.record.specs.View.{schemaOf, dependenciesOf}
-use Rattle.record.specs.Rule.{noPlace, blankRecord}
+use Rattle.record.specs.Rule.{blankRecord}
 use Rattle.record.specs.Calls.{emptyRecord, withDependency, withPlace, queryAt, openConditions, addConditions, putConditions, dropConditions, determinedConditions}
 use Rattle.comparison.specs.declared.Comparison.{Comparison}
 use Rattle.comparison.specs.declared.Verdict.{Verdict}

@@ -9,9 +9,8 @@ use lib.ListN.{length, take, drop, getD, length-append, length-drop}
 use lib.Seq.{length-take-le}
 use Rattle.query.specs.declared.Cell.{Cell}
 use Rattle.query.specs.declared.Query.{Query}
-use Rattle.record.specs.declared.Place.{Place}
-use Rattle.query.specs.Rule.{goodQuery, headSafe}
-use Rattle.record.specs.Rule.{goodPlace}
+use Rattle.query.specs.declared.Place.{Place}
+use Rattle.query.specs.Rule.{goodQuery, headSafe, goodPlace}
 use Rattle.format.specs.Format.{putAll}
 use Rattle.format.specs.Parts.{row, chunk, query}
 use Rattle.format.specs.File.{putPlace}

@@ -2,15 +2,14 @@
 use query::Cell;
 use query::Entry;
 use query::Query;
-use record::Place;
+use query::Place;
 ghost use mathlib.Core.Path.{_≡_};
 ghost use mathlib.Core.Bool.{true};
 ghost use mathlib.Core.List.{_∷_};
 ghost use Prim.Native.Nat.{_+_, _*_, _≤_, _<_};
 ghost use lib.ListN.{length, take, drop, getD};
 ghost use Rattle.lists.specs.Over.{over};
-ghost use Rattle.query.specs.Rule.{goodRelations};
-ghost use Rattle.record.specs.Rule.{goodPlace};
+ghost use Rattle.query.specs.Rule.{goodRelations, goodPlace};
 ghost use Rattle.format.specs.Bytes.{bytesOf};
 ghost use Rattle.format.specs.Format.{putAll};
 ghost use Rattle.format.specs.Parts.{putEntry, entries, row, chunk, query};

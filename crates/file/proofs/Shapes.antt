@@ -10,14 +10,14 @@ use denote.Laws.{Is}
 use denote.Shadow.{shadow}
 use denote.Struct.Field.{Field, u8-field, array-field}
 use Rattle.query.specs.declared.Query.{Query}
-use Rattle.record.specs.declared.Place.{Place}
+use Rattle.query.specs.declared.Place.{Place}
 use Rattle.record.specs.declared.Record.{Record}
 use Rattle.lists.specs.Tests.{every}
 use Rattle.lists.proofs.Loops.{mapped-length}
 use Rattle.query.proofs.Cell as cell
 use Rattle.query.proofs.Dependency as dependency
 use Rattle.query.proofs.Query as query
-use Rattle.record.proofs.Place as place
+use Rattle.query.proofs.Place as place
 use Rattle.record.proofs.Record as recorded
 use Rattle.format.specs.File.{shapedQuery, shaped}
 

@@ -8,7 +8,7 @@ use native.Mathlib.Omega.{arith}
 use lib.Dec.{ltb}
 use lib.ListN.{length, getD, replicate, length-append, length-drop, length-replicate}
 use borrow.Author.Tests.{lt-ltb}
-use Rattle.record.specs.declared.Place.{Place}
+use Rattle.query.specs.declared.Place.{Place}
 use Rattle.lists.specs.Tests.{every}
 use Rattle.lists.specs.Over.{over}
 use Rattle.lists.proofs.Tests.{and-both, and-iff, every-append-is}

@@ -9,9 +9,8 @@ use lib.ListN.{length, take, drop}
 use borrow.Author.Tests.{leb-true}
 use Rattle.query.specs.declared.Query.{Query}
 use Rattle.query.specs.declared.Dependency.{Dependency}
-use Rattle.query.specs.Rule.{headSafe, noQuery}
-use Rattle.record.specs.declared.Place.{Place}
-use Rattle.record.specs.Rule.{noPlace}
+use Rattle.query.specs.Rule.{headSafe, noQuery, noPlace}
+use Rattle.query.specs.declared.Place.{Place}
 use Rattle.refusals.specs.Refusals.{badDependency, badDirectory, badOffsets, badQuery, badRelations, unsafeHead}
 use Rattle.refusals.specs.Refusals.{Condition, firstHolding, Reply, refused, gives, _>>=_}
 use Rattle.lists.proofs.Tests.{and-iff}

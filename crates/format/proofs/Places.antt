@@ -9,10 +9,9 @@ use lib.ListN.{length, take, drop, replicate, length-map, take-append-drop}
 use lib.Seq.{length-take-le}
 use borrow.Author.Tests.{eqb-true}
 use Rattle.query.specs.declared.Query.{Query}
-use Rattle.record.specs.declared.Place.{Place}
+use Rattle.query.specs.declared.Place.{Place}
 use Rattle.lists.specs.Tests.{every}
-use Rattle.query.specs.Rule.{blankQuery, goodQuery, headSafe, noQuery}
-use Rattle.record.specs.Rule.{goodPlace, noPlace}
+use Rattle.query.specs.Rule.{blankQuery, goodQuery, headSafe, noQuery, goodPlace, noPlace}
 use Rattle.refusals.specs.Refusals.{_>>=_, badQuery, gives, refused}
 use Rattle.format.specs.Bytes.{Bytes}
 use Rattle.format.specs.Format.{byte, sequence, via, pad}

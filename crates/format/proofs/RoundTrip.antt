@@ -11,12 +11,12 @@ use lib.ListN.{length, take, drop, replicate, length-map, length-append}
 use lib.Seq.{length-take-le, take-at}
 use borrow.Author.Tests.{eqb-true, eq-eqb}
 use Rattle.query.specs.declared.Dependency.{Dependency}
-use Rattle.record.specs.declared.Place.{Place}
+use Rattle.query.specs.declared.Place.{Place}
 use Rattle.record.specs.declared.Record.{Record}
 use Rattle.record.specs.View.{schemaOf}
 use Rattle.lists.specs.Tests.{every}
-use Rattle.record.specs.Rule.{goodPlace, goodRecord, noPlace}
-use Rattle.query.specs.Rule.{goodRelations, goodDependencies, goodQuery, headSafe, blankQuery}
+use Rattle.record.specs.Rule.{goodRecord}
+use Rattle.query.specs.Rule.{goodRelations, goodDependencies, goodQuery, headSafe, blankQuery, goodPlace, noPlace}
 use Rattle.query.proofs.Good as good
 use Rattle.refusals.specs.Refusals.{_>>=_, badDependency, badRelations, gives}
 use Rattle.format.specs.Bytes.{Bytes}

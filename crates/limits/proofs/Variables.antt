@@ -17,7 +17,8 @@ use Rattle.query.specs.declared.Cell.{Cell}
 use Rattle.query.specs.declared.Query.{Query}
 use Rattle.query.specs.View.{entryOf, entriesOf, rowsOf}
 use Rattle.lists.specs.Tests.{every}
-use Rattle.query.specs.Rule.{isVariable, namesVariable, safeEntry, safeCell, headSafe}
+use Rattle.limits.specs.internal.Entries.{isVariable, namesVariable, safeEntry, safeCell}
+use Rattle.query.specs.Rule.{headSafe}
 use Rattle.lists.proofs.Loops.{and-assoc, everyAt, Sought}
 
 not-cond : (t m : Bool) → not (cond t true m) ≡ not t && not m

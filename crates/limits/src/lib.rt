@@ -1,17 +1,20 @@
-// The rule of relations, dependencies and queries as tests: one function a test, callees first.
-// Each answers what its namesake in specs/Rule says of the same fields.
+// The rule of relations, dependencies, queries and places as tests: one function a test, callees first.
+// Each answers what its namesake in query/specs/Rule says of the same fields.
 use query::Cell;
 use query::Dependency;
 use query::Entry;
+use query::Place;
 use query::Query;
 ghost use mathlib.Core.Bool.{true, cond, _&&_};
+ghost use mathlib.Core.List.{_++_};
 ghost use mathlib.Core.Path.{_≡_};
-ghost use Prim.Native.Nat.{_+_, _*_, _≤_};
+ghost use Prim.Native.Nat.{_+_, _*_, _-_, _≤_};
 ghost use lib.Dec.{eqb};
-ghost use lib.ListN.{take, drop, getD};
+ghost use lib.ListN.{length, take, drop, getD, replicate};
 ghost use Rattle.theory.specs.Query.{member, variablesOf, rowEntries};
 ghost use Rattle.query.specs.View.{entriesOf, rowsOf};
-ghost use Rattle.query.specs.Rule.{namesVariable, safeCell, blankCell, blankDependency, blankQuery, goodRelations, goodSet, goodDependency, goodDependencies, goodCell, goodRows, goodQuery, headSafe};
+ghost use Rattle.limits.specs.internal.Entries.{namesVariable, safeCell};
+ghost use Rattle.query.specs.Rule.{blankCell, blankDependency, blankQuery, goodRelations, goodSet, goodDependency, goodDependencies, goodCell, goodRows, goodQuery, headSafe, goodPlace};
 ghost use Rattle.lists.specs.Tests.{between, every, inUse, isZero};
 
 // Whether an entry in use is within the limits.
@@ -370,4 +373,45 @@ pub fn head_safe(relations: u8, widths: [u8; 8], q: Query) -> bool
         }
     }
     true
+}
+
+// Whether a filled place holds a good query with a safe head, or a vacant one holds nothing.
+pub fn place_good(relations: u8, widths: [u8; 8], p: Place) -> bool
+    requires { ⌜ goodRelations relations widths ≡ true ⌝ }
+    ensures { λ r. ⌜ r ≡ goodPlace (take relations widths) p ⌝ }
+{
+    let q = p.query;
+    if p.filled {
+        if !query_good(relations, widths, q) {
+            return false;
+        }
+        head_safe(relations, widths, q)
+    } else {
+        query_blank(q)
+    }
+}
+
+// Whether every place is good.
+pub fn places_good(relations: u8, widths: [u8; 8], places: [Place; 8]) -> bool
+    requires { ⌜ goodRelations relations widths ≡ true ⌝ }
+    ensures { λ r. ⌜ r ≡ every (goodPlace (take relations widths)) places ⌝ }
+{
+    for i in 0..8 {
+        if !place_good(relations, widths, places[i]) {
+            return false;
+        }
+    }
+    true
+}
+
+// At most 8 widths, and 0 for each that is not in use.
+pub fn padded_widths(widths: &[u8]) -> [u8; 8]
+    requires { ⌜ length (now widths) ≤ 8 ⌝ }
+    ensures { λ r. ⌜ r ≡ now (widths .entry) ++ replicate (8 - length (now (widths .entry))) 0 ⌝ }
+{
+    let mut padded = [0u8; 8];
+    for i in 0..widths.len() {
+        padded[i] = widths[i];
+    }
+    padded
 }

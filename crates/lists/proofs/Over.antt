@@ -38,10 +38,3 @@ module _ {A : Type 0} where
       ∙ drop-drop (length zs) (i + length ys) xs
       ∙ ap (λ (n : ℕ). drop n xs) n in
       rw (t, d, append-assoc (take i xs) ys zs)
-
-  -- One element more of a run that is copied
-  pub over-copies : (d : A) (xs run : List A) (start i : ℕ) → i < length run → start + i < length xs
-      → over xs (start + i) (drop i run) ≡ over (set xs (start + i) (getD run i d)) (start + (i + 1)) (drop (i + 1) run)
-  over-copies d xs run start i h l =
-      let k : start + (i + 1) ≡ suc (start + i) = omega arith in
-      rw (drop-cons run i d h, k, add-one i) (sym (over-set xs (start + i) (getD run i d) (drop (suc i) run) l))

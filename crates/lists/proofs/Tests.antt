@@ -60,7 +60,8 @@ every-member test (y ∷ xs) e (List·Memᴰ·head p) = ap test p ∙ and-left (
 every-member test (y ∷ xs) e (List·Memᴰ·tail at) = every-member test xs (and-right (test y) (every test xs) e) at
 
 -- A weaker test
-pub every-weaken : {A : Type 0} (test other : A → Bool) → ((x : A) → test x ≡ true → other x ≡ true) → (xs : List A) → every test xs ≡ true → every other xs ≡ true
+pub every-weaken : {A : Type 0} (test other : A → Bool) → ((x : A) → test x ≡ true → other x ≡ true) → (xs : List A) → every test xs ≡ true
+    → every other xs ≡ true
 unfolding every
 every-weaken test other lift [] e = refl
 every-weaken test other lift (x ∷ xs) e =
@@ -104,7 +105,8 @@ every-replicate test zero x e = refl
 every-replicate test (suc n) x e = and-both (test x) (every test (replicate n x)) e (every-replicate test n x e)
 
 -- A test that only one value passes
-pub every-same : {A : Type 0} (test : A → Bool) (z : A) → ((x : A) → test x ≡ true → x ≡ z) → (xs : List A) → every test xs ≡ true → xs ≡ replicate (length xs) z
+pub every-same : {A : Type 0} (test : A → Bool) (z : A) → ((x : A) → test x ≡ true → x ≡ z) → (xs : List A) → every test xs ≡ true
+    → xs ≡ replicate (length xs) z
 unfolding every
 every-same test z only [] e = refl
 every-same {A} test z only (x ∷ xs) e =

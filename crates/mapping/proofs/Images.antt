@@ -12,7 +12,7 @@ use lib.ListN.{getD, length, set, replicate, getD-replicate}
 use lib.Seq.{getD-set-same, getD-set-other}
 use Rattle.query.specs.declared.Entry.the-variants.{Variable}
 use Rattle.query.specs.declared.Cell.{Cell}
-use Rattle.query.specs.Code.{decoded}
+use Rattle.query.specs.internal.Code.{decoded}
 use Rattle.query.proofs.Codes.{code-variable}
 use Rattle.query.specs.Rule.{noCell}
 use Rattle.candidates.specs.internal.Candidates.{rowStart, imageStart}

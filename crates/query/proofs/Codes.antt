@@ -12,7 +12,7 @@ use Rattle.theory.specs.Containment.{freeze}
 use Rattle.query.specs.declared.Entry.{Entry}
 use Rattle.query.specs.declared.Entry.the-variants.{Constant, Variable}
 use Rattle.query.specs.Rule.{goodEntry}
-use Rattle.query.specs.Code.{codeOf, decoded}
+use Rattle.query.specs.internal.Code.{codeOf, decoded}
 use Rattle.query.proofs.Stored.{Within, entry-within}
 
 -- ---- the two ways

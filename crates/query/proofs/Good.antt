@@ -76,7 +76,7 @@ pub record GoodDependency (schema : List ℕ) (d : Dependency) : Type 0 where
   pub right : d .right < getD schema (d .relation) 0
 
 pub good-dependency : (schema : List ℕ) (d : Dependency) → goodDependency schema d ≡ true → GoodDependency schema d
-unfolding goodDependency
+unfolding goodDependency goodSet
 good-dependency schema d e =
     let a : Bool = ltb (d .relation) (length schema) in
     let b : Bool = not (eqb (d .left) 0) in
@@ -90,8 +90,3 @@ good-dependency schema d e =
       left = ltb-true _ _ (and-right (a && b) f e3);
       right = ltb-true _ _ (and-right (a && b && f) g e);
     }
-
-pub make-dependency : (schema : List ℕ) (d : Dependency) → GoodDependency schema d → goodDependency schema d ≡ true
-unfolding goodDependency
-make-dependency schema d g =
-    rw (lt-ltb _ _ (g .relation), ne-eqb _ _ (g .nonempty), lt-ltb _ _ (g .left), lt-ltb _ _ (g .right))

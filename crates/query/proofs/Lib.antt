@@ -3,7 +3,8 @@ pub mod Relations
 pub mod Good
 pub mod Stored
 pub mod Shape
--- What the views and the rule come to (Meaning).
+-- What the views and the rule come to (Meaning), and examples of them.
 pub mod Meaning
+pub mod Examples
 -- The code of an entry.
 pub mod Codes

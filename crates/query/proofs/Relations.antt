@@ -42,4 +42,5 @@ module _ (n : ℕ) (widths : List ℕ) (good : goodRelations n widths ≡ true) 
 
   -- No relation has more than 8 columns
   pub width-le : (i : ℕ) → getD (take n widths) i 0 ≤ 8
-  width-le i = ⊎-elim (λ h. width-bounds i h .1) (λ h. rw (List·getD-eq-default (take n widths) 0 {n = i} h) (omega arith)) (below-or-past i (length (take n widths)))
+  width-le i =
+      ⊎-elim (λ h. width-bounds i h .1) (λ h. rw (List·getD-eq-default (take n widths) 0 {n = i} h) (omega arith)) (below-or-past i (length (take n widths)))

@@ -1,7 +1,7 @@
 -- Stored arrays by position, and values that are not in use:
 --   1. what stands at a position of the theory's query, 2. what a blank cell, dependency or query is.
 use mathlib.Core.Path.{_≡_, refl, ap, _∙_}
-use mathlib.Core.Bool.{Bool, true, cond, _&&_}
+use mathlib.Core.Bool.{Bool, true, false, cond, _&&_}
 use mathlib.Core.List.{List, [], _∷_, _++_}
 use Prim.Native.Nat.{ℕ, zero, suc, _+_, _*_, _-_, _≤_, _<_}
 use native.Mathlib.Nat.{le-of-suc-le-suc, not-suc-le-zero}
@@ -15,6 +15,7 @@ use Rattle.query.specs.declared.Entry.the-variants.{Constant, Variable}
 use Rattle.query.specs.declared.Cell.{Cell}
 use Rattle.query.specs.declared.Query.{Query}
 use Rattle.query.specs.declared.Dependency.{Dependency}
+use Rattle.query.specs.declared.Place.{Place}
 use Rattle.query.specs.View.{entryOf, entriesOf, rowsOf, queryOf}
 use Rattle.lists.specs.Tests.{every, isZero}
 use Rattle.query.specs.Rule.{goodCell, blankEntry, blankCell, blankDependency, headInUse, goodQuery, blankQuery, noCell, noDependency, noQuery}
@@ -59,7 +60,8 @@ column-is w start cells c h =
     ∙ ap (λ (x : Cell). entryOf (x .entry)) (stretch-getD start w cells c noCell h)
 
 -- Head entry i
-pub head-is : (schema : List ℕ) (q : Query) (i : ℕ) → i < q .arity → getD (queryOf schema q .head) i (theory.constant 0) ≡ entryOf (getD (q .head) i noCell .entry)
+pub head-is : (schema : List ℕ) (q : Query) (i : ℕ) → i < q .arity
+    → getD (queryOf schema q .head) i (theory.constant 0) ≡ entryOf (getD (q .head) i noCell .entry)
 head-is schema q i h = column-is (q .arity) 0 (q .head) i h ∙ ap (λ (k : ℕ). entryOf (getD (q .head) k noCell .entry)) (omega arith)
 
 -- ---- 2. values that are not in use
@@ -117,11 +119,16 @@ blank-query q head-long named-long cells-long e =
       cells = cells i;
     }
 
+-- What a read of an array of places past its end would give
+abbrev pub pastPlace : Place
+pastPlace = record { filled = false; query = record { arity = 0; size = 0; head = []; relations = []; cells = [] } }
+
 -- The arrays of a good query are what is in use, then blanks
 module _ (schema : List ℕ) (q : Query) (good : goodQuery schema q ≡ true) where
   pub head-padded : q .head ≡ take (headInUse q) (q .head) ++ replicate (length (q .head) - headInUse q) noCell
   head-padded =
-      padded (headInUse q) goodCell blankCell (q .head) noCell blank-cell (used-blank (headInUse q) goodCell blankCell (q .head) (good-query schema q good .head))
+      padded (headInUse q) goodCell blankCell (q .head) noCell blank-cell
+      (used-blank (headInUse q) goodCell blankCell (q .head) (good-query schema q good .head))
 
   pub relations-padded : q .relations ≡ take (q .size) (q .relations) ++ replicate (length (q .relations) - q .size) 0
   relations-padded = padded (q .size) isZero isZero (q .relations) 0 blank-number (good-query schema q good .named)

@@ -227,9 +227,6 @@ module _ (schema : List ℕ) (q : Query) (good : goodQuery schema q ≡ true) (i
       (ap (λ (k : ℕ). goodRow schema k (take 8 (drop (8 * i) (q .cells)))) (sym read)
       ∙ row-at schema (take (q .size) (q .relations)) (q .cells) i (good-query schema q good .rows) inside)
 
-  pub row-relation : getD (q .relations) i 0 < length schema
-  row-relation = row-good .0
-
 -- All cells of good rows are good, those that are not in use too
 rows-cells : (schema rs : List ℕ) (cells : List Cell) → goodRows schema rs cells ≡ true → every goodCell (take (8 * length rs) cells) ≡ true
 unfolding every

@@ -9,6 +9,7 @@ use Rattle.query.specs.declared.Entry.the-variants.{Constant, Variable}
 use Rattle.query.specs.declared.Cell.{Cell}
 use Rattle.query.specs.declared.Query.{Query}
 use Rattle.query.specs.declared.Dependency.{Dependency}
+use Rattle.query.specs.declared.Place.{Place}
 use Rattle.query.specs.View.{queryOf}
 use Rattle.theory.specs.Query as theory
 use Rattle.theory.specs.Determined as determined
@@ -45,13 +46,7 @@ goodSet schema relation left = ltb relation (length schema) && not (eqb left 0) 
 
 -- A known relation, a nonempty set of its columns and one of its columns
 unfoldable pub goodDependency : List ℕ → Dependency → Bool
-goodDependency schema d =
-    ltb (d .relation) (length schema) && not (eqb (d .left) 0) && ltb (d .left) (2 ^ getD schema (d .relation) 0)
-    && ltb (d .right) (getD schema (d .relation) 0)
-
--- The right column of a dependency is one of 8
-abbrev pub rightNarrow : Dependency → Bool
-rightNarrow d = ltb (d .right) 8
+goodDependency schema d = goodSet schema (d .relation) (d .left) && ltb (d .right) (getD schema (d .relation) 0)
 
 -- 0 to 32 dependencies
 unfoldable pub goodDependencies : List ℕ → ℕ → List Dependency → Bool
@@ -88,28 +83,16 @@ goodQuery schema q =
     && goodRows schema (take (q .size) (q .relations)) (q .cells)
     && every isZero (drop (q .size) (q .relations)) && every blankCell (drop (8 * q .size) (q .cells))
 
--- Whether an entry is variable v
-abbrev pub isVariable : ℕ → Entry → Bool
-isVariable v (Constant n) = false
-isVariable v (Variable w) = eqb v w
-
--- The entry of a cell is variable v
-abbrev pub namesVariable : ℕ → Cell → Bool
-namesVariable v c = isVariable v (c .entry)
-
--- Whether an entry is a constant or one of the given variables
-abbrev pub safeEntry : List ℕ → Entry → Bool
-safeEntry variables (Constant n) = true
-safeEntry variables (Variable v) = theory.member v variables
-
--- The entry of a cell is a constant or one of the given variables
-abbrev pub safeCell : List ℕ → Cell → Bool
-safeCell variables c = safeEntry variables (c .entry)
-
 -- Each head variable occurs in a row: what refusal 6 asks of a query
 unfoldable pub headSafe : List ℕ → Query → Bool
 headSafe schema q =
     determined.subset (theory.variablesOf (queryOf schema q .head)) (theory.variablesOf (theory.rowEntries (queryOf schema q .rows)))
+
+-- ---- places
+
+-- A filled place holds a good query with a safe head, a vacant one holds nothing
+abbrev pub goodPlace : List ℕ → Place → Bool
+goodPlace schema p = cond (p .filled) (goodQuery schema (p .query) && headSafe schema (p .query)) (blankQuery (p .query))
 
 -- ---- blank values
 
@@ -128,3 +111,7 @@ noQuery = record { arity = 0; size = 0; head = replicate 8 noCell; relations = r
 -- The never query with a head of n entries
 abbrev pub neverQuery : ℕ → Query
 neverQuery n = record { arity = n; size = 0; head = replicate 8 noCell; relations = replicate 12 0; cells = replicate 96 noCell }
+
+-- A vacant place
+abbrev pub noPlace : Place
+noPlace = record { filled = false; query = noQuery }

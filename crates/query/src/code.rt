@@ -1,7 +1,7 @@
 // The code of an entry: one number for constants and variables, and back.
 use crate::Entry;
 ghost use mathlib.Core.Path.{_≡_};
-ghost use Rattle.query.specs.Code.{codeOf, decoded};
+ghost use Rattle.query.specs.internal.Code.{codeOf, decoded};
 
 // The code of an entry: a constant is its own, variable v has 2,147,483,648 + v.
 pub fn code(e: Entry) -> u32

@@ -27,6 +27,12 @@ pub struct Query {
     pub cells: [Cell; 96],
 }
 
+// A place for a query. A vacant one holds a query of zeros.
+pub struct Place {
+    pub filled: bool,
+    pub query: Query,
+}
+
 // A functional dependency: the columns of left (bit c for column c) determine column right of the relation.
 pub struct Dependency {
     pub relation: u8,

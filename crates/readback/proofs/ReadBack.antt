@@ -12,7 +12,7 @@ use borrow.Author.Tests.{leb-true}
 use Rattle.query.specs.declared.Cell.{Cell}
 use Rattle.query.specs.declared.Query.{Query}
 use Rattle.query.specs.declared.Dependency.{Dependency}
-use Rattle.record.specs.declared.Place.{Place}
+use Rattle.query.specs.declared.Place.{Place}
 use Rattle.record.specs.declared.Record.{Record}
 use Rattle.record.specs.declared.Answer.{Answer}
 use Rattle.record.specs.declared.Answer.the-variants.{Done, Refused}
@@ -20,8 +20,8 @@ use Rattle.record.specs.declared.Outcome.{Outcome}
 use Rattle.record.specs.View.{schemaOf}
 use Rattle.query.specs.View.{queryOf}
 use Rattle.lists.specs.Tests.{between, every}
-use Rattle.query.specs.Rule.{goodDependency, goodQuery, headSafe}
-use Rattle.record.specs.Rule.{goodPlace, goodRecord, noPlace, blankRecord}
+use Rattle.query.specs.Rule.{goodDependency, goodQuery, headSafe, goodPlace, noPlace}
+use Rattle.record.specs.Rule.{goodRecord, blankRecord}
 use Rattle.refusals.specs.Refusals.{_>>=_, badQuery, bufferTooShort, firstHolding, gives, refused, Reply}
 use Rattle.record.specs.Calls.{queryAt, concluded, broken, above, vacant, filled, withPlace, withDependency, emptyRecord, openRecord, addDependency, putQuery, dropQuery}
 use Rattle.lists.proofs.Tests.{and-left, and-right, and-both, every-set}

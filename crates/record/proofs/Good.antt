@@ -7,8 +7,8 @@ use borrow.Author.Tests.{leb-true, le-leb}
 use Rattle.record.specs.declared.Record.{Record}
 use Rattle.record.specs.View.{schemaOf}
 use Rattle.lists.specs.Tests.{every, inUse}
-use Rattle.query.specs.Rule.{goodRelations, goodDependency, goodDependencies, blankDependency}
-use Rattle.record.specs.Rule.{goodPlace, goodRecord}
+use Rattle.query.specs.Rule.{goodRelations, goodDependency, goodDependencies, blankDependency, goodPlace}
+use Rattle.record.specs.Rule.{goodRecord}
 use Rattle.lists.proofs.Tests.{and-left, and-right}
 
 -- A record that refusal 14 passes

@@ -9,12 +9,12 @@ use lib.ListN.{length, take, getD}
 use lib.Seq.{getD-set-same, getD-set-other}
 use Rattle.query.specs.declared.Query.{Query}
 use Rattle.query.specs.declared.Dependency.{Dependency}
-use Rattle.record.specs.declared.Place.{Place}
+use Rattle.query.specs.declared.Place.{Place}
 use Rattle.record.specs.declared.Record.{Record}
 use Rattle.record.specs.View.{schemaOf}
 use Rattle.lists.specs.Tests.{every}
-use Rattle.query.specs.Rule.{goodRelations, goodDependency, blankDependency, goodQuery, headSafe, blankQuery}
-use Rattle.record.specs.Rule.{goodPlace, goodRecord, noPlace}
+use Rattle.query.specs.Rule.{goodRelations, goodDependency, blankDependency, goodQuery, headSafe, blankQuery, goodPlace, noPlace}
+use Rattle.record.specs.Rule.{goodRecord}
 use Rattle.record.specs.Calls.{withPlace, withDependency, emptyRecord}
 use Rattle.lists.proofs.Tests.{and-both, every-set, every-replicate, used-more}
 use Rattle.record.proofs.Good.{good-record, make-record}

@@ -23,12 +23,13 @@ use Rattle.record.specs.declared.Columns.the-variants as columns
 use Rattle.query.specs.View.{columnsFrom, columnsOf, maskOf}
 use Rattle.record.specs.View.{schemaOf, dependenciesOf}
 use Rattle.lists.specs.Tests.{between, every}
-use Rattle.query.specs.Rule.{goodSet, goodRelations, goodDependency, goodQuery, headSafe}
-use Rattle.record.specs.Rule.{goodRecord, noPlace, blankRecord}
+use Rattle.query.specs.Rule.{goodSet, goodRelations, goodDependency, goodQuery, headSafe, noPlace}
+use Rattle.record.specs.Rule.{goodRecord, blankRecord}
 use Rattle.refusals.specs.Refusals.{firstHolding}
-use Rattle.record.specs.Calls.{concluded, broken, above, vacant, filled, withPlace, withDependency, emptyRecord, openRecord, addDependency, putQuery, dropQuery, columnsAnswer, determinedColumns}
+use Rattle.record.specs.Calls.{concluded, broken, above, vacant, filled, withPlace, withDependency}
+use Rattle.record.specs.Calls.{emptyRecord, openRecord, addDependency, putQuery, dropQuery, columnsAnswer, determinedColumns}
 use Rattle.record.specs.Meaning.{OpenKeeps, AddKeeps, PutKeeps, DropKeeps, BlankBroken, DeterminedMeans}
-use Rattle.closure.specs.Closure.{growMask}
+use Rattle.closure.specs.internal.Closure.{growMask}
 use Rattle.record.proofs.Good.{good-record}
 use Rattle.query.proofs.Good.{good-set}
 use Rattle.record.proofs.Stored.{narrow, dependencies-fit}
@@ -157,7 +158,9 @@ determined-means r relation left mask n e =
     let a = answered (firstHolding (broken r ∷ (not (goodSet (schemaOf r) relation left), 4) ∷ [])) cs mask n e in
     let b = none-holds (broken r .0) 14 ((not (goodSet (schemaOf r) relation left), 4) ∷ []) (a .0) in
     let good : goodRecord r ≡ true = not-false (goodRecord r) (b .0) in
-    let fit : goodSet (schemaOf r) relation left ≡ true = not-false (goodSet (schemaOf r) relation left) (none-holds (not (goodSet (schemaOf r) relation left)) 4 [] (b .1) .0) in
+    let fit : goodSet (schemaOf r) relation left ≡ true =
+    not-false (goodSet (schemaOf r) relation left) (none-holds (not (goodSet (schemaOf r) relation left)) 4 [] (b .1) .0)
+    in
     let is : growMask (length (dependenciesOf r)) (dependenciesOf r) relation left ≡ mask = sym (masked r relation left good fit) ∙ a .1 in
     let exact : (c : ℕ) → (c ∈ cs) ↔ ((c < getD (schemaOf r) relation 0) × Determines (schemaOf r) (dependenciesOf r) relation (columnsOf left) c) =
     determined-exact (schemaOf r) (dependenciesOf r) (dependencies-fit r good) relation (good-set (schemaOf r) relation left fit .relation-known)

@@ -23,11 +23,12 @@ use Rattle.record.specs.declared.Columns.the-variants as columns
 use Rattle.query.specs.View.{columnsOf, maskOf}
 use Rattle.record.specs.View.{schemaOf, dependenciesOf}
 use Rattle.lists.specs.Tests.{between, every, isZero}
-use Rattle.query.specs.Rule.{goodSet, rightNarrow, blankDependency, goodRelations, goodDependency, goodQuery, headSafe}
-use Rattle.record.specs.Rule.{blankRecord, goodRecord, noPlace}
+use Rattle.query.specs.Rule.{goodSet, blankDependency, goodRelations, goodDependency, goodQuery, headSafe, noPlace}
+use Rattle.record.specs.Rule.{blankRecord, goodRecord}
 use Rattle.refusals.specs.Refusals.{firstHolding}
-use Rattle.record.specs.Calls.{concluded, broken, above, vacant, filled, placeAt, filledPlace, vacantPlace, withPlace, withDependency, emptyRecord, openRecord, addDependency, putQuery, dropQuery, determinedColumns}
-use Rattle.closure.specs.Closure.{growMask}
+use Rattle.record.specs.Calls.{concluded, broken, above, vacant, filled, placeAt, filledPlace, vacantPlace}
+use Rattle.record.specs.Calls.{withPlace, withDependency, emptyRecord, openRecord, addDependency, putQuery, dropQuery, determinedColumns}
+use Rattle.closure.specs.internal.Closure.{growMask, rightNarrow}
 use Rattle.lists.proofs.Tests.{every-replicate, every-weaken, used-good}
 use Rattle.record.proofs.Good.{good-record}
 use Rattle.query.proofs.Good.{good-dependency, good-set}
@@ -61,7 +62,8 @@ module _ (widths : List ℕ) where
   unfolding openRecord firstHolding
   open-many h = rw (lt-leb (length widths) 8 h, and-false-right (leb 1 (length widths)))
 
-  pub open-unfit : goodRelations (length widths) (widths ++ replicate (8 - length widths) 0) ≡ false → concluded (some 3) blankRecord blankRecord ≡ openRecord widths
+  pub open-unfit : goodRelations (length widths) (widths ++ replicate (8 - length widths) 0) ≡ false
+      → concluded (some 3) blankRecord blankRecord ≡ openRecord widths
   unfolding openRecord firstHolding
   open-unfit e = rw (sym (widths-judged widths (8 - length widths)) ∙ e)
 
@@ -84,7 +86,8 @@ module _ (r : Record) (place : ℕ) where
     pub drop-refused : (n : ℕ) → filledPlace r place ≡ lookup.Refused n → concluded (some n) r r ≡ dropQuery r place
     unfolding dropQuery
     drop-refused n e =
-        ap (λ (o : Option ℕ). concluded o r (withPlace r place noPlace)) (sym (past ∙ found-refused (firstHolding (above place ∷ vacant r place ∷ [])) place n e))
+        ap (λ (o : Option ℕ). concluded o r (withPlace r place noPlace))
+        (sym (past ∙ found-refused (firstHolding (above place ∷ vacant r place ∷ [])) place n e))
 
     pub drop-done : (at : ℕ) → filledPlace r place ≡ lookup.At at → concluded none (withPlace r at noPlace) (withPlace r at noPlace) ≡ dropQuery r place
     unfolding dropQuery firstHolding
@@ -124,7 +127,8 @@ module _ (r : Record) (place : ℕ) (q : Query) where
               rw (good, lt-ltb place 8 low, fit, safe, f .0, f .1)
 
           pub put-done : (at : ℕ) → vacantPlace r place ≡ lookup.At at
-              → concluded none (withPlace r at (record { filled = true; query = q })) (withPlace r at (record { filled = true; query = q })) ≡ putQuery r place q
+              → concluded none (withPlace r at (record { filled = true; query = q })) (withPlace r at (record { filled = true; query = q })) ≡ putQuery r place
+              q
           unfolding putQuery firstHolding
           put-done at e =
               let f = vacant-at r place at e in
@@ -183,7 +187,8 @@ module _ (r : Record) (relation left : ℕ) where
         let within : left < 2 ^ w = good-set (schemaOf r) relation left fit .within in
         let looks : length ds ≡ r .held = held-length (r .held) (r .dependencies) (omega (arith, good-record r good .held)) in
         let is : mask ≡ growMask (length ds) ds relation left = e ∙ ap (λ (n : ℕ). growMask n ds relation left) (sym looks) in
-        let set : mask ≡ maskOf (determined ds relation w (columnsOf left)) = is ∙ sym (determined-mask ds relation w fits (narrow r good relation) left within) in
+        let set : mask ≡ maskOf (determined ds relation w (columnsOf left)) = is ∙ sym (determined-mask ds relation w fits (narrow r good relation) left within)
+        in
         let count : ones mask ≡ length (determined ds relation w (columnsOf left)) =
         ap ones is ∙ sym (determined-count ds relation w fits (narrow r good relation) left within)
         in

@@ -4,20 +4,16 @@ use mathlib.Core.Bool.{Bool, true, false, cond, _&&_}
 use mathlib.Core.List.{List, [], _++_}
 use Prim.Native.Nat.{ℕ, _+_, _-_}
 use lib.ListN.{length, take, replicate}
-use Rattle.record.specs.declared.Place.{Place}
+use Rattle.query.specs.declared.Place.{Place}
 use Rattle.record.specs.declared.Record.{Record}
 use Rattle.record.specs.View.{schemaOf}
 use Rattle.lists.specs.Tests.{between, isZero}
-use Rattle.query.specs.Rule.{goodDependency, headSafe, blankDependency, goodQuery, blankQuery, noDependency}
-use Rattle.record.specs.Rule.{goodRecord, goodPlace, noPlace}
+use Rattle.query.specs.Rule.{goodDependency, headSafe, blankDependency, goodQuery, blankQuery, noDependency, goodPlace, noPlace}
+use Rattle.record.specs.Rule.{goodRecord}
 use Rattle.lists.proofs.Tests.{used-blank, padded}
 use Rattle.query.proofs.Relations.{widths-blank}
 use Rattle.record.proofs.Good.{good-record}
 use Rattle.query.proofs.Shape.{blank-dependency, blank-number, blank-query}
-
--- What a read of an array of places past its end would give
-abbrev pub pastPlace : Place
-pastPlace = record { filled = false; query = record { arity = 0; size = 0; head = []; relations = []; cells = [] } }
 
 -- A vacant place holds nothing
 pub vacant-place : (schema : List ℕ) (p : Place) → length (p .query .head) ≡ 8 → length (p .query .relations) ≡ 12 → length (p .query .cells) ≡ 96

@@ -11,12 +11,12 @@ use Rattle.theory.specs.Database as database
 use Rattle.theory.specs.Determined.{FitsColumns}
 use Rattle.query.proofs.Stored.{held-fit}
 use Rattle.query.specs.declared.Dependency.{Dependency}
-use Rattle.record.specs.declared.Place.{Place}
+use Rattle.query.specs.declared.Place.{Place}
 use Rattle.record.specs.declared.Record.{Record}
 use Rattle.query.specs.View.{dependencyOf}
 use Rattle.record.specs.View.{schemaOf, dependenciesOf}
-use Rattle.query.specs.Rule.{goodDependency, blankDependency, goodQuery, headSafe, blankQuery}
-use Rattle.record.specs.Rule.{goodPlace, goodRecord}
+use Rattle.query.specs.Rule.{goodDependency, blankDependency, goodQuery, headSafe, blankQuery, goodPlace}
+use Rattle.record.specs.Rule.{goodRecord}
 use Rattle.lists.proofs.Tests.{and-left, and-right, every-getD, used-good}
 use Rattle.query.proofs.Relations.{relations-bounds, width-bounds, width-le}
 use Rattle.record.proofs.Good.{good-record}

@@ -9,7 +9,7 @@ use Rattle.theory.specs.Query as theory
 use Rattle.theory.specs.Determined.{determined}
 use Rattle.query.specs.declared.Query.{Query}
 use Rattle.query.specs.declared.Dependency.{Dependency}
-use Rattle.record.specs.declared.Place.{Place}
+use Rattle.query.specs.declared.Place.{Place}
 use Rattle.record.specs.declared.Record.{Record}
 use Rattle.record.specs.declared.Answer.the-variants as answer
 use Rattle.record.specs.declared.Outcome.{Outcome}
@@ -20,8 +20,8 @@ use Rattle.record.specs.declared.Columns.the-variants as columns
 use Rattle.query.specs.View.{columnsOf, queryOf, maskOf}
 use Rattle.record.specs.View.{schemaOf, dependenciesOf}
 use Rattle.lists.specs.Tests.{between, every}
-use Rattle.query.specs.Rule.{goodSet, goodDependency, goodQuery, headSafe, noDependency}
-use Rattle.record.specs.Rule.{goodRecord, noPlace, blankRecord}
+use Rattle.query.specs.Rule.{goodSet, goodDependency, goodQuery, headSafe, noDependency, noPlace}
+use Rattle.record.specs.Rule.{goodRecord, blankRecord}
 use Rattle.refusals.specs.Refusals.{badDependency, badQuery, badRecord, badRelations, dependenciesFull, Condition, firstHolding, noSuchPlace, placeFilled, placeVacant, unsafeHead}
 
 -- ---- refusals

@@ -1,17 +1,10 @@
 -- "The record" as tests on its fields: what refusal 14 judges. The lengths of the arrays are the types'.
-use mathlib.Core.Bool.{Bool, false, cond, _&&_}
-use mathlib.Core.List.{List}
-use Prim.Native.Nat.{ℕ}
+use mathlib.Core.Bool.{Bool, _&&_}
 use lib.ListN.{replicate}
-use Rattle.record.specs.declared.Place.{Place}
 use Rattle.record.specs.declared.Record.{Record}
 use Rattle.record.specs.View.{schemaOf}
 use Rattle.lists.specs.Tests.{every}
-use Rattle.query.specs.Rule.{blankQuery, goodRelations, goodDependencies, goodQuery, headSafe, noDependency, noQuery}
-
--- A filled place holds a good query with a safe head, a vacant one holds nothing
-abbrev pub goodPlace : List ℕ → Place → Bool
-goodPlace schema p = cond (p .filled) (goodQuery schema (p .query) && headSafe schema (p .query)) (blankQuery (p .query))
+use Rattle.query.specs.Rule.{goodRelations, goodDependencies, goodPlace, noDependency, noPlace}
 
 -- SPECIFICATION, The record: what refusal 14 asks of a record
 unfoldable pub goodRecord : Record → Bool
@@ -20,10 +13,6 @@ goodRecord r =
     && every (goodPlace (schemaOf r)) (r .places)
 
 -- ---- blank values
-
--- A vacant place
-abbrev pub noPlace : Place
-noPlace = record { filled = false; query = noQuery }
 
 -- The blank record, all fields 0: what reading and opening return when they refuse
 abbrev pub blankRecord : Record

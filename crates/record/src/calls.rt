@@ -3,18 +3,16 @@ use crate::Answer;
 use crate::Columns;
 use crate::Lookup;
 use crate::Outcome;
-use crate::Place;
 use crate::Record;
 use query::Dependency;
+use query::Place;
 use query::Query;
 ghost use mathlib.Core.Path.{_≡_};
 ghost use mathlib.Core.Option.{none, some};
-ghost use mathlib.Core.Bool.{true};
-ghost use mathlib.Core.List.{_++_};
-ghost use Prim.Native.Nat.{_-_, _<_, _≤_};
-ghost use lib.ListN.{length, replicate};
-ghost use Rattle.record.specs.Rule.{noPlace, blankRecord};
-ghost use Rattle.record.specs.Calls.{concluded, placeAt, filledPlace, vacantPlace, storedAt, emptyRecord, openRecord, addDependency, putQuery, dropQuery, determinedColumns, numberOf};
+ghost use Prim.Native.Nat.{_<_};
+ghost use Rattle.query.specs.Rule.{noPlace};
+ghost use Rattle.record.specs.Rule.{blankRecord};
+ghost use Rattle.record.specs.Calls.{concluded, placeAt, filledPlace, vacantPlace, storedAt, withPlace, withDependency, emptyRecord, openRecord, addDependency, putQuery, dropQuery, determinedColumns, numberOf};
 
 // A call is done.
 fn done(after: Record) -> Outcome
@@ -62,8 +60,7 @@ pub fn stored(given: Record, place: usize) -> Query
     requires { ⌜ place < 8 ⌝ }
     ensures { λ r. ⌜ r ≡ storedAt given place ⌝ }
 {
-    let places = given.places;
-    let at = places[place];
+    let at = given.places[place];
     at.query
 }
 
@@ -75,6 +72,28 @@ pub fn no_place() -> Place
         filled: false,
         query: query::no_query(),
     }
+}
+
+// The record with another content of one place.
+fn with_place(given: Record, place: usize, p: Place) -> Record
+    requires { ⌜ place < 8 ⌝ }
+    ensures { λ r. ⌜ r ≡ withPlace given place p ⌝ }
+{
+    let mut next = given;
+    next.places[place] = p;
+    next
+}
+
+// The record with one dependency more, after those held.
+fn with_dependency(given: Record, d: Dependency) -> Record
+    requires { ⌜ given .held < 32 ⌝ }
+    ensures { λ r. ⌜ r ≡ withDependency given d ⌝ }
+{
+    let held = given.held;
+    let mut next = given;
+    next.dependencies[held as usize] = d;
+    next.held = held + 1;
+    next
 }
 
 // A record of the given relations, without dependencies, all places vacant.
@@ -103,18 +122,6 @@ pub fn blank_record() -> Record
     opened(0, [0; 8])
 }
 
-// At most 8 widths, and 0 for each that is not in use.
-fn padded_widths(widths: &[u8]) -> [u8; 8]
-    requires { ⌜ length (now widths) ≤ 8 ⌝ }
-    ensures { λ r. ⌜ r ≡ now (widths .entry) ++ replicate (8 - length (now (widths .entry))) 0 ⌝ }
-{
-    let mut padded = [0u8; 8];
-    for i in 0..widths.len() {
-        padded[i] = widths[i];
-    }
-    padded
-}
-
 impl Record {
     // Open a record from relation widths.
     pub fn open(widths: &[u8]) -> Outcome
@@ -124,7 +131,7 @@ impl Record {
             return refused(refusals::BAD_RELATIONS, blank_record());
         }
         let relations = widths.len() as u8;
-        let padded = padded_widths(widths);
+        let padded = limits::padded_widths(widths);
         if !limits::relations_good(relations, padded) {
             return refused(refusals::BAD_RELATIONS, blank_record());
         }
@@ -135,12 +142,10 @@ impl Record {
     pub fn filled_place(self, place: usize) -> Lookup
         ensures { λ r. ⌜ r ≡ filledPlace self place ⌝ }
     {
-        let places = self.places;
         if 8 <= place {
             return Lookup::Refused(refusals::NO_SUCH_PLACE);
         }
-        let p = places[place];
-        if p.filled {
+        if self.places[place].filled {
             Lookup::At(place)
         } else {
             Lookup::Refused(refusals::PLACE_VACANT)
@@ -151,12 +156,10 @@ impl Record {
     pub fn vacant_place(self, place: usize) -> Lookup
         ensures { λ r. ⌜ r ≡ vacantPlace self place ⌝ }
     {
-        let places = self.places;
         if 8 <= place {
             return Lookup::Refused(refusals::NO_SUCH_PLACE);
         }
-        let p = places[place];
-        if p.filled {
+        if self.places[place].filled {
             Lookup::Refused(refusals::PLACE_FILLED)
         } else {
             Lookup::At(place)
@@ -174,9 +177,7 @@ impl Record {
         let Lookup::At(at) = found else {
             return refused(number(found), self);
         };
-        let mut next = self;
-        next.places[at] = no_place();
-        done(next)
+        done(with_place(self, at, no_place()))
     }
 
     // Put a query into a vacant place.
@@ -202,12 +203,11 @@ impl Record {
         let Lookup::At(at) = found else {
             return refused(number(found), self);
         };
-        let mut next = self;
-        next.places[at] = Place {
+        let p = Place {
             filled: true,
             query: q,
         };
-        done(next)
+        done(with_place(self, at, p))
     }
 
     // Add a dependency after those held.
@@ -226,10 +226,7 @@ impl Record {
         if held == 32 {
             return refused(refusals::DEPENDENCIES_FULL, self);
         }
-        let mut next = self;
-        next.dependencies[held as usize] = d;
-        next.held = held + 1;
-        done(next)
+        done(with_dependency(self, d))
     }
 
     // The columns of a relation that a set of its columns determines.

@@ -3,13 +3,7 @@ pub mod rule; // rule.rt: whether a record is as SPECIFICATION, The record, desc
 pub mod calls; // calls.rt: open, add a dependency, put and drop a query, determined columns
 
 use query::Dependency;
-use query::Query;
-
-// A place for a query. A vacant one holds a query of zeros.
-pub struct Place {
-    pub filled: bool,
-    pub query: Query,
-}
+use query::Place;
 
 // The record: there are `relations` relations, relation r has widths[r] columns, and the first `held` dependencies are held.
 pub struct Record {

@@ -12,15 +12,15 @@ use lib.Dec.{ltb}
 use lib.ListN.{length, getD, replicate}
 use Rattle.query.specs.declared.Query.{Query}
 use Rattle.query.specs.declared.Dependency.{Dependency}
-use Rattle.record.specs.declared.Place.{Place}
+use Rattle.query.specs.declared.Place.{Place}
 use Rattle.record.specs.declared.Record.{Record}
 use Rattle.record.specs.declared.Answer.the-variants as answer
 use Rattle.record.specs.declared.Lookup.the-variants as lookup
 use Rattle.query.specs.View.{queryOf, heldOf, imagesOf}
 use Rattle.record.specs.View.{schemaOf, dependenciesOf}
 use Rattle.lists.specs.Tests.{every, between}
-use Rattle.query.specs.Rule.{goodDependencies, goodQuery, headSafe, noCell}
-use Rattle.record.specs.Rule.{goodRecord, noPlace}
+use Rattle.query.specs.Rule.{goodDependencies, goodQuery, headSafe, noCell, noPlace}
+use Rattle.record.specs.Rule.{goodRecord}
 use Rattle.refusals.specs.Refusals.{firstHolding}
 use Rattle.record.specs.Calls.{above, vacant, filled, placeAt, isFilled, filledPlace, vacantPlace, withPlace, storedAt}
 use Rattle.lists.proofs.Tests.{and-both}

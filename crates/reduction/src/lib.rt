@@ -3,10 +3,10 @@
 use query::Cell;
 use query::Dependency;
 use query::Entry;
+use query::Place;
 use query::Query;
 use record::Answer;
 use record::Lookup;
-use record::Place;
 use record::Record;
 ghost use mathlib.Core.Path.{_≡_};
 ghost use mathlib.Core.Bool.{true};

@@ -9,11 +9,6 @@ use native.Mathlib.Omega.{arith}
 use Rattle.refusals.specs.Refusals.{firstHolding}
 
 module _ (b : Bool) (n : ℕ) (rest : List (Bool × ℕ)) where
-  -- A condition that holds decides
-  pub first-stops : b ≡ true → firstHolding ((b, n) ∷ rest) ≡ some n
-  unfolding firstHolding
-  first-stops e = ap (λ (t : Bool). cond t (some n) (firstHolding rest)) e
-
   -- One that does not is passed over
   pub first-goes : b ≡ false → firstHolding ((b, n) ∷ rest) ≡ firstHolding rest
   unfolding firstHolding

@@ -8,13 +8,13 @@ use native.Mathlib.Omega.{arith}
 use lib.ListN.{length, getD, length-set, length-replicate}
 use lib.Seq.{getD-set-same}
 use Rattle.query.specs.declared.Query.{Query}
-use Rattle.record.specs.declared.Place.{Place}
+use Rattle.query.specs.declared.Place.{Place}
 use Rattle.record.specs.declared.Record.{Record}
 use Rattle.record.specs.View.{schemaOf, dependenciesOf}
 use Rattle.query.specs.View.{queryOf, imagesOf}
 use Rattle.lists.specs.Tests.{every}
-use Rattle.query.specs.Rule.{goodCell, goodQuery, headSafe}
-use Rattle.record.specs.Rule.{goodRecord, noPlace}
+use Rattle.query.specs.Rule.{goodCell, goodQuery, headSafe, noPlace}
+use Rattle.record.specs.Rule.{goodRecord}
 use Rattle.record.specs.Calls.{isFilled, storedAt, queryAt}
 use Rattle.query.proofs.Good.{good-query}
 use Rattle.record.proofs.Good.{good-record}

@@ -10,11 +10,12 @@ use lib.Dec.{eqb, ltb}
 use lib.ListN.{length, getD, set, replicate, length-replicate, getD-replicate}
 use lib.Seq.{getD-set-same, getD-set-other}
 use borrow.Author.Tests.{eqb-true, eqb-false, lt-ltb}
-use Rattle.record.specs.declared.Place.{Place}
+use Rattle.query.specs.declared.Place.{Place}
 use Rattle.record.specs.declared.Record.{Record}
 use Rattle.record.specs.View.{schemaOf}
 use Rattle.query.specs.View.{queryOf}
-use Rattle.record.specs.Rule.{goodPlace, goodRecord, noPlace}
+use Rattle.query.specs.Rule.{goodPlace, noPlace}
+use Rattle.record.specs.Rule.{goodRecord}
 use Rattle.refusals.specs.Refusals.{firstHolding, badRecord, noSuchPlace, placeVacant, placeFilled}
 use Rattle.record.specs.Calls.{above, vacant, filled, isFilled, queryAt}
 use Rattle.lists.proofs.Tests.{every-set, every-replicate}

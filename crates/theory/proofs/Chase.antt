@@ -108,17 +108,9 @@ chases-count (rests is) nonempty = omega arith
 chases-count (clashes is) nonempty = absurd (nonempty refl)
 chases-count {ds} {q} (replaces {v} {e} is c) nonempty = let rest = chases-count c nonempty in omega (arith, rest, step-count ds q v e is)
 
-pub chase-count : (ds : List Dependency) (q : Query) → chase ds q .query .rows ≢ []
-    → chase ds q .count + variableCount (chase ds q .query) ≡ variableCount q
-chase-count ds q nonempty = chases-count (chase-chases ds q) nonempty
-
 -- and it is never more than the number of different variables
 pub chase-count-le : (ds : List Dependency) (q : Query) → chase ds q .count ≤ variableCount q
 chase-count-le ds q = chases-count-le (chase-chases ds q)
-
--- Never stays never, with count 0
-pub chase-never : (ds : List Dependency) (q : Query) → q .rows ≡ [] → (chase ds q .query ≡ q) × (chase ds q .count ≡ 0)
-chase-never ds q empty = let c = chases-unique ds q q zero (rests (step-never ds q empty)) in (sym (c .0), sym (c .1))
 
 -- ---- 3. answers and mappings
 

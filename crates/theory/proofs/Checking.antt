@@ -12,11 +12,9 @@ use lib.ListN.{getD}
 use Rattle.theory.specs.Query.{Entry, constant, Row, sameEntry, mapRow, variables, member, _∈_}
 use Rattle.theory.specs.Answer.{valueOf}
 use Rattle.theory.specs.Checking.{imageAt, sameEntries, standsIn, rowsCarried, restZero, nonempty, mapsTo, MapsToExact}
-use Rattle.theory.proofs.Lists.{bool-cases, and-left, and-right, mem-cases, member-not-mem, not-mem-member}
+use Rattle.lists.proofs.Tests.{and-left, and-right, and-both}
+use Rattle.theory.proofs.Lists.{bool-cases, mem-cases, member-not-mem, not-mem-member}
 use Rattle.theory.proofs.Entries.{sameEntry-eq, sameEntry-refl, eq-sameEntry}
-
-and-both : (a b : Bool) → a ≡ true → b ≡ true → (a && b) ≡ true
-and-both a b p q = rw (p, q) refl
 
 -- ---- entries and rows
 

@@ -2,8 +2,10 @@
 -- Maier, Mendelzon and Sagiv, "Testing implications of data dependencies", 1979). p is contained in q exactly when p chases to never or q maps to the chased p.
 --   1. A query read as a database (frozen) has its own head as an answer.
 --   2. Reading back (thawing) undoes freezing where the constants are below the base, so it turns an answer on frozen rows into a mapping.
---   3. Over a class of databases on which some chased p has the answers of p, and of which it is one itself when frozen. From a mapping to containment: an answer of p is one
---      of the chased p, and the mapping before it gives an answer of q. From containment to a mapping: the frozen chased p has the frozen head as an answer of p, so of q;
+-- 3. Over a class of databases on which some chased p has the answers of p, and of which it is one itself when frozen. From a mapping to containment:
+-- an answer of p is one
+-- of the chased p, and the mapping before it gives an answer of q. From containment to a mapping: the frozen chased p has the frozen head as an
+-- answer of p, so of q;
 --      thaw that answer. Without a mapping the same database is a counterexample.
 --   4. The chase with functional dependencies gives such a chased p for the sound databases that obey.
 -- Assumes nothing.
@@ -98,7 +100,8 @@ module _ (base : ℕ) (q : Query) (below : ConstantsBelow base q) where
       onEntry (variable v) at = refl
 
 -- An answer of q on the frozen C that is C's frozen head gives a mapping from q to C
-pub mapping-of-answer : (base : ℕ) (q C : Query) → ConstantsBelow base q → ConstantsBelow base C → Answer (frozenRows base C) q (frozenHead base C) → Mapping q C
+pub mapping-of-answer : (base : ℕ) (q C : Query) → ConstantsBelow base q → ConstantsBelow base C → Answer (frozenRows base C) q (frozenHead base C)
+    → Mapping q C
 mapping-of-answer base q C belowQ belowC answer =
     mapping-of q C (λ v. thaw base (answer .0 v))
     (subst₂ (λ rows head. Carries constant (λ v. thaw base (answer .0 v)) q rows head) (thaw-rows base C belowC) (thaw-head base C belowC)

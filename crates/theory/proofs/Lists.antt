@@ -1,4 +1,5 @@
--- Laws of lists that any proof may cite: truth values, options, and whether a list is empty; membership in a list, its map and its columns; lists without repeats and how long they are;
+-- Laws of lists that any proof may cite: truth values, options, and whether a list is empty; membership in a list, its map and its columns; lists
+-- without repeats and how long they are;
 -- `member` and `distinct` of numbers. A membership is a position.
 -- Laws of `length`, `take`, `drop` and `getD` alone are the library's (`lib.Seq`). Assumes nothing.
 use mathlib.Core.Path.{_≡_, refl, sym, _∙_, ap, ap₂}
@@ -12,6 +13,7 @@ use native.Mathlib.Omega.{arith}
 use borrow.Author.Tests.{eqb-true, eqb-false}
 use lib.Dec.{eqb}
 use lib.ListN.{length, getD, replicate}
+use Rattle.lists.proofs.Tests.{and-left, and-right}
 use Rattle.theory.specs.Query.{member, distinct, _∈_}
 use Rattle.theory.specs.Reduction.{without}
 
@@ -22,20 +24,7 @@ pub bool-cases : {C : Type 0} (b : Bool) → (b ≡ true → C) → (b ≡ false
 bool-cases true t f = t refl
 bool-cases false t f = f refl
 
--- A conjunction that is true is true on both sides
-pub and-left : (a b : Bool) → (a && b) ≡ true → a ≡ true
-and-left true b e = refl
-and-left false b e = e
-
-pub and-right : (a b : Bool) → (a && b) ≡ true → b ≡ true
-and-right true b e = e
-and-right false b e = absurd (false≢true e)
-
--- and one of two truths is true
-pub and-both : (a b : Bool) → a ≡ true → b ≡ true → (a && b) ≡ true
-and-both a b p q = rw (p, q) refl
-
--- Three at a time
+-- A conjunction of three that is true is true in each
 pub and-three : (a b c : Bool) → (a && b && c) ≡ true → (a ≡ true) × (b ≡ true) × (c ≡ true)
 and-three a b c e = let both = and-left (a && b) c e in (and-left a b both, and-right a b both, and-right (a && b) c e)
 

@@ -1,4 +1,5 @@
--- The order of search: what `firstPair` and `firstFound` find is the first. What the search finds at all, and what it tells when it finds nothing, is in `Step`.
+-- The order of search: what `firstPair` and `firstFound` find is the first. What the search finds at all, and what it tells when it finds nothing, is
+-- in `Step`.
 -- Assumes nothing.
 use mathlib.Core.Path.{_≡_, refl, sym, _∙_, ap, subst}
 use mathlib.Core.Bool.{Bool, true, false}

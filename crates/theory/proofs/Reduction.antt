@@ -1,12 +1,16 @@
--- Reduction: equal answers, minimality, and one pass over the rows (Chandra and Merlin, "Optimal implementation of conjunctive queries in relational data bases", 1977;
+-- Reduction: equal answers, minimality, and one pass over the rows (Chandra and Merlin, "Optimal implementation of conjunctive queries in relational
+-- data bases", 1977;
 -- with functional dependencies Maier, Mendelzon and Sagiv, "Testing implications of data dependencies", 1979).
 --   1. Cores. A core mapped into some of its own rows needs as many of them as it has: otherwise, by the pigeonhole principle, one of its rows could go.
 --   2. Answers. A result has the answers of the chased query, since each maps to the other; so those of the source. A mapping leads from the source to it.
 --      Two results map to each other, so by 1 they have equally many rows.
---   3. Minimality. Freeze the result T. Its head is an answer of T there, so of a rival R, by some α. The α-images of R's rows are a part of the frozen T, so they obey the
---      dependencies; the head is an answer of R on them alone, so of T, by some β. Thawed, β maps T into as many of its rows as R has. By 1, R has no fewer rows than T.
+-- 3. Minimality. Freeze the result T. Its head is an answer of T there, so of a rival R, by some α. The α-images of R's rows are a part of the frozen
+-- T, so they obey the
+-- dependencies; the head is an answer of R on them alone, so of T, by some β. Thawed, β maps T into as many of its rows as R has. By 1, R has no
+-- fewer rows than T.
 --      R is not chased, and its constants may be any.
---   4. What a result keeps. It has at most as many rows as the source, and its variables and constants. A mapping that fixes the head keeps each head variable in a row.
+-- 4. What a result keeps. It has at most as many rows as the source, and its variables and constants. A mapping that fixes the head keeps each head
+-- variable in a row.
 --   5. One pass. Once a row cannot go, it cannot go later either: so trying each row once gives a core.
 --   6. Losing rows one at a time leads to every result, up to the order of rows.
 -- Assumes nothing.
@@ -76,7 +80,8 @@ pub core-reordered : (T U : Query) → Reordered T U → Core T → Core U
 core-reordered T U order core r at f =
     let inclusion : Mapping T U = mapping-inclusion T U (some-of-member (T .rows) (order .back r at)) (order .head) (order .into) in
     let small : length (T .rows) ≤ length (without (U .rows) at) =
-    core-least T (dropRow U at) core (order .head) (λ s there. order .back s (without-part (U .rows) at s there)) (mapping-compose T U (dropRow U at) inclusion f) in
+    core-least T (dropRow U at) core (order .head) (λ s there. order .back s (without-part (U .rows) at s there))
+    (mapping-compose T U (dropRow U at) inclusion f) in
     omega (arith, small, without-length (U .rows) at, order .size)
 
 -- ---- 2. Answers
@@ -97,8 +102,11 @@ module _ (ds : List Dependency) (S T : Query) (result : Reduction ds S T) where
   reduction-answers D obeys t = (λ answer. to (chase-answers ds S D obeys t .0 answer), λ answer. chase-answers ds S D obeys t .1 (from answer))
     where
       to : Answer D (chase ds S .query) t → Answer D T t
-      to answer =
-          (answer .0, carries-fewer itself (answer .0) (chase ds S .query) T D t (result .head) (reduction-some (answer .1 .not-never)) (result .rows) (answer .1))
+      to answer = (
+        answer .0,
+        carries-fewer itself (answer .0) (chase ds S .query) T D t (result .head) (reduction-some (answer .1 .not-never)) (result .rows)
+            (answer .1),
+      )
 
       from : Answer D T t → Answer D (chase ds S .query) t
       from answer = answer-along D (chase ds S .query) T (result .receives (reduction-some-chased (answer .1 .not-never))) t answer
@@ -215,7 +223,8 @@ module _ (T R : Query) (base : ℕ) (rival : Answer (frozenRows base T) R (froze
       let small : length (T .rows) ≤ length (P .rows) = core-least T P core refl part onto in
       omega (arith, small, length-map (images (rival .0) R) (mapRow (thaw base)), length-map (R .rows) (mapRow (valueOf itself (rival .0))))
 
--- If on every sound database that obeys, R has exactly the answers of T, and T is a core of which the frozen rows are sound and obey, then R has at least as many rows as T.
+-- If on every sound database that obeys, R has exactly the answers of T, and T is a core of which the frozen rows are sound and obey, then R has at
+-- least as many rows as T.
 -- The conclusion is a proposition, so α and β may be taken from the truncations
 core-minimal : (widths : List ℕ) (ds : List Dependency) (T R : Query) (base : ℕ) → ConstantsBelow base T → Core T
     → Sound widths (frozenRows base T) → Obeys ds (frozenRows base T) → Equivalent widths ds T R → T .rows ≢ [] → length (T .rows) ≤ length (R .rows)
@@ -266,21 +275,6 @@ module _ (ds : List Dependency) (S T : Query) (result : Reduction ds S T) where
       (λ there. Memᴰ·append-right (chase ds S .query .head) (rowEntries-part (result .rows) x there))
       (List·Memᴰ·append-cases (T .head) at)
 
-  -- so none that the source has not, but for constant 0,
-  pub reduction-entries : (x : Entry) → x ∈ T .head ++ rowEntries (T .rows) → (x ≡ constant 0) ⊎ (x ∈ S .head ++ rowEntries (S .rows))
-  reduction-entries x at = chase-entries ds S x (result-entries x at)
-
-  -- no variable that the source has not,
-  pub reduction-variables : (v : ℕ) → v ∈ variables T → v ∈ variables S
-  reduction-variables v at =
-      chase-variables ds S v
-      (mem-variablesOf v (chase ds S .query .head ++ rowEntries (chase ds S .query .rows))
-      (result-entries (variable v) (variablesOf-mem v (T .head ++ rowEntries (T .rows)) at)))
-
-  -- and constants below the base that the source's are below
-  pub reduction-constants : (base : ℕ) → 0 < base → ConstantsBelow base S → ConstantsBelow base T
-  reduction-constants base positive below = below-part base (chase ds S .query) T (result .head) (result .rows) (chase-constants ds S base positive below)
-
 -- A result of a well-formed query is well-formed
 pub reduction-wellformed : (widths : List ℕ) (ds : List Dependency) (S T : Query) → WellFormed widths S → Reduction ds S T → WellFormed widths T
 reduction-wellformed widths ds S T well result = record { rows-fit = λ r at. chased .rows-fit r (result .rows r at); head-safe = safe }
@@ -306,13 +300,6 @@ reduction-wellformed widths ds S T well result = record { rows-fit = λ r at. ch
 abbrev pub withRows : Query → List (Row Entry) → Query
 withRows q rows = record { head = q .head; rows = rows }
 
--- If T maps to T', which has its head and some of its rows, and T cannot be mapped into itself without a row that T' still has, then neither can T'
-pub core-once : {r : Row Entry} (T T' : Query) → T' .head ≡ T .head → Mapping T T' → (at : r ∈ T .rows) (at' : r ∈ T' .rows)
-    → without (T' .rows) at' ⊆ without (T .rows) at → (Mapping T (dropRow T at) → ⊥) → Mapping T' (dropRow T' at') → ⊥
-core-once T T' same f at at' part needed g =
-    needed (mapping-part T T (dropRow T' at') (dropRow T at) refl (f .1 .carries .not-never) (λ r there. there) (sym same) part
-    (mapping-compose T T' (dropRow T' at') f g))
-
 -- The state of one pass over the rows of q: the kept rows, then those that are still to be tried. They are rows of q, q maps to them, and no kept row can go
 pub record OnePass (q : Query) (kept rest : List (Row Entry)) : Type 0 where
   pub rows : kept ++ rest ⊆ q .rows
@@ -330,31 +317,11 @@ pass-drop q kept r rest pass f = record {
   rows = λ s at. pass .rows s (insert-part kept r rest s at);
   receives = λ some. mapping-compose q (withRows q (kept ++ r ∷ rest)) (withRows q (kept ++ rest)) (pass .receives some) f;
   needed = λ s at g. pass .needed s at
-      (mapping-part (withRows q (kept ++ r ∷ rest)) (withRows q (kept ++ r ∷ rest)) (withRows q (without kept at ++ rest)) (withRows q (without kept at ++ r ∷ rest))
+      (mapping-part (withRows q (kept ++ r ∷ rest)) (withRows q (kept ++ r ∷ rest)) (withRows q (without kept at ++ rest))
+      (withRows q (without kept at ++ r ∷ rest))
       refl (f .1 .carries .not-never) (λ t there. there) refl (insert-part (without kept at) r rest)
       (mapping-compose (withRows q (kept ++ r ∷ rest)) (withRows q (kept ++ rest)) (withRows q (without kept at ++ rest)) f g));
 }
-
--- A row that stands there once more goes
-pub pass-repeat : (q : Query) (kept : List (Row Entry)) (r : Row Entry) (rest : List (Row Entry)) → OnePass q kept (r ∷ rest) → r ∈ kept ++ rest → OnePass q kept rest
-pass-repeat q kept r rest pass again =
-    pass-drop q kept r rest pass
-    (mapping-inclusion (withRows q (kept ++ r ∷ rest)) (withRows q (kept ++ rest)) (some-of-member (kept ++ r ∷ rest) (Memᴰ·append-right kept (List·Memᴰ·head refl))) refl
-    (λ s at. left s (List·Memᴰ·append-cases kept at)))
-  where
-    left : (s : Row Entry) → (s ∈ kept) ⊎ (s ∈ r ∷ rest) → s ∈ kept ++ rest
-    left s (inl at) = Memᴰ·append-left rest at
-    left s (inr (List·Memᴰ·head same)) = Memᴰ·cast same again
-    left s (inr (List·Memᴰ·tail at)) = Memᴰ·append-right kept at
-
--- What the rows of the pass map to is what q maps to: a search for the mapping may start from either
-pub pass-source : (q : Query) (kept rest : List (Row Entry)) → OnePass q kept rest → q .rows ≢ [] → (U : Query)
-    → Mapping q U ↔ Mapping (withRows q (kept ++ rest)) U
-pass-source q kept rest pass some U =
-    let f : Mapping q (withRows q (kept ++ rest)) = pass .receives some in (
-      mapping-part q (withRows q (kept ++ rest)) U U refl (mapping-target q (withRows q (kept ++ rest)) f) (pass .rows) refl (λ r at. at),
-      mapping-compose q (withRows q (kept ++ rest)) U f,
-    )
 
 -- Any other row is kept
 pub pass-keep : (q : Query) (kept : List (Row Entry)) (r : Row Entry) (rest : List (Row Entry)) → OnePass q kept (r ∷ rest)
@@ -371,20 +338,11 @@ pass-keep q kept r rest pass none = record {
         → Mapping (withRows q (kept ++ r ∷ rest)) (withRows q (rows ++ rest)) → ⊥
     cases s (inl found) f =
         pass .needed s (found .0)
-        (subst (λ rows. Mapping (withRows q (kept ++ r ∷ rest)) (withRows q rows)) (ap (λ rows. rows ++ rest) (found .1) ∙ append-snoc (without kept (found .0)) r rest) f)
+        (subst (λ rows. Mapping (withRows q (kept ++ r ∷ rest)) (withRows q rows))
+        (ap (λ rows. rows ++ rest) (found .1) ∙ append-snoc (without kept (found .0)) r rest) f)
     cases s (inr found) f =
         none (subst (λ rows. Mapping (withRows q (kept ++ r ∷ rest)) (withRows q (rows ++ rest)))
         (found .1 ∙ ap (λ rows. kept ++ rows) (without-singleton (found .0)) ∙ append-nil kept) f)
-
--- The rows still to be tried may change places, and repeats may go
-pub pass-reorder : (q : Query) (kept rest rest' : List (Row Entry)) → rest ⊆ rest' → rest' ⊆ rest → OnePass q kept rest → OnePass q kept rest'
-pass-reorder q kept rest rest' into back pass = record {
-  rows = λ s at. pass .rows s (append-part kept back s at);
-  receives = λ some. mapping-part q q (withRows q (kept ++ rest)) (withRows q (kept ++ rest')) refl some (λ s at. at) refl (append-part kept into) (pass .receives some);
-  needed = λ s at f. pass .needed s at
-      (mapping-part (withRows q (kept ++ rest')) (withRows q (kept ++ rest)) (withRows q (without kept at ++ rest')) (withRows q (without kept at ++ rest))
-      refl (some-of-member (kept ++ rest) (Memᴰ·append-left rest at)) (append-part kept into) refl (append-part (without kept at) back) f);
-}
 
 -- When none is left to be tried, the kept rows are a core
 pub pass-core : (q : Query) (kept : List (Row Entry)) → OnePass q kept [] → Core (withRows q kept)

@@ -43,7 +43,8 @@ pub forced-value : {ds : List Dependency} {x y : Entry} (assign : ℕ → ℕ) (
     → Obeys ds D → Carries itself assign q D t → valueOf itself assign x ≡ valueOf itself assign y
 forced-value {ds} {x} {y} assign q D t f obeys c =
     let value = valueOf itself assign in
-    let at-column : (r : Row Entry) (k : ℕ) → column 0 (mapRow value r) k ≡ value (column (constant 0) r k) = λ r k. List·getD-map value (r .values) k (constant 0) in
+    let at-column : (r : Row Entry) (k : ℕ) → column 0 (mapRow value r) k ≡ value (column (constant 0) r k) = λ r k. List·getD-map value (r .values) k
+    (constant 0) in
     let d = f .dependency in
     let equal = obeys
     d
@@ -69,7 +70,9 @@ carries-changed fixed assign f q rows image same c =
       to-rows = λ r at.
           let from = Memᴰ·of-map (mapRow f) (q .rows) at in
           let r₀ = from .0 in
-          let equal : mapRow value r ≡ mapRow value r₀ = ap (mapRow value) (sym (from .2)) ∙ (λ i. record { relation = r₀ .relation; values = through (r₀ .values) i }) in
+          let equal : mapRow value r ≡ mapRow value r₀ =
+          ap (mapRow value) (sym (from .2)) ∙ (λ i. record { relation = r₀ .relation; values = through (r₀ .values) i })
+          in
           Memᴰ·cast equal (c .to-rows r₀ (from .1));
     }
 

@@ -1,6 +1,8 @@
 -- The search for a mapping is exact: it succeeds where, and only where, there is one (Chandra and Merlin 1977: guess a mapping, check it).
--- Plan. 1. An assignment fits a partial one if it sends each chosen variable where the partial one does. 2. A match extends the partial assignment by just what it asks:
--- what fits after it is what fitted before and meets the match; where it fails, nothing that fits meets it. 3. Over the rows: a result is sound, and a failure excludes each placing.
+-- Plan. 1. An assignment fits a partial one if it sends each chosen variable where the partial one does. 2. A match extends the partial assignment by
+-- just what it asks:
+-- what fits after it is what fitted before and meets the match; where it fails, nothing that fits meets it. 3. Over the rows: a result is sound, and
+-- a failure excludes each placing.
 -- 4. So `mappable` decides mappings, and `contained` decides containment. 5. Answers are mappings to a query without variables, so they are decided too.
 -- Assumes nothing.
 use mathlib.Core.Path.{_≡_, refl, sym, _∙_, ap, subst₂}
@@ -132,7 +134,8 @@ matchRow-exact : (h : ℕ → Entry) (r s : Row Entry) (bs : Partial) → Exact 
 unfolding matchRow
 matchRow-exact h r s bs = go (eqb (r .relation) (s .relation)) refl
   where
-    go : (b : Bool) → eqb (r .relation) (s .relation) ≡ b → Exact h bs (mapRow (valueOf constant h) r ≡ s) (cond b (matchEntries (r .values) (s .values) bs) none)
+    go : (b : Bool) → eqb (r .relation) (s .relation) ≡ b
+        → Exact h bs (mapRow (valueOf constant h) r ≡ s) (cond b (matchEntries (r .values) (s .values) bs) none)
     go true same =
         exact-same h bs _ _ (matchEntries (r .values) (s .values) bs) (
           (λ (e : map (valueOf constant h) (r .values) ≡ s .values). row-same (mapRow (valueOf constant h) r) s (eqb-true (r .relation) (s .relation) same) e),
@@ -192,7 +195,8 @@ tryRows-sound h Q next sound r (s ∷ ss) bs after e fits =
     go (orElse-found (andThen (matchRow r s bs) next) (tryRows next r ss bs) after e) (λ later. tryRows-sound h Q next sound r ss bs after later fits)
   where
     go : (andThen (matchRow r s bs) next ≡ some after) ⊎ (tryRows next r ss bs ≡ some after)
-        → (tryRows next r ss bs ≡ some after → Fits h bs × (mapRow (valueOf constant h) r ∈ ss) × Q) → Fits h bs × (mapRow (valueOf constant h) r ∈ (s ∷ ss)) × Q
+        → (tryRows next r ss bs ≡ some after → Fits h bs × (mapRow (valueOf constant h) r ∈ ss) × Q) → Fits h bs × (mapRow (valueOf constant h) r ∈ (s ∷ ss))
+        × Q
     go (inl here) rest =
         let t = then-sound h bs (mapRow (valueOf constant h) r ≡ s) (matchRow r s bs) (matchRow-exact h r s bs) Q next sound after here fits in
         (t .0, List·Memᴰ·head (t .1), t .2)
@@ -221,7 +225,8 @@ placeRows-sound h (r ∷ rs) candidates bs after e fits =
     placed here rest q (List·Memᴰ·head same) = Memᴰ·cast (ap (mapRow (valueOf constant h)) same) here
     placed here rest q (List·Memᴰ·tail at) = rest q at
 
-placeRows-complete : (h : ℕ → Entry) (rs candidates : List (Row Entry)) (bs : Partial) → placeRows rs candidates bs ≡ none → Fits h bs → Placed h rs candidates → ⊥
+placeRows-complete : (h : ℕ → Entry) (rs candidates : List (Row Entry)) (bs : Partial) → placeRows rs candidates bs ≡ none → Fits h bs → Placed h rs candidates
+    → ⊥
 unfolding placeRows
 placeRows-complete h [] candidates bs e fits placed = Option·some-ne-none bs e
 placeRows-complete h (r ∷ rs) candidates bs e fits placed =
@@ -326,7 +331,8 @@ module _ (widths : List ℕ) (ds : List Dependency) (p q : Query) (fit : (r : Ro
   pub contained-false : contained ds p q ≡ false → (D : Database) × (t : List ℕ) × Counterexample widths ds p q D t
   contained-false e =
       let common = both-below p q in
-      let neither : ((chase ds p .query .rows ≡ []) ⊎ Mapping q (chase ds p .query)) → ⊥ = λ either. true≢false (sym (contained-mapping ds p q .1 either) ∙ e) in (
+      let neither : ((chase ds p .query .rows ≡ []) ⊎ Mapping q (chase ds p .query)) → ⊥ = λ either. true≢false (sym (contained-mapping ds p q .1 either) ∙ e)
+      in (
         frozenRows (common .0) (chase ds p .query),
         frozenHead (common .0) (chase ds p .query),
         counterexample widths ds p q (common .0) fit (common .2) (common .3) (common .1) (λ none. neither (inl none)) (λ f. neither (inr f)),
@@ -358,11 +364,3 @@ answer-mapping D q t = (
 
     rows-back : map (mapRow number) (map (mapRow constant) D) ≡ D
     rows-back = map-map (mapRow number) (mapRow constant) D ∙ map-agree (λ r. mapRow number (mapRow constant r)) (λ r. r) D (λ r at. row-back r) ∙ map-id D
-
--- Whether t is an answer is decidable
-pub answer-dec : (D : Database) (q : Query) (t : List ℕ) → Dec (Answer D q t)
-answer-dec D q t = go (mapping-dec q (asQuery D t))
-  where
-    go : Dec (Mapping q (asQuery D t)) → Dec (Answer D q t)
-    go (yes f) = yes (answer-mapping D q t .1 f)
-    go (no nothing) = no (λ answer. nothing (answer-mapping D q t .0 answer))

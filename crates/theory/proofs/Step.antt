@@ -15,26 +15,11 @@ use Rattle.theory.specs.Database.{Dependency, Agree}
 use Rattle.theory.specs.Chase.{orElse, mapFound, firstPassing, firstPair, firstFound, agree, breaks, firstBroken, Resolution, clash, replace}
 use Rattle.theory.specs.Chase.{survives, resolve, inHead, resolvePair, step}
 use Rattle.theory.specs.OrderTheorems.{Broken}
-use Rattle.theory.proofs.Lists.{bool-cases, and-left, and-right, mem-cases, option-cases}
+use Rattle.lists.proofs.Tests.{and-left, and-right}
+use Rattle.theory.proofs.Lists.{bool-cases, mem-cases, option-cases}
 use Rattle.theory.proofs.Entries.{sameEntry-eq, eq-sameEntry, sameEntry-ne, ne-sameEntry, entry-dec, constant-variable, column-rowEntries}
 
 -- ---- the search, at the head of a list
-
-pub orElse-some : {A : Type 0} (x : A) (later : Option A) → orElse (some x) later ≡ some x
-unfolding orElse
-orElse-some x later = refl
-
-pub orElse-none : {A : Type 0} (later : Option A) → orElse none later ≡ later
-unfolding orElse
-orElse-none later = refl
-
-pub mapFound-some : {A B : Type 0} (f : A → B) (x : A) → mapFound f (some x) ≡ some (f x)
-unfolding mapFound
-mapFound-some f x = refl
-
-pub mapFound-none : {A B : Type 0} (f : A → B) → mapFound f none ≡ none
-unfolding mapFound
-mapFound-none f = refl
 
 pub firstPassing-nil : {A : Type 0} (test : A → Bool) → firstPassing test [] ≡ none
 unfolding firstPassing
@@ -52,11 +37,6 @@ pub firstPair-nil : {A : Type 0} (test : A → A → Bool) → firstPair test []
 unfolding firstPair
 firstPair-nil test = refl
 
-pub firstPair-cons : {A : Type 0} (test : A → A → Bool) (x : A) (xs : List A)
-    → firstPair test (x ∷ xs) ≡ orElse (mapFound (λ y. (x, y)) (firstPassing (test x) xs)) (firstPair test xs)
-unfolding firstPair
-firstPair-cons test x xs = refl
-
 pub firstPair-some : {A : Type 0} (test : A → A → Bool) (x y : A) (xs : List A)
     → firstPassing (test x) xs ≡ some y → firstPair test (x ∷ xs) ≡ some (x, y)
 unfolding firstPair mapFound orElse
@@ -70,11 +50,6 @@ firstPair-none test x xs e = rw e
 pub firstFound-nil : {D A : Type 0} (find : D → Option A) → firstFound find [] ≡ none
 unfolding firstFound
 firstFound-nil find = refl
-
-pub firstFound-cons : {D A : Type 0} (find : D → Option A) (d : D) (ds : List D)
-    → firstFound find (d ∷ ds) ≡ orElse (mapFound (λ x. (d, x)) (find d)) (firstFound find ds)
-unfolding firstFound
-firstFound-cons find d ds = refl
 
 pub firstFound-some : {D A : Type 0} (find : D → Option A) (d : D) (x : A) (ds : List D)
     → find d ≡ some x → firstFound find (d ∷ ds) ≡ some (d, x)
@@ -90,10 +65,6 @@ firstFound-none find d ds e = rw e
 pub found-first : {A B : Type 0} (f : A → B) (x : A) (later : Option B) → orElse (mapFound f (some x)) later ≡ some (f x)
 unfolding mapFound orElse
 found-first f x later = refl
-
-pub found-later : {A B : Type 0} (f : A → B) (later : Option B) → orElse (mapFound f none) later ≡ later
-unfolding mapFound orElse
-found-later f later = refl
 
 -- The search of `firstBroken` under way, for three nested loops by what is left of each.
 -- For dependency d the pairs of the rows rs are left; then come the dependencies ds with all rows
@@ -401,12 +372,6 @@ resolve-replace shown (variable v) (variable w) u e is =
     (survives shown v w)
     (λ p. let is' = rw p at is in inr (replace-entry is', ap variable (replace-number is')))
     (λ p. let is' = rw p at is in inl (ap variable (replace-number is'), replace-entry is'))
-
--- What is found makes the step
-pub step-makes : (ds : List Dependency) (q : Query) (found : Dependency × (Row Entry × Row Entry)) → firstBroken ds (q .rows) ≡ some found
-    → step ds q ≡ some (resolvePair q found)
-unfolding step mapFound
-step-makes ds q found e = rw e
 
 pub step-rests : (ds : List Dependency) (q : Query) → firstBroken ds (q .rows) ≡ none → step ds q ≡ none
 unfolding step mapFound

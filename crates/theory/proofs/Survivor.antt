@@ -1,4 +1,5 @@
--- Which of two entries that must be equal survives, in the words of SPECIFICATION, The chase: a constant survives a variable; a variable in the head survives one that is not;
+-- Which of two entries that must be equal survives, in the words of SPECIFICATION, The chase: a constant survives a variable; a variable in the head
+-- survives one that is not;
 -- otherwise the lower number survives. Two constants clash. Each holds in whichever order the two are found.
 -- The chase's other laws depend on none of these. Assumes nothing.
 use mathlib.Core.Path.{_≡_, refl}

@@ -31,7 +31,8 @@ without-cases {A} {x} {z} (y ∷ xs) (List·Memᴰ·tail at) (List·Memᴰ·tail
     go (inl same) = inl same
     go (inr left) = inr (List·Memᴰ·tail left)
 
--- Of two positions either may be taken out first: a position of x after y went is a position of x from the start, y is left without it, and so is all that is left without both
+-- Of two positions either may be taken out first: a position of x after y went is a position of x from the start, y is left without it, and so is all
+-- that is left without both
 pub without-swap : {A : Type 0} {x y : A} (xs : List A) (here : y ∈ xs) (at : x ∈ without xs here)
     → (at' : x ∈ xs) × y ∈ without xs at' × without (without xs here) at ⊆ without xs at'
 unfolding without

@@ -7,6 +7,7 @@ use mathlib.Core.List.{List, [], _∷_, _++_}
 use Prim.Native.Nat.{ℕ, _≤_, _<_}
 use lib.Dec.{eqb, ltb}
 use lib.ListN.{length, getD}
+use Rattle.lists.specs.Tests.{every}
 use Rattle.theory.specs.Query.{Entry, constant, variable, Row, Query, sameEntry, _∈_}
 use Rattle.theory.specs.Database.{Database, Dependency}
 use Rattle.theory.specs.Chase.{Chases, chase}
@@ -72,15 +73,10 @@ sameRow r s = eqb (r .relation) (s .relation) && sameLists sameEntry (r .values)
 unfoldable pub sameQuery : Query → Query → Bool
 sameQuery p q = sameLists sameEntry (p .head) (q .head) && sameLists sameRow (p .rows) (q .rows)
 
--- Whether all elements of a list pass a test
-unfoldable pub allPass : {A : Type 0} → (A → Bool) → List A → Bool
-allPass test [] = true
-allPass test (x ∷ xs) = test x && allPass test xs
-
 -- Whether a dependency fits a schema
 unfoldable pub fitsColumns : List ℕ → Dependency → Bool
 fitsColumns widths d =
-    ltb (d .relation) (length widths) && allPass (λ c. ltb c (getD widths (d .relation) 0)) (d .left) && ltb (d .right) (getD widths (d .relation) 0)
+    ltb (d .relation) (length widths) && every (λ c. ltb c (getD widths (d .relation) 0)) (d .left) && ltb (d .right) (getD widths (d .relation) 0)
 
 -- Whether a row fits a schema
 unfoldable pub fitsSchema : List ℕ → Row Entry → Bool
@@ -88,7 +84,7 @@ fitsSchema widths r = ltb (r .relation) (length widths) && eqb (length (r .value
 
 -- Whether the dependencies and the rows of a query are over the relations of the examples
 unfoldable pub overSchema : List Dependency → Query → Bool
-overSchema ds q = allPass (fitsColumns schema) ds && allPass (fitsSchema schema) (q .rows)
+overSchema ds q = every (fitsColumns schema) ds && every (fitsSchema schema) (q .rows)
 
 -- Whether an example is over the schema and as the definitions compute it
 unfoldable pub holds : Example → Bool
@@ -97,7 +93,7 @@ holds (reduces ds q head rows count) =
 holds (chasesTo ds q result count) = overSchema ds q && sameQuery (chase ds q .query) result && eqb (chase ds q .count) count
 holds (compares ds p q answer) = overSchema ds p && overSchema ds q && Bool·beq (contained ds p q) answer
 holds (determines ds relation left columns) =
-    ltb relation (length schema) && allPass (fitsColumns schema) ds && eqb (length (determined ds relation (getD schema relation 0) left)) columns
+    ltb relation (length schema) && every (fitsColumns schema) ds && eqb (length (determined ds relation (getD schema relation 0) left)) columns
 
 -- ---- how the table is written
 

@@ -5,8 +5,8 @@ use Prim.Native.Nat.{ℕ, _+_, _*_, _-_, _≤_, _<_}
 use native.Mathlib.Nat.{zero-add}
 use native.Mathlib.Omega.{arith}
 use lib.ListN.{length, take, drop, getD, length-append}
-use Rattle.record.specs.declared.Place.{Place}
-use Rattle.record.specs.Rule.{goodPlace}
+use Rattle.query.specs.declared.Place.{Place}
+use Rattle.query.specs.Rule.{goodPlace}
 use Rattle.format.specs.File.{join, putPlace}
 use Rattle.lists.proofs.Tests.{every-getD}
 use Rattle.format.proofs.Arrays.{pastPlace}

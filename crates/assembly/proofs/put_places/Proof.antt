@@ -5,8 +5,8 @@ use Prim.Native.Nat.{ℕ, _+_, _-_, _≤_, _<_}
 use native.Mathlib.Omega.{arith}
 use lib.ListN.{length, take, getD}
 use lib.Seq.{length-take-le, getD-take}
-use Rattle.record.specs.declared.Place.{Place}
-use Rattle.record.specs.Rule.{goodPlace}
+use Rattle.query.specs.declared.Place.{Place}
+use Rattle.query.specs.Rule.{goodPlace}
 use Rattle.lists.specs.Over.{over}
 use Rattle.format.specs.Format.{putAll}
 use Rattle.format.specs.File.{join, putPlace}

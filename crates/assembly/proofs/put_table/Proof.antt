@@ -6,8 +6,8 @@ use native.Mathlib.Nat.{add-zero}
 use native.Mathlib.Omega.{arith}
 use lib.ListN.{length, take, drop, getD, length-append, length-drop, length-map}
 use lib.Seq.{length-take-le}
-use Rattle.record.specs.declared.Place.{Place}
-use Rattle.record.specs.Rule.{goodPlace}
+use Rattle.query.specs.declared.Place.{Place}
+use Rattle.query.specs.Rule.{goodPlace}
 use Rattle.lists.specs.Over.{over}
 use Rattle.format.specs.Bytes.{bytesOf}
 use Rattle.format.specs.File.{tableOf, putPlace}

@@ -8,7 +8,7 @@ use native.Mathlib.Numerals.{add-one}
 use native.Mathlib.Omega.{arith}
 use lib.ListN.{length, take, getD}
 use lib.Seq.{take-suc, take-all, length-take-le}
-use Rattle.record.specs.declared.Place.{Place}
+use Rattle.query.specs.declared.Place.{Place}
 use Rattle.format.proofs.Arrays.{pastPlace}
 use Rattle.format.specs.File.{oneMoreIfAny, upToFilled}
 use Rattle.assembly.proofs.up_to_filled.Statement.{statement}

@@ -26,16 +26,21 @@ module _ (d : Dependency) (relation mask : ℕ) (l : d .left < 256) (m : mask < 
     goes e = rw (adds-mask d relation mask l m, eq-eqb (d .relation) relation same, eq-eqb (bitAnd (d .left) mask) (d .left) e)
 
 returns : tie.Need-returns
-returns c = stops-1 (c .before .before .args .d) (c .before .before .args .relation) (c .before .before .args .mask) (search needs) (search needs) (c .if1 .taken)
+returns c =
+    stops-1 (c .before .before .args .d) (c .before .before .args .relation) (c .before .before .args .mask) (search needs) (search needs) (c .if1 .taken)
 
 returns-2 : tie.Need-returns-2
-returns-2 c = stops-2 (c .before .before .before .args .d) (c .before .before .before .args .relation) (c .before .before .before .args .mask) (search needs) (search needs) (c .before .if1 .left) (c .if2 .taken)
+returns-2 c =
+    stops-2 (c .before .before .before .args .d) (c .before .before .before .args .relation) (c .before .before .before .args .mask) (search needs)
+    (search needs) (c .before .if1 .left) (c .if2 .taken)
 
 shr-result : tie.Need-shr-result
 shr-result c = search needs
 
 returns-3 : tie.Need-returns-3
-returns-3 c = goes (c .before .before .before .args .d) (c .before .before .before .args .relation) (c .before .before .before .args .mask) (search needs) (search needs) (c .before .if1 .left) (c .if2 .left)
+returns-3 c =
+    goes (c .before .before .before .args .d) (c .before .before .before .args .relation) (c .before .before .before .args .mask) (search needs) (search needs)
+    (c .before .if1 .left) (c .if2 .left)
 
 pub adds-column-spec : {M : Type 1} → statement M
 adds-column-spec = tie.close (tie.spec returns returns-2 shr-result returns-3)

@@ -7,21 +7,25 @@ use native.Mathlib.Nat.{sub-zero}
 use lib.ListN.{take}
 use borrow.Author.Needs.{needs}
 use Rattle.query.specs.View.{dependencyOf}
-use Rattle.closure.specs.Closure.{growMask}
+use Rattle.closure.specs.internal.Closure.{growMask}
 use Rattle.closure.proofs.Closure.{grow-step, grow-end}
 use Rattle.closure.proofs.closed_columns.Statement.{statement}
 use Rattle.closure.proofs.closed_columns.Tie as tie
 
 abbrev Inv-loop : tie.InvT-loop
 Inv-loop held dependencies relation left mask₀ counter₀ mask counter =
-    (counter ≤ held) × (growMask (held - counter) (map dependencyOf (take held dependencies)) relation mask ≡ growMask held (map dependencyOf (take held dependencies)) relation left)
+    (counter ≤ held) × (growMask (held - counter) (map dependencyOf (take held dependencies)) relation mask ≡ growMask held
+    (map dependencyOf (take held dependencies)) relation left)
 
 abbrev μ-loop : tie.MeasureT-loop
 μ-loop held dependencies relation left mask₀ counter₀ mask counter = held - counter
 
 loop-holds : tie.Need-loop-holds Inv-loop μ-loop
-loop-holds c =
-    (search needs, ap (λ (k : ℕ). growMask k (map dependencyOf (take (c .args .held) (c .args .dependencies))) (c .args .relation) (c .args .left)) (sub-zero (c .args .held)))
+loop-holds c = (
+  search needs,
+  ap (λ (k : ℕ). growMask k (map dependencyOf (take (c .args .held) (c .args .dependencies))) (c .args .relation) (c .args .left))
+      (sub-zero (c .args .held)),
+)
 
 next-columns-requires : tie.Need-next-columns-requires Inv-loop μ-loop
 next-columns-requires c κs = search needs
@@ -39,7 +43,8 @@ loop-again c =
     let relation = c .before .before .before .args .relation in
     let i = c .before .before .loop .counter in (
       search needs,
-      ap (growMask (held - (i + 1)) list relation) (c .next-columns .ensures) ∙ sym (grow-step held i list relation (c .before .before .loop .mask) (search needs))
+      ap (growMask (held - (i + 1)) list relation) (c .next-columns .ensures) ∙ sym
+          (grow-step held i list relation (c .before .before .loop .mask) (search needs))
           ∙ c .before .before .loop .inv .1,
     )
 

@@ -13,7 +13,7 @@ use Rattle.theory.specs.Database as database
 use Rattle.theory.specs.Determined.{adds}
 use Rattle.query.specs.View.{columnsOf, dependencyOf}
 use Rattle.query.specs.Rule.{noDependency}
-use Rattle.closure.specs.Closure.{addRight, nextMask}
+use Rattle.closure.specs.internal.Closure.{addRight, nextMask}
 use Rattle.lists.proofs.Tests.{shifted-one}
 use Rattle.closure.proofs.Closure.{Passing, passing-start, passing-finds, passing-goes, passing-ends, held-length, held-at, right-at}
 use Rattle.closure.proofs.next_columns.Statement.{statement}
@@ -22,7 +22,8 @@ use Rattle.closure.proofs.next_columns.Tie as tie
 abbrev Inv-loop : tie.InvT-loop
 Inv-loop held relation mask dependencies i₀ i =
     (i ≤ held) × (length dependencies ≡ 32)
-    × Passing (adds relation (columnsOf mask)) (map dependencyOf (take held dependencies)) (firstPassing (adds relation (columnsOf mask)) (map dependencyOf (take held dependencies))) i
+    × Passing (adds relation (columnsOf mask)) (map dependencyOf (take held dependencies))
+    (firstPassing (adds relation (columnsOf mask)) (map dependencyOf (take held dependencies))) i
 
 abbrev μ-loop : tie.MeasureT-loop
 μ-loop held relation mask dependencies i₀ i = held - i
@@ -73,7 +74,8 @@ returns c =
     ap test (held-at held ds i below) ∙ sym (c .before .adds-column .ensures)
     in
     let found = passing-finds (c .before .before .before .before .loop .inv .2) (dependencyOf noDependency) inside (seen ∙ c .if1 .taken) in
-    ap (bitOr (c .before .before .before .before .before .args .mask)) (shifted-one 8 (getD ds i noDependency .right) (right-at held ds i (c .before .before .before .before .before .pre .1) below fits))
+    ap (bitOr (c .before .before .before .before .before .args .mask))
+    (shifted-one 8 (getD ds i noDependency .right) (right-at held ds i (c .before .before .before .before .before .pre .1) below fits))
     ∙ sym (ap (addRight (c .before .before .before .before .before .args .mask)) (found ∙ ap some (held-at held ds i below)))
 
 add-i : tie.Need-add-i Inv-loop μ-loop

@@ -9,9 +9,8 @@ use lib.ListN.{take}
 use Rattle.refusals.specs.Refusals.{_>>=_, badQuery, gives, refused, Reply, unsafeHead}
 use Rattle.query.specs.declared.Query.{Query}
 use Rattle.record.specs.declared.Answer.the-variants.{Done}
-use Rattle.query.specs.Rule.{headSafe}
+use Rattle.query.specs.Rule.{headSafe, noPlace}
 use Rattle.query.proofs.Good as stored
-use Rattle.record.specs.Rule.{noPlace}
 use Rattle.format.specs.Bytes.{Bytes}
 use Rattle.format.specs.Format.{Reading, none, got}
 use Rattle.format.specs.Parts.{query}

@@ -2,7 +2,7 @@
 -- Assumes nothing.
 use mathlib.Core.Path.{sym, ap}
 use borrow.Author.Needs.{needs}
-use Rattle.query.specs.Rule.{isVariable}
+use Rattle.limits.specs.internal.Entries.{isVariable}
 use Rattle.limits.proofs.cell_names.Statement.{statement}
 use Rattle.limits.proofs.cell_names.Tie as tie
 

@@ -26,7 +26,8 @@ few schema held dependencies h = rw (le-leb held 32 h)
 abbrev Inv-loop : tie.InvT-loop
 Inv-loop relations widths held dependencies used i₀ i =
     (i ≤ 32) × (length dependencies ≡ 32)
-    × Remains (usedTest used (goodDependency (take relations widths)) blankDependency) dependencies (goodDependencies (take relations widths) held dependencies) i
+    × Remains (usedTest used (goodDependency (take relations widths)) blankDependency) dependencies (goodDependencies (take relations widths) held dependencies)
+    i
 
 abbrev μ-loop : tie.MeasureT-loop
 μ-loop relations widths held dependencies used i₀ i = 32 - i
@@ -65,7 +66,12 @@ loop-less : tie.Need-loop-less Inv-loop μ-loop
 loop-less c = search needs
 
 loop-again : tie.Need-loop-again Inv-loop μ-loop
-loop-again c = (search needs, search needs, turn-passes (c .before .before .before .before .loop .inv .2) noDependency (search needs) (c .before .dependency-fits .ensures) (c .if2 .left))
+loop-again c = (
+  search needs,
+  search needs,
+  turn-passes (c .before .before .before .before .loop .inv .2) noDependency (search needs) (c .before .dependency-fits .ensures)
+      (c .if2 .left),
+)
 
 returns-3 : tie.Need-returns-3 Inv-loop μ-loop
 returns-3 c = turns-end (c .before .loop .inv .2) (search needs)

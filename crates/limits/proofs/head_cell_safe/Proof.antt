@@ -5,7 +5,7 @@ use lib.ListN.{take}
 use borrow.Author.Needs.{needs}
 use Rattle.theory.specs.Query.{variablesOf, rowEntries}
 use Rattle.query.specs.View.{rowsOf}
-use Rattle.query.specs.Rule.{safeEntry}
+use Rattle.limits.specs.internal.Entries.{safeEntry}
 use Rattle.limits.proofs.head_cell_safe.Statement.{statement}
 use Rattle.limits.proofs.head_cell_safe.Tie as tie
 
@@ -23,7 +23,10 @@ returns c = search needs
 
 returns-2 : tie.Need-returns-2
 returns-2 c =
-    c .rows-have .ensures ∙ ap (safeEntry (variablesOf (rowEntries (rowsOf (take (c .before .before .before .before .args .relations) (c .before .before .before .before .args .widths)) (take (c .before .before .before .before .args .size) (c .before .before .before .before .args .named)) (c .before .before .before .before .args .cells))))) (sym (c .before .before .e .given .1))
+    c .rows-have .ensures ∙ ap (safeEntry (variablesOf
+    (rowEntries (rowsOf (take (c .before .before .before .before .args .relations) (c .before .before .before .before .args .widths))
+    (take (c .before .before .before .before .args .size) (c .before .before .before .before .args .named)) (c .before .before .before .before .args .cells)))))
+    (sym (c .before .before .e .given .1))
 
 pub head-cell-safe-spec : {M : Type 1} → statement M
 head-cell-safe-spec =

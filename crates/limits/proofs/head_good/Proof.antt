@@ -38,7 +38,12 @@ loop-less : tie.Need-loop-less Inv-loop μ-loop
 loop-less c = search needs
 
 loop-again : tie.Need-loop-again Inv-loop μ-loop
-loop-again c = (search needs, search needs, turn-passes (c .before .before .before .before .loop .inv .2) noCell (search needs) (c .before .cell-fits .ensures) (c .if1 .left))
+loop-again c = (
+  search needs,
+  search needs,
+  turn-passes (c .before .before .before .before .loop .inv .2) noCell (search needs) (c .before .cell-fits .ensures)
+      (c .if1 .left),
+)
 
 returns-2 : tie.Need-returns-2 Inv-loop μ-loop
 returns-2 c = turns-end (c .before .loop .inv .2) (search needs)

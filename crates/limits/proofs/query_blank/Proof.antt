@@ -45,19 +45,29 @@ head-good-requires : tie.Need-head-good-requires
 head-good-requires c κs = search needs
 
 returns-3 : tie.Need-returns-3
-returns-3 c = stops-3 (c .before .before .before .before .before .before .before .before .before .args .q) (c .before .before .before .before .if1 .left) (c .before .before .if2 .left) (sym (c .before .head-good .ensures) ∙ not-true _ (c .if3 .taken))
+returns-3 c =
+    stops-3 (c .before .before .before .before .before .before .before .before .before .args .q) (c .before .before .before .before .if1 .left)
+    (c .before .before .if2 .left) (sym (c .before .head-good .ensures) ∙ not-true _ (c .if3 .taken))
 
 named-blank-requires : tie.Need-named-blank-requires
 named-blank-requires c κs = search needs
 
 returns-4 : tie.Need-returns-4
-returns-4 c = stops-4 (c .before .before .before .before .before .before .before .before .before .before .before .args .q) (c .before .before .before .before .before .before .if1 .left) (c .before .before .before .before .if2 .left) (sym (c .before .before .before .head-good .ensures) ∙ not-false _ (c .before .before .if3 .left)) (sym (c .before .named-blank .ensures) ∙ not-true _ (c .if4 .taken))
+returns-4 c =
+    stops-4 (c .before .before .before .before .before .before .before .before .before .before .before .args .q)
+    (c .before .before .before .before .before .before .if1 .left) (c .before .before .before .before .if2 .left)
+    (sym (c .before .before .before .head-good .ensures) ∙ not-false _ (c .before .before .if3 .left))
+    (sym (c .before .named-blank .ensures) ∙ not-true _ (c .if4 .taken))
 
 cells-blank-requires : tie.Need-cells-blank-requires
 cells-blank-requires c κs = search needs
 
 returns-5 : tie.Need-returns-5
-returns-5 c = c .cells-blank .ensures ∙ goes (c .before .before .before .before .before .before .before .before .before .before .before .before .args .q) (c .before .before .before .before .before .before .before .if1 .left) (c .before .before .before .before .before .if2 .left) (sym (c .before .before .before .before .head-good .ensures) ∙ not-false _ (c .before .before .before .if3 .left)) (sym (c .before .before .named-blank .ensures) ∙ not-false _ (c .before .if4 .left))
+returns-5 c =
+    c .cells-blank .ensures ∙ goes (c .before .before .before .before .before .before .before .before .before .before .before .before .args .q)
+    (c .before .before .before .before .before .before .before .if1 .left) (c .before .before .before .before .before .if2 .left)
+    (sym (c .before .before .before .before .head-good .ensures) ∙ not-false _ (c .before .before .before .if3 .left))
+    (sym (c .before .before .named-blank .ensures) ∙ not-false _ (c .before .if4 .left))
 
 pub query-blank-spec : {M : Type 1} → statement M
 query-blank-spec =

@@ -47,10 +47,14 @@ module _ (schema : List ℕ) (q : Query) where
           goes named = rw (le-leb (q .arity) 8 arity, le-leb (q .size) 12 size, head, rows, named)
 
 returns : tie.Need-returns
-returns c = stops-1 (take (c .before .before .before .before .args .relations) (c .before .before .before .before .args .widths)) (c .before .before .before .before .args .q) (c .if1 .taken)
+returns c =
+    stops-1 (take (c .before .before .before .before .args .relations) (c .before .before .before .before .args .widths))
+    (c .before .before .before .before .args .q) (c .if1 .taken)
 
 returns-2 : tie.Need-returns-2
-returns-2 c = stops-2 (take (c .before .before .before .before .before .args .relations) (c .before .before .before .before .before .args .widths)) (c .before .before .before .before .before .args .q) (c .before .if1 .left) (c .if2 .taken)
+returns-2 c =
+    stops-2 (take (c .before .before .before .before .before .args .relations) (c .before .before .before .before .before .args .widths))
+    (c .before .before .before .before .before .args .q) (c .before .if1 .left) (c .if2 .taken)
 
 cast-rows : tie.Need-cast-rows
 cast-rows c = search needs
@@ -63,16 +67,24 @@ head-good-requires c κs = search needs
 
 returns-3 : tie.Need-returns-3
 returns-3 c =
-    stops-3 (take (c .before .before .before .before .before .before .before .before .args .relations) (c .before .before .before .before .before .before .before .before .args .widths)) (c .before .before .before .before .before .before .before .before .args .q) (c .before .before .before .before .if1 .left) (c .before .before .before .if2 .left)
-    (head-by (c .before .before .before .before .before .before .before .before .args .q) (c .before .before .head-in-use .ensures) (c .before .head-good .ensures) (not-true _ (c .if3 .taken)))
+    stops-3 (take (c .before .before .before .before .before .before .before .before .args .relations)
+    (c .before .before .before .before .before .before .before .before .args .widths))
+    (c .before .before .before .before .before .before .before .before .args .q) (c .before .before .before .before .if1 .left)
+    (c .before .before .before .if2 .left)
+    (head-by (c .before .before .before .before .before .before .before .before .args .q) (c .before .before .head-in-use .ensures)
+    (c .before .head-good .ensures) (not-true _ (c .if3 .taken)))
 
 rows-good-requires : tie.Need-rows-good-requires
 rows-good-requires c κs = search needs
 
 returns-4 : tie.Need-returns-4
 returns-4 c =
-    stops-4 (take (c .before .before .before .before .before .before .before .before .before .before .args .relations) (c .before .before .before .before .before .before .before .before .before .before .args .widths)) (c .before .before .before .before .before .before .before .before .before .before .args .q) (c .before .before .before .before .before .before .if1 .left) (c .before .before .before .before .before .if2 .left)
-    (head-by (c .before .before .before .before .before .before .before .before .before .before .args .q) (c .before .before .before .before .head-in-use .ensures) (c .before .before .before .head-good .ensures) (not-false _ (c .before .before .if3 .left)))
+    stops-4 (take (c .before .before .before .before .before .before .before .before .before .before .args .relations)
+    (c .before .before .before .before .before .before .before .before .before .before .args .widths))
+    (c .before .before .before .before .before .before .before .before .before .before .args .q) (c .before .before .before .before .before .before .if1 .left)
+    (c .before .before .before .before .before .if2 .left)
+    (head-by (c .before .before .before .before .before .before .before .before .before .before .args .q)
+    (c .before .before .before .before .head-in-use .ensures) (c .before .before .before .head-good .ensures) (not-false _ (c .before .before .if3 .left)))
     (sym (c .before .rows-good .ensures) ∙ not-true _ (c .if4 .taken))
 
 named-blank-requires : tie.Need-named-blank-requires
@@ -80,8 +92,13 @@ named-blank-requires c κs = search needs
 
 returns-5 : tie.Need-returns-5
 returns-5 c =
-    stops-5 (take (c .before .before .before .before .before .before .before .before .before .before .before .before .args .relations) (c .before .before .before .before .before .before .before .before .before .before .before .before .args .widths)) (c .before .before .before .before .before .before .before .before .before .before .before .before .args .q) (c .before .before .before .before .before .before .before .before .if1 .left) (c .before .before .before .before .before .before .before .if2 .left)
-    (head-by (c .before .before .before .before .before .before .before .before .before .before .before .before .args .q) (c .before .before .before .before .before .before .head-in-use .ensures) (c .before .before .before .before .before .head-good .ensures) (not-false _ (c .before .before .before .before .if3 .left)))
+    stops-5 (take (c .before .before .before .before .before .before .before .before .before .before .before .before .args .relations)
+    (c .before .before .before .before .before .before .before .before .before .before .before .before .args .widths))
+    (c .before .before .before .before .before .before .before .before .before .before .before .before .args .q)
+    (c .before .before .before .before .before .before .before .before .if1 .left) (c .before .before .before .before .before .before .before .if2 .left)
+    (head-by (c .before .before .before .before .before .before .before .before .before .before .before .before .args .q)
+    (c .before .before .before .before .before .before .head-in-use .ensures) (c .before .before .before .before .before .head-good .ensures)
+    (not-false _ (c .before .before .before .before .if3 .left)))
     (sym (c .before .before .before .rows-good .ensures) ∙ not-false _ (c .before .before .if4 .left))
     (sym (c .before .named-blank .ensures) ∙ not-true _ (c .if5 .taken))
 
@@ -94,8 +111,14 @@ cells-blank-requires c κs = search needs
 returns-6 : tie.Need-returns-6
 returns-6 c =
     c .cells-blank .ensures
-    ∙ goes (take (c .before .before .before .before .before .before .before .before .before .before .before .before .before .args .relations) (c .before .before .before .before .before .before .before .before .before .before .before .before .before .args .widths)) (c .before .before .before .before .before .before .before .before .before .before .before .before .before .args .q) (c .before .before .before .before .before .before .before .before .before .if1 .left) (c .before .before .before .before .before .before .before .before .if2 .left)
-    (head-by (c .before .before .before .before .before .before .before .before .before .before .before .before .before .args .q) (c .before .before .before .before .before .before .before .head-in-use .ensures) (c .before .before .before .before .before .before .head-good .ensures) (not-false _ (c .before .before .before .before .before .if3 .left)))
+    ∙ goes (take (c .before .before .before .before .before .before .before .before .before .before .before .before .before .args .relations)
+    (c .before .before .before .before .before .before .before .before .before .before .before .before .before .args .widths))
+    (c .before .before .before .before .before .before .before .before .before .before .before .before .before .args .q)
+    (c .before .before .before .before .before .before .before .before .before .if1 .left)
+    (c .before .before .before .before .before .before .before .before .if2 .left)
+    (head-by (c .before .before .before .before .before .before .before .before .before .before .before .before .before .args .q)
+    (c .before .before .before .before .before .before .before .head-in-use .ensures) (c .before .before .before .before .before .before .head-good .ensures)
+    (not-false _ (c .before .before .before .before .before .if3 .left)))
     (sym (c .before .before .before .before .rows-good .ensures) ∙ not-false _ (c .before .before .before .if4 .left))
     (sym (c .before .before .named-blank .ensures) ∙ not-false _ (c .before .if5 .left))
 

@@ -55,7 +55,8 @@ loop-less : tie.Need-loop-less Inv-loop μ-loop
 loop-less c = search needs
 
 loop-again : tie.Need-loop-again Inv-loop μ-loop
-loop-again c = (search needs, search needs, turn-passes (c .before .before .before .loop .inv .2) 0 (search needs) (c .before .width-fits .ensures) (c .if3 .left))
+loop-again c =
+    (search needs, search needs, turn-passes (c .before .before .before .loop .inv .2) 0 (search needs) (c .before .width-fits .ensures) (c .if3 .left))
 
 returns-4 : tie.Need-returns-4 Inv-loop μ-loop
 returns-4 c = turns-end (c .before .loop .inv .2) (search needs)

@@ -42,8 +42,10 @@ returns c =
     let room : start + 8 ≤ length cells = omega arith in
     let below : at < 8 = search needs in
     let inside : at < length (take 8 (drop start cells)) = rw (stretch-length start 8 cells room) below in
-    let seen : c .before .cell-fits .result ≡ usedTest (c .before .before .before .before .before .args .used) goodCell blankCell at (getD (take 8 (drop start cells)) at noCell) =
-    c .before .cell-fits .ensures ∙ ap (usedTest (c .before .before .before .before .before .args .used) goodCell blankCell at) (sym (stretch-getD start 8 cells at noCell below))
+    let seen : c .before .cell-fits .result ≡ usedTest (c .before .before .before .before .before .args .used) goodCell blankCell at
+    (getD (take 8 (drop start cells)) at noCell) =
+    c .before .cell-fits .ensures ∙ ap (usedTest (c .before .before .before .before .before .args .used) goodCell blankCell at)
+    (sym (stretch-getD start 8 cells at noCell below))
     in
     turn-fails (c .before .before .before .before .loop .inv .2) noCell inside seen (c .if1 .taken)
 
@@ -61,8 +63,10 @@ loop-again c =
     let room : start + 8 ≤ length cells = omega arith in
     let below : at < 8 = search needs in
     let inside : at < length (take 8 (drop start cells)) = rw (stretch-length start 8 cells room) below in
-    let seen : c .before .cell-fits .result ≡ usedTest (c .before .before .before .before .before .args .used) goodCell blankCell at (getD (take 8 (drop start cells)) at noCell) =
-    c .before .cell-fits .ensures ∙ ap (usedTest (c .before .before .before .before .before .args .used) goodCell blankCell at) (sym (stretch-getD start 8 cells at noCell below))
+    let seen : c .before .cell-fits .result ≡ usedTest (c .before .before .before .before .before .args .used) goodCell blankCell at
+    (getD (take 8 (drop start cells)) at noCell) =
+    c .before .cell-fits .ensures ∙ ap (usedTest (c .before .before .before .before .before .args .used) goodCell blankCell at)
+    (sym (stretch-getD start 8 cells at noCell below))
     in
     (search needs, search needs, turn-passes (c .before .before .before .before .loop .inv .2) noCell inside seen (c .if1 .left))
 

@@ -7,7 +7,8 @@ use lib.ListN.{length, take, drop, getD}
 use borrow.Author.Needs.{needs}
 use Rattle.theory.specs.Query.{member, variablesOf}
 use Rattle.query.specs.View.{entriesOf}
-use Rattle.query.specs.Rule.{namesVariable, noCell}
+use Rattle.limits.specs.internal.Entries.{namesVariable}
+use Rattle.query.specs.Rule.{noCell}
 use Rattle.lists.proofs.Loops.{Sought, search-finds, search-passes, search-ends, stretch-length, stretch-getD}
 use Rattle.limits.proofs.Variables.{cells-start}
 use Rattle.limits.proofs.row_has.Statement.{statement}
@@ -44,8 +45,10 @@ returns c =
     let cells = c .before .before .before .before .before .args .t1 in
     let below : at < width = search needs in
     let inside : at < length (take width (drop start cells)) = rw (stretch-length start width cells (omega arith)) below in
-    let seen : c .before .cell-names .result ≡ namesVariable (c .before .before .before .before .before .args .v) (getD (take width (drop start cells)) at noCell) =
-    c .before .cell-names .ensures ∙ ap (namesVariable (c .before .before .before .before .before .args .v)) (sym (stretch-getD start width cells at noCell below))
+    let seen : c .before .cell-names .result ≡ namesVariable (c .before .before .before .before .before .args .v)
+    (getD (take width (drop start cells)) at noCell) =
+    c .before .cell-names .ensures ∙ ap (namesVariable (c .before .before .before .before .before .args .v))
+    (sym (stretch-getD start width cells at noCell below))
     in
     search-finds (c .before .before .before .before .loop .inv .2) noCell inside seen (c .if1 .taken)
 
@@ -63,8 +66,10 @@ loop-again c =
     let cells = c .before .before .before .before .before .args .t1 in
     let below : at < width = search needs in
     let inside : at < length (take width (drop start cells)) = rw (stretch-length start width cells (omega arith)) below in
-    let seen : c .before .cell-names .result ≡ namesVariable (c .before .before .before .before .before .args .v) (getD (take width (drop start cells)) at noCell) =
-    c .before .cell-names .ensures ∙ ap (namesVariable (c .before .before .before .before .before .args .v)) (sym (stretch-getD start width cells at noCell below))
+    let seen : c .before .cell-names .result ≡ namesVariable (c .before .before .before .before .before .args .v)
+    (getD (take width (drop start cells)) at noCell) =
+    c .before .cell-names .ensures ∙ ap (namesVariable (c .before .before .before .before .before .args .v))
+    (sym (stretch-getD start width cells at noCell below))
     in
     (search needs, search needs, search-passes (c .before .before .before .before .loop .inv .2) noCell inside seen (c .if1 .left))
 

@@ -55,7 +55,8 @@ returns c =
     let inside : row < length (take size named) = rw (length-take-le size named (omega arith)) (search needs) in
     let read : getD (take size named) row 0 ≡ getD named row 0 = getD-take size named row 0 (search needs) in
     let seen : false ≡ rowTest schema cells row (getD (take size named) row 0) =
-    unknown-row schema (getD named row 0) (take 8 (drop (8 * row) cells)) (unknown-relation (c .before .before .before .args .relations) (c .before .before .before .args .widths) (getD named row 0) (c .if1 .taken))
+    unknown-row schema (getD named row 0) (take 8 (drop (8 * row) cells))
+    (unknown-relation (c .before .before .before .args .relations) (c .before .before .before .args .widths) (getD named row 0) (c .if1 .taken))
     ∙ ap (rowTest schema cells row) (sym read)
     in
     turn-fails (c .before .before .loop .inv .4) 0 inside seen refl
@@ -82,7 +83,9 @@ returns-2 c =
     let inside : row < length (take size named) = rw (length-take-le size named (omega arith)) (search needs) in
     let read : getD (take size named) row 0 ≡ getD named row 0 = getD-take size named row 0 (search needs) in
     let known : ltb (getD named row 0) (length schema) ≡ true =
-    known-relation (c .before .before .before .before .before .before .args .relations) (c .before .before .before .before .before .before .args .widths) (getD named row 0) (omega (arith, relations-bounds _ _ (c .before .before .before .before .before .before .pre .0) .1)) (c .before .before .before .if1 .left)
+    known-relation (c .before .before .before .before .before .before .args .relations) (c .before .before .before .before .before .before .args .widths)
+    (getD named row 0) (omega (arith, relations-bounds _ _ (c .before .before .before .before .before .before .pre .0) .1))
+    (c .before .before .before .if1 .left)
     in
     let seen : c .before .row-good .result ≡ rowTest schema cells row (getD (take size named) row 0) =
     known-row schema (getD named row 0) (take 8 (drop (8 * row) cells)) known (c .before .before .width-of .ensures) (c .before .row-good .ensures)
@@ -106,7 +109,9 @@ loop-again c =
     let inside : row < length (take size named) = rw (length-take-le size named (omega arith)) (search needs) in
     let read : getD (take size named) row 0 ≡ getD named row 0 = getD-take size named row 0 (search needs) in
     let known : ltb (getD named row 0) (length schema) ≡ true =
-    known-relation (c .before .before .before .before .before .before .args .relations) (c .before .before .before .before .before .before .args .widths) (getD named row 0) (omega (arith, relations-bounds _ _ (c .before .before .before .before .before .before .pre .0) .1)) (c .before .before .before .if1 .left)
+    known-relation (c .before .before .before .before .before .before .args .relations) (c .before .before .before .before .before .before .args .widths)
+    (getD named row 0) (omega (arith, relations-bounds _ _ (c .before .before .before .before .before .before .pre .0) .1))
+    (c .before .before .before .if1 .left)
     in
     let seen : c .before .row-good .result ≡ rowTest schema cells row (getD (take size named) row 0) =
     known-row schema (getD named row 0) (take 8 (drop (8 * row) cells)) known (c .before .before .width-of .ensures) (c .before .row-good .ensures)

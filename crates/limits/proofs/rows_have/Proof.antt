@@ -17,7 +17,8 @@ use Rattle.limits.proofs.rows_have.Tie as tie
 abbrev Inv-loop : tie.InvT-loop
 Inv-loop relations widths size cells v named row₀ row =
     (row ≤ size) × (length named ≡ 12)
-    × Sought (rowHas (take relations widths) cells v) (take size named) (member v (variablesOf (rowEntries (rowsOf (take relations widths) (take size named) cells)))) row
+    × Sought (rowHas (take relations widths) cells v) (take size named)
+    (member v (variablesOf (rowEntries (rowsOf (take relations widths) (take size named) cells)))) row
 
 abbrev μ-loop : tie.MeasureT-loop
 μ-loop relations widths size cells v named row₀ row = size - row
@@ -39,7 +40,13 @@ cast-row-has : tie.Need-cast-row-has Inv-loop μ-loop
 cast-row-has c = search needs
 
 row-has-requires : tie.Need-row-has-requires Inv-loop μ-loop
-row-has-requires c κs = omega (arith, c .width-of .ensures, width-le _ _ (c .before .before .before .pre .0) (getD (c .before .before .before .args .t4) (c .before .before .loop .row) 0))
+row-has-requires c κs =
+    omega (
+      arith,
+      c .width-of .ensures,
+      width-le _ _ (c .before .before .before .pre .0)
+          (getD (c .before .before .before .args .t4) (c .before .before .loop .row) 0),
+    )
 
 returns : tie.Need-returns Inv-loop μ-loop
 returns c =

@@ -29,7 +29,11 @@ returns-2 : tie.Need-returns-2
 unfolding goodSet
 returns-2 c =
     let fits : length (c .before .before .args .widths) ≡ 8 = search needs in
-    simp (known-relation (c .before .before .args .relations) (c .before .before .args .widths) (c .before .before .args .relation) (omega (arith, relations-bounds _ _ (c .before .before .pre) .1)) (c .before .if1 .left), eq-eqb (c .before .before .args .left) 0 (c .if2 .taken))
+    simp (
+      known-relation (c .before .before .args .relations) (c .before .before .args .widths) (c .before .before .args .relation)
+          (omega (arith, relations-bounds _ _ (c .before .before .pre) .1)) (c .before .if1 .left),
+      eq-eqb (c .before .before .args .left) 0 (c .if2 .taken),
+    )
 
 width-of-requires : tie.Need-width-of-requires
 width-of-requires c κs = search needs

@@ -9,10 +9,10 @@ use lib.Dec.{eqb}
 use lib.ListN.{length, take, drop, set, replicate, length-set}
 use denote.Ref.{now}
 use Rattle.query.specs.declared.Dependency.{Dependency}
-use Rattle.record.specs.declared.Place.{Place}
+use Rattle.query.specs.declared.Place.{Place}
 use Rattle.record.specs.declared.Outcome.{Outcome}
 use Rattle.record.specs.declared.Answer.the-variants.{Done, Refused}
-use Rattle.record.specs.Rule.{noPlace}
+use Rattle.query.specs.Rule.{noPlace}
 use Rattle.lists.specs.Over.{over}
 use Rattle.refusals.specs.Refusals.{Reply, gives, refused, _>>=_}
 use Rattle.format.specs.File.{stretch, stretches, readPlace, noneLeft, readPlaces, outcomeOf}

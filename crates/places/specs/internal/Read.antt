@@ -2,7 +2,7 @@
 use mathlib.Core.List.{List}
 use Prim.Native.Nat.{ℕ}
 use Rattle.query.specs.declared.Dependency.{Dependency}
-use Rattle.record.specs.declared.Place.{Place}
+use Rattle.query.specs.declared.Place.{Place}
 use Rattle.record.specs.declared.Outcome.{Outcome}
 use Rattle.refusals.specs.Refusals.{Reply, gives, refused}
 use Rattle.format.specs.File.{recordWith, outcomeOf}

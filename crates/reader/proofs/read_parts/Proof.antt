@@ -10,7 +10,7 @@ use lib.ListN.{take, drop}
 use denote.Ref.{now}
 use Rattle.refusals.specs.Refusals.{_>>=_, badDependency, badRelations, gives, refused, Reply}
 use Rattle.query.specs.declared.Dependency.{Dependency}
-use Rattle.record.specs.declared.Place.{Place}
+use Rattle.query.specs.declared.Place.{Place}
 use Rattle.query.specs.Rule.{goodRelations}
 use Rattle.format.specs.Bytes.{number, Bytes}
 use Rattle.format.specs.Format.{Reading, none, got}

@@ -3,9 +3,9 @@ use mathlib.Core.Path.{_≡_}
 use Prim.Native.Nat.{_<_}
 use native.Mathlib.Omega.{arith}
 use lib.ListN.{length, getD}
-use Rattle.record.specs.Rule.{noPlace}
+use Rattle.query.specs.Rule.{noPlace}
 use Rattle.lists.proofs.Loops.{mapped-length, getD-any}
-use Rattle.record.proofs.Shape.{pastPlace}
+use Rattle.query.proofs.Shape.{pastPlace}
 use Rattle.report.proofs.OnePlace.{alone-made}
 use borrow.Author.Needs.{needs}
 use Rattle.report.proofs.alone.Statement.{statement}

@@ -3,10 +3,10 @@ use mathlib.Core.Path.{_≡_, ap}
 use Prim.Native.Nat.{_<_}
 use native.Mathlib.Omega.{arith}
 use lib.ListN.{length, getD}
-use Rattle.record.specs.declared.Place.{Place}
-use Rattle.record.specs.Rule.{noPlace}
+use Rattle.query.specs.declared.Place.{Place}
+use Rattle.query.specs.Rule.{noPlace}
 use Rattle.lists.proofs.Loops.{mapped-length, getD-any}
-use Rattle.record.proofs.Shape.{pastPlace}
+use Rattle.query.proofs.Shape.{pastPlace}
 use borrow.Author.Needs.{needs}
 use Rattle.report.proofs.is_filled.Statement.{statement}
 use Rattle.report.proofs.is_filled.Tie as tie

@@ -5,7 +5,7 @@ use Prim.Native.Nat.{ℕ, _+_, _*_, _≤_}
 use lib.Dec.{eqb}
 use lib.ListN.{length, getD, set, replicate}
 use Rattle.record.specs.declared.Record.{Record}
-use Rattle.record.specs.Rule.{noPlace}
+use Rattle.query.specs.Rule.{noPlace}
 use Rattle.record.specs.Calls.{isFilled}
 use Rattle.printing.specs.internal.Writing.{Written}
 use Rattle.text.specs.Text.{passing}

@@ -5,7 +5,8 @@ use mathlib.Core.List.{List, [], _∷_}
 use Prim.Native.Nat.{ℕ}
 use Rattle.query.specs.declared.Cell.{Cell}
 use Rattle.record.specs.declared.Answer.the-variants.{Done}
-use Rattle.record.specs.Rule.{goodRecord, goodPlace}
+use Rattle.query.specs.Rule.{goodPlace}
+use Rattle.record.specs.Rule.{goodRecord}
 use Rattle.format.specs.Format.{Reading, none, got}
 use Rattle.format.specs.File.{placeWith}
 use Rattle.mapping.specs.declared.Mapped.{Mapped}

@@ -24,20 +24,27 @@ good : (c : tie.Else1) → goodRecord (c .before .before .before .before .args .
 good c = sym (c .before .is-good .ensures) ∙ not-false _ (c .if1 .left)
 
 returns : tie.Need-returns
-returns c = determined-broken (c .before .before .before .before .args .self) (c .before .before .before .before .args .relation) (c .before .before .before .before .args .left) (sym (c .before .is-good .ensures) ∙ not-true _ (c .if1 .taken))
+returns c =
+    determined-broken (c .before .before .before .before .args .self) (c .before .before .before .before .args .relation)
+    (c .before .before .before .before .args .left) (sym (c .before .is-good .ensures) ∙ not-true _ (c .if1 .taken))
 
 set-good-requires : tie.Need-set-good-requires
 set-good-requires c κs = good-record (c .before .before .before .before .args .self) (good c) .relations
 
 returns-2 : tie.Need-returns-2
-returns-2 c = determined-unfit (c .before .before .before .before .before .before .args .self) (c .before .before .before .before .before .before .args .relation) (c .before .before .before .before .before .before .args .left) (good (c .before .before)) (sym (c .before .set-good .ensures) ∙ not-true _ (c .if2 .taken))
+returns-2 c =
+    determined-unfit (c .before .before .before .before .before .before .args .self) (c .before .before .before .before .before .before .args .relation)
+    (c .before .before .before .before .before .before .args .left) (good (c .before .before)) (sym (c .before .set-good .ensures) ∙ not-true _ (c .if2 .taken))
 
 cast-closed-columns : tie.Need-cast-closed-columns
 cast-closed-columns c = search needs
 
 closed-columns-requires : tie.Need-closed-columns-requires
-closed-columns-requires c κs =
-    (good-record (c .before .before .before .before .before .before .args .self) (good (c .before .before)) .held, rights-narrow (c .before .before .before .before .before .before .args .self) (good (c .before .before)))
+closed-columns-requires c κs = (
+  good-record (c .before .before .before .before .before .before .args .self) (good (c .before .before)) .held,
+  rights-narrow
+      (c .before .before .before .before .before .before .args .self) (good (c .before .before)),
+)
 
 cast-t13 : tie.Need-cast-t13
 cast-t13 c =
@@ -48,7 +55,9 @@ returns-3 : tie.Need-returns-3
 returns-3 c =
     let self = c .before .before .before .before .before .before .before .args .self in
     let long : length (self .dependencies) ≡ 32 = search (mapped-length, needs) in
-    determined-done (c .before .before .before .before .before .before .before .args .self) (c .before .before .before .before .before .before .before .args .relation) (c .before .before .before .before .before .before .before .args .left) (good (c .before .before .before)) (sym (c .before .before .set-good .ensures) ∙ not-false _ (c .before .if2 .left)) long
+    determined-done (c .before .before .before .before .before .before .before .args .self)
+    (c .before .before .before .before .before .before .before .args .relation) (c .before .before .before .before .before .before .before .args .left)
+    (good (c .before .before .before)) (sym (c .before .before .set-good .ensures) ∙ not-false _ (c .before .if2 .left)) long
     (c .closed-columns .result) (c .closed-columns .ensures)
 
 pub determined-spec : {M : Type 1} → statement M

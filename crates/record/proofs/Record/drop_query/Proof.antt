@@ -9,7 +9,8 @@ use borrow.Author.Tests.{not-true, not-false}
 use borrow.Author.Needs.{needs}
 use Rattle.record.specs.declared.Record.{Record}
 use Rattle.record.specs.declared.Lookup.the-variants as lookup
-use Rattle.record.specs.Rule.{goodRecord, noPlace}
+use Rattle.query.specs.Rule.{noPlace}
+use Rattle.record.specs.Rule.{goodRecord}
 use Rattle.record.specs.Calls.{concluded, numberOf, filledPlace, withPlace}
 use Rattle.record.proofs.Refusals.{filled-at}
 use Rattle.record.proofs.Outcomes.{drop-broken, drop-refused, drop-done}
@@ -23,7 +24,9 @@ refused-requires : tie.Need-refused-requires
 refused-requires c κs = search needs
 
 returns : tie.Need-returns
-returns c = c .refused .ensures ∙ drop-broken (c .before .before .before .args .self) (c .before .before .before .args .place) (sym (c .before .before .is-good .ensures) ∙ not-true _ (c .before .if1 .taken))
+returns c =
+    c .refused .ensures ∙ drop-broken (c .before .before .before .args .self) (c .before .before .before .args .place)
+    (sym (c .before .before .is-good .ensures) ∙ not-true _ (c .before .if1 .taken))
 
 filled-place-requires : tie.Need-filled-place-requires
 filled-place-requires c κs = search needs
@@ -44,7 +47,9 @@ returns-2 : tie.Need-returns-2
 returns-2 c =
     let self = c .before .before .before .before .before .before .before .args .self in
     let place = c .before .before .before .before .before .before .before .args .place in
-    let good : goodRecord self ≡ true = sym (c .before .before .before .before .before .before .is-good .ensures) ∙ not-false _ (c .before .before .before .before .before .if1 .left) in
+    let good : goodRecord self ≡ true =
+    sym (c .before .before .before .before .before .before .is-good .ensures) ∙ not-false _ (c .before .before .before .before .before .if1 .left)
+    in
     let told = c .before .before .enum-told .given in
     let number : c .before .number .result ≡ told .0 .0 = c .before .number .ensures ∙ ap numberOf (told .1) in
     c .refused2 .ensures ∙ ap (λ (n : ℕ). concluded (some n) self self) number
@@ -53,37 +58,33 @@ returns-2 c =
 no-place-requires : tie.Need-no-place-requires
 no-place-requires c κs = search needs
 
-mul-t10 : tie.Need-mul-t10
-mul-t10 c =
+with-place-requires : tie.Need-with-place-requires
+with-place-requires c κs =
     let self = c .before .before .before .before .before .before .before .args .self in
     let place = c .before .before .before .before .before .before .before .args .place in
     let at = c .before .before .found .given .0 .0 in
     let is : filledPlace self place ≡ lookup.At at = sym (c .before .before .before .before .filled-place .ensures) ∙ c .before .before .found .given .1 in
-    let low : at < 8 = omega (arith, filled-at self place at is .0, filled-at self place at is .1) in
-    record { fits = omega arith }
-
-element-set-from-next : tie.Need-element-set-from-next
-element-set-from-next c =
-    let self = c .before .before .before .before .before .before .before .args .self in
-    let place = c .before .before .before .before .before .before .before .args .place in
-    let at = c .before .before .found .given .0 .0 in
-    let is : filledPlace self place ≡ lookup.At at = sym (c .before .before .before .before .filled-place .ensures) ∙ c .before .before .found .given .1 in
-    let low : at < 8 = omega (arith, filled-at self place at is .0, filled-at self place at is .1) in
-    search needs
+    omega (arith, filled-at self place at is .0, filled-at self place at is .1)
 
 done-requires : tie.Need-done-requires
 done-requires c κs = search needs
 
 returns-3 : tie.Need-returns-3
 returns-3 c =
-    let self = c .before .before .before .before .before .before .before .before .args .self in
-    let place = c .before .before .before .before .before .before .before .before .args .place in
-    let at = c .before .before .before .found .given .0 .0 in
-    let is : filledPlace self place ≡ lookup.At at = sym (c .before .before .before .before .before .filled-place .ensures) ∙ c .before .before .before .found .given .1 in
-    let low : at < 8 = omega (arith, filled-at self place at is .0, filled-at self place at is .1) in
-    let good : goodRecord self ≡ true = sym (c .before .before .before .before .before .before .before .is-good .ensures) ∙ not-false _ (c .before .before .before .before .before .before .if1 .left) in
-    let stored : withPlace self at (c .before .no-place .result) ≡ withPlace self at noPlace = ap (withPlace self at) (c .before .no-place .ensures) in
-    c .done .ensures ∙ ap (λ (after : Record). concluded none after after) stored ∙ drop-done self place good at is
+    let self = c .before .before .before .before .before .before .before .before .before .args .self in
+    let place = c .before .before .before .before .before .before .before .before .before .args .place in
+    let at = c .before .before .before .before .found .given .0 .0 in
+    let is : filledPlace self place ≡ lookup.At at =
+    sym (c .before .before .before .before .before .before .filled-place .ensures) ∙ c .before .before .before .before .found .given .1
+    in
+    let good : goodRecord self ≡ true =
+    sym (c .before .before .before .before .before .before .before .before .is-good .ensures) ∙ not-false _
+    (c .before .before .before .before .before .before .before .if1 .left)
+    in
+    let stored : withPlace self at (c .before .before .no-place .result) ≡ withPlace self at noPlace =
+    ap (withPlace self at) (c .before .before .no-place .ensures)
+    in
+    c .done .ensures ∙ ap (λ (after : Record). concluded none after after) (c .before .with-place .ensures ∙ stored) ∙ drop-done self place good at is
 
 pub drop-query-spec : {M : Type 1} → statement M
 drop-query-spec =
@@ -99,7 +100,6 @@ drop-query-spec =
     refused-requires-2
     returns-2
     no-place-requires
-    mul-t10
-    element-set-from-next
+    with-place-requires
     done-requires
     returns-3)

@@ -5,28 +5,28 @@ use Prim.Native.Nat.{_<_}
 use native.Mathlib.Omega.{arith}
 use lib.ListN.{length, getD}
 use borrow.Author.Needs.{needs}
-use Rattle.record.specs.declared.Place.{Place}
-use Rattle.record.specs.Rule.{noPlace}
+use Rattle.query.specs.declared.Place.{Place}
+use Rattle.query.specs.Rule.{noPlace}
 use Rattle.record.specs.Calls.{isFilled}
 use Rattle.lists.proofs.Loops.{mapped-length, getD-any}
-use Rattle.record.proofs.Shape.{pastPlace}
+use Rattle.query.proofs.Shape.{pastPlace}
 use Rattle.record.proofs.Refusals.{filled-high, filled-yes, filled-no}
 use Rattle.record.proofs.Record.filled_place.Statement.{statement}
 use Rattle.record.proofs.Record.filled_place.Tie as tie
 
 returns : tie.Need-returns
-returns c = filled-high (c .before .before .args .self) (c .before .before .args .place) (c .if1 .taken)
+returns c = filled-high (c .before .args .t1) (c .before .args .place) (c .if1 .taken)
 
-mul-p : tie.Need-mul-p
-mul-p c = search needs
+mul-if2 : tie.Need-mul-if2
+mul-if2 c = search needs
 
-array-copy-out-p : tie.Need-array-copy-out-p
-array-copy-out-p c = search needs
+element-copy-out-if2 : tie.Need-element-copy-out-if2
+element-copy-out-if2 c = search needs
 
 returns-2 : tie.Need-returns-2
 returns-2 c =
-    let self = c .before .before .before .before .args .self in
-    let place = c .before .before .before .before .args .place in
+    let self = c .before .before .args .t1 in
+    let place = c .before .before .args .place in
     let long : length (self .places) ≡ 8 = search (mapped-length, needs) in
     let below : place < 8 = search needs in
     let same : isFilled self place ≡ getD (self .places) place pastPlace .filled =
@@ -36,8 +36,8 @@ returns-2 c =
 
 returns-3 : tie.Need-returns-3
 returns-3 c =
-    let self = c .before .before .before .before .args .self in
-    let place = c .before .before .before .before .args .place in
+    let self = c .before .before .args .t1 in
+    let place = c .before .before .args .place in
     let long : length (self .places) ≡ 8 = search (mapped-length, needs) in
     let below : place < 8 = search needs in
     let same : isFilled self place ≡ getD (self .places) place pastPlace .filled =
@@ -46,4 +46,4 @@ returns-3 c =
     filled-no self place below (same ∙ c .if2 .left)
 
 pub filled-place-spec : {M : Type 1} → statement M
-filled-place-spec = tie.close (tie.spec returns mul-p array-copy-out-p returns-2 returns-3)
+filled-place-spec = tie.close (tie.spec returns mul-if2 element-copy-out-if2 returns-2 returns-3)

@@ -7,8 +7,8 @@ use borrow.Author.Needs.{needs}
 use Rattle.record.specs.declared.Record.{Record}
 use Rattle.record.specs.View.{schemaOf}
 use Rattle.lists.specs.Tests.{every}
-use Rattle.query.specs.Rule.{goodRelations, goodDependencies}
-use Rattle.record.specs.Rule.{goodPlace, goodRecord}
+use Rattle.query.specs.Rule.{goodRelations, goodDependencies, goodPlace}
+use Rattle.record.specs.Rule.{goodRecord}
 use Rattle.record.proofs.Record.is_good.Statement.{statement}
 use Rattle.record.proofs.Record.is_good.Tie as tie
 
@@ -36,13 +36,19 @@ dependencies-good-requires : tie.Need-dependencies-good-requires
 dependencies-good-requires c κs = sym (c .before .relations-good .ensures) ∙ not-false _ (c .if1 .left)
 
 returns-2 : tie.Need-returns-2
-returns-2 c = stops-2 (c .before .before .before .before .before .before .before .args .self) (sym (c .before .before .before .relations-good .ensures) ∙ not-false _ (c .before .before .if1 .left)) (sym (c .before .dependencies-good .ensures) ∙ not-true _ (c .if2 .taken))
+returns-2 c =
+    stops-2 (c .before .before .before .before .before .before .before .args .self)
+    (sym (c .before .before .before .relations-good .ensures) ∙ not-false _ (c .before .before .if1 .left))
+    (sym (c .before .dependencies-good .ensures) ∙ not-true _ (c .if2 .taken))
 
 places-good-requires : tie.Need-places-good-requires
 places-good-requires c κs = (sym (c .before .before .before .relations-good .ensures) ∙ not-false _ (c .before .before .if1 .left))
 
 returns-3 : tie.Need-returns-3
-returns-3 c = c .places-good .ensures ∙ goes (c .before .before .before .before .before .before .before .before .args .self) (sym (c .before .before .before .before .relations-good .ensures) ∙ not-false _ (c .before .before .before .if1 .left)) (sym (c .before .before .dependencies-good .ensures) ∙ not-false _ (c .before .if2 .left))
+returns-3 c =
+    c .places-good .ensures ∙ goes (c .before .before .before .before .before .before .before .before .args .self)
+    (sym (c .before .before .before .before .relations-good .ensures) ∙ not-false _ (c .before .before .before .if1 .left))
+    (sym (c .before .before .dependencies-good .ensures) ∙ not-false _ (c .before .if2 .left))
 
 pub is-good-spec : {M : Type 1} → statement M
 is-good-spec =

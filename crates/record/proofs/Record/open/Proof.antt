@@ -21,7 +21,8 @@ refused-requires c κs = search needs
 
 returns : tie.Need-returns
 returns c =
-    c .refused .ensures ∙ ap (λ (given : Record). concluded (some 3) given given) (c .before .blank-record .ensures) ∙ open-many (now (c .before .before .before .before .args .widths)) (c .before .before .if1 .taken)
+    c .refused .ensures ∙ ap (λ (given : Record). concluded (some 3) given given) (c .before .blank-record .ensures) ∙ open-many
+    (now (c .before .before .before .before .args .widths)) (c .before .before .if1 .taken)
 
 cast-relations : tie.Need-cast-relations
 cast-relations c = search needs
@@ -41,7 +42,10 @@ refused-requires-2 c κs = search needs
 returns-2 : tie.Need-returns-2
 returns-2 c =
     c .refused2 .ensures ∙ ap (λ (given : Record). concluded (some 3) given given) (c .before .blank-record2 .ensures)
-    ∙ open-unfit (now (c .before .before .before .before .before .before .before .args .widths)) (sym (c .before .before .before .relations-good .ensures ∙ ap (goodRelations (length (now (c .before .before .before .before .before .before .before .args .widths)))) (c .before .before .before .before .padded-widths .ensures)) ∙ not-true _ (c .before .before .if2 .taken))
+    ∙ open-unfit (now (c .before .before .before .before .before .before .before .args .widths))
+    (sym (c .before .before .before .relations-good .ensures ∙ ap
+    (goodRelations (length (now (c .before .before .before .before .before .before .before .args .widths))))
+    (c .before .before .before .before .padded-widths .ensures)) ∙ not-true _ (c .before .before .if2 .taken))
 
 opened-requires : tie.Need-opened-requires
 opened-requires c κs = search needs
@@ -51,7 +55,12 @@ done-requires c κs = search needs
 
 returns-3 : tie.Need-returns-3
 returns-3 c =
-    c .done .ensures ∙ open-done (now (c .before .before .before .before .before .before .before .args .widths)) (sym (c .before .before .before .relations-good .ensures ∙ ap (goodRelations (length (now (c .before .before .before .before .before .before .before .args .widths)))) (c .before .before .before .before .padded-widths .ensures)) ∙ not-false _ (c .before .before .if2 .left)) (c .before .opened .result) (c .before .opened .ensures ∙ ap (emptyRecord (length (now (c .before .before .before .before .before .before .before .args .widths)))) (c .before .before .before .before .padded-widths .ensures))
+    c .done .ensures ∙ open-done (now (c .before .before .before .before .before .before .before .args .widths))
+    (sym (c .before .before .before .relations-good .ensures ∙ ap
+    (goodRelations (length (now (c .before .before .before .before .before .before .before .args .widths))))
+    (c .before .before .before .before .padded-widths .ensures)) ∙ not-false _ (c .before .before .if2 .left)) (c .before .opened .result)
+    (c .before .opened .ensures ∙ ap (emptyRecord (length (now (c .before .before .before .before .before .before .before .args .widths))))
+    (c .before .before .before .before .padded-widths .ensures))
 
 pub open-spec : {M : Type 1} → statement M
 open-spec =

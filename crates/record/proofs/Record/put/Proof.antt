@@ -2,11 +2,12 @@
 -- Assumes nothing.
 use mathlib.Core.Path.{_≡_, sym, ap, _∙_}
 use mathlib.Core.Bool.{true}
-use mathlib.Core.Option.{some}
+use mathlib.Core.Option.{none, some}
 use Prim.Native.Nat.{ℕ, _<_}
 use native.Mathlib.Omega.{arith}
 use borrow.Author.Tests.{not-true, not-false}
 use borrow.Author.Needs.{needs}
+use Rattle.record.specs.declared.Record.{Record}
 use Rattle.record.specs.declared.Lookup.the-variants as lookup
 use Rattle.record.specs.View.{schemaOf}
 use Rattle.record.specs.Rule.{goodRecord}
@@ -27,19 +28,26 @@ refused-requires c κs = search needs
 
 returns : tie.Need-returns
 returns c =
-    c .refused .ensures ∙ put-broken (c .before .before .before .before .args .self) (c .before .before .before .before .args .place) (c .before .before .before .before .args .q) (sym (c .before .before .is-good .ensures) ∙ not-true _ (c .before .if1 .taken))
+    c .refused .ensures ∙ put-broken (c .before .before .before .before .args .self) (c .before .before .before .before .args .place)
+    (c .before .before .before .before .args .q) (sym (c .before .before .is-good .ensures) ∙ not-true _ (c .before .if1 .taken))
 
 -- what the tests passed so far tell
 good : (c : tie.Else1) → goodRecord (c .before .before .before .args .self) ≡ true
 good c = sym (c .before .is-good .ensures) ∙ not-false _ (c .if1 .left)
 
 low : (c : tie.After-enum-told) → c .before .before .before .before .before .before .args .place < 8
-low c = place-at (c .before .before .before .before .before .before .args .place) (c .enum-told .given .0 .0) (sym (c .before .before .place-at .ensures) ∙ c .enum-told .given .1) .1
+low c =
+    place-at (c .before .before .before .before .before .before .args .place) (c .enum-told .given .0 .0)
+    (sym (c .before .before .place-at .ensures) ∙ c .enum-told .given .1) .1
 
-fit : (c : tie.Else2) → goodQuery (schemaOf (c .before .before .before .before .before .before .before .before .args .self)) (c .before .before .before .before .before .before .before .before .args .q) ≡ true
+fit : (c : tie.Else2)
+    → goodQuery (schemaOf (c .before .before .before .before .before .before .before .before .args .self))
+    (c .before .before .before .before .before .before .before .before .args .q) ≡ true
 fit c = sym (c .before .query-good .ensures) ∙ not-false _ (c .if2 .left)
 
-safe : (c : tie.Else3) → headSafe (schemaOf (c .before .before .before .before .before .before .before .before .before .before .args .self)) (c .before .before .before .before .before .before .before .before .before .before .args .q) ≡ true
+safe : (c : tie.Else3)
+    → headSafe (schemaOf (c .before .before .before .before .before .before .before .before .before .before .args .self))
+    (c .before .before .before .before .before .before .before .before .before .before .args .q) ≡ true
 safe c = sym (c .before .head-safe .ensures) ∙ not-false _ (c .if3 .left)
 
 place-at-requires : tie.Need-place-at-requires
@@ -63,7 +71,10 @@ returns-2 c =
     let told = c .before .before .enum-told2 .given in
     let number : c .before .number .result ≡ told .0 .0 = c .before .number .ensures ∙ ap numberOf (told .1) in
     c .refused2 .ensures ∙ ap (λ (n : ℕ). concluded (some n) self self) number
-    ∙ put-high (c .before .before .before .before .before .before .before .before .args .self) (c .before .before .before .before .before .before .before .before .args .place) (c .before .before .before .before .before .before .before .before .args .q) (good (c .before .before .before .before .before)) (told .0 .0) (sym (c .before .before .before .before .place-at .ensures) ∙ told .1)
+    ∙ put-high (c .before .before .before .before .before .before .before .before .args .self)
+    (c .before .before .before .before .before .before .before .before .args .place)
+    (c .before .before .before .before .before .before .before .before .args .q) (good (c .before .before .before .before .before)) (told .0 .0)
+    (sym (c .before .before .before .before .place-at .ensures) ∙ told .1)
 
 query-good-requires : tie.Need-query-good-requires
 query-good-requires c κs = good-record (c .before .before .before .before .before .before .args .self) (good (c .before .before .before)) .relations
@@ -74,12 +85,22 @@ refused-requires-3 c κs = search needs
 returns-3 : tie.Need-returns-3
 returns-3 c =
     c .refused3 .ensures
-    ∙ put-unfit (c .before .before .before .before .before .before .before .before .before .args .self) (c .before .before .before .before .before .before .before .before .before .args .place) (c .before .before .before .before .before .before .before .before .before .args .q) (good (c .before .before .before .before .before .before)) (low (c .before .before .before)) (sym (c .before .before .query-good .ensures) ∙ not-true _ (c .before .if2 .taken))
+    ∙ put-unfit (c .before .before .before .before .before .before .before .before .before .args .self)
+    (c .before .before .before .before .before .before .before .before .before .args .place)
+    (c .before .before .before .before .before .before .before .before .before .args .q) (good (c .before .before .before .before .before .before))
+    (low (c .before .before .before)) (sym (c .before .before .query-good .ensures) ∙ not-true _ (c .before .if2 .taken))
 
 head-safe-requires : tie.Need-head-safe-requires
 head-safe-requires c κs =
-    let within = good-query (schemaOf (c .before .before .before .before .before .before .before .before .args .self)) (c .before .before .before .before .before .before .before .before .args .q) (fit c) in
-    (good-record (c .before .before .before .before .before .before .before .before .args .self) (good (c .before .before .before .before .before)) .relations, within .arity, within .size)
+    let within =
+    good-query (schemaOf (c .before .before .before .before .before .before .before .before .args .self))
+    (c .before .before .before .before .before .before .before .before .args .q) (fit c)
+    in (
+      good-record (c .before .before .before .before .before .before .before .before .args .self)
+          (good (c .before .before .before .before .before)) .relations,
+      within .arity,
+      within .size,
+    )
 
 refused-requires-4 : tie.Need-refused-requires-4
 refused-requires-4 c κs = search needs
@@ -87,7 +108,11 @@ refused-requires-4 c κs = search needs
 returns-4 : tie.Need-returns-4
 returns-4 c =
     c .refused4 .ensures
-    ∙ put-unsafe (c .before .before .before .before .before .before .before .before .before .before .before .args .self) (c .before .before .before .before .before .before .before .before .before .before .before .args .place) (c .before .before .before .before .before .before .before .before .before .before .before .args .q) (good (c .before .before .before .before .before .before .before .before)) (low (c .before .before .before .before .before)) (fit (c .before .before .before))
+    ∙ put-unsafe (c .before .before .before .before .before .before .before .before .before .before .before .args .self)
+    (c .before .before .before .before .before .before .before .before .before .before .before .args .place)
+    (c .before .before .before .before .before .before .before .before .before .before .before .args .q)
+    (good (c .before .before .before .before .before .before .before .before)) (low (c .before .before .before .before .before))
+    (fit (c .before .before .before))
     (sym (c .before .before .head-safe .ensures) ∙ not-true _ (c .before .if3 .taken))
 
 vacant-place-requires : tie.Need-vacant-place-requires
@@ -111,38 +136,41 @@ returns-5 c =
     let told = c .before .before .enum-told3 .given in
     let number : c .before .number2 .result ≡ told .0 .0 = c .before .number2 .ensures ∙ ap numberOf (told .1) in
     c .refused5 .ensures ∙ ap (λ (n : ℕ). concluded (some n) self self) number
-    ∙ put-filled (c .before .before .before .before .before .before .before .before .before .before .before .before .before .before .before .args .self) (c .before .before .before .before .before .before .before .before .before .before .before .before .before .before .before .args .place) (c .before .before .before .before .before .before .before .before .before .before .before .before .before .before .before .args .q) (good (c .before .before .before .before .before .before .before .before .before .before .before .before)) (low (c .before .before .before .before .before .before .before .before .before)) (fit (c .before .before .before .before .before .before .before)) (safe (c .before .before .before .before .before)) (told .0 .0)
+    ∙ put-filled (c .before .before .before .before .before .before .before .before .before .before .before .before .before .before .before .args .self)
+    (c .before .before .before .before .before .before .before .before .before .before .before .before .before .before .before .args .place)
+    (c .before .before .before .before .before .before .before .before .before .before .before .before .before .before .before .args .q)
+    (good (c .before .before .before .before .before .before .before .before .before .before .before .before))
+    (low (c .before .before .before .before .before .before .before .before .before)) (fit (c .before .before .before .before .before .before .before))
+    (safe (c .before .before .before .before .before)) (told .0 .0)
     (sym (c .before .before .before .before .vacant-place .ensures) ∙ told .1)
 
-mul-t15 : tie.Need-mul-t15
-mul-t15 c =
+with-place-requires : tie.Need-with-place-requires
+with-place-requires c κs =
     let self = c .before .before .before .before .before .before .before .before .before .before .before .before .before .before .args .self in
     let place = c .before .before .before .before .before .before .before .before .before .before .before .before .before .before .args .place in
     let at = c .before .found .given .0 .0 in
     let is : vacantPlace self place ≡ lookup.At at = sym (c .before .before .before .vacant-place .ensures) ∙ c .before .found .given .1 in
-    let inside : at < 8 = omega (arith, vacant-at self place at is .0, vacant-at self place at is .1) in
-    record { fits = omega arith }
-
-element-set-from-next : tie.Need-element-set-from-next
-element-set-from-next c =
-    let self = c .before .before .before .before .before .before .before .before .before .before .before .before .before .before .args .self in
-    let place = c .before .before .before .before .before .before .before .before .before .before .before .before .before .before .args .place in
-    let at = c .before .found .given .0 .0 in
-    let is : vacantPlace self place ≡ lookup.At at = sym (c .before .before .before .vacant-place .ensures) ∙ c .before .found .given .1 in
-    let inside : at < 8 = omega (arith, vacant-at self place at is .0, vacant-at self place at is .1) in
-    search needs
+    omega (arith, vacant-at self place at is .0, vacant-at self place at is .1)
 
 done-requires : tie.Need-done-requires
 done-requires c κs = search needs
 
 returns-6 : tie.Need-returns-6
 returns-6 c =
-    let self = c .before .before .before .before .before .before .before .before .before .before .before .before .before .before .before .args .self in
-    let place = c .before .before .before .before .before .before .before .before .before .before .before .before .before .before .before .args .place in
-    let at = c .before .before .found .given .0 .0 in
-    let is : vacantPlace self place ≡ lookup.At at = sym (c .before .before .before .before .vacant-place .ensures) ∙ c .before .before .found .given .1 in
-    let inside : at < 8 = omega (arith, vacant-at self place at is .0, vacant-at self place at is .1) in
-    c .done .ensures ∙ put-done self place (c .before .before .before .before .before .before .before .before .before .before .before .before .before .before .before .args .q) (good (c .before .before .before .before .before .before .before .before .before .before .before .before)) (low (c .before .before .before .before .before .before .before .before .before)) (fit (c .before .before .before .before .before .before .before)) (safe (c .before .before .before .before .before)) at is
+    let self = c .before .before .before .before .before .before .before .before .before .before .before .before .before .before .before .before .args .self in
+    let place =
+    c .before .before .before .before .before .before .before .before .before .before .before .before .before .before .before .before .args .place
+    in
+    let at = c .before .before .before .found .given .0 .0 in
+    let is : vacantPlace self place ≡ lookup.At at =
+    sym (c .before .before .before .before .before .vacant-place .ensures) ∙ c .before .before .before .found .given .1
+    in
+    c .done .ensures ∙ ap (λ (after : Record). concluded none after after) (c .before .with-place .ensures)
+    ∙ put-done self place
+    (c .before .before .before .before .before .before .before .before .before .before .before .before .before .before .before .before .args .q)
+    (good (c .before .before .before .before .before .before .before .before .before .before .before .before .before))
+    (low (c .before .before .before .before .before .before .before .before .before .before))
+    (fit (c .before .before .before .before .before .before .before .before)) (safe (c .before .before .before .before .before .before)) at is
 
 pub put-spec : {M : Type 1} → statement M
 put-spec =
@@ -169,7 +197,6 @@ put-spec =
     number-requires-2
     refused-requires-5
     returns-5
-    mul-t15
-    element-set-from-next
+    with-place-requires
     done-requires
     returns-6)

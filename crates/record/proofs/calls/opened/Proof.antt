@@ -3,7 +3,7 @@
 use mathlib.Core.Path.{ap}
 use lib.ListN.{replicate}
 use borrow.Author.Needs.{needs}
-use Rattle.record.specs.declared.Place.{Place}
+use Rattle.query.specs.declared.Place.{Place}
 use Rattle.record.specs.declared.Record.{Record}
 use Rattle.query.specs.Rule.{noDependency}
 use Rattle.record.proofs.calls.opened.Statement.{statement}

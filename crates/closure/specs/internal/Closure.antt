@@ -1,13 +1,20 @@
 -- The closure of a set of columns on masks, as the code computes it: one look through the dependencies, and so many looks.
--- What is believed of it is only that the answer is the theory's `determined`; see `determinedColumns` in `Calls`.
+-- What is believed of it is only that the answer is the theory's `determined`; see `determinedColumns` in `record/specs/Calls`.
+use mathlib.Core.Bool.{Bool}
 use mathlib.Core.List.{List}
 use mathlib.Core.Option.{Option, none, some}
 use Prim.Native.Nat.{ℕ, zero, suc, _^_}
 use lib.Bits.{bitOr}
+use lib.Dec.{ltb}
 use Rattle.theory.specs.Chase.{firstPassing}
 use Rattle.theory.specs.Database.{Dependency}
 use Rattle.theory.specs.Determined.{adds}
+use Rattle.query.specs.declared.Dependency as stored
 use Rattle.query.specs.View.{columnsOf}
+
+-- The right column of a dependency is one of 8
+abbrev pub rightNarrow : stored.Dependency → Bool
+rightNarrow d = ltb (d .right) 8
 
 -- A mask with the right column of a found dependency
 unfoldable pub addRight : ℕ → Option Dependency → ℕ

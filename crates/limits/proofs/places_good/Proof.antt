@@ -1,15 +1,15 @@
--- `record::rule::places_good` meets its contract. Invariant: the answer is that of the places from i on.
+-- `limits::places_good` meets its contract. Invariant: the answer is that of the places from i on.
 -- Assumes nothing.
 use mathlib.Core.Path.{_≡_}
 use Prim.Native.Nat.{_-_, _≤_}
 use lib.ListN.{length, take}
 use borrow.Author.Needs.{needs}
 use Rattle.lists.specs.Tests.{every}
-use Rattle.record.specs.Rule.{goodPlace}
+use Rattle.query.specs.Rule.{goodPlace}
 use Rattle.lists.proofs.Loops.{Remains, turn-passes, turn-fails, turns-end, every-start}
-use Rattle.record.proofs.Shape.{pastPlace}
-use Rattle.record.proofs.rule.places_good.Statement.{statement}
-use Rattle.record.proofs.rule.places_good.Tie as tie
+use Rattle.query.proofs.Shape.{pastPlace}
+use Rattle.limits.proofs.places_good.Statement.{statement}
+use Rattle.limits.proofs.places_good.Tie as tie
 
 abbrev Inv-loop : tie.InvT-loop
 Inv-loop relations widths places i₀ i =
@@ -40,7 +40,12 @@ loop-less : tie.Need-loop-less Inv-loop μ-loop
 loop-less c = search needs
 
 loop-again : tie.Need-loop-again Inv-loop μ-loop
-loop-again c = (search needs, search needs, turn-passes (c .before .before .before .before .loop .inv .2) pastPlace (search needs) (c .before .place-good .ensures) (c .if1 .left))
+loop-again c = (
+  search needs,
+  search needs,
+  turn-passes (c .before .before .before .before .loop .inv .2) pastPlace (search needs) (c .before .place-good .ensures)
+      (c .if1 .left),
+)
 
 returns-2 : tie.Need-returns-2 Inv-loop μ-loop
 returns-2 c = turns-end (c .before .loop .inv .2) (search needs)

@@ -1,4 +1,4 @@
--- `record::calls::padded_widths` meets its contract. Invariant: the first i widths are stored, and 0 stands after them.
+-- `limits::padded_widths` meets its contract. Invariant: the first i widths are stored, and 0 stands after them.
 -- Assumes nothing.
 use mathlib.Core.Path.{_≡_, refl, ap, _∙_}
 use mathlib.Core.List.{List, _++_}
@@ -8,8 +8,8 @@ use lib.Seq.{take-length}
 use lib.ListN.{length, getD, set, replicate}
 use borrow.Author.Needs.{needs}
 use Rattle.lists.proofs.Loops.{filledTo, filled-next}
-use Rattle.record.proofs.calls.padded_widths.Statement.{statement}
-use Rattle.record.proofs.calls.padded_widths.Tie as tie
+use Rattle.limits.proofs.padded_widths.Statement.{statement}
+use Rattle.limits.proofs.padded_widths.Tie as tie
 
 abbrev Inv-loop : tie.InvT-loop
 Inv-loop widths padded₀ i₀ i-end padded i = (i ≤ length widths) × (i-end ≡ length widths) × (padded ≡ filledTo 8 0 widths i)
@@ -35,8 +35,12 @@ loop-less c = search needs
 loop-again : tie.Need-loop-again Inv-loop μ-loop
 loop-again c =
     let widths = c .before .before .before .args .widths .now in
-    let i = c .before .before .loop .i in
-    (search needs, search needs, ap (λ (l : List ℕ). set l i (getD widths i 0)) (c .before .before .loop .inv .2) ∙ filled-next 8 0 widths i (search needs) (search needs))
+    let i = c .before .before .loop .i in (
+      search needs,
+      search needs,
+      ap (λ (l : List ℕ). set l i (getD widths i 0)) (c .before .before .loop .inv .2) ∙ filled-next 8 0 widths i (search needs)
+          (search needs),
+    )
 
 returns : tie.Need-returns Inv-loop μ-loop
 returns c =

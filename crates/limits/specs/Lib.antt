@@ -1,0 +1,2 @@
+-- `internal` is this crate's own.
+pub mod internal

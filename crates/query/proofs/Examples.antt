@@ -1,0 +1,27 @@
+-- The examples of `specs/Examples`, by computation. Assumes nothing.
+use mathlib.Core.Path.{_≡_, refl}
+use mathlib.Core.Bool.{Bool, true, not}
+use Rattle.theory.specs.Query.{rowEntries, variablesOf, member}
+use Rattle.theory.specs.Determined.{subset}
+use Rattle.lists.specs.Tests.{every}
+use Rattle.query.specs.View.{rowsOf, columnsFrom, maskOf}
+use Rattle.query.specs.Rule.{blankQuery, goodRelations, goodSet, goodDependency, goodDependencies, goodRows, goodQuery, headSafe}
+use Rattle.query.specs.Examples.{cellsOf, Views, passing, failing, RuleExamples}
+
+pub views : Views
+unfolding rowsOf columnsFrom maskOf cellsOf
+views =
+    record {
+      entries = refl;
+      query = refl;
+      columns = refl;
+      mask = refl;
+      dependency = refl;
+      held = refl;
+      images = refl;
+      images-past = refl;
+    }
+
+pub rule : RuleExamples
+unfolding every rowEntries variablesOf member subset rowsOf cellsOf blankQuery goodRelations goodSet goodDependency goodDependencies goodRows goodQuery headSafe
+rule = record { pass = refl; fail = refl }

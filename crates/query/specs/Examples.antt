@@ -1,0 +1,154 @@
+-- Examples of the views and of the rule, at the edge of each limit one value that passes and one that doesn't. `proofs/Examples` proves them by computation.
+use mathlib.Core.Path.{_≡_}
+use mathlib.Core.Bool.{Bool, true, false, not}
+use mathlib.Core.List.{List, [], _∷_, _++_, map}
+use Prim.Native.Nat.{ℕ, _-_}
+use lib.ListN.{length, replicate}
+use Rattle.theory.specs.Query as theory
+use Rattle.lists.specs.Tests.{every}
+use Rattle.query.specs.declared.Entry.{Entry}
+use Rattle.query.specs.declared.Entry.the-variants.{Constant, Variable}
+use Rattle.query.specs.declared.Cell.{Cell}
+use Rattle.query.specs.declared.Query.{Query}
+use Rattle.query.specs.declared.Dependency.{Dependency}
+use Rattle.query.specs.View.{entriesOf, queryOf, columnsOf, maskOf, dependencyOf, heldOf, imagesOf}
+use Rattle.query.specs.Rule.{blankCell, blankDependency, blankQuery, goodRelations, goodSet, goodDependency, goodDependencies, goodCell, goodQuery}
+use Rattle.query.specs.Rule.{headSafe, goodPlace, noCell, noDependency, noQuery, neverQuery, noPlace}
+
+-- ---- values for the examples
+
+-- A list with a blank value after it, n in all
+abbrev pub upTo : {A : Type 0} → ℕ → A → List A → List A
+upTo n blank xs = xs ++ replicate (n - length xs) blank
+
+-- The cell of an entry
+abbrev pub cell : Entry → Cell
+cell e = record { entry = e }
+
+-- The cells of some rows, 8 a row
+unfoldable pub cellsOf : List (List Entry) → List Cell
+cellsOf [] = []
+cellsOf (es ∷ rows) = upTo 8 noCell (map cell es) ++ cellsOf rows
+
+-- The stored query with this head and rows of these relations and entries
+abbrev pub stored : List Entry → List ℕ → List (List Entry) → Query
+stored head relations rows =
+    record {
+      arity = length head;
+      size = length relations;
+      head = upTo 8 noCell (map cell head);
+      relations = upTo 12 0 relations;
+      cells = upTo 96 noCell (cellsOf rows);
+    }
+
+-- Relation 0 has 2 columns, relation 1 has 8
+abbrev pub schema : List ℕ
+schema = 2 ∷ 8 ∷ []
+
+-- A row of relation 0
+abbrev pub pair : List Entry
+pair = Variable 1 ∷ Constant 5 ∷ []
+
+-- The query of one such row with the given head
+abbrev pub asked : List Entry → Query
+asked head = stored head (0 ∷ []) (pair ∷ [])
+
+-- The dependency of relation 0 on a set of columns
+abbrev pub depends : ℕ → ℕ → Dependency
+depends left right = record { relation = 0; left = left; right = right }
+
+-- ---- the views
+
+-- What stored values stand for
+pub record Views : Type 0 where
+  -- a constant is a constant and a variable a variable, in order
+  pub entries : entriesOf (cell (Constant 7) ∷ cell (Variable 9) ∷ []) ≡ theory.constant 7 ∷ theory.variable 9 ∷ []
+  -- of the head so many entries as it is long, of the rows so many as there are, of a row one entry a column; the second row begins at cell 8
+  pub query :
+      queryOf (2 ∷ 1 ∷ []) (stored (Variable 1 ∷ []) (0 ∷ 1 ∷ []) (pair ∷ (Variable 2 ∷ []) ∷ []))
+      ≡ record {
+        head = theory.variable 1 ∷ [];
+        rows =
+            record { relation = 0; values = theory.variable 1 ∷ theory.constant 5 ∷ [] } ∷ record { relation = 1; values = theory.variable 2 ∷ [] }
+            ∷ [];
+      }
+  -- bits 0, 2 and 7 are columns 0, 2 and 7, and back
+  pub columns : columnsOf 133 ≡ 0 ∷ 2 ∷ 7 ∷ []
+  pub mask : maskOf (0 ∷ 2 ∷ 7 ∷ []) ≡ 133
+  -- columns 0 and 1 determine column 1; of two dependencies the first is held
+  pub dependency : dependencyOf (depends 3 1) ≡ record { relation = 0; left = 0 ∷ 1 ∷ []; right = 1 }
+  pub held : heldOf (depends 3 1 ∷ depends 1 1 ∷ []) 1 ≡ dependencyOf (depends 3 1) ∷ []
+  -- variable 1 goes to the second image, variable 2 to constant 0, as there is no third
+  pub images : imagesOf (cell (Constant 4) ∷ cell (Variable 9) ∷ []) 1 ≡ theory.variable 9
+  pub images-past : imagesOf (cell (Constant 4) ∷ cell (Variable 9) ∷ []) 2 ≡ theory.constant 0
+
+-- ---- the rule
+
+-- What passes
+abbrev pub passing : List Bool
+passing =
+    -- one relation of 1 column; 8 of 8
+    goodRelations 1 (upTo 8 0 (1 ∷ [])) ∷ goodRelations 8 (replicate 8 8)
+    -- all columns of a relation as a set, of 2 and of 8
+    ∷ goodSet schema 0 3 ∷ goodSet schema 1 255
+    -- the last column as the right one
+    ∷ goodDependency schema (depends 3 1)
+    -- no dependency; 32 of them
+    ∷ goodDependencies schema 0 (replicate 32 noDependency) ∷ goodDependencies schema 32 (replicate 32 (depends 3 1))
+    -- the largest constant and the last variable
+    ∷ goodCell (cell (Constant 2147483647)) ∷ goodCell (cell (Variable 95))
+    -- constant 0 where nothing is in use
+    ∷ blankCell noCell ∷ blankDependency noDependency ∷ blankQuery noQuery
+    -- never with a head of 0 and of 8 entries; a head of 8 entries; 12 rows; a row of 8 columns
+    ∷ goodQuery schema noQuery ∷ goodQuery schema (neverQuery 8) ∷ goodQuery schema (asked (replicate 8 (Variable 1)))
+    ∷ goodQuery schema (stored [] (replicate 12 0) (replicate 12 pair)) ∷ goodQuery schema (stored [] (1 ∷ []) (replicate 8 (Variable 0) ∷ []))
+    -- a head variable that stands in the row, and a constant that stands nowhere
+    ∷ headSafe schema (asked (Variable 1 ∷ Constant 6 ∷ []))
+    -- a filled place with such a query, and a vacant one
+    ∷ goodPlace schema (record { filled = true; query = asked (Variable 1 ∷ []) }) ∷ goodPlace schema noPlace ∷ []
+
+-- What does not
+abbrev pub failing : List Bool
+failing =
+    -- no relation; 9; one of 0 columns; one of 9; a width that is not in use
+    goodRelations 0 (replicate 8 0) ∷ goodRelations 9 (replicate 9 8) ∷ goodRelations 2 (upTo 8 0 (1 ∷ 0 ∷ [])) ∷ goodRelations 1 (upTo 8 0 (9 ∷ []))
+    ∷ goodRelations 1 (upTo 8 0 (1 ∷ 1 ∷ []))
+    -- no column as a set; a third column of 2; an unknown relation
+    ∷ goodSet schema 0 0 ∷ goodSet schema 0 4 ∷ goodSet schema 2 0 ∷ goodSet schema 2 1
+    -- a right column past the last; no left column
+    ∷ goodDependency schema (depends 3 2) ∷ goodDependency schema (depends 0 1)
+    -- 33 dependencies; one that is not in use; a bad one
+    ∷ goodDependencies schema 33 (replicate 33 (depends 3 1)) ∷ goodDependencies schema 0 (upTo 32 noDependency (depends 0 1 ∷ []))
+    ∷ goodDependencies schema 1 (upTo 32 noDependency (depends 3 2 ∷ []))
+    -- a constant and a variable past the last
+    ∷ goodCell (cell (Constant 2147483648)) ∷ goodCell (cell (Variable 96))
+    -- another constant, or variable 0, where nothing is in use
+    ∷ blankCell (cell (Constant 1)) ∷ blankCell (cell (Variable 0))
+    -- a dependency with one field in use
+    ∷ blankDependency (record { relation = 1; left = 0; right = 0 }) ∷ blankDependency (depends 1 0) ∷ blankDependency (depends 0 1)
+    -- a query with a head length, a row, a head entry, a relation or a cell in use
+    ∷ blankQuery (neverQuery 1) ∷ blankQuery (record { arity = 0; size = 1; head = []; relations = []; cells = [] })
+    ∷ blankQuery (record { arity = 0; size = 0; head = cell (Constant 1) ∷ []; relations = []; cells = [] })
+    ∷ blankQuery (record { arity = 0; size = 0; head = []; relations = 1 ∷ []; cells = [] })
+    ∷ blankQuery (record { arity = 0; size = 0; head = []; relations = []; cells = cell (Constant 1) ∷ [] })
+    -- a head of 9 entries; 13 rows
+    ∷ goodQuery schema (neverQuery 9) ∷ goodQuery schema (stored [] (replicate 13 0) (replicate 13 pair))
+    -- an unknown relation; a row longer than its relation is wide; a bad entry in the second row, and in the head
+    ∷ goodQuery schema (stored [] (2 ∷ []) ([] ∷ [])) ∷ goodQuery schema (stored [] (0 ∷ []) (replicate 3 (Variable 1) ∷ []))
+    ∷ goodQuery schema (stored [] (0 ∷ 0 ∷ []) (pair ∷ replicate 2 (Variable 96) ∷ [])) ∷ goodQuery schema (asked (Variable 96 ∷ []))
+    -- never with a head entry; a head entry past the head's length; a relation and a cell past the last row
+    ∷ goodQuery schema (record { arity = 1; size = 0; head = upTo 8 noCell (cell (Constant 1) ∷ []); relations = replicate 12 0; cells = replicate 96 noCell })
+    ∷ goodQuery schema (record { arity = 0; size = 1; head = upTo 8 noCell (cell (Constant 1) ∷ []); relations = replicate 12 0; cells = replicate 96 noCell })
+    ∷ goodQuery schema (record { arity = 0; size = 0; head = replicate 8 noCell; relations = upTo 12 0 (1 ∷ []); cells = replicate 96 noCell })
+    ∷ goodQuery schema (stored [] (0 ∷ []) (pair ∷ pair ∷ []))
+    -- a head variable that stands in no row
+    ∷ headSafe schema (asked (Variable 2 ∷ []))
+    -- a filled place with such a query, and with a bad one; a vacant place that holds a query
+    ∷ goodPlace schema (record { filled = true; query = asked (Variable 2 ∷ []) })
+    ∷ goodPlace schema (record { filled = true; query = stored (Variable 96 ∷ []) (0 ∷ []) (replicate 2 (Variable 96) ∷ []) })
+    ∷ goodPlace schema (record { filled = false; query = asked [] }) ∷ []
+
+-- All of them
+pub record RuleExamples : Type 0 where
+  pub pass : every (λ b. b) passing ≡ true
+  pub fail : every not failing ≡ true
