@@ -5,7 +5,7 @@ ghost use lib.ListN.{length};
 ghost use Rattle.format.specs.File.{readFile};
 ghost use Rattle.lent.specs.Lent.{numberIn, leaves, Wrote};
 ghost use Rattle.lent.specs.Records.{copied, opened, added, filled, dropped, determinedIn};
-ghost use Rattle.verdicts.specs.Queries.{ReduceGives, CompareGives, CheckGives};
+ghost use Rattle.verdicts.specs.Queries.{ReduceGives, CompareGives, checkedIn, bit};
 ghost use Rattle.findings.specs.Databases.{testedIn, evaluatedIn, answersIn};
 
 // ---- files
@@ -132,7 +132,8 @@ pub extern "C" fn spernevan_check(
     mapping: &[u32],
     verdict: &mut u8,
 ) -> u8
-    ensures { λ r. ⌜ CheckGives (readFile (now (file .entry))) p q (now (mapping .entry)) (now (verdict .entry)) r (now (verdict .exit)) ⌝ }
+    ensures { λ r. ⌜ r ≡ numberIn (checkedIn (now (file .entry)) p q (now (mapping .entry))) ⌝ }
+    ensures { λ _. ⌜ now (verdict .exit) ≡ leaves (checkedIn (now (file .entry)) p q (now (mapping .entry))) bit (now (verdict .entry)) ⌝ }
 {
     verdicts::check_in_file(file, p, q, mapping, verdict)
 }

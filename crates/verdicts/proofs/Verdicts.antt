@@ -1,8 +1,7 @@
--- What reducing, comparing and checking a mapping leave. Assumes nothing.
-use mathlib.Core.Path.{_≡_, refl, sym, ap, subst, _∙_}
-use mathlib.Core.Logic.{_⊎_, inl, inr, ⊎-elim}
+-- What reducing and comparing leave. Assumes nothing.
+use mathlib.Core.Path.{_≡_, refl, sym, subst, _∙_}
 use mathlib.Core.Bool.{Bool, true, false, cond, _&&_}
-use mathlib.Core.List.{List, [], _∷_}
+use mathlib.Core.List.{List, []}
 use mathlib.Core.Option.{Option}
 use mathlib.Core.Option as option
 use Prim.Native.Nat.{ℕ, _≤_, _<_}
@@ -21,19 +20,14 @@ use Rattle.query.specs.Rule.{headSafe}
 use Rattle.record.specs.Rule.{goodRecord}
 use Rattle.record.proofs.Kept.{filled-place}
 use Rattle.lists.specs.Over.{over}
-use Rattle.format.specs.Format.{Reading, none, got}
 use Rattle.format.specs.Parts.{query}
 use Rattle.format.specs.File.{placeWith, putPlace, readFile, fileOf}
 use Rattle.lists.proofs.Over.{over-nil}
 use Rattle.writer.specs.declared.Written.the-variants as written
-use Rattle.mapping.specs.Mapped.{imagesOf}
-use Rattle.comparison.proofs.Checks.{checked-refused, checked-decided}
-use Rattle.comparison.specs.declared.Checked.{Checked}
-use Rattle.comparison.specs.declared.Checked.the-variants as checked
 use Rattle.comparison.specs.declared.Comparison.{Comparison}
 use Rattle.comparison.specs.declared.Verdict.{Verdict}
 use Rattle.comparison.specs.declared.Verdict.the-variants as verdict
-use Rattle.comparison.specs.Comparison.{pairRefusal, judged, Compared, CheckedMapping}
+use Rattle.comparison.specs.Comparison.{pairRefusal, judged, Compared}
 use Rattle.reduction.specs.declared.Reduced.{Reduced}
 use Rattle.reduction.specs.Reduced.{reductionRefusal, refusal, IsReduced}
 use Rattle.comparison.proofs.Verdicts.{queries}
@@ -41,12 +35,11 @@ use Rattle.chase.proofs.Callers.{chases-safe}
 use Rattle.theory.specs.Query as theory
 use Rattle.theory.specs.Query.{rowEntries, variablesOf}
 use Rattle.theory.specs.Determined.{subset}
-use Rattle.theory.specs.Answer as answer
 use Rattle.theory.proofs.Chase.{chase-chases}
 use Rattle.theory.proofs.Determined.{subset-true, subset-of}
-use Rattle.verdicts.specs.Queries.{wordsOf, imagesIn, reductionFits, ReductionGiven, ReducedShape, Reducing, ReduceGives, verdictFits, comparisonFits, ComparisonGiven, ComparisonShape, Comparing, CompareGives, CheckGiven, CheckGives}
-use Rattle.verdicts.specs.internal.Steps.{mappingRead, SoundReduction, SoundComparison}
-use Rattle.mapping.specs.declared.Mapped.{Mapped}
+use Rattle.images.specs.Images.{mappingWords}
+use Rattle.verdicts.specs.Queries.{reductionFits, ReductionGiven, ReducedShape, Reducing, ReduceGives, verdictFits, comparisonFits, ComparisonGiven, ComparisonShape, Comparing, CompareGives}
+use Rattle.verdicts.specs.internal.Steps.{SoundReduction, SoundComparison}
 
 -- ---- what a comparison leaves
 
@@ -80,13 +73,13 @@ module _ (images : List Cell) (said : ℕ) (mapping part : List ℕ) (size : ℕ
     verdict-long h l = comparison-none (fits-long h l)
 
     -- there is room for both
-    pub verdict-stored : (mapping′ part′ : List ℕ) (size′ : ℕ) → 192 ≤ length mapping → length bytes ≤ length part → mapping′ ≡ over mapping 0 (wordsOf images)
+    pub verdict-stored : (mapping′ part′ : List ℕ) (size′ : ℕ) → 192 ≤ length mapping → length bytes ≤ length part → mapping′ ≡ over mapping 0 (mappingWords images)
         → part′ ≡ over part 0 bytes → size′ ≡ length bytes
         → ComparisonGiven (verdictFits (length mapping) (length part) (code, bytes)) images said mapping part size 0 code mapping′ part′ size′
     verdict-stored mapping′ part′ size′ h l m p n = comparison-same (fits-both h l) 0 code mapping′ part′ size′ (refl, refl, m, p, n)
 
   -- a verdict without a query
-  pub contained-stored : (code : ℕ) (mapping′ : List ℕ) → 192 ≤ length mapping → mapping′ ≡ over mapping 0 (wordsOf images)
+  pub contained-stored : (code : ℕ) (mapping′ : List ℕ) → 192 ≤ length mapping → mapping′ ≡ over mapping 0 (mappingWords images)
       → ComparisonGiven (verdictFits (length mapping) (length part) (code, [])) images said mapping part size 0 code mapping′ part 0
   contained-stored code mapping′ h m = verdict-stored code [] mapping′ part 0 h (omega arith) m (sym (over-nil part 0)) refl
 
@@ -139,7 +132,7 @@ module _ (o : Reduced) (out : List ℕ) (size count : ℕ) (mapping : List ℕ) 
 
       from : (good fits : Bool) (n : ℕ) (out′ : List ℕ) (mapping′ : List ℕ) → good ≡ true → leb (length (fileOf (o .«record»))) (length out) ≡ fits
           → cond good (cond fits (written.Length (length (fileOf (o .«record»)))) (written.Refused bufferTooShort)) (written.Refused badRecord) ≡ written.Length n
-          → out′ ≡ cond (good && fits) (over out 0 (fileOf (o .«record»))) out → mapping′ ≡ over mapping 0 (wordsOf (o .images))
+          → out′ ≡ cond (good && fits) (over out 0 (fileOf (o .«record»))) out → mapping′ ≡ over mapping 0 (mappingWords (o .images))
           → ReductionGiven (reductionFits (length out) (length mapping) o) out size count mapping 0 out′ n (o .count) mapping′
       from true true n out′ mapping′ g f w b m = reduction-same (roomy true f) 0 out′ n (o .count) mapping′ (refl, b, cc, refl, m)
       from true false n out′ mapping′ g f w b m = let z : _≡_ {A = ℕ} 0 1 = cc in absurd (omega arith)
@@ -150,7 +143,7 @@ module _ (o : Reduced) (out : List ℕ) (size count : ℕ) (mapping : List ℕ) 
           → cond (goodRecord (o .«record»))
           (cond (leb (length (fileOf (o .«record»))) (length out)) (written.Length (length (fileOf (o .«record»)))) (written.Refused bufferTooShort)) (written.Refused badRecord) ≡ written.Length n
           → out′ ≡ cond (goodRecord (o .«record») && leb (length (fileOf (o .«record»))) (length out)) (over out 0 (fileOf (o .«record»))) out
-          → mapping′ ≡ over mapping 0 (wordsOf (o .images))
+          → mapping′ ≡ over mapping 0 (mappingWords (o .images))
           → ReductionGiven (reductionFits (length out) (length mapping) o) out size count mapping 0 out′ n (o .count) mapping′
       reduction-stored n out′ mapping′ g w b m = from (goodRecord (o .«record»)) (leb (length (fileOf (o .«record»))) (length out)) n out′ mapping′ g refl w b m
 
@@ -177,56 +170,6 @@ reduced-sound r source target o is done = go (reductionRefusal r source target) 
     go : (x : Option ℕ) → reductionRefusal r source target ≡ x → goodRecord (o .«record») ≡ true
     go option.none e = is .good e
     go (option.some n) e = let p : o ≡ refusal r n = is .refused n e in let z : _≡_ {A = ℕ} 0 1 = cc in absurd (omega arith)
-
--- ---- checking a mapping
-
--- Words that were read as a mapping
-read-yes : (x : Reading (List Cell)) (m : Mapped) → m ≡ mappingRead x → m .found ≡ true → x ≡ got (m .images) []
-read-yes none m e g = let z : _≡_ {A = ℕ} 0 1 = cc in absurd (omega arith)
-read-yes (got images []) m e g = cc
-read-yes (got images (w ∷ ws)) m e g = let z : _≡_ {A = ℕ} 0 1 = cc in absurd (omega arith)
-
-module _ (r : Record) (p q : ℕ) (words : List ℕ) (m : Mapped) (e : m ≡ mappingRead (imagesIn words)) where
-  mapped-words : (images : List Cell) → imagesIn words ≡ got images [] → (m .found ≡ true) × (m .images ≡ images)
-  mapped-words images i = let k : m ≡ mappingRead (got images []) = e ∙ ap mappingRead i in (ap (λ (x : Mapped). x .found) k, ap (λ (x : Mapped). x .images) k)
-
-  module _ (c : Checked) (is : CheckedMapping r p q (m .images) c) (said : ℕ) where
-    pub check-refused : (n : ℕ) → c ≡ checked.Refused n → CheckGiven (pairRefusal r p q) r p q words said n said
-    check-refused n k = go (pairRefusal r p q) refl
-      where
-        go : (x : Option ℕ) → pairRefusal r p q ≡ x → CheckGiven x r p q words said n said
-        go (option.some l) a = let w : c ≡ checked.Refused l = checked-refused r p q (m .images) c is l a in (cc, refl)
-        go option.none a =
-            ⊎-elim (λ h. let k′ = h .0 in let z : _≡_ {A = ℕ} 0 1 = cc in absurd (omega arith))
-            (λ h. let k′ = h .0 in let z : _≡_ {A = ℕ} 0 1 = cc in absurd (omega arith)) (checked-decided r p q (m .images) c is a)
-
-    pub check-yes : c ≡ checked.Yes → m .found ≡ true → CheckGiven (pairRefusal r p q) r p q words said 0 1
-    check-yes k g = go (pairRefusal r p q) refl
-      where
-        go : (x : Option ℕ) → pairRefusal r p q ≡ x → CheckGiven x r p q words said 0 1
-        go (option.some l) a = let w : c ≡ checked.Refused l = checked-refused r p q (m .images) c is l a in let z : _≡_ {A = ℕ} 0 1 = cc in absurd (omega arith)
-        go option.none a =
-            ⊎-elim (λ h. (refl, inl (refl, (m .images, read-yes (imagesIn words) m e g, h .1))))
-            (λ h. let k′ = h .0 in let z : _≡_ {A = ℕ} 0 1 = cc in absurd (omega arith)) (checked-decided r p q (m .images) c is a)
-
-    pub check-bad : c ≡ checked.Yes → m .found ≡ false → CheckGiven (pairRefusal r p q) r p q words said 0 0
-    check-bad k g = go (pairRefusal r p q) refl
-      where
-        go : (x : Option ℕ) → pairRefusal r p q ≡ x → CheckGiven x r p q words said 0 0
-        go (option.some l) a = let w : c ≡ checked.Refused l = checked-refused r p q (m .images) c is l a in let z : _≡_ {A = ℕ} 0 1 = cc in absurd (omega arith)
-        go option.none a =
-            (refl, inr (refl, λ w. let t = mapped-words (w .0) (w .1) .0 in let z : _≡_ {A = ℕ} 0 1 = cc in omega arith))
-
-    pub check-no : c ≡ checked.No → CheckGiven (pairRefusal r p q) r p q words said 0 0
-    check-no k = go (pairRefusal r p q) refl
-      where
-        go : (x : Option ℕ) → pairRefusal r p q ≡ x → CheckGiven x r p q words said 0 0
-        go (option.some l) a = let w : c ≡ checked.Refused l = checked-refused r p q (m .images) c is l a in let z : _≡_ {A = ℕ} 0 1 = cc in absurd (omega arith)
-        go option.none a =
-            ⊎-elim (λ h. let k′ = h .0 in let z : _≡_ {A = ℕ} 0 1 = cc in absurd (omega arith))
-            (λ h.
-            (refl, inr (refl, λ w. h .1 (subst (λ (images : List Cell). answer.IsMapping (queryAt r q) (queryAt r p) (imagesOf images)) (sym (mapped-words (w .0) (w .1) .1)) (w .2)))))
-            (checked-decided r p q (m .images) c is a)
 
 -- ---- the exported calls
 
@@ -291,11 +234,3 @@ module _ (file : List ℕ) (p q said : ℕ) (mapping part : List ℕ) (size : �
         comparing = subst (λ (x : Reply Record). Comparing x p q (refused n) [] (length mapping) (length part)) (sym e) refl;
         given = (refl, refl, refl, refl, refl);
       }
-
-module _ (p q : ℕ) (words : List ℕ) (said : ℕ) where
-  pub check-done : {x : Reply Record} {r : Record} → x ≡ gives r → (number said′ : ℕ) → CheckGiven (pairRefusal r p q) r p q words said number said′
-      → CheckGives x p q words said number said′
-  check-done e number said′ w = subst (λ (y : Reply Record). CheckGives y p q words said number said′) (sym e) w
-
-  pub check-unread : {x : Reply Record} {n : ℕ} → x ≡ refused n → CheckGives x p q words said n said
-  check-unread {n = n} e = subst (λ (y : Reply Record). CheckGives y p q words said n said) (sym e) (refl, refl)

@@ -1,5 +1,5 @@
 -- `check_words` says yes where the words are a mapping and it is one between the queries. Assumes nothing.
-use Rattle.verdicts.proofs.Verdicts.{check-refused, check-yes, check-bad, check-no}
+use Rattle.verdicts.proofs.Checks.{check-refused, check-yes, check-bad, check-no}
 use borrow.Author.Needs.{needs}
 use Rattle.verdicts.proofs.check_words.Statement.{statement}
 use Rattle.verdicts.proofs.check_words.Tie as tie

@@ -3,11 +3,11 @@ use mathlib.Core.Path.{_≡_, sym, ap, refl, _∙_}
 use native.Mathlib.Omega.{arith}
 use Prim.Native.Nat.{_-_, _≤_}
 use lib.ListN.{length, length-set}
-use Rattle.verdicts.specs.internal.Steps.{mappingRead}
-use Rattle.verdicts.proofs.Mappings.{Reading-on, reading-starts, reading-turns, reading-fails, reading-ends, other-length}
+use Rattle.images.specs.internal.Steps.{mappingRead}
+use Rattle.images.proofs.Mappings.{Reading-on, reading-starts, reading-turns, reading-fails, reading-ends, other-length}
 use borrow.Author.Needs.{needs}
-use Rattle.verdicts.proofs.read_mapping.Statement.{statement}
-use Rattle.verdicts.proofs.read_mapping.Tie as tie
+use Rattle.images.proofs.read_mapping.Statement.{statement}
+use Rattle.images.proofs.read_mapping.Tie as tie
 
 abbrev Inv-loop : tie.InvT-loop
 Inv-loop words images₀ i₀ images i = (i ≤ 96) × (length images ≡ 96) × Reading-on words images i

@@ -1,8 +1,8 @@
 -- `read_image` judges the tag, then the number. Assumes nothing.
-use Rattle.verdicts.proofs.Mappings.{image-constant, image-tag, image-high, image-variable}
+use Rattle.images.proofs.Mappings.{image-constant, image-tag, image-high, image-variable}
 use borrow.Author.Needs.{needs}
-use Rattle.verdicts.proofs.read_image.Statement.{statement}
-use Rattle.verdicts.proofs.read_image.Tie as tie
+use Rattle.images.proofs.read_image.Statement.{statement}
+use Rattle.images.proofs.read_image.Tie as tie
 
 mul-tag : tie.Need-mul-tag
 mul-tag c = search needs

@@ -3,10 +3,10 @@ use mathlib.Core.Path.{_≡_}
 use native.Mathlib.Omega.{arith}
 use Prim.Native.Nat.{_-_, _≤_}
 use lib.ListN.{length}
-use Rattle.verdicts.proofs.Mappings.{Writing-on, mapped-starts, mapped-room, mapped-turns, mapped-ends}
+use Rattle.images.proofs.Mappings.{Writing-on, mapped-starts, mapped-room, mapped-turns, mapped-ends}
 use borrow.Author.Needs.{needs}
-use Rattle.verdicts.proofs.put_mapping.Statement.{statement}
-use Rattle.verdicts.proofs.put_mapping.Tie as tie
+use Rattle.images.proofs.put_mapping.Statement.{statement}
+use Rattle.images.proofs.put_mapping.Tie as tie
 
 abbrev Inv-loop : tie.InvT-loop
 Inv-loop words₀ images i₀ words i = (i ≤ 96) × Writing-on words₀ images words i

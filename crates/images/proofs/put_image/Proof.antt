@@ -5,10 +5,10 @@ use lib.ListN.{length-set}
 use Rattle.query.specs.declared.Entry.{Entry}
 use Rattle.lists.specs.Over.{over}
 use Rattle.encoder.proofs.Stores.{two-stores}
-use Rattle.verdicts.specs.Queries.{entryWords}
+use Rattle.images.specs.Images.{entryWords}
 use borrow.Author.Needs.{needs}
-use Rattle.verdicts.proofs.put_image.Statement.{statement}
-use Rattle.verdicts.proofs.put_image.Tie as tie
+use Rattle.images.proofs.put_image.Statement.{statement}
+use Rattle.images.proofs.put_image.Tie as tie
 
 enum-known-entry : tie.Need-enum-known-entry
 enum-known-entry c = search needs

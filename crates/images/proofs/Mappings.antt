@@ -19,10 +19,10 @@ use Rattle.format.proofs.Formats.{not-got, gotIf-true, mapReading-got, andThen-
 use Rattle.format.proofs.Lengths.{length-putAll}
 use Rattle.encoder.proofs.Stores.{Writing, writing-starts, writing-room, writing-turns, writing-ends}
 use Rattle.decoder.proofs.Filling.{Filling, filling-starts, filling-turns, filling-fails, filling-ends}
-use Rattle.verdicts.specs.declared.ImageRead.{ImageRead}
-use Rattle.verdicts.specs.declared.ImageRead.the-variants.{Image, NoImage}
-use Rattle.verdicts.specs.Queries.{entryWords, wordsOf, isImage, getImage, imagesIn}
-use Rattle.verdicts.specs.internal.Steps.{imageRead, mappingRead}
+use Rattle.images.specs.declared.ImageRead.{ImageRead}
+use Rattle.images.specs.declared.ImageRead.the-variants.{Image, NoImage}
+use Rattle.images.specs.Images.{entryWords, mappingWords, isImage, getImage, imagesIn}
+use Rattle.images.specs.internal.Steps.{imageRead, mappingRead}
 
 -- ---- writing
 
@@ -50,7 +50,7 @@ module _ {before : List ℕ} {images : List Cell} {words : List ℕ} {i : ℕ} (
   pub mapped-turns : (next : List ℕ) → i < 96 → next ≡ over words (2 * i) (entryWords (getD images i noCell .entry)) → Writing-on before images next (i + 1)
   mapped-turns next h e = writing-turns w noCell next (2 * (i + 1)) (omega arith) e (omega (arith, entry-long (getD images i noCell .entry)))
 
-  pub mapped-ends : 96 ≤ i → words ≡ over before 0 (wordsOf images)
+  pub mapped-ends : 96 ≤ i → words ≡ over before 0 (mappingWords images)
   mapped-ends h = writing-ends w (omega arith) .0
 
 -- ---- reading one image
