@@ -1,35 +1,30 @@
--- What reducing and comparing leave. Assumes nothing.
+-- What comparing leaves. Assumes nothing.
 use mathlib.Core.Path.{_≡_, refl, sym, subst, _∙_}
-use mathlib.Core.Bool.{Bool, true, false, cond, _&&_}
+use mathlib.Core.Bool.{true}
 use mathlib.Core.List.{List, []}
 use mathlib.Core.Option.{Option}
 use mathlib.Core.Option as option
 use Prim.Native.Nat.{ℕ, _≤_, _<_}
 use native.Mathlib.Omega.{arith}
-use lib.Dec.{leb}
 use lib.ListN.{length}
 use borrow.Author.Tests.{le-leb, lt-leb}
-use Rattle.refusals.specs.Refusals.{_>>=_, badRecord, bufferTooShort, gives, refused, Reply}
+use Rattle.refusals.specs.Refusals.{_>>=_, bufferTooShort, gives, refused, Reply}
 use Rattle.record.specs.Calls.{queryAt}
 use Rattle.query.specs.declared.Cell.{Cell}
 use Rattle.query.specs.declared.Query.{Query}
 use Rattle.record.specs.declared.Record.{Record}
-use Rattle.record.specs.declared.Answer.the-variants.{Done, Refused}
+use Rattle.record.specs.declared.Answer.the-variants.{Refused}
 use Rattle.record.specs.View.{schemaOf, dependenciesOf}
 use Rattle.query.specs.Rule.{headSafe}
-use Rattle.record.specs.Rule.{goodRecord}
 use Rattle.record.proofs.Kept.{filled-place}
 use Rattle.lists.specs.Over.{over}
 use Rattle.format.specs.Parts.{query}
-use Rattle.format.specs.File.{placeWith, putPlace, readFile, fileOf}
+use Rattle.format.specs.File.{placeWith, putPlace, readFile}
 use Rattle.lists.proofs.Over.{over-nil}
-use Rattle.writer.specs.declared.Written.the-variants as written
 use Rattle.comparison.specs.declared.Comparison.{Comparison}
 use Rattle.comparison.specs.declared.Verdict.{Verdict}
 use Rattle.comparison.specs.declared.Verdict.the-variants as verdict
 use Rattle.comparison.specs.Comparison.{pairRefusal, judged, Compared}
-use Rattle.reduction.specs.declared.Reduced.{Reduced}
-use Rattle.reduction.specs.Reduced.{reductionRefusal, refusal, IsReduced}
 use Rattle.comparison.proofs.Verdicts.{queries}
 use Rattle.chase.proofs.Callers.{chases-safe}
 use Rattle.theory.specs.Query as theory
@@ -38,8 +33,8 @@ use Rattle.theory.specs.Determined.{subset}
 use Rattle.theory.proofs.Chase.{chase-chases}
 use Rattle.theory.proofs.Determined.{subset-true, subset-of}
 use Rattle.images.specs.Images.{mappingWords}
-use Rattle.verdicts.specs.Queries.{reductionFits, ReductionGiven, ReducedShape, Reducing, ReduceGives, verdictFits, comparisonFits, ComparisonGiven, ComparisonShape, Comparing, CompareGives}
-use Rattle.verdicts.specs.internal.Steps.{SoundReduction, SoundComparison}
+use Rattle.verdicts.specs.Queries.{verdictFits, comparisonFits, ComparisonGiven, ComparisonShape, Comparing, CompareGives}
+use Rattle.verdicts.specs.internal.Steps.{SoundComparison}
 
 -- ---- what a comparison leaves
 
@@ -105,73 +100,7 @@ module _ (words room : ℕ) (schema : List ℕ) (c : Comparison) where
   unfolding _>>=_
   comparison-refused n e = rw e
 
--- ---- what a reduction leaves
-
-module _ (o : Reduced) (out : List ℕ) (size count : ℕ) (mapping : List ℕ) where
-  reduction-same : {x y : Reply Reduced} → x ≡ y → (number : ℕ) (out′ : List ℕ) (size′ count′ : ℕ) (mapping′ : List ℕ)
-      → ReductionGiven y out size count mapping number out′ size′ count′ mapping′ → ReductionGiven x out size count mapping number out′ size′ count′ mapping′
-  reduction-same p number out′ size′ count′ mapping′ w =
-      subst (λ (z : Reply Reduced). ReductionGiven z out size count mapping number out′ size′ count′ mapping′) (sym p) w
-
-  pub reduction-none : {x : Reply Reduced} {n : ℕ} → x ≡ refused n → ReductionGiven x out size count mapping n out size count mapping
-  reduction-none {n = n} p = reduction-same p n out size count mapping (refl, refl, refl, refl, refl)
-
-  pub reduction-refused : (n : ℕ) → o .answer ≡ Refused n → reductionFits (length out) (length mapping) o ≡ refused n
-  unfolding _>>=_
-  reduction-refused n e = rw e
-
-  module _ (done : o .answer ≡ Done) where
-    pub reduction-short : length mapping < 192 → reductionFits (length out) (length mapping) o ≡ refused bufferTooShort
-    unfolding _>>=_
-    reduction-short h = rw (done, lt-leb 192 (length mapping) h)
-
-    module _ (h : 192 ≤ length mapping) where
-      roomy : (t : Bool) → leb (length (fileOf (o .«record»))) (length out) ≡ t → reductionFits (length out) (length mapping) o ≡ cond t (gives o) (refused bufferTooShort)
-      unfolding _>>=_
-      roomy t e = rw (done, le-leb 192 (length mapping) h, e)
-
-      from : (good fits : Bool) (n : ℕ) (out′ : List ℕ) (mapping′ : List ℕ) → good ≡ true → leb (length (fileOf (o .«record»))) (length out) ≡ fits
-          → cond good (cond fits (written.Length (length (fileOf (o .«record»)))) (written.Refused bufferTooShort)) (written.Refused badRecord) ≡ written.Length n
-          → out′ ≡ cond (good && fits) (over out 0 (fileOf (o .«record»))) out → mapping′ ≡ over mapping 0 (mappingWords (o .images))
-          → ReductionGiven (reductionFits (length out) (length mapping) o) out size count mapping 0 out′ n (o .count) mapping′
-      from true true n out′ mapping′ g f w b m = reduction-same (roomy true f) 0 out′ n (o .count) mapping′ (refl, b, cc, refl, m)
-      from true false n out′ mapping′ g f w b m = let z : _≡_ {A = ℕ} 0 1 = cc in absurd (omega arith)
-      from false fits n out′ mapping′ g f w b m = let z : _≡_ {A = ℕ} 0 1 = cc in absurd (omega arith)
-
-      -- its file is written
-      pub reduction-stored : (n : ℕ) (out′ : List ℕ) (mapping′ : List ℕ) → goodRecord (o .«record») ≡ true
-          → cond (goodRecord (o .«record»))
-          (cond (leb (length (fileOf (o .«record»))) (length out)) (written.Length (length (fileOf (o .«record»)))) (written.Refused bufferTooShort)) (written.Refused badRecord) ≡ written.Length n
-          → out′ ≡ cond (goodRecord (o .«record») && leb (length (fileOf (o .«record»))) (length out)) (over out 0 (fileOf (o .«record»))) out
-          → mapping′ ≡ over mapping 0 (mappingWords (o .images))
-          → ReductionGiven (reductionFits (length out) (length mapping) o) out size count mapping 0 out′ n (o .count) mapping′
-      reduction-stored n out′ mapping′ g w b m = from (goodRecord (o .«record»)) (leb (length (fileOf (o .«record»))) (length out)) n out′ mapping′ g refl w b m
-
-      from-long : (good fits : Bool) (n : ℕ) (out′ : List ℕ) → good ≡ true → leb (length (fileOf (o .«record»))) (length out) ≡ fits
-          → cond good (cond fits (written.Length (length (fileOf (o .«record»)))) (written.Refused bufferTooShort)) (written.Refused badRecord) ≡ written.Refused n
-          → out′ ≡ cond (good && fits) (over out 0 (fileOf (o .«record»))) out
-          → ReductionGiven (reductionFits (length out) (length mapping) o) out size count mapping n out′ size count mapping
-      from-long true false n out′ g f w b = reduction-same (roomy false f) n out′ size count mapping (cc, b, refl, refl, refl)
-      from-long true true n out′ g f w b = let z : _≡_ {A = ℕ} 0 1 = cc in absurd (omega arith)
-      from-long false fits n out′ g f w b = let z : _≡_ {A = ℕ} 0 1 = cc in absurd (omega arith)
-
-      -- or too long
-      pub reduction-long : (n : ℕ) (out′ : List ℕ) → goodRecord (o .«record») ≡ true
-          → cond (goodRecord (o .«record»))
-          (cond (leb (length (fileOf (o .«record»))) (length out)) (written.Length (length (fileOf (o .«record»)))) (written.Refused bufferTooShort)) (written.Refused badRecord) ≡ written.Refused n
-          → out′ ≡ cond (goodRecord (o .«record») && leb (length (fileOf (o .«record»))) (length out)) (over out 0 (fileOf (o .«record»))) out
-          → ReductionGiven (reductionFits (length out) (length mapping) o) out size count mapping n out′ size count mapping
-      reduction-long n out′ g w b = from-long (goodRecord (o .«record»)) (leb (length (fileOf (o .«record»))) (length out)) n out′ g refl w b
-
--- A reduction's record is good
-pub reduced-sound : (r : Record) (source target : ℕ) (o : Reduced) → IsReduced r source target o → SoundReduction o
-reduced-sound r source target o is done = go (reductionRefusal r source target) refl
-  where
-    go : (x : Option ℕ) → reductionRefusal r source target ≡ x → goodRecord (o .«record») ≡ true
-    go option.none e = is .good e
-    go (option.some n) e = let p : o ≡ refusal r n = is .refused n e in let z : _≡_ {A = ℕ} 0 1 = cc in absurd (omega arith)
-
--- ---- the exported calls
+-- ---- the exported call
 
 -- A comparison that gives a query holds one that is good with a safe head
 pub compared-sound : (r : Record) (p q : ℕ) (c : Comparison) → Compared r p q c → SoundComparison (schemaOf r) c
@@ -189,27 +118,6 @@ compared-sound r p q c is apart =
     unrefused : (x : Option ℕ) (v : Verdict) → judged x v ≡ verdict.Apart → x ≡ option.none
     unrefused option.none v e = refl
     unrefused (option.some n) v e = let z : _≡_ {A = ℕ} 0 1 = cc in absurd (omega arith)
-
-module _ (file : List ℕ) (source target : ℕ) (out : List ℕ) (size count : ℕ) (mapping : List ℕ) where
-  pub reduce-done : (r : Record) → readFile file ≡ gives r → (o : Reduced) → IsReduced r source target o → ReducedShape o
-      → (number : ℕ) (out′ : List ℕ) (size′ count′ : ℕ) (mapping′ : List ℕ)
-      → ReductionGiven (reductionFits (length out) (length mapping) o) out size count mapping number out′ size′ count′ mapping′
-      → ReduceGives file source target out size count mapping number out′ size′ count′ mapping′
-  reduce-done r e o is shape number out′ size′ count′ mapping′ w =
-      record {
-        result = reductionFits (length out) (length mapping) o;
-        reducing =
-            subst (λ (x : Reply Record). Reducing x source target (reductionFits (length out) (length mapping) o) (length out) (length mapping)) (sym e) (o, is, shape, refl);
-        given = w;
-      }
-
-  pub reduce-refused : (n : ℕ) → readFile file ≡ refused n → ReduceGives file source target out size count mapping n out size count mapping
-  reduce-refused n e =
-      record {
-        result = refused n;
-        reducing = subst (λ (x : Reply Record). Reducing x source target (refused n) (length out) (length mapping)) (sym e) refl;
-        given = (refl, refl, refl, refl, refl);
-      }
 
 module _ (file : List ℕ) (p q said : ℕ) (mapping part : List ℕ) (size : ℕ) where
   pub compare-done : (r : Record) → readFile file ≡ gives r → (c : Comparison) → Compared r p q c → ComparisonShape c

@@ -1,4 +1,4 @@
--- Reducing, comparing and checking a mapping, on files. How a mapping is words is in `images/specs/Images`.
+-- Comparing and checking a mapping, on files. How a mapping is words is in `images/specs/Images`.
 use mathlib.Core.Path.{_≡_}
 use mathlib.Core.Logic.{_↔_}
 use mathlib.Core.Bool.{Bool, true, false, cond, _&&_}
@@ -14,7 +14,7 @@ use Rattle.record.specs.View.{schemaOf}
 use Rattle.lists.specs.Over.{over}
 use Rattle.format.specs.Format.{Reading, none, got}
 use Rattle.format.specs.Parts.{query}
-use Rattle.format.specs.File.{readFile, fileOf, shapedQuery, shaped}
+use Rattle.format.specs.File.{readFile, shapedQuery}
 use Rattle.query.specs.View.{entriesOf}
 use Rattle.mapping.specs.Mapped.{imagesOf}
 use Rattle.images.specs.Images.{mappingWords, imagesIn}
@@ -22,43 +22,10 @@ use Rattle.comparison.specs.declared.Comparison.{Comparison}
 use Rattle.comparison.specs.declared.Verdict.{Verdict}
 use Rattle.comparison.specs.declared.Verdict.the-variants as verdict
 use Rattle.comparison.specs.Comparison.{pairRefusal, Compared}
-use Rattle.reduction.specs.declared.Reduced.{Reduced}
-use Rattle.reduction.specs.Reduced.{IsReduced}
 use Rattle.theory.specs.Query as theory
 use Rattle.theory.specs.Answer as answer
 use Rattle.theory.specs.Checking.{mapsTo}
-use Rattle.lent.specs.Lent.{numberIn, leaves}
-use Rattle.lent.specs.Records.{answered}
-
--- ---- reducing
-
--- A reduction for buffers with so much room. Refused, after the refusals of the reduction itself: bufferTooShort, its file is longer than the one buffer,
--- or the other has no room for a mapping. The file is that of the reduction `o`: nothing here says that all reductions of a place have files of one length
-abbrev pub reductionFits : ℕ → ℕ → Reduced → Reply Reduced
-reductionFits room words o =
-    answered (o .answer) o >>= λ _. cond (leb 192 words && leb (length (fileOf (o .«record»))) room) (gives o) (refused bufferTooShort)
-
--- What a reduction returns and leaves: the file of the record after it with its length, the count of replacements, and the mapping's words
-abbrev pub ReductionGiven : Reply Reduced → List ℕ → ℕ → ℕ → List ℕ → ℕ → List ℕ → ℕ → ℕ → List ℕ → Type 0
-ReductionGiven result out size count mapping number outAfter sizeAfter countAfter mappingAfter =
-    (number ≡ numberIn result) × (outAfter ≡ leaves result (λ o. over out 0 (fileOf (o .«record»))) out)
-    × (sizeAfter ≡ leaves result (λ o. length (fileOf (o .«record»))) size) × (countAfter ≡ leaves result (λ o. o .count) count)
-    × (mappingAfter ≡ leaves result (λ o. over mapping 0 (mappingWords (o .images))) mapping)
-
--- The arrays of a reduction are as long as their types say: without it, shorter ones that read the same would do
-abbrev pub ReducedShape : Reduced → Type 0
-ReducedShape o = (shaped (o .«record») ≡ true) × (length (o .images) ≡ 96)
-
--- A reduction of a place of the record of a file: a refusal of the file, or what reducing promises. Which one is free, as "Reduction" says
-abbrev pub Reducing : Reply Record → ℕ → ℕ → Reply Reduced → ℕ → ℕ → Type 0
-Reducing (refused n) source target result room words = result ≡ refused n
-Reducing (gives r) source target result room words = (o : Reduced) × IsReduced r source target o × ReducedShape o × (result ≡ reductionFits room words o)
-
--- What `spernevan_reduce` promises: some reduction of the source place, returned and left as above
-pub record ReduceGives (file : List ℕ) (source target : ℕ) (out : List ℕ) (size count : ℕ) (mapping : List ℕ) (number : ℕ) (outAfter : List ℕ) (sizeAfter countAfter : ℕ) (mappingAfter : List ℕ) : Type 0 where
-  pub result : Reply Reduced
-  pub reducing : Reducing (readFile file) source target result (length out) (length mapping)
-  pub given : ReductionGiven result out size count mapping number outAfter sizeAfter countAfter mappingAfter
+use Rattle.lent.specs.Lent.{statusOf, leaves}
 
 -- ---- comparing
 
@@ -80,7 +47,7 @@ comparisonFits words room schema c = verdictBytes (c .verdict) (query schema .pu
 -- What a comparison returns and leaves: the verdict, the mapping's words, the bytes of the query with their length
 abbrev pub ComparisonGiven : Reply (ℕ × List ℕ) → List Cell → ℕ → List ℕ → List ℕ → ℕ → ℕ → ℕ → List ℕ → List ℕ → ℕ → Type 0
 ComparisonGiven result images said mapping part size number saidAfter mappingAfter partAfter sizeAfter =
-    (number ≡ numberIn result) × (saidAfter ≡ leaves result (λ t. t .0) said)
+    (number ≡ statusOf result) × (saidAfter ≡ leaves result (λ t. t .0) said)
     × (mappingAfter ≡ leaves result (λ _. over mapping 0 (mappingWords images)) mapping)
     × (partAfter ≡ leaves result (λ t. over part 0 (t .1)) part) × (sizeAfter ≡ leaves result (λ t. length (t .1)) size)
 

@@ -1,4 +1,4 @@
-// Reducing, comparing and checking a mapping on files: what each call leaves in what it is lent.
+// Comparing and checking a mapping on files: what each call leaves in what it is lent.
 use comparison::Checked;
 use comparison::Comparison;
 use comparison::Verdict;
@@ -11,9 +11,6 @@ use query::Query;
 use record::Answer;
 use record::Place;
 use record::Record;
-use reduction::Reduced;
-use writer::Written;
-use writer::write_good;
 ghost use mathlib.Core.Path.{_≡_};
 ghost use mathlib.Core.Bool.{true};
 ghost use mathlib.Core.List.{[]};
@@ -24,45 +21,9 @@ ghost use Rattle.format.specs.Parts.{query};
 ghost use Rattle.format.specs.File.{placeWith};
 ghost use Rattle.refusals.specs.Refusals.{reply};
 ghost use Rattle.comparison.specs.Comparison.{pairRefusal};
-ghost use Rattle.lent.specs.Lent.{numberIn, leaves};
-ghost use Rattle.verdicts.specs.Queries.{reductionFits, ReductionGiven, ReduceGives, verdictFits, comparisonFits, ComparisonGiven, CompareGives, wordsMap, checkedIn, bit};
-ghost use Rattle.verdicts.specs.internal.Steps.{SoundReduction, SoundComparison};
-
-// ---- reducing
-
-// Stores a reduction, unless it is refused: the file of its record, the count and the mapping.
-pub fn store_reduction(
-    reduced: Reduced,
-    out: &mut [u8],
-    size: &mut usize,
-    count: &mut u8,
-    mapping: &mut [u32],
-) -> u8
-    requires { ⌜ SoundReduction reduced ⌝ }
-    ensures { λ r. ⌜ ReductionGiven (reductionFits (length (now (out .entry))) (length (now (mapping .entry))) reduced) (now (out .entry)) (now (size .entry)) (now (count .entry)) (now (mapping .entry)) r (now (out .exit)) (now (size .exit)) (now (count .exit)) (now (mapping .exit)) ⌝ }
-{
-    let answer = reduced.answer;
-    match answer {
-        Answer::Done => {
-            if mapping.len() < 192 {
-                return refusals::BUFFER_TOO_SHORT;
-            }
-            let after = reduced.record;
-            let images = reduced.images;
-            let written = write_good(after, out);
-            match written {
-                Written::Length(n) => {
-                    put_mapping(images, mapping);
-                    *size = n;
-                    *count = reduced.count;
-                    0
-                }
-                Written::Refused(n) => n,
-            }
-        }
-        Answer::Refused(n) => n,
-    }
-}
+ghost use Rattle.lent.specs.Lent.{statusOf, leaves};
+ghost use Rattle.verdicts.specs.Queries.{verdictFits, comparisonFits, ComparisonGiven, CompareGives, wordsMap, checkedIn, bit};
+ghost use Rattle.verdicts.specs.internal.Steps.{SoundComparison};
 
 // ---- comparing
 
@@ -150,7 +111,7 @@ pub fn store_comparison(
 
 // Checks words for two places: words that are no mapping are none between the queries.
 pub fn check_words(given: Record, p: usize, q: usize, words: &[u32], verdict: &mut u8) -> u8
-    ensures { λ r. ⌜ r ≡ numberIn (reply (pairRefusal given p q) (wordsMap given p q (now (words .entry)))) ⌝ }
+    ensures { λ r. ⌜ r ≡ statusOf (reply (pairRefusal given p q) (wordsMap given p q (now (words .entry)))) ⌝ }
     ensures { λ _. ⌜ now (verdict .exit) ≡ leaves (reply (pairRefusal given p q) (wordsMap given p q (now (words .entry)))) bit (now (verdict .entry)) ⌝ }
 {
     let read = read_mapping(words);
@@ -174,30 +135,6 @@ pub fn check_words(given: Record, p: usize, q: usize, words: &[u32], verdict: &m
 }
 
 // ---- the calls
-
-// Reduces the query of one place into another.
-pub fn reduce_in_file(
-    file: &[u8],
-    source: usize,
-    target: usize,
-    out: &mut [u8],
-    size: &mut usize,
-    count: &mut u8,
-    mapping: &mut [u32],
-) -> u8
-    ensures { λ r. ⌜ ReduceGives (now (file .entry)) source target (now (out .entry)) (now (size .entry)) (now (count .entry)) (now (mapping .entry)) r (now (out .exit)) (now (size .exit)) (now (count .exit)) (now (mapping .exit)) ⌝ }
-{
-    let outcome = file::read(file);
-    let answer = outcome.answer;
-    match answer {
-        Answer::Done => {
-            let given = outcome.record;
-            let reduced = reduction::reduce(given, source, target);
-            store_reduction(reduced, out, size, count, mapping)
-        }
-        Answer::Refused(n) => n,
-    }
-}
 
 // Compares the queries of two places.
 pub fn compare_in_file(
@@ -227,7 +164,7 @@ pub fn compare_in_file(
 
 // Checks a mapping from the query of place q to that of place p.
 pub fn check_in_file(file: &[u8], p: usize, q: usize, mapping: &[u32], verdict: &mut u8) -> u8
-    ensures { λ r. ⌜ r ≡ numberIn (checkedIn (now (file .entry)) p q (now (mapping .entry))) ⌝ }
+    ensures { λ r. ⌜ r ≡ statusOf (checkedIn (now (file .entry)) p q (now (mapping .entry))) ⌝ }
     ensures { λ _. ⌜ now (verdict .exit) ≡ leaves (checkedIn (now (file .entry)) p q (now (mapping .entry))) bit (now (verdict .entry)) ⌝ }
 {
     let outcome = file::read(file);

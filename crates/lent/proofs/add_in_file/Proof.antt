@@ -5,7 +5,7 @@ use Rattle.query.specs.declared.Dependency.{Dependency}
 use Rattle.record.specs.Calls.{addDependency}
 use Rattle.format.specs.File.{fileOf}
 use Rattle.lent.specs.Lent.{fitted}
-use Rattle.lent.specs.Records.{resultOf, stored}
+use Rattle.lent.specs.Records.{resultOf, fileFitted}
 use Rattle.lent.proofs.Files.{read-done, read-refused, read-good, read-long, still-refused, wrote-same, wrote-none}
 use Rattle.lent.proofs.Kept.{add-sound}
 use borrow.Author.Needs.{needs}
@@ -38,7 +38,7 @@ returns c =
     let s = c .before .before .before .before .before .before .before .before .before .before .before .before in
     let out = s .args .out .now in
     let d : Dependency = record { relation = s .args .relation; left = s .args .left; right = s .args .right } in
-    wrote-same (ap (stored (length out)) (read-done (s .args .file .now) (c .before .before .before .before .before .before .before .before .before .read .result) (c .before .before .before .before .before .before .before .before .before .read .ensures) (λ r. resultOf (addDependency r d)) (c .before .before .before .before .before .before .before .enum-told .given .1) ∙ ap resultOf (sym (c .before .before .before .before .before .add-dependency .ensures)))) out (s .args .size .now) _ _ _ (c .before .before .store-outcome .ensures)
+    wrote-same (ap (fileFitted (length out)) (read-done (s .args .file .now) (c .before .before .before .before .before .before .before .before .before .read .result) (c .before .before .before .before .before .before .before .before .before .read .ensures) (λ r. resultOf (addDependency r d)) (c .before .before .before .before .before .before .before .enum-told .given .1) ∙ ap resultOf (sym (c .before .before .before .before .before .add-dependency .ensures)))) out (s .args .size .now) _ _ _ (c .before .before .store-outcome .ensures)
 
 returns-2 : tie.Need-returns-2
 returns-2 c =

@@ -4,7 +4,7 @@ use lib.ListN.{length}
 use Rattle.record.specs.Calls.{dropQuery}
 use Rattle.format.specs.File.{fileOf}
 use Rattle.lent.specs.Lent.{fitted}
-use Rattle.lent.specs.Records.{resultOf, stored}
+use Rattle.lent.specs.Records.{resultOf, fileFitted}
 use Rattle.lent.proofs.Files.{read-done, read-refused, read-good, still-refused, wrote-same, wrote-none}
 use Rattle.lent.proofs.Kept.{drop-sound}
 use borrow.Author.Needs.{needs}
@@ -35,7 +35,7 @@ returns : tie.Need-returns
 returns c =
     let s = c .before .before .before .before .before .before .before .before .before .before .before .before in
     let out = s .args .out .now in
-    wrote-same (ap (stored (length out)) (read-done (s .args .file .now) (c .before .before .before .before .before .before .before .before .before .read .result) (c .before .before .before .before .before .before .before .before .before .read .ensures) (λ r. resultOf (dropQuery r (s .args .place))) (c .before .before .before .before .before .before .before .enum-told .given .1) ∙ ap resultOf (sym (c .before .before .before .before .before .drop-query .ensures)))) out (s .args .size .now) _ _ _ (c .before .before .store-outcome .ensures)
+    wrote-same (ap (fileFitted (length out)) (read-done (s .args .file .now) (c .before .before .before .before .before .before .before .before .before .read .result) (c .before .before .before .before .before .before .before .before .before .read .ensures) (λ r. resultOf (dropQuery r (s .args .place))) (c .before .before .before .before .before .before .before .enum-told .given .1) ∙ ap resultOf (sym (c .before .before .before .before .before .drop-query .ensures)))) out (s .args .size .now) _ _ _ (c .before .before .store-outcome .ensures)
 
 returns-2 : tie.Need-returns-2
 returns-2 c =

@@ -3,7 +3,7 @@ use mathlib.Core.Path.{sym, ap, _∙_}
 use lib.ListN.{length}
 use Rattle.format.specs.File.{fileOf}
 use Rattle.lent.specs.Lent.{fitted}
-use Rattle.lent.specs.Records.{stored, putPart}
+use Rattle.lent.specs.Records.{fileFitted, putPart}
 use Rattle.lent.proofs.Files.{read-done, read-refused, read-good, still-refused, wrote-same, wrote-none}
 use borrow.Author.Needs.{needs}
 use Rattle.lent.proofs.put_in_file.Statement.{statement}
@@ -33,7 +33,7 @@ returns : tie.Need-returns
 returns c =
     let s = c .before .before .before .before .before .before .before .before .before .before .before .before .before in
     let out = s .args .out .now in
-    wrote-same (ap (stored (length out)) (read-done (s .args .file .now) (c .before .before .before .before .before .before .before .before .before .read .result) (c .before .before .before .before .before .before .before .before .before .read .ensures) (putPart (s .args .place) (s .args .query .now)) (c .before .before .before .before .before .before .before .enum-told .given .1) ∙ sym (c .before .before .before .before .before .put-part .ensures .0))) out (s .args .size .now) _ _ _ (c .before .before .store-outcome .ensures)
+    wrote-same (ap (fileFitted (length out)) (read-done (s .args .file .now) (c .before .before .before .before .before .before .before .before .before .read .result) (c .before .before .before .before .before .before .before .before .before .read .ensures) (putPart (s .args .place) (s .args .query .now)) (c .before .before .before .before .before .before .before .enum-told .given .1) ∙ sym (c .before .before .before .before .before .put-part .ensures .0))) out (s .args .size .now) _ _ _ (c .before .before .store-outcome .ensures)
 
 returns-2 : tie.Need-returns-2
 returns-2 c =

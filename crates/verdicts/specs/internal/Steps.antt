@@ -3,16 +3,10 @@ use mathlib.Core.Path.{_≡_}
 use mathlib.Core.Bool.{true}
 use mathlib.Core.List.{List}
 use Prim.Native.Nat.{ℕ}
-use Rattle.record.specs.declared.Answer.the-variants.{Done}
-use Rattle.record.specs.Rule.{goodRecord, goodPlace}
+use Rattle.record.specs.Rule.{goodPlace}
 use Rattle.format.specs.File.{placeWith}
 use Rattle.comparison.specs.declared.Comparison.{Comparison}
 use Rattle.comparison.specs.declared.Verdict.the-variants as verdict
-use Rattle.reduction.specs.declared.Reduced.{Reduced}
-
--- A reduction's record, if it is done, is good
-abbrev pub SoundReduction : Reduced → Type 0
-SoundReduction o = o .answer ≡ Done → goodRecord (o .«record») ≡ true
 
 -- A comparison's query, if it tells one, is good with a safe head
 abbrev pub SoundComparison : List ℕ → Comparison → Type 0

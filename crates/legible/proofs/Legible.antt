@@ -45,9 +45,10 @@ use Rattle.theory.specs.Query as theory
 use Rattle.theory.specs.Search as search
 use Rattle.reduction.specs.declared.Reduced.{Reduced}
 use Rattle.lent.specs.Lent.{fitted, Wrote}
-use Rattle.lent.specs.Records.{answered, resultOf, stored, putPart}
-use Rattle.verdicts.specs.Queries.{ReductionGiven, Reducing, comparisonFits, ComparisonGiven, ComparisonShape, Comparing}
-use Rattle.readback.specs.ReadBack.{FileLeft, WriteLeft, OpenLeft, AddLeft, PutLeft, DropLeft, ReduceLeft, CompareLeft}
+use Rattle.lent.specs.Records.{ifDone, resultOf, fileFitted, putPart}
+use Rattle.shortening.specs.Shortening.{ReductionGiven, Reducing}
+use Rattle.verdicts.specs.Queries.{comparisonFits, ComparisonGiven, ComparisonShape, Comparing}
+use Rattle.legible.specs.Legible.{FileLeft, WriteLeft, OpenLeft, AddLeft, PutLeft, DropLeft, ReduceLeft, CompareLeft}
 use Rattle.lent.proofs.Files.{goes-on}
 use Rattle.verdicts.proofs.Verdicts.{query-part, comparison-apart, comparison-contained, comparison-never, compared-sound}
 
@@ -69,7 +70,7 @@ fitted-read : (r : Record) → Whole r → (file : List ℕ) → fileOf r ≡ fi
 fitted-read r w file e true out size outAfter sizeAfter g = over-read r w out outAfter sizeAfter (g .1 ∙ ap (over out 0) (sym e)) (g .2 ∙ ap length (sym e))
 fitted-read r w file e false out size outAfter sizeAfter g = let z : _≡_ {A = ℕ} 0 10 = g .0 in absurd (omega arith)
 
-stored-left : (x : Reply Record) → ((r : Record) → x ≡ gives r → Whole r) → FileLeft x (λ room. stored room x)
+stored-left : (x : Reply Record) → ((r : Record) → x ≡ gives r → Whole r) → FileLeft x (λ room. fileFitted room x)
 stored-left x keeps r e out size outAfter sizeAfter g =
     fitted-read r (keeps r e) (fileOf r) refl (leb (length (fileOf r)) (length out)) out size outAfter sizeAfter
     (subst (λ (y : Reply (List ℕ)). Wrote y out size 0 outAfter sizeAfter) (goes-on e (λ r. fitted (length out) (fileOf r))) g)
@@ -77,7 +78,7 @@ stored-left x keeps r e out size outAfter sizeAfter g =
 -- ---- the record after each call
 
 -- the record of a call that is done
-done-of : {A : Type 0} (a : Answer) (x y : A) → answered a x ≡ gives y → (a ≡ Done) × (x ≡ y)
+done-of : {A : Type 0} (a : Answer) (x y : A) → ifDone a x ≡ gives y → (a ≡ Done) × (x ≡ y)
 done-of Done x y e = (refl, cc)
 done-of (Refused n) x y e = absurd (not-ok e)
 
@@ -184,7 +185,7 @@ open-left widths =
 
 -- A call on the record of a file
 after-read : (file : List ℕ) → Bytes file → (next : Record → Reply Record) → ((r after : Record) → Whole r → next r ≡ gives after → Whole after)
-    → FileLeft (readFile file >>= next) (λ room. stored room (readFile file >>= next))
+    → FileLeft (readFile file >>= next) (λ room. fileFitted room (readFile file >>= next))
 after-read file hb next keeps =
     stored-left (readFile file >>= next) (λ after e. let (r, e₁, e₂) = bind-ok (readFile file) next after e in keeps r after (read-whole file hb r e₁) e₂)
 

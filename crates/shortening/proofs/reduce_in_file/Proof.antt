@@ -1,11 +1,11 @@
 -- `spernevan_reduce` gives what reducing promises, once the file is read. Assumes nothing.
 use Rattle.format.specs.File.{readFile}
 use Rattle.format.proofs.Results.{outcome-done, outcome-refused}
-use Rattle.verdicts.proofs.Verdicts.{reduced-sound, reduce-done, reduce-refused}
-use Rattle.verdicts.proofs.Shapes.{reduced-shaped}
+use Rattle.shortening.proofs.Reductions.{reduced-sound, reduce-done, reduce-refused}
+use Rattle.shortening.proofs.Shapes.{reduced-shaped}
 use borrow.Author.Needs.{needs}
-use Rattle.verdicts.proofs.reduce_in_file.Statement.{statement}
-use Rattle.verdicts.proofs.reduce_in_file.Tie as tie
+use Rattle.shortening.proofs.reduce_in_file.Statement.{statement}
+use Rattle.shortening.proofs.reduce_in_file.Tie as tie
 
 read-requires : tie.Need-read-requires
 read-requires c κs = search needs

@@ -1,9 +1,9 @@
 -- `store_reduction` stores the file, the count and the mapping of a reduction that is done. Assumes nothing.
 use mathlib.Core.Path.{sym, _∙_}
-use Rattle.verdicts.proofs.Verdicts.{reduction-none, reduction-refused, reduction-short, reduction-stored, reduction-long}
+use Rattle.shortening.proofs.Reductions.{reduction-none, reduction-refused, reduction-short, reduction-stored, reduction-long}
 use borrow.Author.Needs.{needs}
-use Rattle.verdicts.proofs.store_reduction.Statement.{statement}
-use Rattle.verdicts.proofs.store_reduction.Tie as tie
+use Rattle.shortening.proofs.store_reduction.Statement.{statement}
+use Rattle.shortening.proofs.store_reduction.Tie as tie
 
 enum-told : tie.Need-enum-told
 enum-told c = search needs

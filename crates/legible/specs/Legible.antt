@@ -1,4 +1,4 @@
--- What a caller relies on: the file that an accepted call leaves is read as the record after the call, and so a query part. Each statement is proved in `proofs/ReadBack`.
+-- What a caller relies on: the file that an accepted call leaves is read as the record after the call, and so a query part. Each statement is proved in `proofs/Legible`.
 -- `Bytes` holds of every file and query part that a call can be given: bytes are below 256.
 use mathlib.Core.Path.{_≡_}
 use mathlib.Core.Bool.{true}
@@ -18,8 +18,9 @@ use Rattle.comparison.specs.Comparison.{chasedAt, pairRefusal}
 use Rattle.reduction.specs.declared.Reduced.{Reduced}
 use Rattle.reduction.specs.Reduced.{reductionRefusal, IsReduced}
 use Rattle.lent.specs.Lent.{Wrote}
-use Rattle.lent.specs.Records.{resultOf, copied, opened, added, putPart, filled, dropped}
-use Rattle.verdicts.specs.Queries.{ReduceGives, CompareGives}
+use Rattle.lent.specs.Records.{resultOf, copied, opened, added, putPart, putIn, dropped}
+use Rattle.shortening.specs.Shortening.{ReduceGives}
+use Rattle.verdicts.specs.Queries.{CompareGives}
 
 -- A call with the record `after`, which wrote what `given` says of a buffer's room and returned 0: the bytes that it left are read as that record
 abbrev pub FileLeft : Reply Record → (ℕ → Reply (List ℕ)) → Type 0
@@ -44,7 +45,7 @@ AddLeft =
 -- With a query put into a place
 abbrev pub PutLeft : Type 0
 PutLeft =
-    (file : List ℕ) → Bytes file → (place : ℕ) (part : List ℕ) → Bytes part → FileLeft (readFile file >>= putPart place part) (filled file place part)
+    (file : List ℕ) → Bytes file → (place : ℕ) (part : List ℕ) → Bytes part → FileLeft (readFile file >>= putPart place part) (putIn file place part)
 
 -- With a place dropped
 abbrev pub DropLeft : Type 0
