@@ -23,7 +23,8 @@ use Rattle.lists.specs.Tests.{between, every}
 use Rattle.query.specs.Rule.{goodDependency, goodQuery, headSafe}
 use Rattle.record.specs.Rule.{goodPlace, goodRecord, noPlace, blankRecord}
 use Rattle.refusals.specs.Refusals.{_>>=_, badQuery, bufferTooShort, firstHolding, gives, refused, Reply}
-use Rattle.record.specs.Calls.{queryAt, concluded, broken, above, vacant, filled, withPlace, withDependency, emptyRecord, openRecord, addDependency, putQuery, dropQuery}
+use Rattle.record.specs.Calls.{queryAt, concluded, broken, above, vacant, filled, withPlace, withDependency, emptyRecord, openRecord, addDependency, putQuery}
+use Rattle.record.specs.Calls.{dropQuery}
 use Rattle.lists.proofs.Tests.{and-left, and-right, and-both, every-set}
 use Rattle.record.proofs.Good.{good-record}
 use Rattle.record.proofs.Meaning.{open-keeps, add-keeps, put-keeps, drop-keeps}
@@ -111,13 +112,16 @@ open-shaped widths e =
     let fit : Bool = few && every (between 1 8) widths in
     concluded-shaped (cond (not fit) (some 3) none) blankRecord (emptyRecord (length widths) (widths ++ replicate (8 - length widths) 0)) e
     (λ clear.
-    let most = leb-true (length widths) 8 (and-right (leb 1 (length widths)) (leb (length widths) 8) (and-left few (every (between 1 8) widths) (unrefused fit clear))) in
+    let most = leb-true (length widths) 8 (and-right (leb 1 (length widths)) (leb (length widths) 8)
+    (and-left few (every (between 1 8) widths) (unrefused fit clear))) in
     let long : length (widths ++ replicate (8 - length widths) 0) ≡ 8 = rw (length-append, length-replicate) (omega arith) in
     shaped-from (emptyRecord (length widths) (widths ++ replicate (8 - length widths) 0)) long refl refl refl)
 
 module _ (r : Record) (w : Whole r) where
   queries : every (λ p. shapedQuery (p .query)) (r .places) ≡ true
-  queries = and-right (eqb (length (r .widths)) 8 && eqb (length (r .dependencies)) 32 && eqb (length (r .places)) 8) (every (λ p. shapedQuery (p .query)) (r .places)) (w .1)
+  queries =
+      and-right (eqb (length (r .widths)) 8 && eqb (length (r .dependencies)) 32 && eqb (length (r .places)) 8)
+      (every (λ p. shapedQuery (p .query)) (r .places)) (w .1)
 
   dependency-shaped : (d : Dependency) → shaped (withDependency r d) ≡ true
   dependency-shaped d =
@@ -132,7 +136,9 @@ module _ (r : Record) (w : Whole r) where
 
   add-shaped : (d : Dependency) → addDependency r d .answer ≡ Done → shaped (addDependency r d .«record») ≡ true
   unfolding addDependency
-  add-shaped d e = concluded-shaped (firstHolding (broken r ∷ (not (goodDependency (schemaOf r) d), 4) ∷ (eqb (r .held) 32, 13) ∷ [])) r (withDependency r d) e (λ _. dependency-shaped d)
+  add-shaped d e =
+      concluded-shaped (firstHolding (broken r ∷ (not (goodDependency (schemaOf r) d), 4) ∷ (eqb (r .held) 32, 13) ∷ [])) r (withDependency r d) e
+      (λ _. dependency-shaped d)
 
   put-shaped : (place : ℕ) (q : Query) → shapedQuery q ≡ true → putQuery r place q .answer ≡ Done → shaped (putQuery r place q .«record») ≡ true
   unfolding putQuery
@@ -144,7 +150,8 @@ module _ (r : Record) (w : Whole r) where
 
   drop-shaped : (place : ℕ) → dropQuery r place .answer ≡ Done → shaped (dropQuery r place .«record») ≡ true
   unfolding dropQuery
-  drop-shaped place e = concluded-shaped (firstHolding (broken r ∷ above place ∷ vacant r place ∷ [])) r (withPlace r place noPlace) e (λ _. place-shaped place noPlace refl)
+  drop-shaped place e =
+      concluded-shaped (firstHolding (broken r ∷ above place ∷ vacant r place ∷ [])) r (withPlace r place noPlace) e (λ _. place-shaped place noPlace refl)
 
   -- A query part that is read
   part-shaped : (part : List ℕ) (p : Place) → Bytes part → readPlace (schemaOf r) true part ≡ gives p → shapedQuery (p .query) ≡ true
@@ -226,7 +233,8 @@ judged-not (x ∷ xs) false n e = let z : _≡_ {A = ℕ} 0 1 = cc in omega arit
 
 pub compare-left : CompareLeft
 compare-left file hb p q r e clear said mapping part size mappingAfter partAfter sizeAfter g =
-    let (c, is, shape, pictures, same) = subst (λ (x : Reply Record). Comparing x p q (g .result) (g .images) (length mapping) (length part)) e (g .comparing) in
+    let (c, is, shape, pictures, same) = subst (λ (x : Reply Record). Comparing x p q (g .result) (g .images) (length mapping) (length part)) e (g .comparing)
+    in
     let k = subst (λ (x : Reply (ℕ × List ℕ)). Given x (g .images)) same (g .given) in
     go c is shape (g .images) k (c .verdict) refl
   where
@@ -240,7 +248,8 @@ compare-left file hb p q r e clear said mapping part size mappingAfter partAfter
         (sym (k .1), rw (k .3, k .4) (take-at bytes (drop (0 + length bytes) part) (length bytes) refl))
     given-back n bytes images false k = let z : _≡_ {A = ℕ} 0 10 = k .0 in absurd (omega arith)
 
-    go : (c : Comparison) → Compared r p q c → ComparisonShape c → (images : List Cell) → Given (comparisonFits (length mapping) (length part) (schemaOf r) c) images
+    go : (c : Comparison) → Compared r p q c → ComparisonShape c → (images : List Cell)
+        → Given (comparisonFits (length mapping) (length part) (schemaOf r) c) images
         → (v : Verdict) → c .verdict ≡ v
         → (chased : Query) × (readPlace (schemaOf r) true (take sizeAfter partAfter) ≡ gives (placeWith chased)) × (queryOf (schemaOf r) chased ≡ chasedAt r p)
     go c is shape images k verdict.Apart a =

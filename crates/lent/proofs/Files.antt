@@ -46,7 +46,8 @@ unfolding _>>=_
 goes-on p next = rw p
 
 -- An equal result returns and leaves the same
-pub wrote-same : {x y : Reply (List ℕ)} → x ≡ y → (out : List ℕ) (n number : ℕ) (after : List ℕ) (m : ℕ) → Wrote y out n number after m → Wrote x out n number after m
+pub wrote-same : {x y : Reply (List ℕ)} → x ≡ y → (out : List ℕ) (n number : ℕ) (after : List ℕ) (m : ℕ) → Wrote y out n number after m
+    → Wrote x out n number after m
 wrote-same p out n number after m w = subst (λ (z : Reply (List ℕ)). Wrote z out n number after m) (sym p) w
 
 pub wrote-none : {x : Reply (List ℕ)} {number : ℕ} → x ≡ refused number → (out : List ℕ) (n : ℕ) → Wrote x out n number out n

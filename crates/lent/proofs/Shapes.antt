@@ -33,7 +33,8 @@ query-shaped q vs p =
     let cells = long cell.the-field 96 (q .cells) _ (p .1 .1 .1 .1 .1 .1 .0) in rw (head, relations, cells)
 
 -- Each of some places
-places-shaped : (places : List Place) (us : List Val) → shadow (each (place.the-field .row .Denot) (place.the-field .row .own) (map (place.the-field .into) places) us)
+places-shaped : (places : List Place) (us : List Val)
+    → shadow (each (place.the-field .row .Denot) (place.the-field .row .own) (map (place.the-field .into) places) us)
     → every (λ p. shapedQuery (p .query)) places ≡ true
 unfolding every
 places-shaped [] us p = refl

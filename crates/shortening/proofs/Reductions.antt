@@ -43,12 +43,14 @@ module _ (o : Reduced) (out : List ℕ) (size count : ℕ) (mapping : List ℕ) 
     reduction-short h = rw (done, lt-leb 192 (length mapping) h)
 
     module _ (h : 192 ≤ length mapping) where
-      roomy : (t : Bool) → leb (length (fileOf (o .«record»))) (length out) ≡ t → reductionFits (length out) (length mapping) o ≡ cond t (gives o) (refused bufferTooShort)
+      roomy : (t : Bool) → leb (length (fileOf (o .«record»))) (length out) ≡ t
+          → reductionFits (length out) (length mapping) o ≡ cond t (gives o) (refused bufferTooShort)
       unfolding _>>=_
       roomy t e = rw (done, le-leb 192 (length mapping) h, e)
 
       from : (good fits : Bool) (n : ℕ) (out′ : List ℕ) (mapping′ : List ℕ) → good ≡ true → leb (length (fileOf (o .«record»))) (length out) ≡ fits
-          → cond good (cond fits (written.Length (length (fileOf (o .«record»)))) (written.Refused bufferTooShort)) (written.Refused badRecord) ≡ written.Length n
+          → cond good (cond fits (written.Length (length (fileOf (o .«record»)))) (written.Refused bufferTooShort)) (written.Refused badRecord) ≡
+          written.Length n
           → out′ ≡ cond (good && fits) (over out 0 (fileOf (o .«record»))) out → mapping′ ≡ over mapping 0 (mappingWords (o .images))
           → ReductionGiven (reductionFits (length out) (length mapping) o) out size count mapping 0 out′ n (o .count) mapping′
       from true true n out′ mapping′ g f w b m = reduction-same (roomy true f) 0 out′ n (o .count) mapping′ (refl, b, cc, refl, m)
@@ -58,14 +60,16 @@ module _ (o : Reduced) (out : List ℕ) (size count : ℕ) (mapping : List ℕ) 
       -- its file is written
       pub reduction-stored : (n : ℕ) (out′ : List ℕ) (mapping′ : List ℕ) → goodRecord (o .«record») ≡ true
           → cond (goodRecord (o .«record»))
-          (cond (leb (length (fileOf (o .«record»))) (length out)) (written.Length (length (fileOf (o .«record»)))) (written.Refused bufferTooShort)) (written.Refused badRecord) ≡ written.Length n
+          (cond (leb (length (fileOf (o .«record»))) (length out)) (written.Length (length (fileOf (o .«record»)))) (written.Refused bufferTooShort))
+          (written.Refused badRecord) ≡ written.Length n
           → out′ ≡ cond (goodRecord (o .«record») && leb (length (fileOf (o .«record»))) (length out)) (over out 0 (fileOf (o .«record»))) out
           → mapping′ ≡ over mapping 0 (mappingWords (o .images))
           → ReductionGiven (reductionFits (length out) (length mapping) o) out size count mapping 0 out′ n (o .count) mapping′
       reduction-stored n out′ mapping′ g w b m = from (goodRecord (o .«record»)) (leb (length (fileOf (o .«record»))) (length out)) n out′ mapping′ g refl w b m
 
       from-long : (good fits : Bool) (n : ℕ) (out′ : List ℕ) → good ≡ true → leb (length (fileOf (o .«record»))) (length out) ≡ fits
-          → cond good (cond fits (written.Length (length (fileOf (o .«record»)))) (written.Refused bufferTooShort)) (written.Refused badRecord) ≡ written.Refused n
+          → cond good (cond fits (written.Length (length (fileOf (o .«record»)))) (written.Refused bufferTooShort)) (written.Refused badRecord) ≡
+          written.Refused n
           → out′ ≡ cond (good && fits) (over out 0 (fileOf (o .«record»))) out
           → ReductionGiven (reductionFits (length out) (length mapping) o) out size count mapping n out′ size count mapping
       from-long true false n out′ g f w b = reduction-same (roomy false f) n out′ size count mapping (cc, b, refl, refl, refl)
@@ -75,7 +79,8 @@ module _ (o : Reduced) (out : List ℕ) (size count : ℕ) (mapping : List ℕ) 
       -- or too long
       pub reduction-long : (n : ℕ) (out′ : List ℕ) → goodRecord (o .«record») ≡ true
           → cond (goodRecord (o .«record»))
-          (cond (leb (length (fileOf (o .«record»))) (length out)) (written.Length (length (fileOf (o .«record»)))) (written.Refused bufferTooShort)) (written.Refused badRecord) ≡ written.Refused n
+          (cond (leb (length (fileOf (o .«record»))) (length out)) (written.Length (length (fileOf (o .«record»)))) (written.Refused bufferTooShort))
+          (written.Refused badRecord) ≡ written.Refused n
           → out′ ≡ cond (goodRecord (o .«record») && leb (length (fileOf (o .«record»))) (length out)) (over out 0 (fileOf (o .«record»))) out
           → ReductionGiven (reductionFits (length out) (length mapping) o) out size count mapping n out′ size count mapping
       reduction-long n out′ g w b = from-long (goodRecord (o .«record»)) (leb (length (fileOf (o .«record»))) (length out)) n out′ g refl w b
@@ -99,7 +104,8 @@ module _ (file : List ℕ) (source target : ℕ) (out : List ℕ) (size count : 
       record {
         result = reductionFits (length out) (length mapping) o;
         reducing =
-            subst (λ (x : Reply Record). Reducing x source target (reductionFits (length out) (length mapping) o) (length out) (length mapping)) (sym e) (o, is, shape, refl);
+            subst (λ (x : Reply Record). Reducing x source target (reductionFits (length out) (length mapping) o) (length out) (length mapping)) (sym e)
+            (o, is, shape, refl);
         given = w;
       }
 

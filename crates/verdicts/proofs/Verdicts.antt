@@ -40,7 +40,8 @@ use Rattle.verdicts.specs.internal.Steps.{SoundComparison}
 
 module _ (images : List Cell) (said : ℕ) (mapping part : List ℕ) (size : ℕ) where
   pub comparison-same : {x y : Reply (ℕ × List ℕ)} → x ≡ y → (number said′ : ℕ) (mapping′ part′ : List ℕ) (size′ : ℕ)
-      → ComparisonGiven y images said mapping part size number said′ mapping′ part′ size′ → ComparisonGiven x images said mapping part size number said′ mapping′ part′ size′
+      → ComparisonGiven y images said mapping part size number said′ mapping′ part′ size′ → ComparisonGiven x images said mapping part size number said′
+      mapping′ part′ size′
   comparison-same p number said′ mapping′ part′ size′ w =
       subst (λ (z : Reply (ℕ × List ℕ)). ComparisonGiven z images said mapping part size number said′ mapping′ part′ size′) (sym p) w
 
@@ -68,7 +69,8 @@ module _ (images : List Cell) (said : ℕ) (mapping part : List ℕ) (size : ℕ
     verdict-long h l = comparison-none (fits-long h l)
 
     -- there is room for both
-    pub verdict-stored : (mapping′ part′ : List ℕ) (size′ : ℕ) → 192 ≤ length mapping → length bytes ≤ length part → mapping′ ≡ over mapping 0 (mappingWords images)
+    pub verdict-stored : (mapping′ part′ : List ℕ) (size′ : ℕ) → 192 ≤ length mapping → length bytes ≤ length part
+        → mapping′ ≡ over mapping 0 (mappingWords images)
         → part′ ≡ over part 0 bytes → size′ ≡ length bytes
         → ComparisonGiven (verdictFits (length mapping) (length part) (code, bytes)) images said mapping part size 0 code mapping′ part′ size′
     verdict-stored mapping′ part′ size′ h l m p n = comparison-same (fits-both h l) 0 code mapping′ part′ size′ (refl, refl, m, p, n)
@@ -112,7 +114,8 @@ compared-sound r p q c is apart =
     let safe : headSafe (schemaOf r) (c .query) ≡ true =
     subst (λ (x : theory.Query). subset (variablesOf (x .head)) (variablesOf (rowEntries (x .rows))) ≡ true) (sym (chased .0))
     (subset-of _ _
-    (chases-safe (chase-chases (dependenciesOf r) view) (subset-true (variablesOf (view .head)) (variablesOf (rowEntries (view .rows))) (queries r p q accepted .safe-p)))) in
+    (chases-safe (chase-chases (dependenciesOf r) view) (subset-true (variablesOf (view .head)) (variablesOf (rowEntries (view .rows)))
+    (queries r p q accepted .safe-p)))) in
     filled-place (schemaOf r) (c .query) (chased .1) safe
   where
     unrefused : (x : Option ℕ) (v : Verdict) → judged x v ≡ verdict.Apart → x ≡ option.none
@@ -129,7 +132,8 @@ module _ (file : List ℕ) (p q said : ℕ) (mapping part : List ℕ) (size : �
         result = comparisonFits (length mapping) (length part) (schemaOf r) c;
         images = c .images;
         comparing =
-            subst (λ (x : Reply Record). Comparing x p q (comparisonFits (length mapping) (length part) (schemaOf r) c) (c .images) (length mapping) (length part)) (sym e)
+            subst (λ (x : Reply Record). Comparing x p q (comparisonFits (length mapping) (length part) (schemaOf r) c) (c .images) (length mapping)
+            (length part)) (sym e)
             (c, is, shape, refl, refl);
         given = w;
       }

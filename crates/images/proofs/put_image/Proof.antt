@@ -57,7 +57,8 @@ same-length c = search needs
 returns : tie.Need-returns
 returns c =
     let s = c .before .before .before in
-    two-stores (s .args .words .now) (s .args .at) 0 (c .before .entry .given .0 .0) (s .pre) ∙ ap (λ (e : Entry). over (s .args .words .now) (s .args .at) (entryWords e)) (sym (c .before .entry .given .1))
+    two-stores (s .args .words .now) (s .args .at) 0 (c .before .entry .given .0 .0) (s .pre) ∙ ap
+    (λ (e : Entry). over (s .args .words .now) (s .args .at) (entryWords e)) (sym (c .before .entry .given .1))
 
 same-length-2 : tie.Need-same-length-2
 same-length-2 c = search needs
@@ -65,7 +66,8 @@ same-length-2 c = search needs
 returns-2 : tie.Need-returns-2
 returns-2 c =
     let s = c .before .before .before in
-    two-stores (s .args .words .now) (s .args .at) 1 (c .before .entry2 .given .0 .0) (s .pre) ∙ ap (λ (e : Entry). over (s .args .words .now) (s .args .at) (entryWords e)) (sym (c .before .entry2 .given .1))
+    two-stores (s .args .words .now) (s .args .at) 1 (c .before .entry2 .given .0 .0) (s .pre) ∙ ap
+    (λ (e : Entry). over (s .args .words .now) (s .args .at) (entryWords e)) (sym (c .before .entry2 .given .1))
 
 pub put-image-spec : {M : Type 1} → statement M
 put-image-spec =

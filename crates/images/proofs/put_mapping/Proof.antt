@@ -42,8 +42,11 @@ loop-less c =
 
 loop-again : tie.Need-loop-again Inv-loop μ-loop
 loop-again c =
-    let l : length (c .before .before .before .before .before .before .before .before .args .t1) ≡ 96 = search needs in
-    (search needs, mapped-turns (c .before .before .before .before .before .before .loop .inv .1) l _ (c .before .before .before .before .before .loop-test .taken) (c .before .before .put-image .ensures))
+    let l : length (c .before .before .before .before .before .before .before .before .args .t1) ≡ 96 = search needs in (
+      search needs,
+      mapped-turns (c .before .before .before .before .before .before .loop .inv .1) l _
+          (c .before .before .before .before .before .loop-test .taken) (c .before .before .put-image .ensures),
+    )
 
 same-length : tie.Need-same-length Inv-loop μ-loop
 same-length c =

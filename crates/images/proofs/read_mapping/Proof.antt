@@ -49,7 +49,9 @@ no-mapping-requires-2 c κs = search needs
 
 returns-2 : tie.Need-returns-2 Inv-loop μ-loop
 returns-2 c =
-    c .no-mapping2 .ensures ∙ reading-fails (c .before .before .before .before .before .before .before .before .args .words .now) (c .before .before .before .before .before .loop .inv .2) (c .before .before .before .read-image .result) (c .before .before .before .before .loop-test .taken) (c .before .before .before .read-image .ensures) (c .before .enum-told .given .1)
+    c .no-mapping2 .ensures ∙ reading-fails (c .before .before .before .before .before .before .before .before .args .words .now)
+    (c .before .before .before .before .before .loop .inv .2) (c .before .before .before .read-image .result)
+    (c .before .before .before .before .loop-test .taken) (c .before .before .before .read-image .ensures) (c .before .enum-told .given .1)
 
 add-i : tie.Need-add-i Inv-loop μ-loop
 add-i c = search needs
@@ -59,12 +61,20 @@ loop-less c =
     search needs
 
 loop-again : tie.Need-loop-again Inv-loop μ-loop
-loop-again c =
-    (search needs, length-set (c .before .before .before .before .before .loop .images) (c .before .before .before .before .before .loop .i) (record { entry = c .before .e .given .0 .0 }) ∙ c .before .before .before .before .before .loop .inv .1, reading-turns (c .before .before .before .before .before .before .before .before .args .words .now) (c .before .before .before .before .before .loop .inv .2) (c .before .before .before .read-image .result) (c .before .e .given .0 .0) (c .before .before .before .before .loop-test .taken) (c .before .before .before .before .before .loop .inv .1) (c .before .before .before .read-image .ensures) (c .before .e .given .1))
+loop-again c = (
+  search needs,
+  length-set (c .before .before .before .before .before .loop .images) (c .before .before .before .before .before .loop .i)
+      (record { entry = c .before .e .given .0 .0 }) ∙ c .before .before .before .before .before .loop .inv .1,
+  reading-turns
+      (c .before .before .before .before .before .before .before .before .args .words .now) (c .before .before .before .before .before .loop .inv .2)
+      (c .before .before .before .read-image .result) (c .before .e .given .0 .0) (c .before .before .before .before .loop-test .taken)
+      (c .before .before .before .before .before .loop .inv .1) (c .before .before .before .read-image .ensures) (c .before .e .given .1),
+)
 
 returns-3 : tie.Need-returns-3 Inv-loop μ-loop
 returns-3 c =
-    sym (ap mappingRead (reading-ends (c .before .before .before .before .args .words .now) (c .before .loop .inv .2) (c .loop-test .left) (c .before .before .if1 .left)))
+    sym (ap mappingRead (reading-ends (c .before .before .before .before .args .words .now) (c .before .loop .inv .2) (c .loop-test .left)
+    (c .before .before .if1 .left)))
 
 pub read-mapping-spec : {M : Type 1} → statement M
 read-mapping-spec =

@@ -23,7 +23,8 @@ returns : tie.Need-returns
 returns c =
     let s = c .before .before .before .before .before .before .before .before in
     let out = s .args .out .now in
-    wrote-same (ap (λ (o : Outcome). fileFitted (length out) (resultOf o)) (sym (c .before .before .before .before .before .«open» .ensures))) out (s .args .size .now) _ _ _ (c .before .before .store-outcome .ensures)
+    wrote-same (ap (λ (o : Outcome). fileFitted (length out) (resultOf o)) (sym (c .before .before .before .before .before .«open» .ensures))) out
+    (s .args .size .now) _ _ _ (c .before .before .store-outcome .ensures)
 
 pub open-file-spec : {M : Type 1} → statement M
 open-file-spec = tie.close (tie.spec open-requires store-outcome-requires same-length returns)

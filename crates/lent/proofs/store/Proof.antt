@@ -27,7 +27,8 @@ returns c =
     let r = s .args .given in
     let out = s .args .out .now in
     written-wrote (goodRecord r) (leb (length (fileOf r)) (length out)) (fileOf r) out _ (s .args .size .now) _ (s .pre)
-    (sym (c .before .before .before .before .before .write-good .ensures .0) ∙ c .before .written .given .1) (c .before .before .before .before .before .write-good .ensures .1)
+    (sym (c .before .before .before .before .before .write-good .ensures .0) ∙ c .before .written .given .1)
+    (c .before .before .before .before .before .write-good .ensures .1)
 
 same-length-2 : tie.Need-same-length-2
 same-length-2 c = search needs
@@ -38,7 +39,8 @@ returns-2 c =
     let r = s .args .given in
     let out = s .args .out .now in
     unwritten-wrote (goodRecord r) (leb (length (fileOf r)) (length out)) (fileOf r) out _ (s .args .size .now) _ (s .pre)
-    (sym (c .before .before .before .before .before .write-good .ensures .0) ∙ c .before .written2 .given .1) (c .before .before .before .before .before .write-good .ensures .1)
+    (sym (c .before .before .before .before .before .write-good .ensures .0) ∙ c .before .written2 .given .1)
+    (c .before .before .before .before .before .write-good .ensures .1)
 
 pub store-spec : {M : Type 1} → statement M
 store-spec =

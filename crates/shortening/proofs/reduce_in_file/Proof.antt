@@ -18,7 +18,10 @@ reduce-requires c κs = search needs
 
 store-reduction-requires : tie.Need-store-reduction-requires
 store-reduction-requires c κs =
-    reduced-sound (c .before .before .before .before .before .before .before .before .read .result .«record») (c .before .before .before .before .before .before .before .before .before .before .before .before .args .source) (c .before .before .before .before .before .before .before .before .before .before .before .before .args .target) (c .before .before .before .before .reduce .result) (c .before .before .before .before .reduce .ensures)
+    reduced-sound (c .before .before .before .before .before .before .before .before .read .result .«record»)
+    (c .before .before .before .before .before .before .before .before .before .before .before .before .args .source)
+    (c .before .before .before .before .before .before .before .before .before .before .before .before .args .target)
+    (c .before .before .before .before .reduce .result) (c .before .before .before .before .reduce .ensures)
 
 enum-known-answer : tie.Need-enum-known-answer
 enum-known-answer c = search needs
@@ -32,14 +35,24 @@ same-length-2 c = search needs
 returns : tie.Need-returns
 returns c =
     let a = c .before .before .before .before .before .before .before .before .before .before .before .before .before .before .before .before .before .args in
-    reduce-done (a .file .now) (a .source) (a .target) (a .out .now) (a .size .now) (a .count .now) (a .mapping .now) (c .before .before .before .before .before .before .before .before .before .before .before .before .before .read .result .«record»)
-    (outcome-done (readFile (a .file .now)) (c .before .before .before .before .before .before .before .before .before .before .before .before .before .read .result) (c .before .before .before .before .before .before .before .before .before .before .before .before .before .read .ensures) (c .before .before .before .before .before .before .before .before .before .before .before .enum-told .given .1)) (c .before .before .before .before .before .before .before .before .before .reduce .result) (c .before .before .before .before .before .before .before .before .before .reduce .ensures) (reduced-shaped (c .before .before .before .before .before .before .before .before .before .reduce .result) _ (c .before .before .before .before .before .before .before .before .before .reduce .ok)) _ _ _ _ _ (c .before .before .before .before .store-reduction .ensures)
+    reduce-done (a .file .now) (a .source) (a .target) (a .out .now) (a .size .now) (a .count .now) (a .mapping .now)
+    (c .before .before .before .before .before .before .before .before .before .before .before .before .before .read .result .«record»)
+    (outcome-done (readFile (a .file .now))
+    (c .before .before .before .before .before .before .before .before .before .before .before .before .before .read .result)
+    (c .before .before .before .before .before .before .before .before .before .before .before .before .before .read .ensures)
+    (c .before .before .before .before .before .before .before .before .before .before .before .enum-told .given .1))
+    (c .before .before .before .before .before .before .before .before .before .reduce .result)
+    (c .before .before .before .before .before .before .before .before .before .reduce .ensures)
+    (reduced-shaped (c .before .before .before .before .before .before .before .before .before .reduce .result) _
+    (c .before .before .before .before .before .before .before .before .before .reduce .ok)) _ _ _ _ _
+    (c .before .before .before .before .store-reduction .ensures)
 
 returns-2 : tie.Need-returns-2
 returns-2 c =
     let a = c .before .before .before .before .before .before .before .args in
     reduce-refused (a .file .now) (a .source) (a .target) (a .out .now) (a .size .now) (a .count .now) (a .mapping .now) _
-    (outcome-refused (readFile (a .file .now)) (c .before .before .before .read .result) _ (c .before .before .before .read .ensures) (c .before .answer .given .1))
+    (outcome-refused (readFile (a .file .now)) (c .before .before .before .read .result) _ (c .before .before .before .read .ensures)
+    (c .before .answer .given .1))
 
 pub reduce-in-file-spec : {M : Type 1} → statement M
 reduce-in-file-spec =

@@ -38,9 +38,16 @@ same-length-2 c = search needs
 
 returns-2 : tie.Need-returns-2
 returns-2 c =
-    let a = c .before .before .before .before .before .before .before .before .before .before .before .before .before .before .before .before .before .before .args in
-    reduction-stored (a .reduced) (a .out .now) (a .size .now) (a .count .now) (a .mapping .now) (c .before .before .before .before .before .before .before .before .before .before .before .before .before .before .enum-told .given .1) (c .before .before .before .before .before .before .before .before .before .before .before .before .before .if1 .left) _ _ _ (c .before .before .before .before .before .before .before .before .before .before .before .before .before .before .before .before .before .before .pre (c .before .before .before .before .before .before .before .before .before .before .before .before .before .before .enum-told .given .1))
-    (sym (c .before .before .before .before .before .before .before .before .before .write-good .ensures .0) ∙ c .before .before .before .before .before .written .given .1) (c .before .before .before .before .before .before .before .before .before .write-good .ensures .1) (c .before .before .put-mapping .ensures)
+    let a =
+    c .before .before .before .before .before .before .before .before .before .before .before .before .before .before .before .before .before .before .args in
+    reduction-stored (a .reduced) (a .out .now) (a .size .now) (a .count .now) (a .mapping .now)
+    (c .before .before .before .before .before .before .before .before .before .before .before .before .before .before .enum-told .given .1)
+    (c .before .before .before .before .before .before .before .before .before .before .before .before .before .if1 .left) _ _ _
+    (c .before .before .before .before .before .before .before .before .before .before .before .before .before .before .before .before .before .before .pre
+    (c .before .before .before .before .before .before .before .before .before .before .before .before .before .before .enum-told .given .1))
+    (sym (c .before .before .before .before .before .before .before .before .before .write-good .ensures .0) ∙
+    c .before .before .before .before .before .written .given .1)
+    (c .before .before .before .before .before .before .before .before .before .write-good .ensures .1) (c .before .before .put-mapping .ensures)
 
 same-length-3 : tie.Need-same-length-3
 same-length-3 c = search needs
@@ -48,8 +55,13 @@ same-length-3 c = search needs
 returns-3 : tie.Need-returns-3
 returns-3 c =
     let a = c .before .before .before .before .before .before .before .before .before .before .before .before .before .before .args in
-    reduction-long (a .reduced) (a .out .now) (a .size .now) (a .count .now) (a .mapping .now) (c .before .before .before .before .before .before .before .before .before .before .enum-told .given .1) (c .before .before .before .before .before .before .before .before .before .if1 .left) _ _ (c .before .before .before .before .before .before .before .before .before .before .before .before .before .before .pre (c .before .before .before .before .before .before .before .before .before .before .enum-told .given .1))
-    (sym (c .before .before .before .before .before .write-good .ensures .0) ∙ c .before .written2 .given .1) (c .before .before .before .before .before .write-good .ensures .1)
+    reduction-long (a .reduced) (a .out .now) (a .size .now) (a .count .now) (a .mapping .now)
+    (c .before .before .before .before .before .before .before .before .before .before .enum-told .given .1)
+    (c .before .before .before .before .before .before .before .before .before .if1 .left) _ _
+    (c .before .before .before .before .before .before .before .before .before .before .before .before .before .before .pre
+    (c .before .before .before .before .before .before .before .before .before .before .enum-told .given .1))
+    (sym (c .before .before .before .before .before .write-good .ensures .0) ∙ c .before .written2 .given .1)
+    (c .before .before .before .before .before .write-good .ensures .1)
 
 returns-4 : tie.Need-returns-4
 returns-4 c =
