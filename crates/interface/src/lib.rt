@@ -3,9 +3,10 @@
 ghost use mathlib.Core.Path.{_≡_};
 ghost use lib.ListN.{length};
 ghost use Rattle.format.specs.File.{readFile};
-ghost use Rattle.lent.specs.Lent.{numberIn, leaves, Wrote};
-ghost use Rattle.lent.specs.Records.{copied, opened, added, filled, dropped, determinedIn};
-ghost use Rattle.verdicts.specs.Queries.{ReduceGives, CompareGives, CheckGives};
+ghost use Rattle.lent.specs.Lent.{statusOf, leaves, Wrote};
+ghost use Rattle.lent.specs.Records.{copied, opened, added, putIn, dropped, determinedIn};
+ghost use Rattle.shortening.specs.Shortening.{ReduceGives};
+ghost use Rattle.verdicts.specs.Queries.{CompareGives, checkedIn, bit};
 ghost use Rattle.findings.specs.Databases.{testedIn, evaluatedIn, answersIn};
 
 // ---- files
@@ -13,7 +14,7 @@ ghost use Rattle.findings.specs.Databases.{testedIn, evaluatedIn, answersIn};
 // Whether the bytes are a file.
 #[no_mangle]
 pub extern "C" fn spernevan_read(file: &[u8]) -> u8
-    ensures { λ r. ⌜ r ≡ numberIn (readFile (now (file .entry))) ⌝ }
+    ensures { λ r. ⌜ r ≡ statusOf (readFile (now (file .entry))) ⌝ }
 {
     lent::check_file(file)
 }
@@ -60,7 +61,7 @@ pub extern "C" fn spernevan_put(
     out: &mut [u8],
     size: &mut usize,
 ) -> u8
-    ensures { λ r. ⌜ Wrote (filled (now (file .entry)) place (now (query .entry)) (length (now (out .entry)))) (now (out .entry)) (now (size .entry)) r (now (out .exit)) (now (size .exit)) ⌝ }
+    ensures { λ r. ⌜ Wrote (putIn (now (file .entry)) place (now (query .entry)) (length (now (out .entry)))) (now (out .entry)) (now (size .entry)) r (now (out .exit)) (now (size .exit)) ⌝ }
 {
     lent::put_in_file(file, place, query, out, size)
 }
@@ -82,7 +83,7 @@ pub extern "C" fn spernevan_determined(
     columns: &mut u8,
     count: &mut u8,
 ) -> u8
-    ensures { λ r. ⌜ r ≡ numberIn (determinedIn (now (file .entry)) relation left) ⌝ }
+    ensures { λ r. ⌜ r ≡ statusOf (determinedIn (now (file .entry)) relation left) ⌝ }
     ensures { λ _. ⌜ now (columns .exit) ≡ leaves (determinedIn (now (file .entry)) relation left) (λ s. s .0) (now (columns .entry)) ⌝ }
     ensures { λ _. ⌜ now (count .exit) ≡ leaves (determinedIn (now (file .entry)) relation left) (λ s. s .1) (now (count .entry)) ⌝ }
 {
@@ -104,7 +105,7 @@ pub extern "C" fn spernevan_reduce(
 ) -> u8
     ensures { λ r. ⌜ ReduceGives (now (file .entry)) source target (now (out .entry)) (now (size .entry)) (now (count .entry)) (now (mapping .entry)) r (now (out .exit)) (now (size .exit)) (now (count .exit)) (now (mapping .exit)) ⌝ }
 {
-    verdicts::reduce_in_file(file, source, target, out, size, count, mapping)
+    shortening::reduce_in_file(file, source, target, out, size, count, mapping)
 }
 
 // Compares the queries of two places.
@@ -132,7 +133,8 @@ pub extern "C" fn spernevan_check(
     mapping: &[u32],
     verdict: &mut u8,
 ) -> u8
-    ensures { λ r. ⌜ CheckGives (readFile (now (file .entry))) p q (now (mapping .entry)) (now (verdict .entry)) r (now (verdict .exit)) ⌝ }
+    ensures { λ r. ⌜ r ≡ statusOf (checkedIn (now (file .entry)) p q (now (mapping .entry))) ⌝ }
+    ensures { λ _. ⌜ now (verdict .exit) ≡ leaves (checkedIn (now (file .entry)) p q (now (mapping .entry))) bit (now (verdict .entry)) ⌝ }
 {
     verdicts::check_in_file(file, p, q, mapping, verdict)
 }
@@ -149,7 +151,7 @@ pub extern "C" fn spernevan_test(
     first: &mut usize,
     second: &mut usize,
 ) -> u8
-    ensures { λ r. ⌜ r ≡ numberIn (testedIn (now (file .entry)) (now (words .entry))) ⌝ }
+    ensures { λ r. ⌜ r ≡ statusOf (testedIn (now (file .entry)) (now (words .entry))) ⌝ }
     ensures { λ _. ⌜ now (obeys .exit) ≡ leaves (testedIn (now (file .entry)) (now (words .entry))) (λ t. t .obeys) (now (obeys .entry)) ⌝ }
     ensures { λ _. ⌜ now (dependency .exit) ≡ leaves (testedIn (now (file .entry)) (now (words .entry))) (λ t. t .dependency) (now (dependency .entry)) ⌝ }
     ensures { λ _. ⌜ now (first .exit) ≡ leaves (testedIn (now (file .entry)) (now (words .entry))) (λ t. t .first) (now (first .entry)) ⌝ }
@@ -167,7 +169,7 @@ pub extern "C" fn spernevan_evaluate(
     answers: &mut [u32],
     count: &mut usize,
 ) -> u8
-    ensures { λ r. ⌜ r ≡ numberIn (evaluatedIn (now (file .entry)) place (now (words .entry)) (length (now (answers .entry)))) ⌝ }
+    ensures { λ r. ⌜ r ≡ statusOf (evaluatedIn (now (file .entry)) place (now (words .entry)) (length (now (answers .entry)))) ⌝ }
     ensures { λ _. ⌜ now (answers .exit) ≡ answersIn (now (file .entry)) place (now (words .entry)) (now (answers .entry)) ⌝ }
     ensures { λ _. ⌜ now (count .exit) ≡ leaves (evaluatedIn (now (file .entry)) place (now (words .entry)) (length (now (answers .entry)))) (λ n. n) (now (count .entry)) ⌝ }
 {

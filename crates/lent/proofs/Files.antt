@@ -17,23 +17,23 @@ use Rattle.format.proofs.Results.{outcome-done, outcome-refused}
 use Rattle.writer.specs.declared.Written.the-variants as written
 use Rattle.writer.specs.Write.{written, afterWriting}
 use Rattle.writer.proofs.Writing.{fits-written, long-refused, written-fits, refused-long}
-use Rattle.lent.specs.Lent.{numberIn, leaves, fitted, Wrote}
-use Rattle.lent.specs.Records.{resultOf, stored, copied}
+use Rattle.lent.specs.Lent.{statusOf, leaves, fitted, Wrote}
+use Rattle.lent.specs.Records.{resultOf, fileFitted, copied}
 
 -- ---- results
 
 -- What an accepted result returns and leaves
 module _ {A : Type 0} {x : Reply A} {a : A} (p : x ≡ gives a) where
-  pub done-number : 0 ≡ numberIn x
-  done-number = ap numberIn (sym p)
+  pub done-number : 0 ≡ statusOf x
+  done-number = ap statusOf (sym p)
 
   pub done-leaves : {B : Type 0} (value : A → B) (before : B) → value a ≡ leaves x value before
   done-leaves value before = ap (λ (y : Reply A). leaves y value before) (sym p)
 
 -- What a refused one does
 module _ {A : Type 0} {x : Reply A} {n : ℕ} (p : x ≡ refused n) where
-  pub refused-number : n ≡ numberIn x
-  refused-number = ap numberIn (sym p)
+  pub refused-number : n ≡ statusOf x
+  refused-number = ap statusOf (sym p)
 
   pub refused-leaves : {B : Type 0} (value : A → B) (before : B) → before ≡ leaves x value before
   refused-leaves value before = ap (λ (y : Reply A). leaves y value before) (sym p)
@@ -47,7 +47,8 @@ unfolding _>>=_
 goes-on p next = rw p
 
 -- An equal result returns and leaves the same
-pub wrote-same : {x y : Reply (List ℕ)} → x ≡ y → (out : List ℕ) (n number : ℕ) (after : List ℕ) (m : ℕ) → Wrote y out n number after m → Wrote x out n number after m
+pub wrote-same : {x y : Reply (List ℕ)} → x ≡ y → (out : List ℕ) (n number : ℕ) (after : List ℕ) (m : ℕ) → Wrote y out n number after m
+    → Wrote x out n number after m
 wrote-same p out n number after m w = subst (λ (z : Reply (List ℕ)). Wrote z out n number after m) (sym p) w
 
 pub wrote-none : {x : Reply (List ℕ)} {number : ℕ} → x ≡ refused number → (out : List ℕ) (n : ℕ) → Wrote x out n number out n
@@ -107,11 +108,11 @@ module _ (file : List ℕ) (o : Outcome) (e : o ≡ outcomeOf (readFile file)) w
         let k = file-written-back file (o .«record») (bytes-known file bytes) (outcome-done (readFile file) o e a) in
         sound-record (o .«record») (k .0) (k .1) .dependencies-long
 
-    copied-from : (x : Reply Record) → readFile file ≡ x → (room : ℕ) → copied file room ≡ stored room x
+    copied-from : (x : Reply Record) → readFile file ≡ x → (room : ℕ) → copied file room ≡ fileFitted room x
     unfolding _>>=_
     copied-from (gives r) p room = rw (p, read-back r p .1)
     copied-from (refused n) p room = rw p
 
     -- The file that is written back is the file
-    pub copied-is : (room : ℕ) → copied file room ≡ stored room (resultOf o)
-    copied-is room = copied-from (readFile file) refl room ∙ ap (stored room) (sym (ap resultOf e ∙ result-of (readFile file)))
+    pub copied-is : (room : ℕ) → copied file room ≡ fileFitted room (resultOf o)
+    copied-is room = copied-from (readFile file) refl room ∙ ap (fileFitted room) (sym (ap resultOf e ∙ result-of (readFile file)))

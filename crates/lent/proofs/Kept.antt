@@ -21,24 +21,24 @@ use Rattle.format.specs.File.{readPlace}
 use Rattle.decoder.specs.declared.PlaceRead.{PlaceRead}
 use Rattle.decoder.specs.internal.Read.{placeRead}
 use Rattle.lent.specs.Records.{resultOf, putPart}
-use Rattle.lent.specs.internal.Steps.{Sound}
+use Rattle.lent.specs.internal.Steps.{GoodIfDone}
 
 -- A refused call promises nothing of its record
-pub refused-sound : (o : Outcome) (n : ℕ) → resultOf o ≡ refused n → Sound o
+pub refused-sound : (o : Outcome) (n : ℕ) → resultOf o ≡ refused n → GoodIfDone o
 refused-sound o n e a = let p : resultOf o ≡ gives (o .«record») = rw a in let z : _≡_ {A = ℕ} 0 1 = cc in absurd (omega arith)
 
-pub open-sound : (widths : List ℕ) (o : Outcome) → o ≡ openRecord widths → Sound o
-open-sound widths o e = subst Sound (sym e) (open-keeps widths)
+pub open-sound : (widths : List ℕ) (o : Outcome) → o ≡ openRecord widths → GoodIfDone o
+open-sound widths o e = subst GoodIfDone (sym e) (open-keeps widths)
 
 module _ (r : Record) (good : goodRecord r ≡ true) where
-  pub add-sound : (d : Dependency) (o : Outcome) → length (r .dependencies) ≡ 32 → o ≡ addDependency r d → Sound o
-  add-sound d o long e = subst Sound (sym e) (add-keeps r d long)
+  pub add-sound : (d : Dependency) (o : Outcome) → length (r .dependencies) ≡ 32 → o ≡ addDependency r d → GoodIfDone o
+  add-sound d o long e = subst GoodIfDone (sym e) (add-keeps r d long)
 
-  pub drop-sound : (place : ℕ) (o : Outcome) → o ≡ dropQuery r place → Sound o
-  drop-sound place o e = subst Sound (sym e) (drop-keeps r place)
+  pub drop-sound : (place : ℕ) (o : Outcome) → o ≡ dropQuery r place → GoodIfDone o
+  drop-sound place o e = subst GoodIfDone (sym e) (drop-keeps r place)
 
-  pub put-sound : (place : ℕ) (q : Query) (o : Outcome) → o ≡ putQuery r place q → Sound o
-  put-sound place q o e = subst Sound (sym e) (put-keeps r place q)
+  pub put-sound : (place : ℕ) (q : Query) (o : Outcome) → o ≡ putQuery r place q → GoodIfDone o
+  put-sound place q o e = subst GoodIfDone (sym e) (put-keeps r place q)
 
   -- A query part is put where it is read and the place is not above 7
   pub part-above : (place : ℕ) (part : List ℕ) → 8 ≤ place → putPart place part r ≡ refused noSuchPlace

@@ -17,17 +17,17 @@ use Rattle.format.specs.File.{readPlace, readFile, fileOf}
 use Rattle.lent.specs.Lent.{fitted}
 
 -- A value where the answer is done, else its refusal
-abbrev pub answered : {A : Type 0} → Answer → A → Reply A
-answered Done a = gives a
-answered (Refused n) a = refused n
+abbrev pub ifDone : {A : Type 0} → Answer → A → Reply A
+ifDone Done a = gives a
+ifDone (Refused n) a = refused n
 
 -- The record that a call gives, or its refusal
 abbrev pub resultOf : Outcome → Reply Record
-resultOf o = answered (o .answer) (o .«record»)
+resultOf o = ifDone (o .answer) (o .«record»)
 
 -- The file of a record, for a buffer with so much room
-abbrev pub stored : ℕ → Reply Record → Reply (List ℕ)
-stored room result = result >>= λ r. fitted room (fileOf r)
+abbrev pub fileFitted : ℕ → Reply Record → Reply (List ℕ)
+fileFitted room result = result >>= λ r. fitted room (fileOf r)
 
 -- The file as it is, if it can be read
 abbrev pub copied : List ℕ → ℕ → Reply (List ℕ)
@@ -35,12 +35,12 @@ copied file room = readFile file >>= λ _. fitted room file
 
 -- The file of a record opened from relation widths
 abbrev pub opened : List ℕ → ℕ → Reply (List ℕ)
-opened widths room = stored room (resultOf (openRecord widths))
+opened widths room = fileFitted room (resultOf (openRecord widths))
 
 -- The file with a dependency added
 abbrev pub added : List ℕ → ℕ → ℕ → ℕ → ℕ → Reply (List ℕ)
 added file relation left right room =
-    stored room (readFile file >>= λ r. resultOf (addDependency r (record { relation = relation; left = left; right = right })))
+    fileFitted room (readFile file >>= λ r. resultOf (addDependency r (record { relation = relation; left = left; right = right })))
 
 -- A record with the query of a query part put into a place. Refused: noSuchPlace; the query part's badQuery or unsafeHead, where 255 alone is no query; placeFilled
 abbrev pub putPart : ℕ → List ℕ → Record → Reply Record
@@ -48,12 +48,12 @@ putPart place part r =
     cond (ltb place 8) (readPlace (schemaOf r) true part >>= λ p. resultOf (putQuery r place (p .query))) (refused noSuchPlace)
 
 -- The file with a query put into a vacant place
-abbrev pub filled : List ℕ → ℕ → List ℕ → ℕ → Reply (List ℕ)
-filled file place part room = stored room (readFile file >>= putPart place part)
+abbrev pub putIn : List ℕ → ℕ → List ℕ → ℕ → Reply (List ℕ)
+putIn file place part room = fileFitted room (readFile file >>= putPart place part)
 
 -- The file with a place dropped
 abbrev pub dropped : List ℕ → ℕ → ℕ → Reply (List ℕ)
-dropped file place room = stored room (readFile file >>= λ r. resultOf (dropQuery r place))
+dropped file place room = fileFitted room (readFile file >>= λ r. resultOf (dropQuery r place))
 
 -- A set of columns with its size, or the refusal
 abbrev pub columnsResult : Columns → Reply (ℕ × ℕ)

@@ -13,9 +13,9 @@ ghost use lib.ListN.{length};
 ghost use Rattle.record.specs.Rule.{goodRecord};
 ghost use Rattle.refusals.specs.Refusals.{refused};
 ghost use Rattle.format.specs.File.{fileOf, readFile};
-ghost use Rattle.lent.specs.Lent.{fitted, numberIn, leaves, Wrote};
-ghost use Rattle.lent.specs.Records.{resultOf, stored, putPart, copied, opened, added, filled, dropped, determinedIn};
-ghost use Rattle.lent.specs.internal.Steps.{Sound};
+ghost use Rattle.lent.specs.Lent.{fitted, statusOf, leaves, Wrote};
+ghost use Rattle.lent.specs.Records.{resultOf, fileFitted, putPart, copied, opened, added, putIn, dropped, determinedIn};
+ghost use Rattle.lent.specs.internal.Steps.{GoodIfDone};
 
 // ---- what is stored
 
@@ -36,8 +36,8 @@ pub fn store(given: Record, out: &mut [u8], size: &mut usize) -> u8
 
 // Stores the record of a call, unless it is refused.
 pub fn store_outcome(outcome: Outcome, out: &mut [u8], size: &mut usize) -> u8
-    requires { ⌜ Sound outcome ⌝ }
-    ensures { λ r. ⌜ Wrote (stored (length (now (out .entry))) (resultOf outcome)) (now (out .entry)) (now (size .entry)) r (now (out .exit)) (now (size .exit)) ⌝ }
+    requires { ⌜ GoodIfDone outcome ⌝ }
+    ensures { λ r. ⌜ Wrote (fileFitted (length (now (out .entry))) (resultOf outcome)) (now (out .entry)) (now (size .entry)) r (now (out .exit)) (now (size .exit)) ⌝ }
 {
     let answer = outcome.answer;
     match answer {
@@ -59,7 +59,7 @@ fn refused(number: u8, given: Record) -> Outcome
 // Puts the query of a query part into a vacant place: a place above 7 is refused before a bad part.
 pub fn put_part(given: Record, place: usize, part: &[u8]) -> Outcome
     requires { ⌜ goodRecord given ≡ true ⌝ }
-    ensures { λ o. ⌜ (resultOf o ≡ putPart place (now (part .entry)) given) × Sound o ⌝ }
+    ensures { λ o. ⌜ (resultOf o ≡ putPart place (now (part .entry)) given) × GoodIfDone o ⌝ }
 {
     if 8 <= place {
         return refused(refusals::NO_SUCH_PLACE, given);
@@ -81,7 +81,7 @@ pub fn put_part(given: Record, place: usize, part: &[u8]) -> Outcome
 
 // Whether the bytes are a file.
 pub fn check_file(file: &[u8]) -> u8
-    ensures { λ r. ⌜ r ≡ numberIn (readFile (now (file .entry))) ⌝ }
+    ensures { λ r. ⌜ r ≡ statusOf (readFile (now (file .entry))) ⌝ }
 {
     let outcome = file::read(file);
     let answer = outcome.answer;
@@ -136,7 +136,7 @@ pub fn add_in_file(
 
 // Puts a query, the bytes of a query part, into a vacant place.
 pub fn put_in_file(file: &[u8], place: usize, query: &[u8], out: &mut [u8], size: &mut usize) -> u8
-    ensures { λ r. ⌜ Wrote (filled (now (file .entry)) place (now (query .entry)) (length (now (out .entry)))) (now (out .entry)) (now (size .entry)) r (now (out .exit)) (now (size .exit)) ⌝ }
+    ensures { λ r. ⌜ Wrote (putIn (now (file .entry)) place (now (query .entry)) (length (now (out .entry)))) (now (out .entry)) (now (size .entry)) r (now (out .exit)) (now (size .exit)) ⌝ }
 {
     let outcome = file::read(file);
     let answer = outcome.answer;
@@ -172,7 +172,7 @@ pub fn determined_in_file(
     columns: &mut u8,
     count: &mut u8,
 ) -> u8
-    ensures { λ r. ⌜ r ≡ numberIn (determinedIn (now (file .entry)) relation left) ⌝ }
+    ensures { λ r. ⌜ r ≡ statusOf (determinedIn (now (file .entry)) relation left) ⌝ }
     ensures { λ _. ⌜ now (columns .exit) ≡ leaves (determinedIn (now (file .entry)) relation left) (λ s. s .0) (now (columns .entry)) ⌝ }
     ensures { λ _. ⌜ now (count .exit) ≡ leaves (determinedIn (now (file .entry)) relation left) (λ s. s .1) (now (count .entry)) ⌝ }
 {

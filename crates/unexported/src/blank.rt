@@ -1,6 +1,5 @@
 // The calls on the blank record, which no file stands for: they are made on the record itself, below the interface.
 use comparison::Checked;
-use database::Answered;
 use query::Cell;
 use query::Dependency;
 use query::Entry;
@@ -9,13 +8,10 @@ use record::Answer;
 use record::Columns;
 use record::calls::blank_record;
 use vector::buffers::BYTE;
-use vector::buffers::WORD;
 use vector::buffers::untouched;
-use vector::buffers::words_untouched;
 use vector::numbers::Fields;
 use vector::numbers::amount;
 use vector::numbers::byte;
-use vector::numbers::list;
 use vector::numbers::number;
 use writer::Written;
 
@@ -110,33 +106,7 @@ fn determined(relation: u8, left: u8) -> u8 {
     }
 }
 
-// Testing a database.
-fn test(words: &[u32]) -> u8 {
-    let found = database::test(blank_record(), words);
-    match found {
-        database::Conformance::Obeys => 0,
-        database::Conformance::Broken(_, _, _) => 0,
-        database::Conformance::Refused(n) => n,
-    }
-}
-
-// Evaluating; 255 stands for a buffer that was changed.
-fn evaluate(place: usize, words: &[u32], room: usize) -> u8 {
-    if 8192 < room {
-        return 255;
-    }
-    let mut answers = [WORD; 8192];
-    let done = database::evaluate(blank_record(), place, words, &mut answers[0..room]);
-    if !words_untouched(&answers, 0) {
-        return 255;
-    }
-    match done {
-        Answered::Count(_) => 0,
-        Answered::Refused(n) => n,
-    }
-}
-
-// The number with which a call on the blank record is refused. The chase has no call of its own: reducing begins with it.
+// The number with which a call on the record alone is refused.
 fn called(v: &[u32], f: Fields) -> u8 {
     match number(v, 0, 0) {
         1 => write(amount(v, f.inputs, 0)),
@@ -147,22 +117,24 @@ fn called(v: &[u32], f: Fields) -> u8 {
         ),
         4 => put(amount(v, f.inputs, 0)),
         5 => drop_place(amount(v, f.inputs, 0)),
-        6 => reduce(amount(v, f.inputs, 0), amount(v, f.inputs, 1)),
-        7 => compare(amount(v, f.inputs, 0), amount(v, f.inputs, 1)),
-        8 => check(amount(v, f.inputs, 0), amount(v, f.inputs, 1)),
         9 => determined(byte(v, f.inputs, 0), byte(v, f.inputs, 1)),
-        10 => test(list(v, f.second)),
-        11 => evaluate(
-            amount(v, f.inputs, 0),
-            list(v, f.second),
-            amount(v, f.room, 0),
-        ),
-        12 => reduce(amount(v, f.inputs, 0), 0),
+        _ => called_on_queries(v, f),
+    }
+}
+
+// The number with which a call on queries is refused. The chase has no call of its own: reducing begins with it.
+fn called_on_queries(v: &[u32], f: Fields) -> u8 {
+    let p = amount(v, f.inputs, 0);
+    match number(v, 0, 0) {
+        6 => reduce(p, amount(v, f.inputs, 1)),
+        7 => compare(p, amount(v, f.inputs, 1)),
+        8 => check(p, amount(v, f.inputs, 1)),
+        12 => reduce(p, 0),
         _ => 255,
     }
 }
 
-// Whether a call on the blank record answers as told.
+// Whether a call on the blank record, other than on a database, answers as told.
 pub fn blank(v: &[u32], f: Fields) -> bool {
     called(v, f) as u32 == number(v, f.refusal, 0)
 }

@@ -1,20 +1,20 @@
 // Each call of the engine on the inputs of a vector, and whether it answers as the vector tells.
 // A vector's first list is the file of its record; the buffers that are lent hold a pattern, so that what a call leaves alone is seen.
-use unexported::stored::arity_in;
-use unexported::stored::kept_in;
+use unexported::copies::chased;
+use unexported::copies::holds_result;
+use unexported::copies::maps_to_chased;
+use unexported::copies::maps_to_result;
+use unexported::copies::replaced;
 use vector::buffers::BYTE;
 use vector::buffers::SIZE;
 use vector::buffers::WORD;
-use vector::buffers::answered;
 use vector::buffers::first;
 use vector::buffers::first_words;
-use vector::buffers::no_mapping;
 use vector::numbers::Fields;
 use vector::numbers::amount;
 use vector::numbers::byte;
 use vector::numbers::list;
 use vector::numbers::number;
-use vector::numbers::other_place;
 use vector::told::answers_told;
 use vector::told::chase_told;
 use vector::told::check_told;
@@ -98,100 +98,7 @@ pub fn determined(v: &[u32], f: Fields, file: &[u8]) -> bool {
     columns_told(v, f, answer, columns, count)
 }
 
-// ---- copies of a record
-
-// A copy of a file without the query of a place. Returns its length, 0 if there is none.
-fn without(file: &[u8], place: usize, out: &mut [u8; 8192]) -> usize {
-    let mut size = 0;
-    let answer = interface::spernevan_drop(file, place, out, &mut size);
-    if answer == 11 {
-        interface::spernevan_write(file, out, &mut size);
-    }
-    size
-}
-
-// A copy of a file with a query at a place, in place of what is there. Returns its length, 0 if there is none.
-fn with(file: &[u8], place: usize, query: &[u8], out: &mut [u8; 8192]) -> usize {
-    let mut rest = [0u8; 8192];
-    let n = without(file, place, &mut rest);
-    let mut size = 0;
-    interface::spernevan_put(first(&rest, n), place, query, out, &mut size);
-    size
-}
-
-// The chased query of place p, as a comparison with the never query gives it: no query but one that chases to never is contained in never.
-// Returns its length, 0 if there is none.
-fn chased(file: &[u8], p: usize, out: &mut [u8; 8192]) -> usize {
-    let arity = arity_in(file, p);
-    let k = other_place(p, p);
-    let never = [arity, 0];
-    let mut copy = [0u8; 8192];
-    let n = with(file, k, &never, &mut copy);
-    let mut verdict = BYTE;
-    let mut mapping = [WORD; 8192];
-    let mut size = 0;
-    interface::spernevan_compare(
-        first(&copy, n),
-        p,
-        k,
-        &mut verdict,
-        &mut mapping,
-        out,
-        &mut size,
-    );
-    if verdict == 2 {
-        out[0] = arity;
-        out[1] = 0;
-        return 2;
-    }
-    size
-}
-
-// Whether the words are a mapping from the query of place q to the query of place p.
-fn maps(file: &[u8], p: usize, q: usize, mapping: &[u32]) -> bool {
-    let mut verdict = BYTE;
-    let answer = interface::spernevan_check(file, p, q, mapping, &mut verdict);
-    answer == 0 && verdict == 1
-}
-
-// Whether the words are a mapping from the query of place q to the chased query of place p.
-fn maps_to_chased(file: &[u8], p: usize, q: usize, mapping: &[u32]) -> bool {
-    let k = other_place(p, q);
-    let mut part = [0u8; 8192];
-    let n = chased(file, p, &mut part);
-    let mut copy = [0u8; 8192];
-    let m = with(file, k, first(&part, n), &mut copy);
-    maps(first(&copy, m), k, q, mapping)
-}
-
 // ---- queries
-
-// Whether a file is another one with a result of reduction put at a place. The result's rows are as many as told, and chased is the chased query.
-fn holds_result(result: &[u8], file: &[u8], target: usize, rows: u32, chased: &[u8]) -> bool {
-    let mut out = [BYTE; 8192];
-    let mut size = SIZE;
-    let answer = interface::spernevan_drop(result, target, &mut out, &mut size);
-    if !answered(answer, &out, size, 0, file) {
-        return false;
-    }
-    let mut copy = [0u8; 8192];
-    let n = with(file, target, chased, &mut copy);
-    kept_in(result, first(&copy, n), target, rows)
-}
-
-// Whether the words are a mapping from the source query to the result, or none if the result is never.
-fn maps_to_result(
-    result: &[u8],
-    source: usize,
-    target: usize,
-    rows: u32,
-    mapping: &[u32; 8192],
-) -> bool {
-    if rows == 0 {
-        return no_mapping(mapping);
-    }
-    maps(result, target, source, first_words(mapping, 192))
-}
 
 // Reducing.
 pub fn reduce(v: &[u32], f: Fields, file: &[u8], chased: &[u8]) -> bool {
@@ -255,25 +162,6 @@ pub fn check(v: &[u32], f: Fields, file: &[u8]) -> bool {
     let mut verdict = BYTE;
     let answer = interface::spernevan_check(file, p, q, list(v, f.second), &mut verdict);
     check_told(v, f, answer, verdict)
-}
-
-// The number of replacements in the chase of a place's query, as a reduction into a vacant place counts them, and what that reduction returns.
-fn replaced(file: &[u8], p: usize, count: &mut u8) -> u8 {
-    let k = other_place(p, p);
-    let mut copy = [0u8; 8192];
-    let n = without(file, k, &mut copy);
-    let mut out = [BYTE; 8192];
-    let mut size = SIZE;
-    let mut mapping = [WORD; 8192];
-    interface::spernevan_reduce(
-        first(&copy, n),
-        p,
-        k,
-        &mut out,
-        &mut size,
-        count,
-        &mut mapping,
-    )
 }
 
 // The chase of a place's query: the count is that of a reduction, the query what a comparison gives.

@@ -1,5 +1,6 @@
 // A vector: whether it can be read, and whether the engine agrees with it.
 use crate::calls;
+use crate::data::blank_on_data;
 use unexported::blank::blank;
 use vector::buffers::first;
 use vector::form::fits;
@@ -31,10 +32,19 @@ fn agrees(v: &[u32], f: Fields, file: &[u8], query: &[u8], told: &[u8]) -> bool 
     }
 }
 
+// Whether the engine agrees with a vector on the blank record.
+fn blank_agrees(v: &[u32], f: Fields) -> bool {
+    let call = number(v, 0, 0);
+    if call == 10 || call == 11 {
+        return blank_on_data(v, f);
+    }
+    blank(v, f)
+}
+
 // Whether the engine agrees with a vector that fits.
 fn right(v: &[u32], f: Fields) -> bool {
     if is_blank(v) {
-        return blank(v, f);
+        return blank_agrees(v, f);
     }
     let mut file = [0u8; 8192];
     let mut query = [0u8; 8192];

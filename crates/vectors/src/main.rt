@@ -1,6 +1,7 @@
 // Compares the engine with test vectors of the independent implementation, read on standard input: a vector a line, the format in reference/README.md.
 // Writes for each call how many vectors were tried and how many were wrong, with the numbers of the first lines that were; a line that can't be read is named.
 mod calls; // calls.rt: each call on a vector's inputs, compared with its answer
+mod data; // data.rt: the calls on the blank record and a database
 mod judge; // judge.rt: whether a vector can be read, and whether the engine agrees with it
 
 use crate::judge::judge;

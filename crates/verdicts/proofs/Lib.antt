@@ -1,4 +1,4 @@
--- A mapping as words (Mappings), how long its type says a value's arrays are (Shapes), and what reducing, comparing and checking leave (Verdicts).
-pub mod Mappings
+-- How long its type says a comparison's arrays are (Shapes), what comparing leaves (Verdicts), and what checking says (Checks).
 pub mod Shapes
 pub mod Verdicts
+pub mod Checks

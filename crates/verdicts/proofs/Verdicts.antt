@@ -1,13 +1,11 @@
--- What reducing, comparing and checking a mapping leave. Assumes nothing.
-use mathlib.Core.Path.{_≡_, refl, sym, ap, subst, _∙_}
-use mathlib.Core.Logic.{_⊎_, inl, inr, ⊎-elim}
-use mathlib.Core.Bool.{Bool, true, false, cond}
-use mathlib.Core.List.{List, [], _∷_}
+-- What comparing leaves. Assumes nothing.
+use mathlib.Core.Path.{_≡_, refl, sym, subst, _∙_}
+use mathlib.Core.Bool.{true}
+use mathlib.Core.List.{List, []}
 use mathlib.Core.Option.{Option}
 use mathlib.Core.Option as option
 use Prim.Native.Nat.{ℕ, _≤_, _<_}
 use native.Mathlib.Omega.{arith}
-use lib.Dec.{leb}
 use lib.ListN.{length}
 use borrow.Author.Tests.{le-leb, lt-leb}
 use Rattle.refusals.specs.Refusals.{_>>=_, bufferTooShort, gives, refused, Reply}
@@ -15,46 +13,35 @@ use Rattle.record.specs.Calls.{queryAt}
 use Rattle.query.specs.declared.Cell.{Cell}
 use Rattle.query.specs.declared.Query.{Query}
 use Rattle.record.specs.declared.Record.{Record}
-use Rattle.record.specs.declared.Answer.the-variants.{Done, Refused}
+use Rattle.record.specs.declared.Answer.the-variants.{Refused}
 use Rattle.record.specs.View.{schemaOf, dependenciesOf}
 use Rattle.query.specs.Rule.{headSafe}
-use Rattle.record.specs.Rule.{goodRecord}
 use Rattle.record.proofs.Kept.{filled-place}
 use Rattle.lists.specs.Over.{over}
-use Rattle.format.specs.Format.{Reading, none, got}
 use Rattle.format.specs.Parts.{query}
-use Rattle.format.specs.File.{placeWith, putPlace, readFile, fileOf}
+use Rattle.format.specs.File.{placeWith, putPlace, readFile}
 use Rattle.lists.proofs.Over.{over-nil}
-use Rattle.writer.specs.declared.Written.the-variants as written
-use Rattle.writer.specs.Write.{written, afterWriting}
-use Rattle.writer.proofs.Writing.{fits-written, long-refused, written-fits, refused-long}
-use Rattle.query.specs.View.{imagesOf}
-use Rattle.comparison.proofs.Checks.{checked-refused, checked-decided}
-use Rattle.comparison.specs.declared.Checked.{Checked}
-use Rattle.comparison.specs.declared.Checked.the-variants as checked
 use Rattle.comparison.specs.declared.Comparison.{Comparison}
 use Rattle.comparison.specs.declared.Verdict.{Verdict}
 use Rattle.comparison.specs.declared.Verdict.the-variants as verdict
-use Rattle.comparison.specs.Comparison.{pairRefusal, judged, Compared, CheckedMapping}
-use Rattle.reduction.specs.declared.Reduced.{Reduced}
-use Rattle.reduction.specs.Reduced.{reductionRefusal, refusal, IsReduced}
+use Rattle.comparison.specs.Comparison.{pairRefusal, judged, Compared}
 use Rattle.comparison.proofs.Verdicts.{queries}
 use Rattle.chase.proofs.Callers.{chases-safe}
 use Rattle.theory.specs.Query as theory
 use Rattle.theory.specs.Query.{rowEntries, variablesOf}
 use Rattle.theory.specs.Determined.{subset}
-use Rattle.theory.specs.Answer as answer
 use Rattle.theory.proofs.Chase.{chase-chases}
 use Rattle.theory.proofs.Determined.{subset-true, subset-of}
-use Rattle.verdicts.specs.Queries.{wordsOf, imagesIn, reductionFits, ReductionGiven, ReducedShape, Reducing, ReduceGives, verdictFits, comparisonFits, ComparisonGiven, ComparisonShape, Comparing, CompareGives, CheckGiven, CheckGives}
-use Rattle.verdicts.specs.internal.Steps.{mappingRead, SoundReduction, SoundComparison}
-use Rattle.mapping.specs.declared.Mapped.{Mapped}
+use Rattle.images.specs.Images.{mappingWords}
+use Rattle.verdicts.specs.Queries.{verdictFits, comparisonFits, ComparisonGiven, ComparisonShape, Comparing, CompareGives}
+use Rattle.verdicts.specs.internal.Steps.{SoundComparison}
 
 -- ---- what a comparison leaves
 
 module _ (images : List Cell) (said : ℕ) (mapping part : List ℕ) (size : ℕ) where
   pub comparison-same : {x y : Reply (ℕ × List ℕ)} → x ≡ y → (number said′ : ℕ) (mapping′ part′ : List ℕ) (size′ : ℕ)
-      → ComparisonGiven y images said mapping part size number said′ mapping′ part′ size′ → ComparisonGiven x images said mapping part size number said′ mapping′ part′ size′
+      → ComparisonGiven y images said mapping part size number said′ mapping′ part′ size′ → ComparisonGiven x images said mapping part size number said′
+      mapping′ part′ size′
   comparison-same p number said′ mapping′ part′ size′ w =
       subst (λ (z : Reply (ℕ × List ℕ)). ComparisonGiven z images said mapping part size number said′ mapping′ part′ size′) (sym p) w
 
@@ -82,13 +69,14 @@ module _ (images : List Cell) (said : ℕ) (mapping part : List ℕ) (size : ℕ
     verdict-long h l = comparison-none (fits-long h l)
 
     -- there is room for both
-    pub verdict-stored : (mapping′ part′ : List ℕ) (size′ : ℕ) → 192 ≤ length mapping → length bytes ≤ length part → mapping′ ≡ over mapping 0 (wordsOf images)
+    pub verdict-stored : (mapping′ part′ : List ℕ) (size′ : ℕ) → 192 ≤ length mapping → length bytes ≤ length part
+        → mapping′ ≡ over mapping 0 (mappingWords images)
         → part′ ≡ over part 0 bytes → size′ ≡ length bytes
         → ComparisonGiven (verdictFits (length mapping) (length part) (code, bytes)) images said mapping part size 0 code mapping′ part′ size′
     verdict-stored mapping′ part′ size′ h l m p n = comparison-same (fits-both h l) 0 code mapping′ part′ size′ (refl, refl, m, p, n)
 
   -- a verdict without a query
-  pub contained-stored : (code : ℕ) (mapping′ : List ℕ) → 192 ≤ length mapping → mapping′ ≡ over mapping 0 (wordsOf images)
+  pub contained-stored : (code : ℕ) (mapping′ : List ℕ) → 192 ≤ length mapping → mapping′ ≡ over mapping 0 (mappingWords images)
       → ComparisonGiven (verdictFits (length mapping) (length part) (code, [])) images said mapping part size 0 code mapping′ part 0
   contained-stored code mapping′ h m = verdict-stored code [] mapping′ part 0 h (omega arith) m (sym (over-nil part 0)) refl
 
@@ -114,106 +102,7 @@ module _ (words room : ℕ) (schema : List ℕ) (c : Comparison) where
   unfolding _>>=_
   comparison-refused n e = rw e
 
--- ---- what a reduction leaves
-
-module _ (o : Reduced) (out : List ℕ) (size count : ℕ) (mapping : List ℕ) where
-  reduction-same : {x y : Reply Reduced} → x ≡ y → (number : ℕ) (out′ : List ℕ) (size′ count′ : ℕ) (mapping′ : List ℕ)
-      → ReductionGiven y out size count mapping number out′ size′ count′ mapping′ → ReductionGiven x out size count mapping number out′ size′ count′ mapping′
-  reduction-same p number out′ size′ count′ mapping′ w =
-      subst (λ (z : Reply Reduced). ReductionGiven z out size count mapping number out′ size′ count′ mapping′) (sym p) w
-
-  pub reduction-none : {x : Reply Reduced} {n : ℕ} → x ≡ refused n → ReductionGiven x out size count mapping n out size count mapping
-  reduction-none {n = n} p = reduction-same p n out size count mapping (refl, refl, refl, refl, refl)
-
-  pub reduction-refused : (n : ℕ) → o .answer ≡ Refused n → reductionFits (length out) (length mapping) o ≡ refused n
-  unfolding _>>=_
-  reduction-refused n e = rw e
-
-  module _ (done : o .answer ≡ Done) where
-    pub reduction-short : length mapping < 192 → reductionFits (length out) (length mapping) o ≡ refused bufferTooShort
-    unfolding _>>=_
-    reduction-short h = rw (done, lt-leb 192 (length mapping) h)
-
-    module _ (h : 192 ≤ length mapping) where
-      roomy : (t : Bool) → leb (length (fileOf (o .«record»))) (length out) ≡ t → reductionFits (length out) (length mapping) o ≡ cond t (gives o) (refused bufferTooShort)
-      unfolding _>>=_
-      roomy t e = rw (done, le-leb 192 (length mapping) h, e)
-
-      -- its file is written
-      pub reduction-stored : (n : ℕ) (out′ : List ℕ) (mapping′ : List ℕ) → written (o .«record») out ≡ written.Length n → out′ ≡ afterWriting (o .«record») out
-          → mapping′ ≡ over mapping 0 (wordsOf (o .images))
-          → ReductionGiven (reductionFits (length out) (length mapping) o) out size count mapping 0 out′ n (o .count) mapping′
-      reduction-stored n out′ mapping′ w b m =
-          let (good, fits, long) = written-fits (o .«record») out n w in
-          reduction-same (roomy true (le-leb _ _ fits)) 0 out′ n (o .count) mapping′
-          (refl, b ∙ sym (fits-written (o .«record») out good fits .1), long, refl, m)
-
-      -- or too long
-      pub reduction-long : (n : ℕ) (out′ : List ℕ) → goodRecord (o .«record») ≡ true → written (o .«record») out ≡ written.Refused n
-          → out′ ≡ afterWriting (o .«record») out → ReductionGiven (reductionFits (length out) (length mapping) o) out size count mapping n out′ size count mapping
-      reduction-long n out′ good w b =
-          let (long, short) = refused-long (o .«record») out n good w in
-          reduction-same (roomy false (lt-leb _ _ long)) n out′ size count mapping (short, b ∙ sym (long-refused (o .«record») out good long .1), refl, refl, refl)
-
--- A reduction's record is good
-pub reduced-sound : (r : Record) (source target : ℕ) (o : Reduced) → IsReduced r source target o → SoundReduction o
-reduced-sound r source target o is done = go (reductionRefusal r source target) refl
-  where
-    go : (x : Option ℕ) → reductionRefusal r source target ≡ x → goodRecord (o .«record») ≡ true
-    go option.none e = is .good e
-    go (option.some n) e = let p : o ≡ refusal r n = is .refused n e in let z : _≡_ {A = ℕ} 0 1 = cc in absurd (omega arith)
-
--- ---- checking a mapping
-
--- Words that were read as a mapping
-read-yes : (x : Reading (List Cell)) (m : Mapped) → m ≡ mappingRead x → m .found ≡ true → x ≡ got (m .images) []
-read-yes none m e g = let z : _≡_ {A = ℕ} 0 1 = cc in absurd (omega arith)
-read-yes (got images []) m e g = cc
-read-yes (got images (w ∷ ws)) m e g = let z : _≡_ {A = ℕ} 0 1 = cc in absurd (omega arith)
-
-module _ (r : Record) (p q : ℕ) (words : List ℕ) (m : Mapped) (e : m ≡ mappingRead (imagesIn words)) where
-  mapped-words : (images : List Cell) → imagesIn words ≡ got images [] → (m .found ≡ true) × (m .images ≡ images)
-  mapped-words images i = let k : m ≡ mappingRead (got images []) = e ∙ ap mappingRead i in (ap (λ (x : Mapped). x .found) k, ap (λ (x : Mapped). x .images) k)
-
-  module _ (c : Checked) (is : CheckedMapping r p q (m .images) c) (said : ℕ) where
-    pub check-refused : (n : ℕ) → c ≡ checked.Refused n → CheckGiven (pairRefusal r p q) r p q words said n said
-    check-refused n k = go (pairRefusal r p q) refl
-      where
-        go : (x : Option ℕ) → pairRefusal r p q ≡ x → CheckGiven x r p q words said n said
-        go (option.some l) a = let w : c ≡ checked.Refused l = checked-refused r p q (m .images) c is l a in (cc, refl)
-        go option.none a =
-            ⊎-elim (λ h. let k′ = h .0 in let z : _≡_ {A = ℕ} 0 1 = cc in absurd (omega arith))
-            (λ h. let k′ = h .0 in let z : _≡_ {A = ℕ} 0 1 = cc in absurd (omega arith)) (checked-decided r p q (m .images) c is a)
-
-    pub check-yes : c ≡ checked.Yes → m .found ≡ true → CheckGiven (pairRefusal r p q) r p q words said 0 1
-    check-yes k g = go (pairRefusal r p q) refl
-      where
-        go : (x : Option ℕ) → pairRefusal r p q ≡ x → CheckGiven x r p q words said 0 1
-        go (option.some l) a = let w : c ≡ checked.Refused l = checked-refused r p q (m .images) c is l a in let z : _≡_ {A = ℕ} 0 1 = cc in absurd (omega arith)
-        go option.none a =
-            ⊎-elim (λ h. (refl, inl (refl, (m .images, read-yes (imagesIn words) m e g, h .1))))
-            (λ h. let k′ = h .0 in let z : _≡_ {A = ℕ} 0 1 = cc in absurd (omega arith)) (checked-decided r p q (m .images) c is a)
-
-    pub check-bad : c ≡ checked.Yes → m .found ≡ false → CheckGiven (pairRefusal r p q) r p q words said 0 0
-    check-bad k g = go (pairRefusal r p q) refl
-      where
-        go : (x : Option ℕ) → pairRefusal r p q ≡ x → CheckGiven x r p q words said 0 0
-        go (option.some l) a = let w : c ≡ checked.Refused l = checked-refused r p q (m .images) c is l a in let z : _≡_ {A = ℕ} 0 1 = cc in absurd (omega arith)
-        go option.none a =
-            (refl, inr (refl, λ w. let t = mapped-words (w .0) (w .1) .0 in let z : _≡_ {A = ℕ} 0 1 = cc in omega arith))
-
-    pub check-no : c ≡ checked.No → CheckGiven (pairRefusal r p q) r p q words said 0 0
-    check-no k = go (pairRefusal r p q) refl
-      where
-        go : (x : Option ℕ) → pairRefusal r p q ≡ x → CheckGiven x r p q words said 0 0
-        go (option.some l) a = let w : c ≡ checked.Refused l = checked-refused r p q (m .images) c is l a in let z : _≡_ {A = ℕ} 0 1 = cc in absurd (omega arith)
-        go option.none a =
-            ⊎-elim (λ h. let k′ = h .0 in let z : _≡_ {A = ℕ} 0 1 = cc in absurd (omega arith))
-            (λ h.
-            (refl, inr (refl, λ w. h .1 (subst (λ (images : List Cell). answer.IsMapping (queryAt r q) (queryAt r p) (imagesOf images)) (sym (mapped-words (w .0) (w .1) .1)) (w .2)))))
-            (checked-decided r p q (m .images) c is a)
-
--- ---- the exported calls
+-- ---- the exported call
 
 -- A comparison that gives a query holds one that is good with a safe head
 pub compared-sound : (r : Record) (p q : ℕ) (c : Comparison) → Compared r p q c → SoundComparison (schemaOf r) c
@@ -225,33 +114,13 @@ compared-sound r p q c is apart =
     let safe : headSafe (schemaOf r) (c .query) ≡ true =
     subst (λ (x : theory.Query). subset (variablesOf (x .head)) (variablesOf (rowEntries (x .rows))) ≡ true) (sym (chased .0))
     (subset-of _ _
-    (chases-safe (chase-chases (dependenciesOf r) view) (subset-true (variablesOf (view .head)) (variablesOf (rowEntries (view .rows))) (queries r p q accepted .safe-p)))) in
+    (chases-safe (chase-chases (dependenciesOf r) view) (subset-true (variablesOf (view .head)) (variablesOf (rowEntries (view .rows)))
+    (queries r p q accepted .safe-p)))) in
     filled-place (schemaOf r) (c .query) (chased .1) safe
   where
     unrefused : (x : Option ℕ) (v : Verdict) → judged x v ≡ verdict.Apart → x ≡ option.none
     unrefused option.none v e = refl
     unrefused (option.some n) v e = let z : _≡_ {A = ℕ} 0 1 = cc in absurd (omega arith)
-
-module _ (file : List ℕ) (source target : ℕ) (out : List ℕ) (size count : ℕ) (mapping : List ℕ) where
-  pub reduce-done : (r : Record) → readFile file ≡ gives r → (o : Reduced) → IsReduced r source target o → ReducedShape o
-      → (number : ℕ) (out′ : List ℕ) (size′ count′ : ℕ) (mapping′ : List ℕ)
-      → ReductionGiven (reductionFits (length out) (length mapping) o) out size count mapping number out′ size′ count′ mapping′
-      → ReduceGives file source target out size count mapping number out′ size′ count′ mapping′
-  reduce-done r e o is shape number out′ size′ count′ mapping′ w =
-      record {
-        result = reductionFits (length out) (length mapping) o;
-        reducing =
-            subst (λ (x : Reply Record). Reducing x source target (reductionFits (length out) (length mapping) o) (length out) (length mapping)) (sym e) (o, is, shape, refl);
-        given = w;
-      }
-
-  pub reduce-refused : (n : ℕ) → readFile file ≡ refused n → ReduceGives file source target out size count mapping n out size count mapping
-  reduce-refused n e =
-      record {
-        result = refused n;
-        reducing = subst (λ (x : Reply Record). Reducing x source target (refused n) (length out) (length mapping)) (sym e) refl;
-        given = (refl, refl, refl, refl, refl);
-      }
 
 module _ (file : List ℕ) (p q said : ℕ) (mapping part : List ℕ) (size : ℕ) where
   pub compare-done : (r : Record) → readFile file ≡ gives r → (c : Comparison) → Compared r p q c → ComparisonShape c
@@ -263,7 +132,8 @@ module _ (file : List ℕ) (p q said : ℕ) (mapping part : List ℕ) (size : �
         result = comparisonFits (length mapping) (length part) (schemaOf r) c;
         images = c .images;
         comparing =
-            subst (λ (x : Reply Record). Comparing x p q (comparisonFits (length mapping) (length part) (schemaOf r) c) (c .images) (length mapping) (length part)) (sym e)
+            subst (λ (x : Reply Record). Comparing x p q (comparisonFits (length mapping) (length part) (schemaOf r) c) (c .images) (length mapping)
+            (length part)) (sym e)
             (c, is, shape, refl, refl);
         given = w;
       }
@@ -276,11 +146,3 @@ module _ (file : List ℕ) (p q said : ℕ) (mapping part : List ℕ) (size : �
         comparing = subst (λ (x : Reply Record). Comparing x p q (refused n) [] (length mapping) (length part)) (sym e) refl;
         given = (refl, refl, refl, refl, refl);
       }
-
-module _ (p q : ℕ) (words : List ℕ) (said : ℕ) where
-  pub check-done : {x : Reply Record} {r : Record} → x ≡ gives r → (number said′ : ℕ) → CheckGiven (pairRefusal r p q) r p q words said number said′
-      → CheckGives x p q words said number said′
-  check-done e number said′ w = subst (λ (y : Reply Record). CheckGives y p q words said number said′) (sym e) w
-
-  pub check-unread : {x : Reply Record} {n : ℕ} → x ≡ refused n → CheckGives x p q words said n said
-  check-unread {n = n} e = subst (λ (y : Reply Record). CheckGives y p q words said n said) (sym e) (refl, refl)

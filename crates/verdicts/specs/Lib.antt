@@ -1,3 +1,3 @@
--- What reducing, comparing and checking a mapping come to on files (Queries). `internal` is this crate's own.
+-- What comparing and checking a mapping come to on files (Queries). `internal` is this crate's own.
 pub mod Queries
 pub mod internal

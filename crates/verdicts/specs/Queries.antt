@@ -1,89 +1,30 @@
--- Reducing, comparing and checking a mapping, on files. A mapping is 192 words: for each of 96 variables a tag (0 constant, 1 variable) and a number.
+-- Comparing and checking a mapping, on files. How a mapping is words is in `images/specs/Images`.
 use mathlib.Core.Path.{_≡_}
-use mathlib.Core.Logic.{_⊎_}
-use mathlib.Core.Bool.{Bool, true, cond, _&&_}
+use mathlib.Core.Logic.{_↔_}
+use mathlib.Core.Bool.{Bool, true, false, cond, _&&_}
 use mathlib.Core.List.{List, [], _∷_}
-use mathlib.Core.Option.{Option}
-use mathlib.Core.Option as option
 use Prim.Native.Nat.{ℕ}
-use lib.Dec.{eqb, leb}
+use lib.Dec.{leb}
 use lib.ListN.{length}
-use Rattle.refusals.specs.Refusals.{_>>=_, bufferTooShort, gives, refused, Reply}
+use Rattle.refusals.specs.Refusals.{_>>=_, bufferTooShort, gives, refused, Reply, reply}
 use Rattle.record.specs.Calls.{queryAt}
-use Rattle.query.specs.declared.Entry.{Entry}
-use Rattle.query.specs.declared.Entry.the-variants.{Constant, Variable}
 use Rattle.query.specs.declared.Cell.{Cell}
 use Rattle.record.specs.declared.Record.{Record}
 use Rattle.record.specs.View.{schemaOf}
 use Rattle.lists.specs.Over.{over}
-use Rattle.format.specs.Format.{Reading, none, got, gotIf, getTimes, putAll}
-use Rattle.format.specs.Parts.{entryFrom, query}
-use Rattle.format.specs.File.{readFile, fileOf, shapedQuery, shaped}
-use Rattle.query.specs.View.{imagesOf}
+use Rattle.format.specs.Format.{Reading, none, got}
+use Rattle.format.specs.Parts.{query}
+use Rattle.format.specs.File.{readFile, shapedQuery}
+use Rattle.query.specs.View.{entriesOf, imagesOf}
+use Rattle.images.specs.Images.{mappingWords, imagesIn}
 use Rattle.comparison.specs.declared.Comparison.{Comparison}
 use Rattle.comparison.specs.declared.Verdict.{Verdict}
 use Rattle.comparison.specs.declared.Verdict.the-variants as verdict
 use Rattle.comparison.specs.Comparison.{pairRefusal, Compared}
-use Rattle.reduction.specs.declared.Reduced.{Reduced}
-use Rattle.reduction.specs.Reduced.{IsReduced}
+use Rattle.theory.specs.Query as theory
 use Rattle.theory.specs.Answer as answer
-use Rattle.lent.specs.Lent.{numberIn, leaves}
-use Rattle.lent.specs.Records.{answered}
-
--- ---- mappings as words
-
--- The tag and the number of an entry
-abbrev pub entryWords : Entry → List ℕ
-entryWords (Constant n) = 0 ∷ n ∷ []
-entryWords (Variable v) = 1 ∷ v ∷ []
-
--- The words of some cells
-abbrev pub wordsOf : List Cell → List ℕ
-wordsOf cells = putAll (λ c. entryWords (c .entry)) cells
-
--- Whether a tag and a number stand for an entry: the tag is 0, or it is 1 and the number at most 255
-abbrev pub isImage : ℕ → ℕ → Bool
-isImage tag n = cond (eqb tag 0) true (eqb tag 1 && leb n 255)
-
--- An entry is read off the front of some words
-unfoldable pub getImage : List ℕ → Reading Cell
-getImage [] = none
-getImage (tag ∷ []) = none
-getImage (tag ∷ n ∷ words) = gotIf (isImage tag n) (entryFrom tag n) words
-
--- The images of 96 variables are read off the front of some words
-abbrev pub imagesIn : List ℕ → Reading (List Cell)
-imagesIn words = getTimes getImage 96 words
-
--- ---- reducing
-
--- A reduction for buffers with so much room. Refused, after the refusals of the reduction itself: bufferTooShort, its file is longer than the one buffer,
--- or the other has no room for a mapping. The file is that of the reduction `o`: nothing here says that all reductions of a place have files of one length
-abbrev pub reductionFits : ℕ → ℕ → Reduced → Reply Reduced
-reductionFits room words o =
-    answered (o .answer) o >>= λ _. cond (leb 192 words && leb (length (fileOf (o .«record»))) room) (gives o) (refused bufferTooShort)
-
--- What a reduction returns and leaves: the file of the record after it with its length, the count of replacements, and the mapping's words
-abbrev pub ReductionGiven : Reply Reduced → List ℕ → ℕ → ℕ → List ℕ → ℕ → List ℕ → ℕ → ℕ → List ℕ → Type 0
-ReductionGiven result out size count mapping number outAfter sizeAfter countAfter mappingAfter =
-    (number ≡ numberIn result) × (outAfter ≡ leaves result (λ o. over out 0 (fileOf (o .«record»))) out)
-    × (sizeAfter ≡ leaves result (λ o. length (fileOf (o .«record»))) size) × (countAfter ≡ leaves result (λ o. o .count) count)
-    × (mappingAfter ≡ leaves result (λ o. over mapping 0 (wordsOf (o .images))) mapping)
-
--- The arrays of a reduction are as long as their types say: without it, shorter ones that read the same would do
-abbrev pub ReducedShape : Reduced → Type 0
-ReducedShape o = (shaped (o .«record») ≡ true) × (length (o .images) ≡ 96)
-
--- A reduction of a place of the record of a file: a refusal of the file, or what reducing promises. Which one is free, as "Reduction" says
-abbrev pub Reducing : Reply Record → ℕ → ℕ → Reply Reduced → ℕ → ℕ → Type 0
-Reducing (refused n) source target result room words = result ≡ refused n
-Reducing (gives r) source target result room words = (o : Reduced) × IsReduced r source target o × ReducedShape o × (result ≡ reductionFits room words o)
-
--- What `spernevan_reduce` promises: some reduction of the source place, returned and left as above
-pub record ReduceGives (file : List ℕ) (source target : ℕ) (out : List ℕ) (size count : ℕ) (mapping : List ℕ) (number : ℕ) (outAfter : List ℕ) (sizeAfter countAfter : ℕ) (mappingAfter : List ℕ) : Type 0 where
-  pub result : Reply Reduced
-  pub reducing : Reducing (readFile file) source target result (length out) (length mapping)
-  pub given : ReductionGiven result out size count mapping number outAfter sizeAfter countAfter mappingAfter
+use Rattle.theory.specs.Checking.{mapsTo}
+use Rattle.lent.specs.Lent.{statusOf, leaves}
 
 -- ---- comparing
 
@@ -105,8 +46,8 @@ comparisonFits words room schema c = verdictBytes (c .verdict) (query schema .pu
 -- What a comparison returns and leaves: the verdict, the mapping's words, the bytes of the query with their length
 abbrev pub ComparisonGiven : Reply (ℕ × List ℕ) → List Cell → ℕ → List ℕ → List ℕ → ℕ → ℕ → ℕ → List ℕ → List ℕ → ℕ → Type 0
 ComparisonGiven result images said mapping part size number saidAfter mappingAfter partAfter sizeAfter =
-    (number ≡ numberIn result) × (saidAfter ≡ leaves result (λ t. t .0) said)
-    × (mappingAfter ≡ leaves result (λ _. over mapping 0 (wordsOf images)) mapping)
+    (number ≡ statusOf result) × (saidAfter ≡ leaves result (λ t. t .0) said)
+    × (mappingAfter ≡ leaves result (λ _. over mapping 0 (mappingWords images)) mapping)
     × (partAfter ≡ leaves result (λ t. over part 0 (t .1)) part) × (sizeAfter ≡ leaves result (λ t. length (t .1)) size)
 
 -- The arrays of a comparison are as long as their types say, as those of a reduction
@@ -128,17 +69,28 @@ pub record CompareGives (file : List ℕ) (p q said : ℕ) (mapping part : List 
 
 -- ---- checking a mapping
 
--- The words are a mapping from the query of place q to that of place p, as they are stored
+-- Whether what was read off some words maps S to T: words that stand for no images do not, nor do images with words after them
+abbrev pub readingMaps : theory.Query → theory.Query → Reading (List Cell) → Bool
+readingMaps S T none = false
+readingMaps S T (got images []) = mapsTo S T (entriesOf images)
+readingMaps S T (got images (word ∷ words)) = false
+
+-- Whether words are a mapping from the query of place q to that of place p, as they are stored. `WordsMapExact` says what this means
+abbrev pub wordsMap : Record → ℕ → ℕ → List ℕ → Bool
+wordsMap r p q words = readingMaps (queryAt r q) (queryAt r p) (imagesIn words)
+
+-- What `spernevan_check` says: a refusal of the file, then of the places, else whether the words are a mapping
+abbrev pub checkedIn : List ℕ → ℕ → ℕ → List ℕ → Reply Bool
+checkedIn file p q words = readFile file >>= λ r. reply (pairRefusal r p q) (wordsMap r p q words)
+
+-- Yes and no as numbers
+abbrev pub bit : Bool → ℕ
+bit b = cond b 1 0
+
+-- The words stand for images that are a mapping from the query of place q to that of place p
 abbrev pub WordsMap : Record → ℕ → ℕ → List ℕ → Type 0
 WordsMap r p q words = (images : List Cell) × (imagesIn words ≡ got images []) × answer.IsMapping (queryAt r q) (queryAt r p) (imagesOf images)
 
--- What checking words returns and leaves, once the places are not refused: 1 exactly when they are a mapping
-abbrev pub CheckGiven : Option ℕ → Record → ℕ → ℕ → List ℕ → ℕ → ℕ → ℕ → Type 0
-CheckGiven (option.some n) r p q words said number saidAfter = (number ≡ n) × (saidAfter ≡ said)
-CheckGiven option.none r p q words said number saidAfter =
-    (number ≡ 0) × (((saidAfter ≡ 1) × WordsMap r p q words) ⊎ ((saidAfter ≡ 0) × (WordsMap r p q words → ⊥)))
-
--- What `spernevan_check` promises: a refusal of the file, then of the places, else the verdict
-abbrev pub CheckGives : Reply Record → ℕ → ℕ → List ℕ → ℕ → ℕ → ℕ → Type 0
-CheckGives (refused n) p q words said number saidAfter = (number ≡ n) × (saidAfter ≡ said)
-CheckGives (gives r) p q words said number saidAfter = CheckGiven (pairRefusal r p q) r p q words said number saidAfter
+-- The test says yes exactly to such words. Proved in `proofs/Checks`
+abbrev pub WordsMapExact : Type 0
+WordsMapExact = (r : Record) (p q : ℕ) (words : List ℕ) → (wordsMap r p q words ≡ true) ↔ WordsMap r p q words

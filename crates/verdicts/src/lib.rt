@@ -1,150 +1,28 @@
-// Reducing, comparing and checking a mapping on files: mappings as words, and what each call leaves in what it is lent.
+// Comparing and checking a mapping on files: what each call leaves in what it is lent.
 use comparison::Checked;
 use comparison::Comparison;
 use comparison::Verdict;
 use encoder::place_length;
 use encoder::put_place;
-use mapping::Mapped;
-use mapping::no_mapping;
+use images::put_mapping;
+use images::read_mapping;
 use query::Cell;
-use query::Entry;
-use query::Place;
 use query::Query;
 use record::Answer;
+use query::Place;
 use record::Record;
-use reduction::Reduced;
-use writer::Written;
-use writer::write_good;
 ghost use mathlib.Core.Path.{_≡_};
 ghost use mathlib.Core.Bool.{true};
 ghost use mathlib.Core.List.{[]};
-ghost use Prim.Native.Nat.{_+_, _≤_};
-ghost use lib.ListN.{length, take, drop};
+ghost use lib.ListN.{length, take};
 ghost use Rattle.query.specs.Rule.{goodRelations, goodPlace};
-ghost use Rattle.lists.specs.Over.{over};
 ghost use Rattle.format.specs.Parts.{query};
-ghost use Rattle.format.specs.File.{placeWith, readFile};
+ghost use Rattle.format.specs.File.{placeWith};
+ghost use Rattle.refusals.specs.Refusals.{reply};
 ghost use Rattle.comparison.specs.Comparison.{pairRefusal};
-ghost use Rattle.verdicts.specs.Queries.{ReduceGives, CompareGives, CheckGives, entryWords, wordsOf, getImage, imagesIn, reductionFits, ReductionGiven, verdictFits, comparisonFits, ComparisonGiven, CheckGiven};
-ghost use Rattle.verdicts.specs.internal.Steps.{imageRead, mappingRead, SoundReduction, SoundComparison};
-
-// ---- mappings as words
-
-// Writes an entry's tag and number.
-fn put_image(words: &mut [u32], at: usize, entry: Entry)
-    requires { ⌜ at + 2 ≤ length (now words) ⌝ }
-    ensures { λ _. ⌜ now (words .exit) ≡ over (now (words .entry)) at (entryWords entry) ⌝ }
-{
-    match entry {
-        Entry::Constant(n) => {
-            words[at] = 0;
-            words[at + 1] = n;
-        }
-        Entry::Variable(v) => {
-            words[at] = 1;
-            words[at + 1] = v as u32;
-        }
-    }
-}
-
-// Writes a mapping over the first 192 words.
-fn put_mapping(images: [Cell; 96], words: &mut [u32])
-    requires { ⌜ 192 ≤ length (now words) ⌝ }
-    ensures { λ _. ⌜ now (words .exit) ≡ over (now (words .entry)) 0 (wordsOf images) ⌝ }
-{
-    for i in 0..96 {
-        let cell = images[i];
-        let entry = cell.entry;
-        put_image(words, 2 * i, entry);
-    }
-}
-
-// An entry, or none.
-pub enum ImageRead {
-    Image(Entry),
-    NoImage,
-}
-
-// The entry that the two words at a position stand for.
-fn read_image(words: &[u32], at: usize) -> ImageRead
-    requires { ⌜ at + 2 ≤ length (now words) ⌝ }
-    ensures { λ r. ⌜ r ≡ imageRead (getImage (drop at (now (words .entry)))) ⌝ }
-{
-    let tag = words[at];
-    let n = words[at + 1];
-    if tag == 0 {
-        return ImageRead::Image(Entry::Constant(n));
-    }
-    if tag != 1 {
-        return ImageRead::NoImage;
-    }
-    if 255 < n {
-        return ImageRead::NoImage;
-    }
-    ImageRead::Image(Entry::Variable(n as u8))
-}
-
-// The mapping that words stand for.
-fn read_mapping(words: &[u32]) -> Mapped
-    ensures { λ r. ⌜ r ≡ mappingRead (imagesIn (now (words .entry))) ⌝ }
-{
-    if words.len() != 192 {
-        return no_mapping();
-    }
-    let mut images = [Cell {
-        entry: Entry::Constant(0),
-    }; 96];
-    for i in 0..96 {
-        match read_image(words, 2 * i) {
-            ImageRead::Image(e) => {
-                images[i] = Cell { entry: e };
-            }
-            ImageRead::NoImage => {
-                return no_mapping();
-            }
-        }
-    }
-    Mapped {
-        found: true,
-        images: images,
-    }
-}
-
-// ---- reducing
-
-// Stores a reduction, unless it is refused: the file of its record, the count and the mapping.
-pub fn store_reduction(
-    reduced: Reduced,
-    out: &mut [u8],
-    size: &mut usize,
-    count: &mut u8,
-    mapping: &mut [u32],
-) -> u8
-    requires { ⌜ SoundReduction reduced ⌝ }
-    ensures { λ r. ⌜ ReductionGiven (reductionFits (length (now (out .entry))) (length (now (mapping .entry))) reduced) (now (out .entry)) (now (size .entry)) (now (count .entry)) (now (mapping .entry)) r (now (out .exit)) (now (size .exit)) (now (count .exit)) (now (mapping .exit)) ⌝ }
-{
-    let answer = reduced.answer;
-    match answer {
-        Answer::Done => {
-            if mapping.len() < 192 {
-                return refusals::BUFFER_TOO_SHORT;
-            }
-            let after = reduced.record;
-            let images = reduced.images;
-            let written = write_good(after, out);
-            match written {
-                Written::Length(n) => {
-                    put_mapping(images, mapping);
-                    *size = n;
-                    *count = reduced.count;
-                    0
-                }
-                Written::Refused(n) => n,
-            }
-        }
-        Answer::Refused(n) => n,
-    }
-}
+ghost use Rattle.lent.specs.Lent.{statusOf, leaves};
+ghost use Rattle.verdicts.specs.Queries.{verdictFits, comparisonFits, ComparisonGiven, CompareGives, wordsMap, checkedIn, bit};
+ghost use Rattle.verdicts.specs.internal.Steps.{SoundComparison};
 
 // ---- comparing
 
@@ -232,7 +110,8 @@ pub fn store_comparison(
 
 // Checks words for two places: words that are no mapping are none between the queries.
 pub fn check_words(given: Record, p: usize, q: usize, words: &[u32], verdict: &mut u8) -> u8
-    ensures { λ r. ⌜ CheckGiven (pairRefusal given p q) given p q (now (words .entry)) (now (verdict .entry)) r (now (verdict .exit)) ⌝ }
+    ensures { λ r. ⌜ r ≡ statusOf (reply (pairRefusal given p q) (wordsMap given p q (now (words .entry)))) ⌝ }
+    ensures { λ _. ⌜ now (verdict .exit) ≡ leaves (reply (pairRefusal given p q) (wordsMap given p q (now (words .entry)))) bit (now (verdict .entry)) ⌝ }
 {
     let read = read_mapping(words);
     let images = read.images;
@@ -255,30 +134,6 @@ pub fn check_words(given: Record, p: usize, q: usize, words: &[u32], verdict: &m
 }
 
 // ---- the calls
-
-// Reduces the query of one place into another.
-pub fn reduce_in_file(
-    file: &[u8],
-    source: usize,
-    target: usize,
-    out: &mut [u8],
-    size: &mut usize,
-    count: &mut u8,
-    mapping: &mut [u32],
-) -> u8
-    ensures { λ r. ⌜ ReduceGives (now (file .entry)) source target (now (out .entry)) (now (size .entry)) (now (count .entry)) (now (mapping .entry)) r (now (out .exit)) (now (size .exit)) (now (count .exit)) (now (mapping .exit)) ⌝ }
-{
-    let outcome = file::read(file);
-    let answer = outcome.answer;
-    match answer {
-        Answer::Done => {
-            let given = outcome.record;
-            let reduced = reduction::reduce(given, source, target);
-            store_reduction(reduced, out, size, count, mapping)
-        }
-        Answer::Refused(n) => n,
-    }
-}
 
 // Compares the queries of two places.
 pub fn compare_in_file(
@@ -308,7 +163,8 @@ pub fn compare_in_file(
 
 // Checks a mapping from the query of place q to that of place p.
 pub fn check_in_file(file: &[u8], p: usize, q: usize, mapping: &[u32], verdict: &mut u8) -> u8
-    ensures { λ r. ⌜ CheckGives (readFile (now (file .entry))) p q (now (mapping .entry)) (now (verdict .entry)) r (now (verdict .exit)) ⌝ }
+    ensures { λ r. ⌜ r ≡ statusOf (checkedIn (now (file .entry)) p q (now (mapping .entry))) ⌝ }
+    ensures { λ _. ⌜ now (verdict .exit) ≡ leaves (checkedIn (now (file .entry)) p q (now (mapping .entry))) bit (now (verdict .entry)) ⌝ }
 {
     let outcome = file::read(file);
     let answer = outcome.answer;

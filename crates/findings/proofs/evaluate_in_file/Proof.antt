@@ -38,9 +38,21 @@ returns c =
     let file = s .args .file .now in
     let buffer = s .args .answers .now in
     let p : evaluatedIn file (s .args .place) (s .args .words .now) (length buffer) ≡ gives (c .before .done .given .0 .0) =
-    read-done file (c .before .before .before .before .before .before .before .before .before .before .read .result) (c .before .before .before .before .before .before .before .before .before .before .read .ensures) (λ r. countResult (evaluated r (s .args .place) (s .args .words .now) (length buffer))) (c .before .before .before .before .before .before .before .before .enum-told .given .1)
-    ∙ ap countResult (sym (c .before .before .before .before .before .evaluate .ensures .0) ∙ c .before .done .given .1) in
-    (done-number p, (c .before .before .before .before .before .evaluate .ensures .1 ∙ done-leaves (outcome-done (readFile file) (c .before .before .before .before .before .before .before .before .before .before .read .result) (c .before .before .before .before .before .before .before .before .before .before .read .ensures) (c .before .before .before .before .before .before .before .before .enum-told .given .1)) (λ r. bufferThen r (s .args .place) (s .args .words .now) buffer) buffer, done-leaves p (λ n. n) (s .args .count .now)))
+    read-done file (c .before .before .before .before .before .before .before .before .before .before .read .result)
+    (c .before .before .before .before .before .before .before .before .before .before .read .ensures)
+    (λ r. countResult (evaluated r (s .args .place) (s .args .words .now) (length buffer)))
+    (c .before .before .before .before .before .before .before .before .enum-told .given .1)
+    ∙ ap countResult (sym (c .before .before .before .before .before .evaluate .ensures .0) ∙ c .before .done .given .1) in (
+      done-number p,
+      (
+        c .before .before .before .before .before .evaluate .ensures .1 ∙ done-leaves
+            (outcome-done (readFile file) (c .before .before .before .before .before .before .before .before .before .before .read .result)
+            (c .before .before .before .before .before .before .before .before .before .before .read .ensures)
+            (c .before .before .before .before .before .before .before .before .enum-told .given .1))
+            (λ r. bufferThen r (s .args .place) (s .args .words .now) buffer) buffer,
+        done-leaves p (λ n. n) (s .args .count .now),
+      ),
+    )
 
 same-length-2 : tie.Need-same-length-2
 same-length-2 c = search needs
@@ -51,9 +63,21 @@ returns-2 c =
     let file = s .args .file .now in
     let buffer = s .args .answers .now in
     let p : evaluatedIn file (s .args .place) (s .args .words .now) (length buffer) ≡ refused (c .before .done2 .given .0 .0) =
-    read-done file (c .before .before .before .before .before .before .before .before .before .before .read .result) (c .before .before .before .before .before .before .before .before .before .before .read .ensures) (λ r. countResult (evaluated r (s .args .place) (s .args .words .now) (length buffer))) (c .before .before .before .before .before .before .before .before .enum-told .given .1)
-    ∙ ap countResult (sym (c .before .before .before .before .before .evaluate .ensures .0) ∙ c .before .done2 .given .1) in
-    (refused-number p, (c .before .before .before .before .before .evaluate .ensures .1 ∙ done-leaves (outcome-done (readFile file) (c .before .before .before .before .before .before .before .before .before .before .read .result) (c .before .before .before .before .before .before .before .before .before .before .read .ensures) (c .before .before .before .before .before .before .before .before .enum-told .given .1)) (λ r. bufferThen r (s .args .place) (s .args .words .now) buffer) buffer, refused-leaves p (λ n. n) (s .args .count .now)))
+    read-done file (c .before .before .before .before .before .before .before .before .before .before .read .result)
+    (c .before .before .before .before .before .before .before .before .before .before .read .ensures)
+    (λ r. countResult (evaluated r (s .args .place) (s .args .words .now) (length buffer)))
+    (c .before .before .before .before .before .before .before .before .enum-told .given .1)
+    ∙ ap countResult (sym (c .before .before .before .before .before .evaluate .ensures .0) ∙ c .before .done2 .given .1) in (
+      refused-number p,
+      (
+        c .before .before .before .before .before .evaluate .ensures .1 ∙ done-leaves
+            (outcome-done (readFile file) (c .before .before .before .before .before .before .before .before .before .before .read .result)
+            (c .before .before .before .before .before .before .before .before .before .before .read .ensures)
+            (c .before .before .before .before .before .before .before .before .enum-told .given .1))
+            (λ r. bufferThen r (s .args .place) (s .args .words .now) buffer) buffer,
+        refused-leaves p (λ n. n) (s .args .count .now),
+      ),
+    )
 
 returns-3 : tie.Need-returns-3
 returns-3 c =
@@ -61,8 +85,15 @@ returns-3 c =
     let file = s .args .file .now in
     let buffer = s .args .answers .now in
     let p : evaluatedIn file (s .args .place) (s .args .words .now) (length buffer) ≡ refused (c .before .answer .given .0 .0) =
-    read-refused file (c .before .before .before .read .result) (c .before .before .before .read .ensures) (λ r. countResult (evaluated r (s .args .place) (s .args .words .now) (length buffer))) _ (c .before .answer .given .1) in
-    (refused-number p, (refused-leaves (outcome-refused (readFile file) (c .before .before .before .read .result) _ (c .before .before .before .read .ensures) (c .before .answer .given .1)) (λ r. bufferThen r (s .args .place) (s .args .words .now) buffer) buffer, refused-leaves p (λ n. n) (s .args .count .now)))
+    read-refused file (c .before .before .before .read .result) (c .before .before .before .read .ensures)
+    (λ r. countResult (evaluated r (s .args .place) (s .args .words .now) (length buffer))) _ (c .before .answer .given .1) in (
+      refused-number p,
+      (
+        refused-leaves (outcome-refused (readFile file) (c .before .before .before .read .result) _ (c .before .before .before .read .ensures)
+            (c .before .answer .given .1)) (λ r. bufferThen r (s .args .place) (s .args .words .now) buffer) buffer,
+        refused-leaves p (λ n. n) (s .args .count .now),
+      ),
+    )
 
 pub evaluate-in-file-spec : {M : Type 1} → statement M
 evaluate-in-file-spec =

@@ -5,7 +5,7 @@ use Rattle.query.specs.declared.Dependency.{Dependency}
 use Rattle.record.specs.Calls.{addDependency}
 use Rattle.format.specs.File.{fileOf}
 use Rattle.lent.specs.Lent.{fitted}
-use Rattle.lent.specs.Records.{resultOf, stored}
+use Rattle.lent.specs.Records.{resultOf, fileFitted}
 use Rattle.lent.proofs.Files.{read-done, read-refused, read-good, read-long, still-refused, wrote-same, wrote-none}
 use Rattle.lent.proofs.Kept.{add-sound}
 use borrow.Author.Needs.{needs}
@@ -25,7 +25,14 @@ store-outcome-requires : tie.Need-store-outcome-requires
 store-outcome-requires c κs =
     let s = c .before .before .before .before .before .before .before .before .before in
     let r = c .before .before .before .before .before .before .read .result .«record» in
-    add-sound r (read-good (s .args .file .now) (c .before .before .before .before .before .before .read .result) (c .before .before .before .before .before .before .read .ensures) (λ i. c .before .before .before .before .before .before .before .before .shared-slice-known .given i .fits) (c .before .before .before .before .enum-told .given .1)) _ (c .before .before .add-dependency .result) (read-long (s .args .file .now) (c .before .before .before .before .before .before .read .result) (c .before .before .before .before .before .before .read .ensures) (λ i. c .before .before .before .before .before .before .before .before .shared-slice-known .given i .fits) (c .before .before .before .before .enum-told .given .1)) (c .before .before .add-dependency .ensures)
+    add-sound r (read-good (s .args .file .now) (c .before .before .before .before .before .before .read .result)
+    (c .before .before .before .before .before .before .read .ensures) (λ i.
+    c .before .before .before .before .before .before .before .before .shared-slice-known .given i .fits)
+    (c .before .before .before .before .enum-told .given .1)) _ (c .before .before .add-dependency .result)
+    (read-long (s .args .file .now) (c .before .before .before .before .before .before .read .result)
+    (c .before .before .before .before .before .before .read .ensures) (λ i.
+    c .before .before .before .before .before .before .before .before .shared-slice-known .given i .fits)
+    (c .before .before .before .before .enum-told .given .1)) (c .before .before .add-dependency .ensures)
 
 enum-known-answer : tie.Need-enum-known-answer
 enum-known-answer c = search needs
@@ -38,14 +45,19 @@ returns c =
     let s = c .before .before .before .before .before .before .before .before .before .before .before .before in
     let out = s .args .out .now in
     let d : Dependency = record { relation = s .args .relation; left = s .args .left; right = s .args .right } in
-    wrote-same (ap (stored (length out)) (read-done (s .args .file .now) (c .before .before .before .before .before .before .before .before .before .read .result) (c .before .before .before .before .before .before .before .before .before .read .ensures) (λ r. resultOf (addDependency r d)) (c .before .before .before .before .before .before .before .enum-told .given .1) ∙ ap resultOf (sym (c .before .before .before .before .before .add-dependency .ensures)))) out (s .args .size .now) _ _ _ (c .before .before .store-outcome .ensures)
+    wrote-same (ap (fileFitted (length out)) (read-done (s .args .file .now)
+    (c .before .before .before .before .before .before .before .before .before .read .result)
+    (c .before .before .before .before .before .before .before .before .before .read .ensures) (λ r. resultOf (addDependency r d))
+    (c .before .before .before .before .before .before .before .enum-told .given .1) ∙ ap resultOf
+    (sym (c .before .before .before .before .before .add-dependency .ensures)))) out (s .args .size .now) _ _ _ (c .before .before .store-outcome .ensures)
 
 returns-2 : tie.Need-returns-2
 returns-2 c =
     let s = c .before .before .before .before .before .before in
     let out = s .args .out .now in
     let d : Dependency = record { relation = s .args .relation; left = s .args .left; right = s .args .right } in
-    wrote-none (still-refused (read-refused (s .args .file .now) (c .before .before .before .read .result) (c .before .before .before .read .ensures) (λ r. resultOf (addDependency r d)) _ (c .before .answer .given .1)) (λ r. fitted (length out) (fileOf r))) out (s .args .size .now)
+    wrote-none (still-refused (read-refused (s .args .file .now) (c .before .before .before .read .result) (c .before .before .before .read .ensures)
+    (λ r. resultOf (addDependency r d)) _ (c .before .answer .given .1)) (λ r. fitted (length out) (fileOf r))) out (s .args .size .now)
 
 pub add-in-file-spec : {M : Type 1} → statement M
 add-in-file-spec =

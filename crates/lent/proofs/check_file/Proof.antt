@@ -17,11 +17,13 @@ enum-known-answer c = search needs
 
 returns : tie.Need-returns
 returns c =
-    done-number (outcome-done (readFile (c .before .before .before .before .args .file .now)) (c .before .before .read .result) (c .before .before .read .ensures) (c .enum-told .given .1))
+    done-number (outcome-done (readFile (c .before .before .before .before .args .file .now)) (c .before .before .read .result)
+    (c .before .before .read .ensures) (c .enum-told .given .1))
 
 returns-2 : tie.Need-returns-2
 returns-2 c =
-    refused-number (outcome-refused (readFile (c .before .before .before .before .before .args .file .now)) (c .before .before .before .read .result) _ (c .before .before .before .read .ensures) (c .before .answer .given .1))
+    refused-number (outcome-refused (readFile (c .before .before .before .before .before .args .file .now)) (c .before .before .before .read .result) _
+    (c .before .before .before .read .ensures) (c .before .answer .given .1))
 
 pub check-file-spec : {M : Type 1} → statement M
 check-file-spec =

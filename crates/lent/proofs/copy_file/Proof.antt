@@ -10,7 +10,8 @@ read-requires c κs = search needs
 
 store-outcome-requires : tie.Need-store-outcome-requires
 store-outcome-requires c κs =
-    read-good (c .before .before .before .before .before .args .file .now) (c .before .before .read .result) (c .before .before .read .ensures) (λ i. c .before .before .before .before .shared-slice-known .given i .fits)
+    read-good (c .before .before .before .before .before .args .file .now) (c .before .before .read .result) (c .before .before .read .ensures)
+    (λ i. c .before .before .before .before .shared-slice-known .given i .fits)
 
 same-length : tie.Need-same-length
 same-length c = search needs
@@ -19,7 +20,9 @@ returns : tie.Need-returns
 returns c =
     let s = c .before .before .before .before .before .before .before .before in
     let out = s .args .out .now in
-    wrote-same (copied-is (s .args .file .now) (c .before .before .before .before .before .read .result) (c .before .before .before .before .before .read .ensures) (λ i. c .before .before .before .before .before .before .before .shared-slice-known .given i .fits) (length out)) out (s .args .size .now) _ _ _ (c .before .before .store-outcome .ensures)
+    wrote-same (copied-is (s .args .file .now) (c .before .before .before .before .before .read .result)
+    (c .before .before .before .before .before .read .ensures) (λ i. c .before .before .before .before .before .before .before .shared-slice-known .given
+    i .fits) (length out)) out (s .args .size .now) _ _ _ (c .before .before .store-outcome .ensures)
 
 pub copy-file-spec : {M : Type 1} → statement M
 copy-file-spec =

@@ -30,7 +30,9 @@ returns : tie.Need-returns
 returns c =
     let s = c .before .before .before .before .before .before .before .before .before in
     let p : determinedIn (s .args .file .now) (s .args .relation) (s .args .left) ≡ gives (c .before .found .given .0 .0, c .before .found .given .0 .1 .0) =
-    read-done (s .args .file .now) (c .before .before .before .before .before .before .before .read .result) (c .before .before .before .before .before .before .before .read .ensures) (λ r. columnsResult (determinedColumns r (s .args .relation) (s .args .left))) (c .before .before .before .before .before .enum-told .given .1)
+    read-done (s .args .file .now) (c .before .before .before .before .before .before .before .read .result)
+    (c .before .before .before .before .before .before .before .read .ensures) (λ r. columnsResult (determinedColumns r (s .args .relation) (s .args .left)))
+    (c .before .before .before .before .before .enum-told .given .1)
     ∙ ap columnsResult (sym (c .before .before .before .determined .ensures) ∙ c .before .found .given .1) in
     (done-number p, (done-leaves p (λ t. t .0) (s .args .columns .now), done-leaves p (λ t. t .1) (s .args .count .now)))
 
@@ -38,7 +40,9 @@ returns-2 : tie.Need-returns-2
 returns-2 c =
     let s = c .before .before .before .before .before .before .before .before .before in
     let p : determinedIn (s .args .file .now) (s .args .relation) (s .args .left) ≡ refused (c .before .found2 .given .0 .0) =
-    read-done (s .args .file .now) (c .before .before .before .before .before .before .before .read .result) (c .before .before .before .before .before .before .before .read .ensures) (λ r. columnsResult (determinedColumns r (s .args .relation) (s .args .left))) (c .before .before .before .before .before .enum-told .given .1)
+    read-done (s .args .file .now) (c .before .before .before .before .before .before .before .read .result)
+    (c .before .before .before .before .before .before .before .read .ensures) (λ r. columnsResult (determinedColumns r (s .args .relation) (s .args .left)))
+    (c .before .before .before .before .before .enum-told .given .1)
     ∙ ap columnsResult (sym (c .before .before .before .determined .ensures) ∙ c .before .found2 .given .1) in
     (refused-number p, (refused-leaves p (λ t. t .0) (s .args .columns .now), refused-leaves p (λ t. t .1) (s .args .count .now)))
 
@@ -46,7 +50,8 @@ returns-3 : tie.Need-returns-3
 returns-3 c =
     let s = c .before .before .before .before .before in
     let p : determinedIn (s .args .file .now) (s .args .relation) (s .args .left) ≡ refused (c .before .answer .given .0 .0) =
-    read-refused (s .args .file .now) (c .before .before .before .read .result) (c .before .before .before .read .ensures) (λ r. columnsResult (determinedColumns r (s .args .relation) (s .args .left))) _ (c .before .answer .given .1) in
+    read-refused (s .args .file .now) (c .before .before .before .read .result) (c .before .before .before .read .ensures)
+    (λ r. columnsResult (determinedColumns r (s .args .relation) (s .args .left))) _ (c .before .answer .given .1) in
     (refused-number p, (refused-leaves p (λ t. t .0) (s .args .columns .now), refused-leaves p (λ t. t .1) (s .args .count .now)))
 
 pub determined-in-file-spec : {M : Type 1} → statement M

@@ -4,7 +4,7 @@ use lib.ListN.{length}
 use Rattle.record.specs.Calls.{dropQuery}
 use Rattle.format.specs.File.{fileOf}
 use Rattle.lent.specs.Lent.{fitted}
-use Rattle.lent.specs.Records.{resultOf, stored}
+use Rattle.lent.specs.Records.{resultOf, fileFitted}
 use Rattle.lent.proofs.Files.{read-done, read-refused, read-good, still-refused, wrote-same, wrote-none}
 use Rattle.lent.proofs.Kept.{drop-sound}
 use borrow.Author.Needs.{needs}
@@ -23,7 +23,11 @@ drop-query-requires c κs = search needs
 store-outcome-requires : tie.Need-store-outcome-requires
 store-outcome-requires c κs =
     let s = c .before .before .before .before .before .before .before .before .before in
-    drop-sound (c .before .before .before .before .before .before .read .result .«record») (read-good (s .args .file .now) (c .before .before .before .before .before .before .read .result) (c .before .before .before .before .before .before .read .ensures) (λ i. c .before .before .before .before .before .before .before .before .shared-slice-known .given i .fits) (c .before .before .before .before .enum-told .given .1)) _ (c .before .before .drop-query .result) (c .before .before .drop-query .ensures)
+    drop-sound (c .before .before .before .before .before .before .read .result .«record»)
+    (read-good (s .args .file .now) (c .before .before .before .before .before .before .read .result)
+    (c .before .before .before .before .before .before .read .ensures) (λ i.
+    c .before .before .before .before .before .before .before .before .shared-slice-known .given i .fits)
+    (c .before .before .before .before .enum-told .given .1)) _ (c .before .before .drop-query .result) (c .before .before .drop-query .ensures)
 
 enum-known-answer : tie.Need-enum-known-answer
 enum-known-answer c = search needs
@@ -35,13 +39,18 @@ returns : tie.Need-returns
 returns c =
     let s = c .before .before .before .before .before .before .before .before .before .before .before .before in
     let out = s .args .out .now in
-    wrote-same (ap (stored (length out)) (read-done (s .args .file .now) (c .before .before .before .before .before .before .before .before .before .read .result) (c .before .before .before .before .before .before .before .before .before .read .ensures) (λ r. resultOf (dropQuery r (s .args .place))) (c .before .before .before .before .before .before .before .enum-told .given .1) ∙ ap resultOf (sym (c .before .before .before .before .before .drop-query .ensures)))) out (s .args .size .now) _ _ _ (c .before .before .store-outcome .ensures)
+    wrote-same (ap (fileFitted (length out)) (read-done (s .args .file .now)
+    (c .before .before .before .before .before .before .before .before .before .read .result)
+    (c .before .before .before .before .before .before .before .before .before .read .ensures) (λ r. resultOf (dropQuery r (s .args .place)))
+    (c .before .before .before .before .before .before .before .enum-told .given .1) ∙ ap resultOf
+    (sym (c .before .before .before .before .before .drop-query .ensures)))) out (s .args .size .now) _ _ _ (c .before .before .store-outcome .ensures)
 
 returns-2 : tie.Need-returns-2
 returns-2 c =
     let s = c .before .before .before .before .before .before in
     let out = s .args .out .now in
-    wrote-none (still-refused (read-refused (s .args .file .now) (c .before .before .before .read .result) (c .before .before .before .read .ensures) (λ r. resultOf (dropQuery r (s .args .place))) _ (c .before .answer .given .1)) (λ r. fitted (length out) (fileOf r))) out (s .args .size .now)
+    wrote-none (still-refused (read-refused (s .args .file .now) (c .before .before .before .read .result) (c .before .before .before .read .ensures)
+    (λ r. resultOf (dropQuery r (s .args .place))) _ (c .before .answer .given .1)) (λ r. fitted (length out) (fileOf r))) out (s .args .size .now)
 
 pub drop-in-file-spec : {M : Type 1} → statement M
 drop-in-file-spec =

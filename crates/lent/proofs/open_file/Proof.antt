@@ -2,7 +2,7 @@
 use mathlib.Core.Path.{sym, ap}
 use lib.ListN.{length}
 use Rattle.record.specs.declared.Outcome.{Outcome}
-use Rattle.lent.specs.Records.{resultOf, stored}
+use Rattle.lent.specs.Records.{resultOf, fileFitted}
 use Rattle.lent.proofs.Files.{wrote-same}
 use Rattle.lent.proofs.Kept.{open-sound}
 use borrow.Author.Needs.{needs}
@@ -23,7 +23,8 @@ returns : tie.Need-returns
 returns c =
     let s = c .before .before .before .before .before .before .before .before in
     let out = s .args .out .now in
-    wrote-same (ap (λ (o : Outcome). stored (length out) (resultOf o)) (sym (c .before .before .before .before .before .«open» .ensures))) out (s .args .size .now) _ _ _ (c .before .before .store-outcome .ensures)
+    wrote-same (ap (λ (o : Outcome). fileFitted (length out) (resultOf o)) (sym (c .before .before .before .before .before .«open» .ensures))) out
+    (s .args .size .now) _ _ _ (c .before .before .store-outcome .ensures)
 
 pub open-file-spec : {M : Type 1} → statement M
 open-file-spec = tie.close (tie.spec open-requires store-outcome-requires same-length returns)

@@ -15,8 +15,11 @@ refused-requires c κs = search needs
 
 returns : tie.Need-returns
 returns c =
-    let s = c .before .before .before in
-    (c .refused .ensures ∙ sym (part-above (s .args .given) (s .pre) (s .args .place) (s .args .part .now) (c .before .if1 .taken)), refused-sound (c .refused .result) 7 (c .refused .ensures))
+    let s = c .before .before .before in (
+      c .refused .ensures ∙ sym (part-above (s .args .given) (s .pre) (s .args .place) (s .args .part .now) (c .before .if1 .taken)),
+      refused-sound
+          (c .refused .result) 7 (c .refused .ensures),
+    )
 
 read-place-requires : tie.Need-read-place-requires
 read-place-requires c κs =
@@ -38,15 +41,23 @@ returns-2 : tie.Need-returns-2
 returns-2 c =
     let s = c .before .before .before .before .before .before .before .before .before in
     let r = s .args .given in
-    let read = place-accepted (readPlace (schemaOf r) true (s .args .part .now)) (c .before .before .before .before .before .read-place .result) (c .before .before .before .before .before .read-place .ensures) (c .before .before .before .enum-told .given .1) in
-    (ap resultOf (c .put .ensures) ∙ sym (part-read r (s .pre) (s .args .place) (s .args .part .now) (c .before .before .before .before .before .read-place .result .place) (c .before .before .before .before .before .before .before .if1 .left) read), put-sound r (s .pre) _ _ (c .put .result) (c .put .ensures))
+    let read = place-accepted (readPlace (schemaOf r) true (s .args .part .now)) (c .before .before .before .before .before .read-place .result)
+    (c .before .before .before .before .before .read-place .ensures) (c .before .before .before .enum-told .given .1) in (
+      ap resultOf (c .put .ensures) ∙ sym (part-read r (s .pre) (s .args .place) (s .args .part .now)
+          (c .before .before .before .before .before .read-place .result .place) (c .before .before .before .before .before .before .before .if1 .left) read),
+      put-sound r (s .pre) _ _ (c .put .result) (c .put .ensures),
+    )
 
 returns-3 : tie.Need-returns-3
 returns-3 c =
     let s = c .before .before .before .before .before .before .before .before in
     let r = s .args .given in
-    let read = place-refused (readPlace (schemaOf r) true (s .args .part .now)) (c .before .before .before .before .read-place .result) _ (c .before .before .before .before .read-place .ensures) (c .before .before .answer .given .1) in
-    (c .refused2 .ensures ∙ sym (part-bad r (s .pre) (s .args .place) (s .args .part .now) _ (c .before .before .before .before .before .before .if1 .left) read), refused-sound (c .refused2 .result) _ (c .refused2 .ensures))
+    let read = place-refused (readPlace (schemaOf r) true (s .args .part .now)) (c .before .before .before .before .read-place .result) _
+    (c .before .before .before .before .read-place .ensures) (c .before .before .answer .given .1) in (
+      c .refused2 .ensures ∙ sym (part-bad r (s .pre) (s .args .place) (s .args .part .now) _ (c .before .before .before .before .before .before .if1 .left)
+          read),
+      refused-sound (c .refused2 .result) _ (c .refused2 .ensures),
+    )
 
 pub put-part-spec : {M : Type 1} → statement M
 put-part-spec =

@@ -25,7 +25,8 @@ returns c =
     let s = c .before .before .before .before .before .before .before .before in
     let o = s .args .outcome in
     let out = s .args .out .now in
-    wrote-same (goes-on (result-done o (c .before .before .before .before .before .enum-told .given .1)) (λ r. fitted (length out) (fileOf r))) out (s .args .size .now) _ _ _ (c .before .before .store .ensures)
+    wrote-same (goes-on (result-done o (c .before .before .before .before .before .enum-told .given .1)) (λ r. fitted (length out) (fileOf r))) out
+    (s .args .size .now) _ _ _ (c .before .before .store .ensures)
 
 returns-2 : tie.Need-returns-2
 returns-2 c =

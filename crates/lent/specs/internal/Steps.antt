@@ -6,5 +6,5 @@ use Rattle.record.specs.declared.Outcome.{Outcome}
 use Rattle.record.specs.Rule.{goodRecord}
 
 -- A call's record, if it is done, is good
-abbrev pub Sound : Outcome → Type 0
-Sound o = o .answer ≡ Done → goodRecord (o .«record») ≡ true
+abbrev pub GoodIfDone : Outcome → Type 0
+GoodIfDone o = o .answer ≡ Done → goodRecord (o .«record») ≡ true

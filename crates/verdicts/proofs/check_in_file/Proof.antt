@@ -1,7 +1,10 @@
 -- `spernevan_check` gives what checking promises, once the file is read. Assumes nothing.
-use Rattle.format.specs.File.{readFile}
-use Rattle.format.proofs.Results.{outcome-done, outcome-refused}
-use Rattle.verdicts.proofs.Verdicts.{check-done, check-unread}
+use mathlib.Core.Path.{refl}
+use Rattle.refusals.specs.Refusals.{reply}
+use Rattle.comparison.specs.Comparison.{pairRefusal}
+use Rattle.lent.proofs.Files.{read-done, read-refused}
+use Rattle.verdicts.specs.Queries.{wordsMap}
+use Rattle.verdicts.proofs.Checks.{says-same}
 use borrow.Author.Needs.{needs}
 use Rattle.verdicts.proofs.check_in_file.Statement.{statement}
 use Rattle.verdicts.proofs.check_in_file.Tie as tie
@@ -21,12 +24,18 @@ enum-known-answer c = search needs
 returns : tie.Need-returns
 returns c =
     let a = c .before .before .before .before .before .before .before .before .args in
-    check-done (a .p) (a .q) (a .mapping .now) (a .verdict .now) (outcome-done (readFile (a .file .now)) (c .before .before .before .before .before .read .result) (c .before .before .before .before .before .read .ensures) (c .before .before .before .enum-told .given .1)) _ _ (c .check-words .ensures)
+    let read = c .before .before .before .before .before .read in
+    says-same
+    (read-done (a .file .now) (read .result) (read .ensures) (λ r. reply (pairRefusal r (a .p) (a .q)) (wordsMap r (a .p) (a .q) (a .mapping .now)))
+    (c .before .before .before .enum-told .given .1)) _ _ _ (c .check-words .ensures)
 
 returns-2 : tie.Need-returns-2
 returns-2 c =
     let a = c .before .before .before .before .before .before .args in
-    check-unread (a .p) (a .q) (a .mapping .now) (a .verdict .now) (outcome-refused (readFile (a .file .now)) (c .before .before .before .read .result) _ (c .before .before .before .read .ensures) (c .before .answer .given .1))
+    let read = c .before .before .before .read in
+    says-same
+    (read-refused (a .file .now) (read .result) (read .ensures) (λ r. reply (pairRefusal r (a .p) (a .q)) (wordsMap r (a .p) (a .q) (a .mapping .now)))
+    _ (c .before .answer .given .1)) (a .verdict .now) _ (a .verdict .now) (refl, refl)
 
 pub check-in-file-spec : {M : Type 1} → statement M
 check-in-file-spec =

@@ -22,8 +22,14 @@ store-comparison-requires : tie.Need-store-comparison-requires
 store-comparison-requires c κs =
     let a = c .before .before .before .before .before .before .before .before .before .before .before .before .before .args in
     let r = c .before .before .before .before .before .before .before .before .before .read .result .«record» in
-    let good = read-good (a .file .now) (c .before .before .before .before .before .before .before .before .before .read .result) (c .before .before .before .before .before .before .before .before .before .read .ensures) (λ i. c .before .before .before .before .before .before .before .before .before .before .before .before .shared-slice-known .given i .fits) (c .before .before .before .before .before .before .before .enum-told .given .1) in
-    (good-record r good .relations, compared-sound r (a .p) (a .q) (c .before .before .before .before .compare .result) (c .before .before .before .before .compare .ensures))
+    let good = read-good (a .file .now) (c .before .before .before .before .before .before .before .before .before .read .result)
+    (c .before .before .before .before .before .before .before .before .before .read .ensures)
+    (λ i. c .before .before .before .before .before .before .before .before .before .before .before .before .shared-slice-known .given i .fits)
+    (c .before .before .before .before .before .before .before .enum-told .given .1) in (
+      good-record r good .relations,
+      compared-sound r (a .p) (a .q) (c .before .before .before .before .compare .result)
+          (c .before .before .before .before .compare .ensures),
+    )
 
 enum-known-answer : tie.Need-enum-known-answer
 enum-known-answer c = search needs
@@ -36,15 +42,26 @@ same-length-2 c = search needs
 
 returns : tie.Need-returns
 returns c =
-    let a = c .before .before .before .before .before .before .before .before .before .before .before .before .before .before .before .before .before .before .args in
-    compare-done (a .file .now) (a .p) (a .q) (a .verdict .now) (a .mapping .now) (a .part .now) (a .size .now) (c .before .before .before .before .before .before .before .before .before .before .before .before .before .before .read .result .«record»)
-    (outcome-done (readFile (a .file .now)) (c .before .before .before .before .before .before .before .before .before .before .before .before .before .before .read .result) (c .before .before .before .before .before .before .before .before .before .before .before .before .before .before .read .ensures) (c .before .before .before .before .before .before .before .before .before .before .before .before .enum-told .given .1)) (c .before .before .before .before .before .before .before .before .before .compare .result) (c .before .before .before .before .before .before .before .before .before .compare .ensures) (comparison-shaped (c .before .before .before .before .before .before .before .before .before .compare .result) _ (c .before .before .before .before .before .before .before .before .before .compare .ok)) _ _ _ _ _ (c .before .before .before .before .store-comparison .ensures)
+    let a =
+    c .before .before .before .before .before .before .before .before .before .before .before .before .before .before .before .before .before .before .args in
+    compare-done (a .file .now) (a .p) (a .q) (a .verdict .now) (a .mapping .now) (a .part .now) (a .size .now)
+    (c .before .before .before .before .before .before .before .before .before .before .before .before .before .before .read .result .«record»)
+    (outcome-done (readFile (a .file .now))
+    (c .before .before .before .before .before .before .before .before .before .before .before .before .before .before .read .result)
+    (c .before .before .before .before .before .before .before .before .before .before .before .before .before .before .read .ensures)
+    (c .before .before .before .before .before .before .before .before .before .before .before .before .enum-told .given .1))
+    (c .before .before .before .before .before .before .before .before .before .compare .result)
+    (c .before .before .before .before .before .before .before .before .before .compare .ensures)
+    (comparison-shaped (c .before .before .before .before .before .before .before .before .before .compare .result) _
+    (c .before .before .before .before .before .before .before .before .before .compare .ok)) _ _ _ _ _
+    (c .before .before .before .before .store-comparison .ensures)
 
 returns-2 : tie.Need-returns-2
 returns-2 c =
     let a = c .before .before .before .before .before .before .before .args in
     compare-refused (a .file .now) (a .p) (a .q) (a .verdict .now) (a .mapping .now) (a .part .now) (a .size .now) _
-    (outcome-refused (readFile (a .file .now)) (c .before .before .before .read .result) _ (c .before .before .before .read .ensures) (c .before .answer .given .1))
+    (outcome-refused (readFile (a .file .now)) (c .before .before .before .read .result) _ (c .before .before .before .read .ensures)
+    (c .before .answer .given .1))
 
 pub compare-in-file-spec : {M : Type 1} → statement M
 compare-in-file-spec =

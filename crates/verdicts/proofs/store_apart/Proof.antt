@@ -14,7 +14,8 @@ use Rattle.verdicts.proofs.store_apart.Tie as tie
 returns : tie.Need-returns
 returns c =
     let a = c .before .before .before .args in
-    verdict-short (a .images) (a .verdict .now) (a .mapping .now) (a .part .now) (a .size .now) 0 (query (take (a .count) (a .widths)) .put (a .chased)) (c .if1 .taken)
+    verdict-short (a .images) (a .verdict .now) (a .mapping .now) (a .part .now) (a .size .now) 0 (query (take (a .count) (a .widths)) .put (a .chased))
+    (c .if1 .taken)
 
 place-length-requires : tie.Need-place-length-requires
 place-length-requires c κs = search needs
@@ -23,9 +24,11 @@ returns-2 : tie.Need-returns-2
 returns-2 c =
     let a = c .before .before .before .before .before .args in
     let schema = take (a .count) (a .widths) in
-    let n : c .before .place-length .result ≡ length (query schema .put (a .chased)) = c .before .place-length .ensures .0 ∙ ap length (query-part schema (a .chased)) in
+    let n : c .before .place-length .result ≡ length (query schema .put (a .chased)) = c .before .place-length .ensures .0 ∙ ap length
+    (query-part schema (a .chased)) in
     let l : length (a .part .now) < c .before .place-length .result = c .if2 .taken in
-    verdict-long (a .images) (a .verdict .now) (a .mapping .now) (a .part .now) (a .size .now) 0 (query schema .put (a .chased)) (c .before .before .if1 .left) (omega arith)
+    verdict-long (a .images) (a .verdict .now) (a .mapping .now) (a .part .now) (a .size .now) 0 (query schema .put (a .chased))
+    (c .before .before .if1 .left) (omega arith)
 
 put-place-requires : tie.Need-put-place-requires
 put-place-requires c κs =
@@ -46,9 +49,12 @@ returns-3 : tie.Need-returns-3
 returns-3 c =
     let a = c .before .before .before .before .before .before .before .before .before .before .before .before .before .args in
     let schema = take (a .count) (a .widths) in
-    let n : c .before .before .before .before .before .before .before .before .before .place-length .result ≡ length (query schema .put (a .chased)) = c .before .before .before .before .before .before .before .before .before .place-length .ensures .0 ∙ ap length (query-part schema (a .chased)) in
-    let l : c .before .before .before .before .before .before .before .before .before .place-length .result ≤ length (a .part .now) = c .before .before .before .before .before .before .before .before .if2 .left in
-    verdict-stored (a .images) (a .verdict .now) (a .mapping .now) (a .part .now) (a .size .now) 0 (query schema .put (a .chased)) _ _ _ (c .before .before .before .before .before .before .before .before .before .before .if1 .left) (omega arith) (c .before .before .put-mapping .ensures)
+    let n : c .before .before .before .before .before .before .before .before .before .place-length .result ≡ length (query schema .put (a .chased)) =
+    c .before .before .before .before .before .before .before .before .before .place-length .ensures .0 ∙ ap length (query-part schema (a .chased)) in
+    let l : c .before .before .before .before .before .before .before .before .before .place-length .result ≤ length (a .part .now) =
+    c .before .before .before .before .before .before .before .before .if2 .left in
+    verdict-stored (a .images) (a .verdict .now) (a .mapping .now) (a .part .now) (a .size .now) 0 (query schema .put (a .chased)) _ _ _
+    (c .before .before .before .before .before .before .before .before .before .before .if1 .left) (omega arith) (c .before .before .put-mapping .ensures)
     (c .before .before .before .before .before .before .put-place .ensures .0 ∙ ap (λ (b : List ℕ). over (a .part .now) 0 b) (query-part schema (a .chased))) n
 
 pub store-apart-spec : {M : Type 1} → statement M

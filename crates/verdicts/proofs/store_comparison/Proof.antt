@@ -9,8 +9,11 @@ enum-told : tie.Need-enum-told
 enum-told c = search needs
 
 store-apart-requires : tie.Need-store-apart-requires
-store-apart-requires c κs =
-    (c .before .before .before .before .before .before .before .before .before .before .pre .0, c .before .before .before .before .before .before .before .before .before .before .pre .1 (c .before .before .before .before .before .enum-told .given .1))
+store-apart-requires c κs = (
+  c .before .before .before .before .before .before .before .before .before .before .pre .0,
+  c .before .before .before .before .before .before .before .before .before .before .pre .1
+      (c .before .before .before .before .before .enum-told .given .1),
+)
 
 enum-told-2 : tie.Need-enum-told-2
 enum-told-2 c = search needs
@@ -37,7 +40,9 @@ returns : tie.Need-returns
 returns c =
     let a = c .before .before .before .before .before .before .before .before .before .before .before .before .before .before .before .args in
     comparison-same (a .compared .images) (a .verdict .now) (a .mapping .now) (a .part .now) (a .size .now)
-    (comparison-apart (length (a .mapping .now)) (length (a .part .now)) (take (a .count) (a .widths)) (a .compared) (c .before .before .before .before .before .before .before .before .before .before .enum-told .given .1)) _ _ _ _ _ (c .before .before .before .before .store-apart .ensures)
+    (comparison-apart (length (a .mapping .now)) (length (a .part .now)) (take (a .count) (a .widths)) (a .compared)
+    (c .before .before .before .before .before .before .before .before .before .before .enum-told .given .1)) _ _ _ _ _
+    (c .before .before .before .before .store-apart .ensures)
 
 same-length-3 : tie.Need-same-length-3
 same-length-3 c = search needs
@@ -49,7 +54,9 @@ returns-2 : tie.Need-returns-2
 returns-2 c =
     let a = c .before .before .before .before .before .before .before .before .before .before .before .before .before .before .args in
     comparison-same (a .compared .images) (a .verdict .now) (a .mapping .now) (a .part .now) (a .size .now)
-    (comparison-contained (length (a .mapping .now)) (length (a .part .now)) (take (a .count) (a .widths)) (a .compared) (c .before .before .before .before .before .before .before .before .before .enum-told2 .given .1)) _ _ _ _ _ (c .before .before .before .before .store-contained .ensures)
+    (comparison-contained (length (a .mapping .now)) (length (a .part .now)) (take (a .count) (a .widths)) (a .compared)
+    (c .before .before .before .before .before .before .before .before .before .enum-told2 .given .1)) _ _ _ _ _
+    (c .before .before .before .before .store-contained .ensures)
 
 same-length-5 : tie.Need-same-length-5
 same-length-5 c = search needs
@@ -61,7 +68,9 @@ returns-3 : tie.Need-returns-3
 returns-3 c =
     let a = c .before .before .before .before .before .before .before .before .before .before .before .before .before .before .args in
     comparison-same (a .compared .images) (a .verdict .now) (a .mapping .now) (a .part .now) (a .size .now)
-    (comparison-never (length (a .mapping .now)) (length (a .part .now)) (take (a .count) (a .widths)) (a .compared) (c .before .before .before .before .before .before .before .before .before .enum-told3 .given .1)) _ _ _ _ _ (c .before .before .before .before .store-contained2 .ensures)
+    (comparison-never (length (a .mapping .now)) (length (a .part .now)) (take (a .count) (a .widths)) (a .compared)
+    (c .before .before .before .before .before .before .before .before .before .enum-told3 .given .1)) _ _ _ _ _
+    (c .before .before .before .before .store-contained2 .ensures)
 
 returns-4 : tie.Need-returns-4
 returns-4 c =

@@ -19,7 +19,8 @@ same-length c = search needs
 returns-2 : tie.Need-returns-2
 returns-2 c =
     let a = c .before .before .before .before .before .before .before .args in
-    contained-stored (a .images) (a .verdict .now) (a .mapping .now) (a .part .now) (a .size .now) (a .code) _ (c .before .before .before .before .if1 .left) (c .before .before .put-mapping .ensures)
+    contained-stored (a .images) (a .verdict .now) (a .mapping .now) (a .part .now) (a .size .now) (a .code) _ (c .before .before .before .before .if1 .left)
+    (c .before .before .put-mapping .ensures)
 
 pub store-contained-spec : {M : Type 1} → statement M
 store-contained-spec = tie.close (tie.spec returns put-mapping-requires same-length returns-2)

@@ -1,0 +1,2 @@
+-- A mapping as words, written and read (Mappings).
+pub mod Mappings

@@ -1,0 +1,2 @@
+-- What functions of this crate cite.
+pub mod Steps

@@ -1,0 +1,2 @@
+-- The statements, proved (Legible).
+pub mod Legible

@@ -1,2 +1,0 @@
--- The statements, proved (ReadBack).
-pub mod ReadBack

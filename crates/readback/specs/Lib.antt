@@ -1,2 +1,0 @@
--- A file that a call leaves is read as the record after it, and a query part as its query (ReadBack).
-pub mod ReadBack

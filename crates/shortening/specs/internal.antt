@@ -1,0 +1,2 @@
+-- What functions of this crate alone cite.
+pub mod Steps
