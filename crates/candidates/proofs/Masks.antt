@@ -7,7 +7,6 @@ use native.Mathlib.Nat.{div-div-eq-div-mul, pow-succ', not-suc-le-zero, le-of-su
 use lib.Pow.{pow-mono}
 use native.Mathlib.Omega.{arith}
 use Rattle.lists.proofs.Tests.{below-or-past}
-use Rattle.consistency.specs.internal.Solution.{Bit as Has}
 use Rattle.candidates.specs.internal.Candidates.{Marks}
 
 -- The lowest bit of a doubled mask is the added one

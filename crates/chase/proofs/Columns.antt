@@ -81,5 +81,10 @@ module _ (q : Query) (d : Dependency) (i j : ℕ) where
       → agreed && not differ ≡ breaks (dependencyOf d) (wideRow q i) (wideRow q j)
   unfolding breaks
   breaks-by agreed differ first second agreed-is differ-is =
-      rw (eq-eqb _ _ first, eq-eqb _ _ second, ← agree-relations (getD (q .relations) i 0) (getD (q .relations) j 0) (q .cells) i j (columnsOf (d .left)),
-      differ-is, agreed-is)
+      rw (
+        eq-eqb _ _ first,
+        eq-eqb _ _ second,
+        ← agree-relations (getD (q .relations) i 0) (getD (q .relations) j 0) (q .cells) i j (columnsOf (d .left)),
+        differ-is,
+        agreed-is,
+      )

@@ -145,5 +145,9 @@ settles-same rows table s = record { chosen = refl; placed = refl; sound = λ do
 
 pub settles-more : (rows : ℕ) (table : List ℕ) (s t u : State) → Settles rows table s t → Settles rows table t u → Settles rows table s u
 settles-more rows table s t u first then =
-    record { chosen = then .chosen ∙ first .chosen; placed = then .placed ∙ first .placed; sound =
-        λ domain sound. then .sound domain (first .sound domain sound) }
+    record {
+      chosen = then .chosen ∙ first .chosen;
+      placed = then .placed ∙ first .placed;
+      sound =
+          λ domain sound. then .sound domain (first .sound domain sound);
+    }

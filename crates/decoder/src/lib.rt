@@ -1,7 +1,7 @@
 // A query part, read off bytes: a vacant place, or the query that the part holds.
 use parsing::read_query;
-use record::Answer;
 use query::Place;
+use record::Answer;
 use record::calls;
 ghost use mathlib.Core.Path.{_≡_};
 ghost use mathlib.Core.Bool.{true};

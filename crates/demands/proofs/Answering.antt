@@ -3,7 +3,7 @@ use mathlib.Core.Path.{_≡_, refl, sym, ap, _∙_}
 use mathlib.Core.Logic.{⊎-elim}
 use mathlib.Core.Bool.{Bool, true, false, not}
 use mathlib.Core.List.{List, [], _∷_, _++_}
-use mathlib.Core.Option.{Option, none, some}
+use mathlib.Core.Option.{Option, none}
 use Prim.Native.Nat.{ℕ, _≤_, _<_}
 use lib.Dec.{ltb}
 use lib.ListN.{length, take, drop, take-append-drop, List·getD-eq-default}
@@ -125,9 +125,9 @@ module _ (file before after : List ℕ) (o : Outcome) (is : o ≡ outcomeOf (rea
       let back = written-back file before r bytes reads room in
       let buffer = left ∙ ap (λ (x : Record). afterWriting x before) same in (
         says ∙ ap (λ (x : Record). written x before) same ∙ back .0,
-        sym (take-append-drop (length file) after) 
-        ∙ ap (λ (l : List ℕ). l ++ drop (length file) after) (ap (take (length file)) buffer ∙ back .1)
-        ∙ ap (λ (l : List ℕ). file ++ l) (ap (drop (length file)) buffer ∙ back .2),
+        sym (take-append-drop (length file) after)
+            ∙ ap (λ (l : List ℕ). l ++ drop (length file) after) (ap (take (length file)) buffer ∙ back .1)
+            ∙ ap (λ (l : List ℕ). file ++ l) (ap (drop (length file)) buffer ∙ back .2),
       )
 
   -- A file that is refused

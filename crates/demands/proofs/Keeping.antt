@@ -1,19 +1,18 @@
 -- Demand 1 from the calls' own contracts. Assumes nothing.
 use mathlib.Core.Path.{_≡_, refl, sym, ap, subst, _∙_}
-use mathlib.Core.Bool.{Bool, true, false, cond}
-use mathlib.Core.List.{List, [], _∷_, _++_, map}
+use mathlib.Core.Bool.{Bool, true, false}
+use mathlib.Core.List.{List, [], _∷_, map}
 use mathlib.Core.Option.{Option, none, some}
 use Prim.Native.Nat.{ℕ, zero, suc, _-_}
 use lib.Dec.{eqb}
 use lib.ListN.{length, drop}
 use native.Mathlib.Omega.{arith}
-use Rattle.refusals.specs.Refusals.{Condition, order, follows, firstHolding, Reply, refused, gives, reply}
+use Rattle.refusals.specs.Refusals.{Condition, order, follows, firstHolding, Reply, refused, gives, reply, refusalIn}
 use Rattle.query.specs.declared.Cell.{Cell}
 use Rattle.query.specs.declared.Dependency.{Dependency}
 use Rattle.query.specs.declared.Query.{Query}
 use Rattle.query.specs.View.{entriesOf}
 use Rattle.record.specs.declared.Record.{Record}
-use Rattle.record.specs.declared.Answer.{Answer}
 use Rattle.record.specs.declared.Outcome.{Outcome}
 use Rattle.record.specs.declared.Columns.{Columns}
 use Rattle.record.specs.Calls.{concluded, openRecord, addDependency, putQuery, dropQuery, columnsAnswer, determinedColumns, queryAt}
@@ -22,9 +21,9 @@ use Rattle.comparison.specs.declared.Verdict.{Verdict}
 use Rattle.comparison.specs.declared.Verdict.the-variants as verdict
 use Rattle.comparison.specs.declared.Checked.{Checked}
 use Rattle.comparison.specs.declared.Checked.the-variants as checked
-use Rattle.comparison.specs.Comparison.{pairRefusal, pairConditions, verdictOn, judged, verdictOf, chasedAt, Compared, checkOf, CheckedMapping}
+use Rattle.comparison.specs.Comparison.{pairRefusal, verdictOn, judged, chasedAt, Compared, checkOf, CheckedMapping}
 use Rattle.reduction.specs.declared.Reduced.{Reduced}
-use Rattle.reduction.specs.Reduced.{reductionRefusal, reductionConditions, IsReduced, refusal}
+use Rattle.reduction.specs.Reduced.{reductionRefusal, reductionConditions, IsReduced}
 use Rattle.database.specs.declared.Conformance.{Conformance}
 use Rattle.database.specs.declared.Answered.{Answered}
 use Rattle.database.specs.Calls.{testOf, testUnless, tested, evaluationRefused, countUnless, wordsUnless, evaluated, bufferThen, placeAnswers}
@@ -40,8 +39,8 @@ use Rattle.words.specs.Broken.{violationOf}
 use Rattle.words.specs.declared.Violation.{Violation}
 use Rattle.words.specs.declared.Violation.the-variants as violation
 use Rattle.format.specs.Bytes.{number}
-use Rattle.format.specs.File.{stretch, stretches, readFile, outcomeOf, fileOf}
-use Rattle.format.specs.Faults.{refusalIn, partAt, schemaIn, placeConditions, readConditions}
+use Rattle.format.specs.File.{stretches, readFile, outcomeOf, fileOf}
+use Rattle.format.specs.Faults.{partAt, schemaIn, placeConditions, readConditions}
 use Rattle.format.proofs.Faults.{first-fault}
 use Rattle.writer.specs.declared.Written.{Written}
 use Rattle.writer.specs.Write.{writingRefused, lengthUnless, fileUnless, written, afterWriting}
@@ -119,9 +118,9 @@ unfolding follows pairRefusal
 compare-keeps r p q c compared =
     keeps _ order _ _ _ refl (ap verdictRefusal (compared .verdict) ∙ judged-said _ on (verdict-on (chasedAt r p .rows) _))
     (λ n f.
-      let e = compared .verdict ∙ ap (λ (y : Option ℕ). judged y on) f in
-      let other = refused-else (c .verdict) n e in
-      (compared .no-mapping (other .0), compared .no-query (other .1)))
+    let e = compared .verdict ∙ ap (λ (y : Option ℕ). judged y on) f in
+    let other = refused-else (c .verdict) n e in
+    (compared .no-mapping (other .0), compared .no-query (other .1)))
     (λ f. compared)
   where
     on : Verdict
@@ -179,7 +178,7 @@ evaluate-keeps r place words before after a is-a is-after =
     keeps _ order _ _ _ refl (ap evaluationRefusal is-a ∙ count-said _ _)
     (λ n f. is-after ∙ ap (λ (y : Option ℕ). wordsUnless y found before) f)
     (λ f.
-      (is-a ∙ ap (λ (y : Option ℕ). countUnless y (length (placeAnswers r place words))) f, is-after ∙ ap (λ (y : Option ℕ). wordsUnless y found before) f))
+    (is-a ∙ ap (λ (y : Option ℕ). countUnless y (length (placeAnswers r place words))) f, is-after ∙ ap (λ (y : Option ℕ). wordsUnless y found before) f))
 
 -- ---- files
 
@@ -193,7 +192,7 @@ write-keeps r before after w is-w is-after =
     keeps _ order _ _ _ refl (ap writingRefusal is-w ∙ length-said _ _)
     (λ n f. is-after ∙ ap (λ (y : Option ℕ). fileUnless y (fileOf r) before) f)
     (λ f.
-      (is-w ∙ ap (λ (y : Option ℕ). lengthUnless y (length (fileOf r))) f, is-after ∙ ap (λ (y : Option ℕ). fileUnless y (fileOf r) before) f))
+    (is-w ∙ ap (λ (y : Option ℕ). lengthUnless y (length (fileOf r))) f, is-after ∙ ap (λ (y : Option ℕ). fileUnless y (fileOf r) before) f))
 
 -- Past a number that is not 5, the faults of query parts are in their order
 parts-ordered : (schema : List ℕ) (parts : List (List ℕ)) (m : ℕ) → eqb 5 m ≡ false

@@ -1,8 +1,8 @@
 // A query part, written into a lent buffer. Each function writes one piece over the buffer at a position: what stands before and after it stays.
 use query::Cell;
 use query::Entry;
-use query::Query;
 use query::Place;
+use query::Query;
 ghost use mathlib.Core.Path.{_≡_};
 ghost use mathlib.Core.Bool.{true};
 ghost use mathlib.Core.List.{_∷_};

@@ -4,13 +4,11 @@ use mathlib.Core.Path.{_≡_}
 use mathlib.Core.Logic.{_↔_}
 use mathlib.Core.Bool.{Bool, true, false, cond, not}
 use mathlib.Core.List.{List, [], _∷_}
-use mathlib.Core.Option as option
-use mathlib.Core.Option.{Option}
 use Prim.Native.Nat.{ℕ, _+_, _-_, _*_}
 use lib.ListN.{length, take, drop}
 use Rattle.query.specs.Rule.{headSafe, noQuery}
 use Rattle.refusals.specs.Refusals.{badDependency, badDirectory, badOffsets, badQuery, badRelations, unsafeHead}
-use Rattle.refusals.specs.Refusals.{Condition, firstHolding, Reply, refused, gives}
+use Rattle.refusals.specs.Refusals.{Condition, firstHolding, refusalIn}
 use Rattle.format.specs.Bytes.{number, Bytes}
 use Rattle.format.specs.Format.{Reading, none, got, Format, Lawful}
 use Rattle.format.specs.Parts.{relations, dependencies, query}
@@ -75,11 +73,6 @@ readConditions file =
     ∷ placeConditions (schemaIn (partAt file 0)) (stretches (number 2 file - 2) file (drop 10 file))
 
 -- ---- what is proved of them
-
--- The number with which a reply refuses, if it does
-abbrev pub refusalIn : {A : Type 0} → Reply A → Option ℕ
-refusalIn (refused n) = option.some n
-refusalIn (gives a) = option.none
 
 -- Reading refuses a file with the first of its faults, and gives a record where there is none
 abbrev pub FirstFault : Type 0

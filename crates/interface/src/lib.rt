@@ -3,11 +3,11 @@
 ghost use mathlib.Core.Path.{_≡_};
 ghost use lib.ListN.{length};
 ghost use Rattle.format.specs.File.{readFile};
-ghost use Rattle.lent.specs.Lent.{statusOf, leaves, Wrote};
-ghost use Rattle.lent.specs.Records.{copied, opened, added, putIn, dropped, determinedIn};
-ghost use Rattle.shortening.specs.Shortening.{ReduceGives};
-ghost use Rattle.verdicts.specs.Queries.{CompareGives, checkedIn, bit};
-ghost use Rattle.findings.specs.Databases.{testedIn, evaluatedIn, answersIn};
+ghost use Rattle.record_on_files.specs.Lent.{statusOf, leaves, Wrote};
+ghost use Rattle.record_on_files.specs.Records.{copied, opened, added, putIn, dropped, determinedIn};
+ghost use Rattle.reduction_on_files.specs.Shortening.{ReduceGives};
+ghost use Rattle.comparison_on_files.specs.Queries.{CompareGives, checkedIn, bit};
+ghost use Rattle.database_on_files.specs.Databases.{testedIn, evaluatedIn, answersIn};
 
 // ---- files
 
@@ -16,7 +16,7 @@ ghost use Rattle.findings.specs.Databases.{testedIn, evaluatedIn, answersIn};
 pub extern "C" fn spernevan_read(file: &[u8]) -> u8
     ensures { λ r. ⌜ r ≡ statusOf (readFile (now (file .entry))) ⌝ }
 {
-    lent::check_file(file)
+    record_on_files::check_file(file)
 }
 
 // Reads a file and writes its record back.
@@ -24,7 +24,7 @@ pub extern "C" fn spernevan_read(file: &[u8]) -> u8
 pub extern "C" fn spernevan_write(file: &[u8], out: &mut [u8], size: &mut usize) -> u8
     ensures { λ r. ⌜ Wrote (copied (now (file .entry)) (length (now (out .entry)))) (now (out .entry)) (now (size .entry)) r (now (out .exit)) (now (size .exit)) ⌝ }
 {
-    lent::copy_file(file, out, size)
+    record_on_files::copy_file(file, out, size)
 }
 
 // ---- the record
@@ -34,7 +34,7 @@ pub extern "C" fn spernevan_write(file: &[u8], out: &mut [u8], size: &mut usize)
 pub extern "C" fn spernevan_open(widths: &[u8], out: &mut [u8], size: &mut usize) -> u8
     ensures { λ r. ⌜ Wrote (opened (now (widths .entry)) (length (now (out .entry)))) (now (out .entry)) (now (size .entry)) r (now (out .exit)) (now (size .exit)) ⌝ }
 {
-    lent::open_file(widths, out, size)
+    record_on_files::open_file(widths, out, size)
 }
 
 // Adds a dependency after those held.
@@ -49,7 +49,7 @@ pub extern "C" fn spernevan_add(
 ) -> u8
     ensures { λ r. ⌜ Wrote (added (now (file .entry)) relation left right (length (now (out .entry)))) (now (out .entry)) (now (size .entry)) r (now (out .exit)) (now (size .exit)) ⌝ }
 {
-    lent::add_in_file(file, relation, left, right, out, size)
+    record_on_files::add_in_file(file, relation, left, right, out, size)
 }
 
 // Puts a query, the bytes of a query part, into a vacant place.
@@ -63,7 +63,7 @@ pub extern "C" fn spernevan_put(
 ) -> u8
     ensures { λ r. ⌜ Wrote (putIn (now (file .entry)) place (now (query .entry)) (length (now (out .entry)))) (now (out .entry)) (now (size .entry)) r (now (out .exit)) (now (size .exit)) ⌝ }
 {
-    lent::put_in_file(file, place, query, out, size)
+    record_on_files::put_in_file(file, place, query, out, size)
 }
 
 // Drops a filled place.
@@ -71,7 +71,7 @@ pub extern "C" fn spernevan_put(
 pub extern "C" fn spernevan_drop(file: &[u8], place: usize, out: &mut [u8], size: &mut usize) -> u8
     ensures { λ r. ⌜ Wrote (dropped (now (file .entry)) place (length (now (out .entry)))) (now (out .entry)) (now (size .entry)) r (now (out .exit)) (now (size .exit)) ⌝ }
 {
-    lent::drop_in_file(file, place, out, size)
+    record_on_files::drop_in_file(file, place, out, size)
 }
 
 // The columns that a left set determines, bit c for column c, and their number.
@@ -87,7 +87,7 @@ pub extern "C" fn spernevan_determined(
     ensures { λ _. ⌜ now (columns .exit) ≡ leaves (determinedIn (now (file .entry)) relation left) (λ s. s .0) (now (columns .entry)) ⌝ }
     ensures { λ _. ⌜ now (count .exit) ≡ leaves (determinedIn (now (file .entry)) relation left) (λ s. s .1) (now (count .entry)) ⌝ }
 {
-    lent::determined_in_file(file, relation, left, columns, count)
+    record_on_files::determined_in_file(file, relation, left, columns, count)
 }
 
 // ---- queries
@@ -105,7 +105,7 @@ pub extern "C" fn spernevan_reduce(
 ) -> u8
     ensures { λ r. ⌜ ReduceGives (now (file .entry)) source target (now (out .entry)) (now (size .entry)) (now (count .entry)) (now (mapping .entry)) r (now (out .exit)) (now (size .exit)) (now (count .exit)) (now (mapping .exit)) ⌝ }
 {
-    shortening::reduce_in_file(file, source, target, out, size, count, mapping)
+    reduction_on_files::reduce_in_file(file, source, target, out, size, count, mapping)
 }
 
 // Compares the queries of two places.
@@ -121,7 +121,7 @@ pub extern "C" fn spernevan_compare(
 ) -> u8
     ensures { λ r. ⌜ CompareGives (now (file .entry)) p q (now (verdict .entry)) (now (mapping .entry)) (now (query .entry)) (now (size .entry)) r (now (verdict .exit)) (now (mapping .exit)) (now (query .exit)) (now (size .exit)) ⌝ }
 {
-    verdicts::compare_in_file(file, p, q, verdict, mapping, query, size)
+    comparison_on_files::compare_in_file(file, p, q, verdict, mapping, query, size)
 }
 
 // Checks a mapping from the query of place q to that of place p.
@@ -136,7 +136,7 @@ pub extern "C" fn spernevan_check(
     ensures { λ r. ⌜ r ≡ statusOf (checkedIn (now (file .entry)) p q (now (mapping .entry))) ⌝ }
     ensures { λ _. ⌜ now (verdict .exit) ≡ leaves (checkedIn (now (file .entry)) p q (now (mapping .entry))) bit (now (verdict .entry)) ⌝ }
 {
-    verdicts::check_in_file(file, p, q, mapping, verdict)
+    comparison_on_files::check_in_file(file, p, q, mapping, verdict)
 }
 
 // ---- databases
@@ -157,7 +157,7 @@ pub extern "C" fn spernevan_test(
     ensures { λ _. ⌜ now (first .exit) ≡ leaves (testedIn (now (file .entry)) (now (words .entry))) (λ t. t .first) (now (first .entry)) ⌝ }
     ensures { λ _. ⌜ now (second .exit) ≡ leaves (testedIn (now (file .entry)) (now (words .entry))) (λ t. t .second) (now (second .entry)) ⌝ }
 {
-    findings::test_in_file(file, words, obeys, dependency, first, second)
+    database_on_files::test_in_file(file, words, obeys, dependency, first, second)
 }
 
 // Evaluates the query of a place on a database.
@@ -173,5 +173,5 @@ pub extern "C" fn spernevan_evaluate(
     ensures { λ _. ⌜ now (answers .exit) ≡ answersIn (now (file .entry)) place (now (words .entry)) (now (answers .entry)) ⌝ }
     ensures { λ _. ⌜ now (count .exit) ≡ leaves (evaluatedIn (now (file .entry)) place (now (words .entry)) (length (now (answers .entry)))) (λ n. n) (now (count .entry)) ⌝ }
 {
-    findings::evaluate_in_file(file, place, words, answers, count)
+    database_on_files::evaluate_in_file(file, place, words, answers, count)
 }

@@ -37,8 +37,11 @@ module _ (before : List Cell) (source : List ℕ) (target : List Cell) (row imag
   pub row-skip : getD source (row + i) 0 < 2147483648 → RowAssigned before source target row image (i + 1) out
   row-skip small v h =
       ⊎-elim
-      (λ w. inl (below-more (λ (k : ℕ). getD source (row + k) 0 ≡ 2147483648 + v → ⊥) i (w .0)
-      (λ e. let z : getD source (row + i) 0 ≡ 2147483648 + v = e in omega arith), w .1))
+      (λ w. inl (
+        below-more (λ (k : ℕ). getD source (row + k) 0 ≡ 2147483648 + v → ⊥) i (w .0)
+            (λ e. let z : getD source (row + i) 0 ≡ 2147483648 + v = e in omega arith),
+        w .1,
+      ))
       (λ w. let l : w .0 < i = w .1 in inr (w .0, omega arith, w .2, w .3))
       (was v h)
 

@@ -63,7 +63,7 @@ module _ {given : List ℕ} {first : ℕ} {text : List ℕ} where
             record {
               buffer =
                   w .buffer ∙ ap (λ (b : List ℕ). over b at s) (p .written .buffer)
-                      ∙ ap (λ (i : ℕ). over (over given first (p .done)) i s) (p .written .position)
+                  ∙ ap (λ (i : ℕ). over (over given first (p .done)) i s) (p .written .position)
                   ∙ over-over given first (p .done) s f;
               position = omega (arith, w .position, p .written .position, n);
             };

@@ -1,7 +1,7 @@
 -- Values of a record that are not in use: a vacant place, and the arrays past what is in use.
 use mathlib.Core.Path.{_≡_, subst}
 use mathlib.Core.Bool.{Bool, true, false, cond, _&&_}
-use mathlib.Core.List.{List, [], _++_}
+use mathlib.Core.List.{List, _++_}
 use Prim.Native.Nat.{ℕ, _+_, _-_}
 use lib.ListN.{length, take, replicate}
 use Rattle.query.specs.declared.Place.{Place}

@@ -1,6 +1,6 @@
 -- The refusals of SPECIFICATION: a name for each number, the order in which they are asked, and the first whose condition holds.
 use mathlib.Core.Bool.{Bool, true, false, cond}
-use mathlib.Core.List.{List, [], _∷_, map}
+use mathlib.Core.List.{List, [], _∷_}
 use mathlib.Core.Option.{Option, none, some}
 use Prim.Native.Nat.{ℕ}
 use lib.Dec.{eqb}
@@ -99,6 +99,11 @@ pub data Reply (A : Type 0) : Type 0 where
 abbrev pub reply : {A : Type 0} → Option ℕ → A → Reply A
 reply (some n) value = refused n
 reply none value = gives value
+
+-- The number with which a reply refuses, if it does
+abbrev pub refusalIn : {A : Type 0} → Reply A → Option ℕ
+refusalIn (refused n) = some n
+refusalIn (gives a) = none
 
 infixl 10 _>>=_
 -- Go on with the value that is given; a refusal stands, so the first fault decides

@@ -16,7 +16,7 @@ ghost use Rattle.words.specs.Testing.{firstPairFrom, firstBrokenFrom};
 ghost use Rattle.words.specs.Broken.{violationOf};
 ghost use Rattle.words.specs.internal.Found.{pairOf, Testable};
 ghost use Rattle.query.specs.Rule.{noDependency};
-ghost use Rattle.leaders.specs.internal.Walked.{Room};
+ghost use Rattle.grouping.specs.internal.Walked.{Room};
 
 // The first pair of rows that break the dependency.
 fn first_pair(
@@ -39,7 +39,7 @@ fn first_pair(
     let mut i: usize = 0;
     while at < words.len() {
         let rest = &words[at..];
-        let p = leaders::skip(schema, rest, d, heads, links, offsets, numbers);
+        let p = grouping::skip(schema, rest, d, heads, links, offsets, numbers);
         let first = at + p.at;
         let n = i + p.number;
         if first == words.len() {

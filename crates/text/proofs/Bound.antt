@@ -61,8 +61,13 @@ place-line-short place rows kept count p r k c =
     let b : length (field rowsWord rows) ≤ 8 = field-length rowsWord rows 1 (omega arith) in
     let d : length (field keptWord kept) ≤ 8 = field-length keptWord kept 1 (omega arith) in
     let e : length (field replacedWord count) ≤ 13 = field-length replacedWord count 2 (omega arith) in
-    rw (length-append (field placeWord place), length-append (field rowsWord rows), length-append (field keptWord kept), length-append
-    (field replacedWord count)) (omega arith)
+    rw (
+      length-append (field placeWord place),
+      length-append (field rowsWord rows),
+      length-append (field keptWord kept),
+      length-append
+          (field replacedWord count),
+    ) (omega arith)
 
 never-line-short : (place rows count : ℕ) → place < 8 → rows ≤ 12 → count < 256 → length (neverLine place rows count) ≤ 35
 unfolding neverLine
@@ -159,8 +164,12 @@ module _ (relations : ℕ) (widths : List ℕ) (known : goodRelations relations 
         ≤ placeRoom
     lines-short true size line never head below map = omega arith
     lines-short false size line never head below map =
-        rw (length-append (placeLine place rows kept count), length-append (headLine (queryOf schema result .head)), length-append
-        (rowsText (queryOf schema result .rows)))
+        rw (
+          length-append (placeLine place rows kept count),
+          length-append (headLine (queryOf schema result .head)),
+          length-append
+              (rowsText (queryOf schema result .rows)),
+        )
         (omega arith)
 
     -- The text of a place is at most as long as its room

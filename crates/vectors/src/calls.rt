@@ -1,10 +1,5 @@
 // Each call of the engine on the inputs of a vector, and whether it answers as the vector tells.
 // A vector's first list is the file of its record; the buffers that are lent hold a pattern, so that what a call leaves alone is seen.
-use unexported::copies::chased;
-use unexported::copies::holds_result;
-use unexported::copies::maps_to_chased;
-use unexported::copies::maps_to_result;
-use unexported::copies::replaced;
 use vector::buffers::BYTE;
 use vector::buffers::SIZE;
 use vector::buffers::WORD;
@@ -25,6 +20,11 @@ use vector::told::length_told;
 use vector::told::number_told;
 use vector::told::reduction_told;
 use vector::told::test_told;
+use vector_calls::copies::chased;
+use vector_calls::copies::holds_result;
+use vector_calls::copies::maps_to_chased;
+use vector_calls::copies::maps_to_result;
+use vector_calls::copies::replaced;
 
 // ---- files
 

@@ -1,7 +1,6 @@
 // A vector: whether it can be read, and whether the engine agrees with it.
 use crate::calls;
 use crate::data::blank_on_data;
-use unexported::blank::blank;
 use vector::buffers::first;
 use vector::form::fits;
 use vector::form::is_blank;
@@ -12,6 +11,7 @@ use vector::numbers::fields_of;
 use vector::numbers::list;
 use vector::numbers::number;
 use vector::tally::Verdict;
+use vector_calls::blank::blank;
 
 // Whether the engine agrees with a vector. The lists of bytes come as they are.
 fn agrees(v: &[u32], f: Fields, file: &[u8], query: &[u8], told: &[u8]) -> bool {

@@ -72,7 +72,7 @@ kept-breaks d r s keep = go (eqb (r .relation) (d .relation)) refl (eqb (s .rela
           a,
           same-constants r s (d .right),
           eq-eqb (column 0 r (d .right)) (column 0 s (d .right))
-          (keep (eqb-true (r .relation) (d .relation) p) (eqb-true (s .relation) (d .relation) q) (agree-all (d .left) r s a)),
+              (keep (eqb-true (r .relation) (d .relation) p) (eqb-true (s .relation) (d .relation) q) (agree-all (d .left) r s a)),
         )
 
 -- ---- all rows

@@ -83,7 +83,7 @@ spells-back schema (r ∷ D) sound =
     let past : drop width (r .values ++ wordsOf D) ≡ wordsOf D = drop-at (r .values) (wordsOf D) width (fits .1) in
     let front : take width (r .values ++ wordsOf D) ≡ r .values = take-at (r .values) (wordsOf D) width (fits .1) in (
       rw (lt-ltb (r .relation) (length schema) (fits .0))
-      (spells-skip schema width (r .values ++ wordsOf D) long ∙ ap (λ (l : List ℕ). spellsRowsFrom schema 0 l) past ∙ more .0),
+          (spells-skip schema width (r .values ++ wordsOf D) long ∙ ap (λ (l : List ℕ). spellsRowsFrom schema 0 l) past ∙ more .0),
       ap₂ {C = Database} (λ (v : List ℕ) (E : Database). record { relation = r .relation; values = v } ∷ E) front
           (rows-skip schema width (r .values ++ wordsOf D) long ∙ ap (λ (l : List ℕ). rowsFrom schema 0 l) past ∙ more .1),
     )
@@ -109,7 +109,7 @@ module _ (schema words : List ℕ) (at : ℕ) (inside : at < length words) where
       let due : getD schema (getD words at 0) 0 ≤ length (drop (suc at) words) = omega (arith, z, e) in
       let far : suc at + getD schema (getD words at 0) 0 ≡ at + 1 + width = omega (arith, e) in
       spells-at ∙ ap (λ (b : Bool). b && spellsRowsFrom schema (getD schema (getD words at 0) 0) (drop (suc at) words))
-          (lt-ltb (getD words at 0) (length schema) known)
+      (lt-ltb (getD words at 0) (length schema) known)
       ∙ spells-skip schema (getD schema (getD words at 0) 0) (drop (suc at) words) due
       ∙ ap (λ (l : List ℕ). spellsRowsFrom schema 0 l) (drop-drop (getD schema (getD words at 0) 0) (suc at) words ∙ ap (λ (n : ℕ). drop n words) far)
 

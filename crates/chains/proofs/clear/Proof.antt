@@ -8,8 +8,6 @@ use Rattle.chains.proofs.Chains.{zero-more, chained-none}
 use borrow.Author.Needs.{needs}
 use Rattle.chains.proofs.clear.Statement.{statement}
 use Rattle.chains.proofs.clear.Tie as tie
-use Rattle.chains.proofs.clear.Reads as reads
-use Rattle.chains.proofs.clear.Lts as lts
 
 abbrev Inv-loop : tie.InvT-loop
 Inv-loop heads₀ b₀ heads b = (b ≤ length heads₀) × (length heads ≡ length heads₀) × ((d : ℕ) → d < b → getD heads d 0 ≡ 0)

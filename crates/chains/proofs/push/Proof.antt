@@ -1,14 +1,11 @@
 -- `push` writes the new node's link and then its head.
 -- Assumes nothing.
-use mathlib.Core.Path.{_≡_}
 use lib.ListN.{length-set, getD}
 use Prim.Native.Nat.{_+_}
 use Rattle.chains.proofs.Chains.{chained-push}
 use borrow.Author.Needs.{needs}
 use Rattle.chains.proofs.push.Statement.{statement}
 use Rattle.chains.proofs.push.Tie as tie
-use Rattle.chains.proofs.push.Reads as reads
-use Rattle.chains.proofs.push.Lts as lts
 
 mul-links : tie.Need-mul-links
 mul-links c = search needs

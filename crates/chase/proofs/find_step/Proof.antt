@@ -175,9 +175,12 @@ loop3-again c =
     let a = c .before .before .before .before .before .before .before .before .before .before .before .before .before .args in
     let d = c .before .before .before .before .before .before .before .before .before .loop .d in
     let i = c .before .before .before .before .before .loop2 .i in
-    let j = c .before .before .before .loop3 .j in
-    (search needs, search needs, c .before .before .before .loop3 .inv .2
-    ∙ pair-next (a .q) (a .t2) (a .held) d i j (search needs) (sym (c .before .breaks .ensures) ∙ c .if1 .left))
+    let j = c .before .before .before .loop3 .j in (
+      search needs,
+      search needs,
+      c .before .before .before .loop3 .inv .2
+          ∙ pair-next (a .q) (a .t2) (a .held) d i j (search needs) (sym (c .before .breaks .ensures) ∙ c .if1 .left),
+    )
 
 add-i : tie.Need-add-i Inv-loop3 μ-loop3 Inv-loop2 μ-loop2 Inv-loop μ-loop Inv-search μ-search
 add-i c = search needs

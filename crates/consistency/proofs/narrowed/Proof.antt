@@ -62,8 +62,15 @@ shl-next : tie.Need-shl-next Inv-loop μ-loop
 shl-next c = search needs
 
 loop-holds : tie.Need-loop-holds Inv-loop μ-loop
-loop-holds c = (search needs, search needs, search needs, refl, ap (bitOr (c .args .t3 .placed)) (shifted (c .args .r) (omega arith)), λ k l. absurd
-    (omega arith))
+loop-holds c = (
+  search needs,
+  search needs,
+  search needs,
+  refl,
+  ap (bitOr (c .args .t3 .placed)) (shifted (c .args .r) (omega arith)),
+  λ k l. absurd
+      (omega arith),
+)
 
 mul-old : tie.Need-mul-old Inv-loop μ-loop
 mul-old c = search needs

@@ -19,9 +19,11 @@ loop-holds c = (search needs, part-started (c .before .args .given) 0 (c .before
 
 write-place-requires : tie.Need-write-place-requires Inv-loop μ-loop
 write-place-requires c κs =
-    let s = c .before .before .before .before in
-    (record { room = part-room (s .args .given) _ _ _ _ (c .before .before .loop .inv .1) (s .pre .0) (c .before .loop-test .taken) }, s .pre .1,
-    c .before .loop-test .taken)
+    let s = c .before .before .before .before in (
+      record { room = part-room (s .args .given) _ _ _ _ (c .before .before .loop .inv .1) (s .pre .0) (c .before .loop-test .taken) },
+      s .pre .1,
+      c .before .loop-test .taken,
+    )
 
 add-place : tie.Need-add-place Inv-loop μ-loop
 add-place c = search needs
@@ -34,7 +36,7 @@ loop-again c =
     let s = c .before .before .before .before .before .before .before in (
       search needs,
       part-more (s .args .given) _ _ _ _ (c .before .before .before .before .before .loop .inv .1) (s .pre .0)
-      (c .before .before .before .before .loop-test .taken) _ _
+          (c .before .before .before .before .loop-test .taken) _ _
           (c .before .before .write-place .ensures),
     )
 

@@ -54,9 +54,16 @@ place-row-claims t =
     (next-row-reads.Asked, next-row-reads.Learnt, test-choices-reads.Asked, test-choices-reads.Learnt, try-candidate-below t, try-candidate.Post)
 
 abbrev try-candidate-claims : ℕ → try-candidate-lts.Claims
-try-candidate-claims t =
-    (next-candidate-reads.Asked, next-candidate-reads.Learnt, choose-reads.Asked, choose-reads.Learnt, place-row-below t, place-row.Post, try-candidate-below t,
-    try-candidate.Post)
+try-candidate-claims t = (
+  next-candidate-reads.Asked,
+  next-candidate-reads.Learnt,
+  choose-reads.Asked,
+  choose-reads.Learnt,
+  place-row-below t,
+  place-row.Post,
+  try-candidate-below t,
+  try-candidate.Post,
+)
 
 -- there is a choice for each of the 13 rows
 long : (t : ℕ) (s : try-candidate-lts.Start (try-candidate-claims t) (try-candidate-at t) try-candidate.Post) → length (s .args .t5 .chosen) ≡ 13
@@ -157,7 +164,7 @@ try-candidate-sub-place-row t c =
     omega (
       arith,
       some-work (s .args .rows) (s .args .domain .now) (s .args .table .now) (s .args .t5) (s .args .work) (s .args .row) (s .args .c) (s .args .blame) _
-      (s .pre .1)
+          (s .pre .1)
           (c .before .before .before .next-candidate .ensures) (c .before .if1 .left),
     )
 
@@ -172,7 +179,7 @@ try-candidate-place-row-requires t c κs =
             (s .pre .1) (c .before .before .before .next-candidate .ensures) (c .before .if1 .left),
       ),
       placeable-next (s .args .rows) (s .args .domain .now) (s .args .table .now) (s .args .t5) (s .args .work) (s .args .row) (s .args .c) (s .args .blame) _
-      (s .pre .1)
+          (s .pre .1)
           (c .before .before .before .next-candidate .ensures) (c .before .if1 .left) _ (c .choose .ensures) (long t s),
     )
 
@@ -209,7 +216,7 @@ try-candidate-sub-try-candidate t c =
     omega (
       arith,
       some-work (s .args .rows) (s .args .domain .now) (s .args .table .now) (s .args .t5) (s .args .work) (s .args .row) (s .args .c) (s .args .blame) _
-      (s .pre .1)
+          (s .pre .1)
           (at7 .next-candidate .ensures) (at5 .if1 .left),
     )
 
@@ -231,7 +238,7 @@ try-candidate-try-candidate-requires t c κs =
             (s .pre .1) (at8 .next-candidate .ensures) (at6 .if1 .left),
       ),
       tryable-next (s .args .rows) (s .args .domain .now) (s .args .table .now) (s .args .t5) (s .args .work) (s .args .row) (s .args .c) (s .args .blame) _
-      (s .pre .1)
+          (s .pre .1)
           (at8 .next-candidate .ensures) (at6 .if1 .left) _ (at5 .choose .ensures) (long t s)
           _ (at4 .place-row .ensures) (c .before .before .before .if2 .left),
     )

@@ -36,7 +36,7 @@ returns c =
     let a = c .before .place-row .ensures in (
       a .solved,
       λ p. no-solution (s .args .rows) (s .args .domain .now) (s .args .table .now) (settled .result) (settled .ensures .placed ∙ first .ensures .0) _
-      (a .failed p),
+          (a .failed p),
     )
 
 pub solve-spec : {M : Type 1} → statement M

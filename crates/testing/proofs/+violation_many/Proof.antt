@@ -57,12 +57,18 @@ violation-in-requires t c κs = let s = c .before .before .before .before .befor
 )
 
 again-requires : (t : ℕ) → violation-many-lts.Need-violation-many-requires (claims t) (violation-many-at t) violation-many.Post
-again-requires t c κs = absurd (omega (arith, c .before .before .before .before .before .before .before .before .before .before .before .before .pre .1 .0,
-    c .if1 .taken))
+again-requires t c κs = absurd (omega (
+  arith,
+  c .before .before .before .before .before .before .before .before .before .before .before .before .pre .1 .0,
+  c .if1 .taken,
+))
 
 returns : (t : ℕ) → violation-many-lts.Need-returns (claims t) (violation-many-at t) violation-many.Post
-returns t c = absurd (omega (arith, c .before .before .before .before .before .before .before .before .before .before .before .before .before .pre .1 .0,
-    c .before .if1 .taken))
+returns t c = absurd (omega (
+  arith,
+  c .before .before .before .before .before .before .before .before .before .before .before .before .before .pre .1 .0,
+  c .before .if1 .taken,
+))
 
 returns-2 : (t : ℕ) → violation-many-lts.Need-returns-2 (claims t) (violation-many-at t) violation-many.Post
 returns-2 t c = search needs

@@ -12,8 +12,8 @@ use Rattle.words.specs.Words.{spellsRows, rowsOf}
 use Rattle.words.specs.Testing.{firstPairFrom}
 use Rattle.words.specs.internal.Found.{pairOf, From}
 use Rattle.words.proofs.Search.{pair-found, pair-later, pair-other, pair-end}
-use Rattle.leaders.specs.internal.Walked.{Room, Skips}
-use Rattle.leaders.proofs.Passing.{rest-all, skips-on}
+use Rattle.grouping.specs.internal.Walked.{Room, Skips}
+use Rattle.grouping.proofs.Passing.{rest-all, skips-on}
 use borrow.Author.Needs.{needs}
 use Rattle.testing.proofs.first_pair.Statement.{statement}
 use Rattle.testing.proofs.first_pair.Tie as tie
@@ -194,7 +194,7 @@ returns-2 c =
       sym (ap pairOf found ∙ pair-found S X D (l .at + p .at) (c .before .before .before .before .before .before .next .result) (l .i + p .number) (f .0 .0) n
           (sym (f .1) ∙ c .before .before .before .first-partner .ensures)),
       c .before .before .before .before .before .before .before .before .before .before .before .before .before .before .before .before .before .before .skip
-      .ensures .1,
+          .ensures .1,
     )
 
 enum-told : tie.Need-enum-told Inv-loop μ-loop

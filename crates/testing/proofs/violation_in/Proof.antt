@@ -12,7 +12,7 @@ use Rattle.words.specs.Testing.{firstBrokenFrom}
 use Rattle.words.specs.Broken.{violationOf}
 use Rattle.query.specs.Rule.{noDependency}
 use Rattle.words.proofs.Search.{violation-found, violation-later, violation-end, drop-take-cons, drop-take-end}
-use Rattle.leaders.specs.internal.Walked.{Room}
+use Rattle.grouping.specs.internal.Walked.{Room}
 use borrow.Author.Needs.{needs}
 use Rattle.testing.proofs.violation_in.Statement.{statement}
 use Rattle.testing.proofs.violation_in.Tie as tie

@@ -40,8 +40,11 @@ shared-slice-read-width : tie.Need-shared-slice-read-width Inv-loop μ-loop
 shared-slice-read-width c = search needs
 
 cast-width : tie.Need-cast-width Inv-loop μ-loop
-cast-width c = omega (arith, c .shared-slice-known2 .given
-    (getD (c .before .before .before .before .before .args .words .now) (c .before .before .before .before .loop .at) 0))
+cast-width c = omega (
+  arith,
+  c .shared-slice-known2 .given
+      (getD (c .before .before .before .before .before .args .words .now) (c .before .before .before .before .loop .at) 0),
+)
 
 sub-if2 : tie.Need-sub-if2 Inv-loop μ-loop
 sub-if2 c = search needs
@@ -78,7 +81,7 @@ unfolding spellsRowsFrom
 returns-3 c = let a = c .before .before .args in
     let e : c .before .loop .at ≡ length (a .words .now) = search needs in
     sym (c .before .loop .inv .1 ∙ ap (λ (n : ℕ). spellsRows (a .schema .now) (drop n (a .words .now))) e ∙ ap (λ (l : List ℕ). spellsRows (a .schema .now) l)
-        (drop-length (a .words .now)))
+    (drop-length (a .words .now)))
 
 pub spelled-spec : {M : Type 1} → statement M
 spelled-spec =

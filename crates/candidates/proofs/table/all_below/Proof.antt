@@ -42,7 +42,7 @@ loop-again : tie.Need-loop-again Inv-loop μ-loop
 loop-again c = (
   search needs,
   marks-one (λ e. Unit {0}) (c .before .before .args .n) (c .before .loop .e) (c .before .loop .mask) (search needs) (c .before .loop .inv .0) tt
-  (c .before .loop .inv .1),
+      (c .before .loop .inv .1),
 )
 
 returns : tie.Need-returns Inv-loop μ-loop

@@ -30,9 +30,11 @@ sub-d c = search needs
 
 possible-requires : tie.Need-possible-requires Inv-loop μ-loop
 possible-requires c κs =
-    let laid = c .before .before .before .before .before .pre .0 in
-    (record { source-length = laid .source-length; target-length = laid .target-length; few-rows = laid .few-rows; few-images = search needs }, search needs,
-    search needs)
+    let laid = c .before .before .before .before .before .pre .0 in (
+      record { source-length = laid .source-length; target-length = laid .target-length; few-rows = laid .few-rows; few-images = search needs },
+      search needs,
+      search needs,
+    )
 
 mul-mask : tie.Need-mul-mask Inv-loop μ-loop
 mul-mask c =
@@ -61,7 +63,7 @@ loop-again c =
     let P : ℕ → Type 0 = Possible (args .source .now) (args .target .now) (args .named) (args .offered) (args .size) (args .r) in (
       search needs,
       marks-one P (at4 .candidates .result) (c .before .before .before .loop .d) (c .before .before .before .loop .mask) (search needs)
-      (c .before .before .before .loop .inv .0)
+          (c .before .before .before .loop .inv .0)
           (c .before .possible .ensures .0 (c .if1 .taken)) (c .before .before .before .loop .inv .1),
     )
 
@@ -84,7 +86,7 @@ loop-again-2 c =
     let P : ℕ → Type 0 = Possible (args .source .now) (args .target .now) (args .named) (args .offered) (args .size) (args .r) in (
       search needs,
       marks-zero P (at4 .candidates .result) (c .before .before .before .loop .d) (c .before .before .before .loop .mask) (search needs)
-      (c .before .before .before .loop .inv .0)
+          (c .before .before .before .loop .inv .0)
           (λ p. false≢true (sym (c .if1 .left) ∙ c .before .possible .ensures .1 p)) (c .before .before .before .loop .inv .1),
     )
 

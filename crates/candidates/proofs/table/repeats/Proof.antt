@@ -38,8 +38,13 @@ same-row-requires : tie.Need-same-row-requires Inv-loop μ-loop
 same-row-requires c κs = search needs
 
 returns : tie.Need-returns Inv-loop μ-loop
-returns c = tells-true (c .before .before .before .before .loop .e, search needs, c .before .before .if1 .taken, c .before .same-row .ensures .0
-    (c .if2 .taken))
+returns c = tells-true (
+  c .before .before .before .before .loop .e,
+  search needs,
+  c .before .before .if1 .taken,
+  c .before .same-row .ensures .0
+      (c .if2 .taken),
+)
 
 add-e : tie.Need-add-e Inv-loop μ-loop
 add-e c = search needs

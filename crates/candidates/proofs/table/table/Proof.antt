@@ -45,7 +45,7 @@ loop-again c =
       search needs,
       search needs,
       stored-more (IsMask (args .source .now) (args .target .now) (args .size) (args .count)) all k (c .mask-at .result) 0 long
-      (c .before .before .loop .inv .2)
+          (c .before .before .loop .inv .2)
           (c .mask-at .ensures),
     )
 

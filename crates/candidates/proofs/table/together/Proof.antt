@@ -80,7 +80,7 @@ loop-again c =
     in (
       search needs,
       marks-one P (c .before .before .before .before .before .candidates .result) (c .before .before .before .before .loop .e)
-      (c .before .before .before .before .loop .mask)
+          (c .before .before .before .before .loop .mask)
           (search needs) (c .before .before .before .before .loop .inv .0) (tells .0 (c .if1 .taken)) (c .before .before .before .before .loop .inv .1),
     )
 
@@ -111,7 +111,7 @@ loop-again-2 c =
     in (
       search needs,
       marks-zero P (c .before .before .before .before .before .candidates .result) (c .before .before .before .before .loop .e)
-      (c .before .before .before .before .loop .mask)
+          (c .before .before .before .before .loop .mask)
           (search needs) (c .before .before .before .before .loop .inv .0) (λ p. false≢true (sym (c .if1 .left) ∙ tells .1 p))
           (c .before .before .before .before .loop .inv .1),
     )

@@ -3,9 +3,6 @@ use Rattle.demands.proofs.Keeping.{add-keeps}
 use borrow.Author.Needs.{needs}
 use Rattle.demands.proofs.demand1.add.Statement.{statement}
 use Rattle.demands.proofs.demand1.add.Tie as tie
-use Rattle.demands.proofs.demand1.add.Reads as reads
-use Rattle.demands.proofs.demand1.add.Lts as lts
-use Rattle.record.proofs.Record.add_dependency.Reads as add-dependency-reads
 
 add-dependency-requires : tie.Need-add-dependency-requires
 add-dependency-requires c κs = search needs

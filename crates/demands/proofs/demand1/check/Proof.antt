@@ -3,9 +3,6 @@ use Rattle.demands.proofs.Keeping.{check-keeps}
 use borrow.Author.Needs.{needs}
 use Rattle.demands.proofs.demand1.check.Statement.{statement}
 use Rattle.demands.proofs.demand1.check.Tie as tie
-use Rattle.demands.proofs.demand1.check.Reads as reads
-use Rattle.demands.proofs.demand1.check.Lts as lts
-use Rattle.comparison.proofs.check_mapping.Reads as check-mapping-reads
 
 check-mapping-requires : tie.Need-check-mapping-requires
 check-mapping-requires c κs = search needs

@@ -3,9 +3,6 @@ use Rattle.demands.proofs.Keeping.{determined-keeps}
 use borrow.Author.Needs.{needs}
 use Rattle.demands.proofs.demand1.determined.Statement.{statement}
 use Rattle.demands.proofs.demand1.determined.Tie as tie
-use Rattle.demands.proofs.demand1.determined.Reads as reads
-use Rattle.demands.proofs.demand1.determined.Lts as lts
-use Rattle.record.proofs.Record.determined.Reads as determined-reads
 
 determined-requires : tie.Need-determined-requires
 determined-requires c κs = search needs

@@ -3,9 +3,6 @@ use Rattle.demands.proofs.Keeping.{drop-keeps}
 use borrow.Author.Needs.{needs}
 use Rattle.demands.proofs.demand1.drop_query.Statement.{statement}
 use Rattle.demands.proofs.demand1.drop_query.Tie as tie
-use Rattle.demands.proofs.demand1.drop_query.Reads as reads
-use Rattle.demands.proofs.demand1.drop_query.Lts as lts
-use Rattle.record.proofs.Record.drop_query.Reads as drop-query-reads
 
 drop-query-requires : tie.Need-drop-query-requires
 drop-query-requires c κs = search needs

@@ -3,9 +3,6 @@ use Rattle.demands.proofs.Keeping.{evaluate-keeps}
 use borrow.Author.Needs.{needs}
 use Rattle.demands.proofs.demand1.evaluate.Statement.{statement}
 use Rattle.demands.proofs.demand1.evaluate.Tie as tie
-use Rattle.demands.proofs.demand1.evaluate.Reads as reads
-use Rattle.demands.proofs.demand1.evaluate.Lts as lts
-use Rattle.database.proofs.evaluate.Reads as evaluate-reads
 
 evaluate-requires : tie.Need-evaluate-requires
 evaluate-requires c κs = search needs

@@ -3,9 +3,6 @@ use Rattle.demands.proofs.Keeping.{open-keeps}
 use borrow.Author.Needs.{needs}
 use Rattle.demands.proofs.demand1.open.Statement.{statement}
 use Rattle.demands.proofs.demand1.open.Tie as tie
-use Rattle.demands.proofs.demand1.open.Reads as reads
-use Rattle.demands.proofs.demand1.open.Lts as lts
-use Rattle.record.proofs.Record.open.Reads as open-reads
 
 open-requires : tie.Need-open-requires
 open-requires c κs = search needs

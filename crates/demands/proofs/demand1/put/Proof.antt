@@ -3,9 +3,6 @@ use Rattle.demands.proofs.Keeping.{put-keeps}
 use borrow.Author.Needs.{needs}
 use Rattle.demands.proofs.demand1.put.Statement.{statement}
 use Rattle.demands.proofs.demand1.put.Tie as tie
-use Rattle.demands.proofs.demand1.put.Reads as reads
-use Rattle.demands.proofs.demand1.put.Lts as lts
-use Rattle.record.proofs.Record.put.Reads as put-reads
 
 put-requires : tie.Need-put-requires
 put-requires c κs = search needs

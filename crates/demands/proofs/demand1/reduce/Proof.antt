@@ -3,9 +3,6 @@ use Rattle.demands.proofs.Keeping.{reduce-keeps}
 use borrow.Author.Needs.{needs}
 use Rattle.demands.proofs.demand1.reduce.Statement.{statement}
 use Rattle.demands.proofs.demand1.reduce.Tie as tie
-use Rattle.demands.proofs.demand1.reduce.Reads as reads
-use Rattle.demands.proofs.demand1.reduce.Lts as lts
-use Rattle.reduction.proofs.reduce.Reads as reduce-reads
 
 reduce-requires : tie.Need-reduce-requires
 reduce-requires c κs = search needs

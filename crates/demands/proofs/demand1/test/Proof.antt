@@ -3,9 +3,6 @@ use Rattle.demands.proofs.Keeping.{test-keeps}
 use borrow.Author.Needs.{needs}
 use Rattle.demands.proofs.demand1.test.Statement.{statement}
 use Rattle.demands.proofs.demand1.test.Tie as tie
-use Rattle.demands.proofs.demand1.test.Reads as reads
-use Rattle.demands.proofs.demand1.test.Lts as lts
-use Rattle.database.proofs.test.Reads as test-reads
 
 test-requires : tie.Need-test-requires
 test-requires c κs = search needs

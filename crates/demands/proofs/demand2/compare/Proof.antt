@@ -3,9 +3,6 @@ use Rattle.demands.proofs.Answering.{decides}
 use borrow.Author.Needs.{needs}
 use Rattle.demands.proofs.demand2.compare.Statement.{statement}
 use Rattle.demands.proofs.demand2.compare.Tie as tie
-use Rattle.demands.proofs.demand2.compare.Reads as reads
-use Rattle.demands.proofs.demand2.compare.Lts as lts
-use Rattle.comparison.proofs.compare.Reads as compare-reads
 
 compare-requires : tie.Need-compare-requires
 compare-requires c κs = search needs

@@ -6,10 +6,6 @@ use Rattle.demands.proofs.Answering.{read-again, not-written, inside}
 use borrow.Author.Needs.{needs}
 use Rattle.demands.proofs.demand2.read_back.Statement.{statement}
 use Rattle.demands.proofs.demand2.read_back.Tie as tie
-use Rattle.demands.proofs.demand2.read_back.Reads as reads
-use Rattle.demands.proofs.demand2.read_back.Lts as lts
-use Rattle.file.proofs.read.Reads as read-reads
-use Rattle.writer.proofs.write.Reads as write-reads
 
 write-requires : tie.Need-write-requires
 write-requires c κs = search needs

@@ -4,10 +4,6 @@ use Rattle.demands.proofs.Answering.{written-again, not-read}
 use borrow.Author.Needs.{needs}
 use Rattle.demands.proofs.demand2.write_back.Statement.{statement}
 use Rattle.demands.proofs.demand2.write_back.Tie as tie
-use Rattle.demands.proofs.demand2.write_back.Reads as reads
-use Rattle.demands.proofs.demand2.write_back.Lts as lts
-use Rattle.file.proofs.read.Reads as read-reads
-use Rattle.writer.proofs.write.Reads as write-reads
 
 read-requires : tie.Need-read-requires
 read-requires c κs = search needs

@@ -49,7 +49,7 @@ loop-again c =
     let args = at5 .args in (
       search needs,
       rows-more (args .source) (args .target) (args .size) (choiceOf (args .t4)) (at4 .loop .r) (c .before .before .row-at .result)
-      (c .before .image-at .result)
+          (c .before .image-at .result)
           (at4 .loop .images) (c .assign-row .result) (c .before .before .row-at .ensures .0) (c .before .image-at .ensures .0) (at4 .loop .inv .1)
           (c .assign-row .ensures),
     )

@@ -39,8 +39,11 @@ loop-less : tie.Need-loop-less Inv-loop μ-loop
 loop-less c = search needs
 
 loop-again : tie.Need-loop-again Inv-loop μ-loop
-loop-again c = (search needs, below-more _ _ (c .before .before .before .before .loop .inv .1)
-    (sameEntry-ne _ _ (sym (c .before .same-entry .ensures) ∙ c .if1 .left)))
+loop-again c = (
+  search needs,
+  below-more _ _ (c .before .before .before .before .loop .inv .1)
+      (sameEntry-ne _ _ (sym (c .before .same-entry .ensures) ∙ c .if1 .left)),
+)
 
 returns-2 : tie.Need-returns-2 Inv-loop μ-loop
 returns-2 c = tells-false (λ w. c .before .loop .inv .1 (w .0) (let h : w .0 < 104 = w .1 in search needs) (w .2))

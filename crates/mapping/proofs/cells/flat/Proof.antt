@@ -66,7 +66,7 @@ loop-again c =
     let same : ℕ → Cell → Type 0 = λ j x. x ≡ cellAt q j in (
       search needs,
       ⊎-elim (λ w. ap length (w .2) ∙ simp length-set (c .before .before .loop .inv .1))
-      (λ w. ap length (w .2) ∙ simp length-set (c .before .before .loop .inv .1)) (c .if1 .came),
+          (λ w. ap length (w .2) ∙ simp length-set (c .before .before .loop .inv .1)) (c .if1 .came),
       ⊎-elim
           (λ w. stored-into same all (c .if1 .all) k (getD (q .cells) k noCell) noCell (w .2) long (c .before .before .loop .inv .2)
           (simp (lt-ltb _ _ (w .0 .taken))))

@@ -1,0 +1,148 @@
+-- What comparing leaves. Assumes nothing.
+use mathlib.Core.Path.{_≡_, refl, sym, subst, _∙_}
+use mathlib.Core.Bool.{true}
+use mathlib.Core.List.{List, []}
+use mathlib.Core.Option.{Option}
+use mathlib.Core.Option as option
+use Prim.Native.Nat.{ℕ, _≤_, _<_}
+use native.Mathlib.Omega.{arith}
+use lib.ListN.{length}
+use borrow.Author.Tests.{le-leb, lt-leb}
+use Rattle.refusals.specs.Refusals.{_>>=_, bufferTooShort, gives, refused, Reply}
+use Rattle.record.specs.Calls.{queryAt}
+use Rattle.query.specs.declared.Cell.{Cell}
+use Rattle.query.specs.declared.Query.{Query}
+use Rattle.record.specs.declared.Record.{Record}
+use Rattle.record.specs.declared.Answer.the-variants.{Refused}
+use Rattle.record.specs.View.{schemaOf, dependenciesOf}
+use Rattle.query.specs.Rule.{headSafe}
+use Rattle.record.proofs.Kept.{filled-place}
+use Rattle.lists.specs.Over.{over}
+use Rattle.format.specs.Parts.{query}
+use Rattle.format.specs.File.{placeWith, putPlace, readFile}
+use Rattle.lists.proofs.Over.{over-nil}
+use Rattle.comparison.specs.declared.Comparison.{Comparison}
+use Rattle.comparison.specs.declared.Verdict.{Verdict}
+use Rattle.comparison.specs.declared.Verdict.the-variants as verdict
+use Rattle.comparison.specs.Comparison.{pairRefusal, judged, Compared}
+use Rattle.comparison.proofs.Verdicts.{queries}
+use Rattle.chase.proofs.Callers.{chases-safe}
+use Rattle.theory.specs.Query as theory
+use Rattle.theory.specs.Query.{rowEntries, variablesOf}
+use Rattle.theory.specs.Determined.{subset}
+use Rattle.theory.proofs.Chase.{chase-chases}
+use Rattle.theory.proofs.Determined.{subset-true, subset-of}
+use Rattle.mapping_words.specs.Images.{mappingWords}
+use Rattle.comparison_on_files.specs.Queries.{verdictFits, comparisonFits, ComparisonGiven, ComparisonShape, Comparing, CompareGives}
+use Rattle.comparison_on_files.specs.internal.Steps.{SoundComparison}
+
+-- ---- what a comparison leaves
+
+module _ (images : List Cell) (said : ℕ) (mapping part : List ℕ) (size : ℕ) where
+  pub comparison-same : {x y : Reply (ℕ × List ℕ)} → x ≡ y → (number said′ : ℕ) (mapping′ part′ : List ℕ) (size′ : ℕ)
+      → ComparisonGiven y images said mapping part size number said′ mapping′ part′ size′ → ComparisonGiven x images said mapping part size number said′
+      mapping′ part′ size′
+  comparison-same p number said′ mapping′ part′ size′ w =
+      subst (λ (z : Reply (ℕ × List ℕ)). ComparisonGiven z images said mapping part size number said′ mapping′ part′ size′) (sym p) w
+
+  pub comparison-none : {x : Reply (ℕ × List ℕ)} {n : ℕ} → x ≡ refused n → ComparisonGiven x images said mapping part size n said mapping part size
+  comparison-none {n = n} p = comparison-same p n said mapping part size (refl, refl, refl, refl, refl)
+
+  module _ (code : ℕ) (bytes : List ℕ) where
+    fits-short : length mapping < 192 → verdictFits (length mapping) (length part) (code, bytes) ≡ refused bufferTooShort
+    fits-short h = rw (lt-leb 192 (length mapping) h)
+
+    fits-long : 192 ≤ length mapping → length part < length bytes → verdictFits (length mapping) (length part) (code, bytes) ≡ refused bufferTooShort
+    fits-long h l = rw (le-leb 192 (length mapping) h, lt-leb (length bytes) (length part) l)
+
+    fits-both : 192 ≤ length mapping → length bytes ≤ length part → verdictFits (length mapping) (length part) (code, bytes) ≡ gives (code, bytes)
+    fits-both h l = rw (le-leb 192 (length mapping) h, le-leb (length bytes) (length part) l)
+
+    -- there is no room for a mapping
+    pub verdict-short : length mapping < 192
+        → ComparisonGiven (verdictFits (length mapping) (length part) (code, bytes)) images said mapping part size bufferTooShort said mapping part size
+    verdict-short h = comparison-none (fits-short h)
+
+    -- nor for the query
+    pub verdict-long : 192 ≤ length mapping → length part < length bytes
+        → ComparisonGiven (verdictFits (length mapping) (length part) (code, bytes)) images said mapping part size bufferTooShort said mapping part size
+    verdict-long h l = comparison-none (fits-long h l)
+
+    -- there is room for both
+    pub verdict-stored : (mapping′ part′ : List ℕ) (size′ : ℕ) → 192 ≤ length mapping → length bytes ≤ length part
+        → mapping′ ≡ over mapping 0 (mappingWords images)
+        → part′ ≡ over part 0 bytes → size′ ≡ length bytes
+        → ComparisonGiven (verdictFits (length mapping) (length part) (code, bytes)) images said mapping part size 0 code mapping′ part′ size′
+    verdict-stored mapping′ part′ size′ h l m p n = comparison-same (fits-both h l) 0 code mapping′ part′ size′ (refl, refl, m, p, n)
+
+  -- a verdict without a query
+  pub contained-stored : (code : ℕ) (mapping′ : List ℕ) → 192 ≤ length mapping → mapping′ ≡ over mapping 0 (mappingWords images)
+      → ComparisonGiven (verdictFits (length mapping) (length part) (code, [])) images said mapping part size 0 code mapping′ part 0
+  contained-stored code mapping′ h m = verdict-stored code [] mapping′ part 0 h (omega arith) m (sym (over-nil part 0)) refl
+
+-- The part of a place that holds a query is the query's bytes
+pub query-part : (schema : List ℕ) (q : Query) → putPlace schema (placeWith q) ≡ query schema .put q
+unfolding putPlace
+query-part schema q = refl
+
+module _ (words room : ℕ) (schema : List ℕ) (c : Comparison) where
+  pub comparison-apart : c .verdict ≡ verdict.Apart → comparisonFits words room schema c ≡ verdictFits words room (0, query schema .put (c .query))
+  unfolding _>>=_
+  comparison-apart e = rw e
+
+  pub comparison-contained : c .verdict ≡ verdict.Contained → comparisonFits words room schema c ≡ verdictFits words room (1, [])
+  unfolding _>>=_
+  comparison-contained e = rw e
+
+  pub comparison-never : c .verdict ≡ verdict.Never → comparisonFits words room schema c ≡ verdictFits words room (2, [])
+  unfolding _>>=_
+  comparison-never e = rw e
+
+  pub comparison-refused : (n : ℕ) → c .verdict ≡ verdict.Refused n → comparisonFits words room schema c ≡ refused n
+  unfolding _>>=_
+  comparison-refused n e = rw e
+
+-- ---- the exported call
+
+-- A comparison that gives a query holds one that is good with a safe head
+pub compared-sound : (r : Record) (p q : ℕ) (c : Comparison) → Compared r p q c → SoundComparison (schemaOf r) c
+unfolding headSafe
+compared-sound r p q c is apart =
+    let accepted : pairRefusal r p q ≡ option.none = unrefused (pairRefusal r p q) _ (sym (is .verdict) ∙ apart) in
+    let view = queryAt r p in
+    let chased = is .chased apart in
+    let safe : headSafe (schemaOf r) (c .query) ≡ true =
+    subst (λ (x : theory.Query). subset (variablesOf (x .head)) (variablesOf (rowEntries (x .rows))) ≡ true) (sym (chased .0))
+    (subset-of _ _
+    (chases-safe (chase-chases (dependenciesOf r) view) (subset-true (variablesOf (view .head)) (variablesOf (rowEntries (view .rows)))
+    (queries r p q accepted .safe-p)))) in
+    filled-place (schemaOf r) (c .query) (chased .1) safe
+  where
+    unrefused : (x : Option ℕ) (v : Verdict) → judged x v ≡ verdict.Apart → x ≡ option.none
+    unrefused option.none v e = refl
+    unrefused (option.some n) v e = let z : _≡_ {A = ℕ} 0 1 = cc in absurd (omega arith)
+
+module _ (file : List ℕ) (p q said : ℕ) (mapping part : List ℕ) (size : ℕ) where
+  pub compare-done : (r : Record) → readFile file ≡ gives r → (c : Comparison) → Compared r p q c → ComparisonShape c
+      → (number said′ : ℕ) (mapping′ part′ : List ℕ) (size′ : ℕ)
+      → ComparisonGiven (comparisonFits (length mapping) (length part) (schemaOf r) c) (c .images) said mapping part size number said′ mapping′ part′ size′
+      → CompareGives file p q said mapping part size number said′ mapping′ part′ size′
+  compare-done r e c is shape number said′ mapping′ part′ size′ w =
+      record {
+        result = comparisonFits (length mapping) (length part) (schemaOf r) c;
+        images = c .images;
+        comparing =
+            subst (λ (x : Reply Record). Comparing x p q (comparisonFits (length mapping) (length part) (schemaOf r) c) (c .images) (length mapping)
+            (length part)) (sym e)
+            (c, is, shape, refl, refl);
+        given = w;
+      }
+
+  pub compare-refused : (n : ℕ) → readFile file ≡ refused n → CompareGives file p q said mapping part size n said mapping part size
+  compare-refused n e =
+      record {
+        result = refused n;
+        images = [];
+        comparing = subst (λ (x : Reply Record). Comparing x p q (refused n) [] (length mapping) (length part)) (sym e) refl;
+        given = (refl, refl, refl, refl, refl);
+      }

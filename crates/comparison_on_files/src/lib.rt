@@ -1,0 +1,178 @@
+// Comparing and checking a mapping on files: what each call leaves in what it is lent.
+use comparison::Checked;
+use comparison::Comparison;
+use comparison::Verdict;
+use encoder::place_length;
+use encoder::put_place;
+use mapping_words::put_mapping;
+use mapping_words::read_mapping;
+use query::Cell;
+use query::Place;
+use query::Query;
+use record::Answer;
+use record::Record;
+ghost use mathlib.Core.Path.{_≡_};
+ghost use mathlib.Core.Bool.{true};
+ghost use mathlib.Core.List.{[]};
+ghost use lib.ListN.{length, take};
+ghost use Rattle.query.specs.Rule.{goodRelations, goodPlace};
+ghost use Rattle.format.specs.Parts.{query};
+ghost use Rattle.format.specs.File.{placeWith};
+ghost use Rattle.refusals.specs.Refusals.{reply};
+ghost use Rattle.comparison.specs.Comparison.{pairRefusal};
+ghost use Rattle.record_on_files.specs.Lent.{statusOf, leaves};
+ghost use Rattle.comparison_on_files.specs.Queries.{verdictFits, comparisonFits, ComparisonGiven, CompareGives, wordsMap, checkedIn, bit};
+ghost use Rattle.comparison_on_files.specs.internal.Steps.{SoundComparison};
+
+// ---- comparing
+
+// Stores a verdict that has no query.
+fn store_contained(
+    code: u8,
+    images: [Cell; 96],
+    verdict: &mut u8,
+    mapping: &mut [u32],
+    part: &mut [u8],
+    size: &mut usize,
+) -> u8
+    ensures { λ r. ⌜ ComparisonGiven (verdictFits (length (now (mapping .entry))) (length (now (part .entry))) (code, [])) images (now (verdict .entry)) (now (mapping .entry)) (now (part .entry)) (now (size .entry)) r (now (verdict .exit)) (now (mapping .exit)) (now (part .exit)) (now (size .exit)) ⌝ }
+{
+    if mapping.len() < 192 {
+        return refusals::BUFFER_TOO_SHORT;
+    }
+    put_mapping(images, mapping);
+    *verdict = code;
+    *size = 0;
+    0
+}
+
+// Stores the verdict that the first query is not contained, with its chased query.
+fn store_apart(
+    chased: Query,
+    images: [Cell; 96],
+    count: u8,
+    widths: [u8; 8],
+    verdict: &mut u8,
+    mapping: &mut [u32],
+    part: &mut [u8],
+    size: &mut usize,
+) -> u8
+    requires { ⌜ goodRelations count widths ≡ true ⌝ }
+    requires { ⌜ goodPlace (take count widths) (placeWith chased) ≡ true ⌝ }
+    ensures { λ r. ⌜ ComparisonGiven (verdictFits (length (now (mapping .entry))) (length (now (part .entry))) (0, query (take count widths) .put chased)) images (now (verdict .entry)) (now (mapping .entry)) (now (part .entry)) (now (size .entry)) r (now (verdict .exit)) (now (mapping .exit)) (now (part .exit)) (now (size .exit)) ⌝ }
+{
+    if mapping.len() < 192 {
+        return refusals::BUFFER_TOO_SHORT;
+    }
+    let place = Place {
+        filled: true,
+        query: chased,
+    };
+    let n = place_length(place, count, widths);
+    if part.len() < n {
+        return refusals::BUFFER_TOO_SHORT;
+    }
+    put_place(part, 0, place, count, widths);
+    put_mapping(images, mapping);
+    *verdict = 0;
+    *size = n;
+    0
+}
+
+// Stores a comparison, unless it is refused: the verdict, the mapping, and the chased query.
+pub fn store_comparison(
+    compared: Comparison,
+    count: u8,
+    widths: [u8; 8],
+    verdict: &mut u8,
+    mapping: &mut [u32],
+    part: &mut [u8],
+    size: &mut usize,
+) -> u8
+    requires { ⌜ goodRelations count widths ≡ true ⌝ }
+    requires { ⌜ SoundComparison (take count widths) compared ⌝ }
+    ensures { λ r. ⌜ ComparisonGiven (comparisonFits (length (now (mapping .entry))) (length (now (part .entry))) (take count widths) compared) (compared .images) (now (verdict .entry)) (now (mapping .entry)) (now (part .entry)) (now (size .entry)) r (now (verdict .exit)) (now (mapping .exit)) (now (part .exit)) (now (size .exit)) ⌝ }
+{
+    let found = compared.verdict;
+    let images = compared.images;
+    match found {
+        Verdict::Apart => {
+            let chased = compared.query;
+            store_apart(chased, images, count, widths, verdict, mapping, part, size)
+        }
+        Verdict::Contained => store_contained(1, images, verdict, mapping, part, size),
+        Verdict::Never => store_contained(2, images, verdict, mapping, part, size),
+        Verdict::Refused(n) => n,
+    }
+}
+
+// ---- checking a mapping
+
+// Checks words for two places: words that are no mapping are none between the queries.
+pub fn check_words(given: Record, p: usize, q: usize, words: &[u32], verdict: &mut u8) -> u8
+    ensures { λ r. ⌜ r ≡ statusOf (reply (pairRefusal given p q) (wordsMap given p q (now (words .entry)))) ⌝ }
+    ensures { λ _. ⌜ now (verdict .exit) ≡ leaves (reply (pairRefusal given p q) (wordsMap given p q (now (words .entry)))) bit (now (verdict .entry)) ⌝ }
+{
+    let read = read_mapping(words);
+    let images = read.images;
+    let checked = comparison::check_mapping(given, p, q, images);
+    match checked {
+        Checked::Yes => {
+            if read.found {
+                *verdict = 1;
+            } else {
+                *verdict = 0;
+            }
+            0
+        }
+        Checked::No => {
+            *verdict = 0;
+            0
+        }
+        Checked::Refused(n) => n,
+    }
+}
+
+// ---- the calls
+
+// Compares the queries of two places.
+pub fn compare_in_file(
+    file: &[u8],
+    p: usize,
+    q: usize,
+    verdict: &mut u8,
+    mapping: &mut [u32],
+    part: &mut [u8],
+    size: &mut usize,
+) -> u8
+    ensures { λ r. ⌜ CompareGives (now (file .entry)) p q (now (verdict .entry)) (now (mapping .entry)) (now (part .entry)) (now (size .entry)) r (now (verdict .exit)) (now (mapping .exit)) (now (part .exit)) (now (size .exit)) ⌝ }
+{
+    let outcome = file::read(file);
+    let answer = outcome.answer;
+    match answer {
+        Answer::Done => {
+            let given = outcome.record;
+            let count = given.relations;
+            let widths = given.widths;
+            let compared = comparison::compare(given, p, q);
+            store_comparison(compared, count, widths, verdict, mapping, part, size)
+        }
+        Answer::Refused(n) => n,
+    }
+}
+
+// Checks a mapping from the query of place q to that of place p.
+pub fn check_in_file(file: &[u8], p: usize, q: usize, mapping: &[u32], verdict: &mut u8) -> u8
+    ensures { λ r. ⌜ r ≡ statusOf (checkedIn (now (file .entry)) p q (now (mapping .entry))) ⌝ }
+    ensures { λ _. ⌜ now (verdict .exit) ≡ leaves (checkedIn (now (file .entry)) p q (now (mapping .entry))) bit (now (verdict .entry)) ⌝ }
+{
+    let outcome = file::read(file);
+    let answer = outcome.answer;
+    match answer {
+        Answer::Done => {
+            let given = outcome.record;
+            check_words(given, p, q, mapping, verdict)
+        }
+        Answer::Refused(n) => n,
+    }
+}

@@ -1,0 +1,101 @@
+-- `bucket_of` is the hash of a row's left values, taken into the buckets. Invariant: the hash of what is left of the left set, begun with h, is the whole hash.
+-- Assumes nothing.
+use mathlib.Core.Path.{_≡_, refl, sym, ap, _∙_}
+use mathlib.Core.Logic.{⊎-elim}
+use Prim.Native.Nat.{ℕ, _≤_, _-_, _+_, _*_, _/_, _%_, _<_}
+use native.Mathlib.Nat.{mod-lt}
+use native.Mathlib.Omega.{arith}
+use lib.ListN.{getD}
+use Rattle.query.specs.View.{columnsOf}
+use Rattle.words.specs.internal.Rows.{spanAt}
+use Rattle.grouping.specs.internal.Hash.{hashFrom}
+use Rattle.grouping.proofs.Hashes.{hashAt, hash-start, hash-skip, hash-mix, hash-end}
+use borrow.Author.Needs.{needs}
+use Rattle.grouping.proofs.bucket_of.Statement.{statement}
+use Rattle.grouping.proofs.bucket_of.Tie as tie
+
+abbrev Inv-loop : tie.InvT-loop
+Inv-loop words width a buckets h₀ left₀ c₀ h left c = (c ≤ width) × (h < 4294967296) × (hashAt width words a 0 left₀ 0 ≡ hashAt width words a c left h)
+
+abbrev μ-loop : tie.MeasureT-loop
+μ-loop words width a buckets h₀ left₀ c₀ h left c = width - c
+
+loop-holds : tie.Need-loop-holds Inv-loop μ-loop
+loop-holds c = (search needs, search needs, refl)
+
+mul-h : tie.Need-mul-h Inv-loop μ-loop
+mul-h c = search needs
+
+add-h : tie.Need-add-h Inv-loop μ-loop
+add-h c = search needs
+
+add-h-2 : tie.Need-add-h-2 Inv-loop μ-loop
+add-h-2 c = search needs
+
+mul-h-2 : tie.Need-mul-h-2 Inv-loop μ-loop
+mul-h-2 c = search needs
+
+shared-slice-read-h : tie.Need-shared-slice-read-h Inv-loop μ-loop
+shared-slice-read-h c = search needs
+
+cast-h : tie.Need-cast-h Inv-loop μ-loop
+cast-h c = omega (arith, c .shared-slice-known .given (c .before .before .before .before .args .a + 1 + c .before .before .before .loop .c))
+
+add-h-3 : tie.Need-add-h-3 Inv-loop μ-loop
+add-h-3 c = omega (arith, c .shared-slice-known .given (c .before .before .before .before .args .a + 1 + c .before .before .before .loop .c))
+
+add-c : tie.Need-add-c Inv-loop μ-loop
+add-c c = search needs
+
+loop-less : tie.Need-loop-less Inv-loop μ-loop
+loop-less c = search needs
+
+loop-again : tie.Need-loop-again Inv-loop μ-loop
+loop-again c = let a = c .before .before .before .args in
+    let l = c .before .before .loop in
+    let W = a .words .now in
+    let x : ℕ = getD W (a .a + 1 + l .c) 0 in
+    let low : c .if1 .h < 4294967296 =
+    ⊎-elim (λ w. let e : c .if1 .h ≡ (l .h * 1000003 + x) % 4294967296 = w .2 in omega (arith, mod-lt (l .h * 1000003 + x) {m = 4294967296} (omega arith)))
+    (λ w. let e : c .if1 .h ≡ l .h = w .1 in omega arith) (c .if1 .came) in (
+      search needs,
+      low,
+      l .inv .2
+          ∙ ⊎-elim (λ w. hash-mix (a .width) W (a .a) (l .c) (l .left) (l .h) (search needs) (w .0 .taken) ∙ ap
+          (hashAt (a .width) W (a .a) (l .c + 1) (l .left / 2)) (sym (w .2)))
+          (λ w. hash-skip (a .width) W (a .a) (l .c) (l .left) (l .h) (search needs) (w .0 .left) ∙ ap (hashAt (a .width) W (a .a) (l .c + 1) (l .left / 2))
+          (sym (w .1))) (c .if1 .came),
+    )
+
+rem-result : tie.Need-rem-result Inv-loop μ-loop
+rem-result c = search needs
+
+returns : tie.Need-returns Inv-loop μ-loop
+returns c = let s = c .before .before in
+    let a = s .args in
+    let l = c .before .loop in
+    let W = a .words .now in
+    let e : hashFrom (columnsOf (a .d .left)) 0 (spanAt (a .width) W (a .a)) ≡ l .h =
+    hash-start (a .width) W (a .a) (a .d .left) (s .pre .1 .0) (s .pre .1 .1) ∙ l .inv .2 ∙ hash-end (a .width) W (a .a) (l .c) (l .left) (l .h)
+    (search needs) in
+    (sym (ap (λ (x : ℕ). x % a .buckets) e), mod-lt (l .h) {m = a .buckets} (s .pre .1 .2))
+
+pub bucket-of-spec : {M : Type 1} → statement M
+bucket-of-spec =
+    tie.close
+    (tie.spec
+    Inv-loop
+    μ-loop
+    loop-holds
+    mul-h
+    add-h
+    add-h-2
+    mul-h-2
+    shared-slice-read-h
+    cast-h
+    add-h-3
+    add-c
+    loop-less
+    loop-again
+    rem-result
+    returns)

@@ -1,0 +1,63 @@
+-- The record after each call on a record alone is good; and a query part that is put. Assumes nothing.
+use mathlib.Core.Path.{_≡_, sym, subst}
+use mathlib.Core.Bool.{true}
+use mathlib.Core.List.{List}
+use Prim.Native.Nat.{ℕ, _≤_, _<_}
+use native.Mathlib.Omega.{arith}
+use lib.ListN.{length}
+use borrow.Author.Tests.{lt-ltb, le-ltb}
+use Rattle.refusals.specs.Refusals.{_>>=_, gives, noSuchPlace, refused, Reply}
+use Rattle.query.specs.declared.Query.{Query}
+use Rattle.query.specs.declared.Dependency.{Dependency}
+use Rattle.query.specs.declared.Place.{Place}
+use Rattle.record.specs.declared.Record.{Record}
+use Rattle.record.specs.declared.Answer.the-variants.{Done, Refused}
+use Rattle.record.specs.declared.Outcome.{Outcome}
+use Rattle.record.specs.View.{schemaOf}
+use Rattle.record.specs.Rule.{goodRecord}
+use Rattle.record.specs.Calls.{openRecord, addDependency, putQuery, dropQuery}
+use Rattle.record.proofs.Meaning.{open-keeps, add-keeps, put-keeps, drop-keeps}
+use Rattle.format.specs.File.{readPlace}
+use Rattle.decoder.specs.declared.PlaceRead.{PlaceRead}
+use Rattle.decoder.specs.internal.Read.{placeRead}
+use Rattle.record_on_files.specs.Records.{resultOf, putPart}
+use Rattle.record_on_files.specs.internal.Steps.{GoodIfDone}
+
+-- A refused call promises nothing of its record
+pub refused-sound : (o : Outcome) (n : ℕ) → resultOf o ≡ refused n → GoodIfDone o
+refused-sound o n e a = let p : resultOf o ≡ gives (o .«record») = rw a in let z : _≡_ {A = ℕ} 0 1 = cc in absurd (omega arith)
+
+pub open-sound : (widths : List ℕ) (o : Outcome) → o ≡ openRecord widths → GoodIfDone o
+open-sound widths o e = subst GoodIfDone (sym e) (open-keeps widths)
+
+module _ (r : Record) (good : goodRecord r ≡ true) where
+  pub add-sound : (d : Dependency) (o : Outcome) → length (r .dependencies) ≡ 32 → o ≡ addDependency r d → GoodIfDone o
+  add-sound d o long e = subst GoodIfDone (sym e) (add-keeps r d long)
+
+  pub drop-sound : (place : ℕ) (o : Outcome) → o ≡ dropQuery r place → GoodIfDone o
+  drop-sound place o e = subst GoodIfDone (sym e) (drop-keeps r place)
+
+  pub put-sound : (place : ℕ) (q : Query) (o : Outcome) → o ≡ putQuery r place q → GoodIfDone o
+  put-sound place q o e = subst GoodIfDone (sym e) (put-keeps r place q)
+
+  -- A query part is put where it is read and the place is not above 7
+  pub part-above : (place : ℕ) (part : List ℕ) → 8 ≤ place → putPart place part r ≡ refused noSuchPlace
+  part-above place part h = rw (le-ltb place 8 h)
+
+  pub part-bad : (place : ℕ) (part : List ℕ) (n : ℕ) → place < 8 → readPlace (schemaOf r) true part ≡ refused n → putPart place part r ≡ refused n
+  unfolding _>>=_
+  part-bad place part n h e = rw (lt-ltb place 8 h, e)
+
+  pub part-read : (place : ℕ) (part : List ℕ) (p : Place) → place < 8 → readPlace (schemaOf r) true part ≡ gives p
+      → putPart place part r ≡ resultOf (putQuery r place (p .query))
+  unfolding _>>=_
+  part-read place part p h e = rw (lt-ltb place 8 h, e)
+
+-- What reading a query part tells
+pub place-accepted : (x : Reply Place) (p : PlaceRead) → p ≡ placeRead x → p .answer ≡ Done → x ≡ gives (p .place)
+place-accepted (gives q) p e a = cc
+place-accepted (refused n) p e a = let z : _≡_ {A = ℕ} 0 1 = cc in absurd (omega arith)
+
+pub place-refused : (x : Reply Place) (p : PlaceRead) (n : ℕ) → p ≡ placeRead x → p .answer ≡ Refused n → x ≡ refused n
+place-refused (gives q) p n e a = let z : _≡_ {A = ℕ} 0 1 = cc in absurd (omega arith)
+place-refused (refused m) p n e a = cc

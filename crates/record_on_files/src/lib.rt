@@ -1,0 +1,196 @@
+// The calls on the record alone, on files: a record is the bytes of its file, in and out.
+// Each returns 0, or the number of the refusal, which leaves every buffer and number that it is lent as it was.
+use query::Dependency;
+use record::Answer;
+use record::Columns;
+use record::Outcome;
+use record::Record;
+use writer::Written;
+use writer::write_good;
+ghost use mathlib.Core.Path.{_≡_};
+ghost use mathlib.Core.Bool.{true};
+ghost use lib.ListN.{length};
+ghost use Rattle.record.specs.Rule.{goodRecord};
+ghost use Rattle.refusals.specs.Refusals.{refused};
+ghost use Rattle.format.specs.File.{fileOf, readFile};
+ghost use Rattle.record_on_files.specs.Lent.{fitted, statusOf, leaves, Wrote};
+ghost use Rattle.record_on_files.specs.Records.{resultOf, fileFitted, putPart, copied, opened, added, putIn, dropped, determinedIn};
+ghost use Rattle.record_on_files.specs.internal.Steps.{GoodIfDone};
+
+// ---- what is stored
+
+// Writes the file of a record into the buffer and its length into the number.
+pub fn store(given: Record, out: &mut [u8], size: &mut usize) -> u8
+    requires { ⌜ goodRecord given ≡ true ⌝ }
+    ensures { λ r. ⌜ Wrote (fitted (length (now (out .entry))) (fileOf given)) (now (out .entry)) (now (size .entry)) r (now (out .exit)) (now (size .exit)) ⌝ }
+{
+    let written = write_good(given, out);
+    match written {
+        Written::Length(n) => {
+            *size = n;
+            0
+        }
+        Written::Refused(n) => n,
+    }
+}
+
+// Stores the record of a call, unless it is refused.
+pub fn store_outcome(outcome: Outcome, out: &mut [u8], size: &mut usize) -> u8
+    requires { ⌜ GoodIfDone outcome ⌝ }
+    ensures { λ r. ⌜ Wrote (fileFitted (length (now (out .entry))) (resultOf outcome)) (now (out .entry)) (now (size .entry)) r (now (out .exit)) (now (size .exit)) ⌝ }
+{
+    let answer = outcome.answer;
+    match answer {
+        Answer::Done => store(outcome.record, out, size),
+        Answer::Refused(n) => n,
+    }
+}
+
+// A call that is refused with a number.
+fn refused(number: u8, given: Record) -> Outcome
+    ensures { λ o. ⌜ resultOf o ≡ refused number ⌝ }
+{
+    Outcome {
+        answer: Answer::Refused(number),
+        record: given,
+    }
+}
+
+// Puts the query of a query part into a vacant place: a place above 7 is refused before a bad part.
+pub fn put_part(given: Record, place: usize, part: &[u8]) -> Outcome
+    requires { ⌜ goodRecord given ≡ true ⌝ }
+    ensures { λ o. ⌜ (resultOf o ≡ putPart place (now (part .entry)) given) × GoodIfDone o ⌝ }
+{
+    if 8 <= place {
+        return refused(refusals::NO_SUCH_PLACE, given);
+    }
+    let widths = given.widths;
+    let read = decoder::read_place(part, true, given.relations, widths);
+    let answer = read.answer;
+    match answer {
+        Answer::Done => {
+            let p = read.place;
+            let query = p.query;
+            given.put(place, query)
+        }
+        Answer::Refused(n) => refused(n, given),
+    }
+}
+
+// ---- files
+
+// Whether the bytes are a file.
+pub fn check_file(file: &[u8]) -> u8
+    ensures { λ r. ⌜ r ≡ statusOf (readFile (now (file .entry))) ⌝ }
+{
+    let outcome = file::read(file);
+    let answer = outcome.answer;
+    match answer {
+        Answer::Done => 0,
+        Answer::Refused(n) => n,
+    }
+}
+
+// Reads a file and writes its record back.
+pub fn copy_file(file: &[u8], out: &mut [u8], size: &mut usize) -> u8
+    ensures { λ r. ⌜ Wrote (copied (now (file .entry)) (length (now (out .entry)))) (now (out .entry)) (now (size .entry)) r (now (out .exit)) (now (size .exit)) ⌝ }
+{
+    store_outcome(file::read(file), out, size)
+}
+
+// ---- the record
+
+// Opens a record from relation widths.
+pub fn open_file(widths: &[u8], out: &mut [u8], size: &mut usize) -> u8
+    ensures { λ r. ⌜ Wrote (opened (now (widths .entry)) (length (now (out .entry)))) (now (out .entry)) (now (size .entry)) r (now (out .exit)) (now (size .exit)) ⌝ }
+{
+    store_outcome(Record::open(widths), out, size)
+}
+
+// Adds a dependency after those held.
+pub fn add_in_file(
+    file: &[u8],
+    relation: u8,
+    left: u8,
+    right: u8,
+    out: &mut [u8],
+    size: &mut usize,
+) -> u8
+    ensures { λ r. ⌜ Wrote (added (now (file .entry)) relation left right (length (now (out .entry)))) (now (out .entry)) (now (size .entry)) r (now (out .exit)) (now (size .exit)) ⌝ }
+{
+    let outcome = file::read(file);
+    let answer = outcome.answer;
+    match answer {
+        Answer::Done => {
+            let given = outcome.record;
+            let d = Dependency {
+                relation,
+                left,
+                right,
+            };
+            store_outcome(given.add_dependency(d), out, size)
+        }
+        Answer::Refused(n) => n,
+    }
+}
+
+// Puts a query, the bytes of a query part, into a vacant place.
+pub fn put_in_file(file: &[u8], place: usize, query: &[u8], out: &mut [u8], size: &mut usize) -> u8
+    ensures { λ r. ⌜ Wrote (putIn (now (file .entry)) place (now (query .entry)) (length (now (out .entry)))) (now (out .entry)) (now (size .entry)) r (now (out .exit)) (now (size .exit)) ⌝ }
+{
+    let outcome = file::read(file);
+    let answer = outcome.answer;
+    match answer {
+        Answer::Done => {
+            let given = outcome.record;
+            store_outcome(put_part(given, place, query), out, size)
+        }
+        Answer::Refused(n) => n,
+    }
+}
+
+// Drops a filled place.
+pub fn drop_in_file(file: &[u8], place: usize, out: &mut [u8], size: &mut usize) -> u8
+    ensures { λ r. ⌜ Wrote (dropped (now (file .entry)) place (length (now (out .entry)))) (now (out .entry)) (now (size .entry)) r (now (out .exit)) (now (size .exit)) ⌝ }
+{
+    let outcome = file::read(file);
+    let answer = outcome.answer;
+    match answer {
+        Answer::Done => {
+            let given = outcome.record;
+            store_outcome(given.drop_query(place), out, size)
+        }
+        Answer::Refused(n) => n,
+    }
+}
+
+// The columns that a left set determines, bit c for column c, and their number.
+pub fn determined_in_file(
+    file: &[u8],
+    relation: u8,
+    left: u8,
+    columns: &mut u8,
+    count: &mut u8,
+) -> u8
+    ensures { λ r. ⌜ r ≡ statusOf (determinedIn (now (file .entry)) relation left) ⌝ }
+    ensures { λ _. ⌜ now (columns .exit) ≡ leaves (determinedIn (now (file .entry)) relation left) (λ s. s .0) (now (columns .entry)) ⌝ }
+    ensures { λ _. ⌜ now (count .exit) ≡ leaves (determinedIn (now (file .entry)) relation left) (λ s. s .1) (now (count .entry)) ⌝ }
+{
+    let outcome = file::read(file);
+    let answer = outcome.answer;
+    match answer {
+        Answer::Done => {
+            let given = outcome.record;
+            let found = given.determined(relation, left);
+            match found {
+                Columns::Determined(mask, n) => {
+                    *columns = mask;
+                    *count = n;
+                    0
+                }
+                Columns::Refused(n) => n,
+            }
+        }
+        Answer::Refused(n) => n,
+    }
+}
