@@ -1,5 +1,6 @@
 -- Laws of possible candidates, where the places of a row and of its image are known by equations.
 -- Assumes nothing.
+use Rattle.consistency.specs.internal.Solution.{together as goes}
 use mathlib.Core.Path.{_≡_, sym, subst, subst₂, subst₃}
 use mathlib.Core.Bool.{Bool, true, false, cond}
 use mathlib.Core.List.{List}

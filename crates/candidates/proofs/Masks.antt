@@ -1,5 +1,6 @@
 -- Masks made bit by bit from the highest down: each turn doubles the mask and adds the next lower bit.
 -- Assumes nothing.
+use Rattle.consistency.specs.internal.Solution.{Bit as Has}
 use mathlib.Core.Path.{_≡_, refl, sym, _∙_, ap, subst}
 use mathlib.Core.Logic.{_↔_, _⊎_, inl, inr}
 use Prim.Native.Nat.{ℕ, zero, suc, _+_, _-_, _*_, _/_, _%_, _^_, _≤_, _<_}
