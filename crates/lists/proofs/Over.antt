@@ -1,12 +1,11 @@
 -- Laws of one list written over another: nothing, a store, adjacent runs, a run copied element by element.
 use mathlib.Core.Path.{_≡_, sym, ap, _∙_}
 use mathlib.Core.List.{List, [], _∷_, _++_, append-assoc, append-nil}
-use Prim.Native.Nat.{ℕ, suc, _+_, _≤_, _<_, min}
+use Prim.Native.Nat.{ℕ, suc, _+_, _≤_, _<_}
 use native.Mathlib.Nat.{add-zero}
-use native.Mathlib.Numerals.{add-one}
 use native.Mathlib.Omega.{arith}
-use lib.ListN.{length, getD, take, drop, set, length-append, length-take, length-drop, take-append-drop}
-use lib.Seq.{take-at, drop-at, take-suc-set, drop-set-lt, drop-drop, drop-cons}
+use lib.ListN.{length, take, drop, set, length-append, length-take, length-drop, take-append-drop}
+use lib.Seq.{take-at, drop-at, take-suc-set, drop-set-lt, drop-drop}
 use Rattle.lists.specs.Over.{over}
 
 module _ {A : Type 0} where

@@ -1,12 +1,11 @@
 -- The examples of `specs/Examples`, by computation. Assumes nothing.
-use mathlib.Core.Path.{_≡_, refl}
-use mathlib.Core.Bool.{Bool, true, not}
+use mathlib.Core.Path.{refl}
 use Rattle.theory.specs.Query.{rowEntries, variablesOf, member}
 use Rattle.theory.specs.Determined.{subset}
 use Rattle.lists.specs.Tests.{every}
 use Rattle.query.specs.View.{rowsOf, columnsFrom, maskOf}
 use Rattle.query.specs.Rule.{blankQuery, goodRelations, goodSet, goodDependency, goodDependencies, goodRows, goodQuery, headSafe}
-use Rattle.query.specs.Examples.{cellsOf, Views, passing, failing, RuleExamples}
+use Rattle.query.specs.Examples.{cellsOf, Views, RuleExamples}
 
 pub views : Views
 unfolding rowsOf columnsFrom maskOf cellsOf

@@ -1,9 +1,9 @@
 -- The statements of `specs/Meaning`. A stored query can be recovered from the query that it stands for:
 --   1. an entry from what it stands for, 2. the cells of a row, 3. all rows, 4. the whole query. Assumes nothing.
-use mathlib.Core.Path.{_≡_, refl, sym, ap, ap₂, subst, _∙_}
+use mathlib.Core.Path.{_≡_, refl, sym, ap, ap₂, _∙_}
 use mathlib.Core.Bool.{Bool, true, false, cond}
-use mathlib.Core.List.{List, [], _∷_, _++_, map}
-use Prim.Native.Nat.{ℕ, suc, _+_, _*_, _-_, _≤_, _<_}
+use mathlib.Core.List.{List, [], _∷_, _++_}
+use Prim.Native.Nat.{ℕ, _+_, _*_, _-_, _≤_}
 use native.Mathlib.Omega.{arith}
 use lib.Dec.{eqb}
 use lib.ListN.{length, take, drop, getD, replicate, length-drop}
@@ -15,9 +15,9 @@ use Rattle.query.specs.declared.Entry.{Entry}
 use Rattle.query.specs.declared.Entry.the-variants.{Constant, Variable}
 use Rattle.query.specs.declared.Cell.{Cell}
 use Rattle.query.specs.declared.Query.{Query}
-use Rattle.query.specs.View.{entryOf, entriesOf, rowsOf, queryOf}
-use Rattle.query.specs.Rule.{goodCell, blankCell, goodRows, headInUse, goodQuery, noCell}
-use Rattle.query.specs.Meaning.{Sized, StoredUnique}
+use Rattle.query.specs.View.{entryOf, entriesOf, rowsOf}
+use Rattle.query.specs.Rule.{goodCell, blankCell, goodRows, headInUse, noCell}
+use Rattle.query.specs.Meaning.{StoredUnique}
 use Rattle.query.proofs.Good.{good-query}
 use Rattle.query.proofs.Stored.{row-parts, rows-first, rows-rest}
 use Rattle.query.proofs.Shape.{blank-cell, head-length, row-count, head-padded, relations-padded, cells-padded}

@@ -1,8 +1,8 @@
 -- The first condition that holds: what a test that holds or fails makes of it, and what the lookup of a place tells. For any list of conditions.
 use mathlib.Core.Path.{_≡_, refl, sym, ap, _∙_}
-use mathlib.Core.Logic.{_⊎_, inl, inr, ⊎-elim}
-use mathlib.Core.Bool.{Bool, true, false, cond, not}
-use mathlib.Core.List.{List, [], _∷_}
+use mathlib.Core.Logic.{_⊎_, ⊎-elim}
+use mathlib.Core.Bool.{true, false, not}
+use mathlib.Core.List.{[], _∷_}
 use mathlib.Core.Option.{Option, none, some}
 use Prim.Native.Nat.{ℕ, _≤_, _<_}
 use native.Mathlib.Omega.{arith}

@@ -1,5 +1,5 @@
 -- What each call on the record alone answers: what it asks, in the order of SPECIFICATION, Refusals, and the record after it.
-use mathlib.Core.Bool.{Bool, true, cond, not, _&&_}
+use mathlib.Core.Bool.{Bool, true, not, _&&_}
 use mathlib.Core.List.{List, [], _∷_, _++_}
 use mathlib.Core.Option.{Option, none, some}
 use Prim.Native.Nat.{ℕ, _+_, _-_}

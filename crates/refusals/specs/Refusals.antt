@@ -1,6 +1,6 @@
 -- The refusals of SPECIFICATION: a name for each number, the order in which they are asked, and the first whose condition holds.
 use mathlib.Core.Bool.{Bool, true, false, cond}
-use mathlib.Core.List.{List, [], _∷_, map}
+use mathlib.Core.List.{List, [], _∷_}
 use mathlib.Core.Option.{Option, none, some}
 use Prim.Native.Nat.{ℕ}
 use lib.Dec.{eqb}
