@@ -6,12 +6,12 @@ use mathlib.Core.List.{List}
 use Prim.Native.Nat.{ℕ, _-_, _≤_, _<_}
 use native.Mathlib.Omega.{arith}
 use lib.Dec.{ltb}
-use lib.ListN.{length, take, drop, getD, length-take, List·getD-eq-default}
+use lib.ListN.{length, take, getD, length-take, List·getD-eq-default}
 use lib.Seq.{length-take-le}
 use borrow.Author.Tests.{lt-ltb, le-ltb}
-use Rattle.lists.specs.Tests.{every, inUse, between, isZero}
+use Rattle.lists.specs.Tests.{inUse, between, isZero}
 use Rattle.query.specs.Rule.{goodRelations}
-use Rattle.lists.proofs.Tests.{and-left, and-right, below-or-past, between-true, every-getD, used-blank, used-good}
+use Rattle.lists.proofs.Tests.{and-left, and-right, below-or-past, between-true, every-getD, used-good}
 
 -- A relation is known exactly when its number is below the number of relations
 pub known-relation : (n : ℕ) (widths : List ℕ) (r : ℕ) → n ≤ length widths → r < n → ltb r (length (take n widths)) ≡ true
@@ -31,10 +31,6 @@ module _ (n : ℕ) (widths : List ℕ) (good : goodRelations n widths ≡ true) 
   widths-used : inUse n (between 1 8) isZero widths ≡ true
   unfolding goodRelations
   widths-used = and-right (between 1 8 n) (inUse n (between 1 8) isZero widths) good
-
-  -- The widths past them are 0
-  pub widths-blank : every isZero (drop n widths) ≡ true
-  widths-blank = used-blank n (between 1 8) isZero widths widths-used
 
   -- A relation has 1 to 8 columns
   pub width-bounds : (i : ℕ) → i < length (take n widths) → (1 ≤ getD (take n widths) i 0) × (getD (take n widths) i 0 ≤ 8)

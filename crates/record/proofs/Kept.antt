@@ -6,7 +6,7 @@ use mathlib.Core.List.{List}
 use Prim.Native.Nat.{ℕ, _<_}
 use native.Mathlib.Omega.{arith}
 use lib.ListN.{length, take, getD}
-use lib.Seq.{getD-set-same, getD-set-other}
+use lib.Seq.{getD-set-same}
 use Rattle.query.specs.declared.Query.{Query}
 use Rattle.query.specs.declared.Dependency.{Dependency}
 use Rattle.query.specs.declared.Place.{Place}
@@ -65,9 +65,6 @@ opened-good relations widths good =
       places = every-replicate (goodPlace (take relations widths)) 8 noPlace (empty-place (take relations widths));
     })
 
--- What a place holds afterwards, and what another place does
+-- What a place holds afterwards
 pub place-read : (r : Record) (place : ℕ) (p z : Place) → place < length (r .places) → getD (withPlace r place p .places) place z ≡ p
 place-read r place p z h = getD-set-same (r .places) place p z h
-
-pub place-other : (r : Record) (place other : ℕ) (p z : Place) → (other ≡ place → ⊥) → getD (withPlace r place p .places) other z ≡ getD (r .places) other z
-place-other r place other p z h = getD-set-other (r .places) place other p z h

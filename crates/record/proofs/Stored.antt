@@ -4,7 +4,7 @@ use mathlib.Core.Bool.{Bool, true, cond, _&&_}
 use mathlib.Core.List.{List}
 use Prim.Native.Nat.{ℕ, _≤_, _<_}
 use native.Mathlib.Omega.{arith}
-use lib.ListN.{length, take, getD, length-take, length-map}
+use lib.ListN.{length, take, getD}
 use lib.Seq.{length-take-le}
 use Rattle.theory.specs.Query.{_∈_}
 use Rattle.theory.specs.Database as database
@@ -13,7 +13,6 @@ use Rattle.query.proofs.Stored.{held-fit}
 use Rattle.query.specs.declared.Dependency.{Dependency}
 use Rattle.query.specs.declared.Place.{Place}
 use Rattle.record.specs.declared.Record.{Record}
-use Rattle.query.specs.View.{dependencyOf}
 use Rattle.record.specs.View.{schemaOf, dependenciesOf}
 use Rattle.query.specs.Rule.{goodDependency, blankDependency, goodQuery, headSafe, blankQuery, goodPlace}
 use Rattle.record.specs.Rule.{goodRecord}
@@ -43,10 +42,6 @@ module _ (r : Record) (good : goodRecord r ≡ true) where
   dependencies-fit d at =
       held-fit (schemaOf r) (take (r .held) (r .dependencies))
       (used-good (r .held) (goodDependency (schemaOf r)) blankDependency (r .dependencies) (good-record r good .dependencies)) at
-
-  -- There are at most 32
-  pub dependency-count : length (dependenciesOf r) ≤ 32
-  dependency-count = rw (length-map (take (r .held) (r .dependencies)) dependencyOf, length-take) (omega (arith, good-record r good .held))
 
   -- A place is good
   pub place-good : (p : ℕ) (z : Place) → p < length (r .places) → goodPlace (schemaOf r) (getD (r .places) p z) ≡ true

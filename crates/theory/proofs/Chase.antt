@@ -285,9 +285,6 @@ chases-variables (rests is) v at = at
 chases-variables {q} (clashes is) v at = absurd (never-variables (length (q .head)) v at)
 chases-variables {ds} {q} (replaces {v = w} {e} is c) v at = forced-variables q (step-replace ds q w e is .0) v (chases-variables c v at)
 
-pub chase-variables : (ds : List Dependency) (q : Query) (v : ℕ) → v ∈ variables (chase ds q .query) → v ∈ variables q
-chase-variables ds q v at = chases-variables (chase-chases ds q) v at
-
 -- nor any entry, but for the constant 0 of never and of a missing column
 pub chases-entries : {ds : List Dependency} {q result : Query} {count : ℕ} → Chases ds q result count
     → (x : Entry) → x ∈ result .head ++ rowEntries (result .rows) → (x ≡ constant 0) ⊎ (x ∈ q .head ++ rowEntries (q .rows))
@@ -295,10 +292,6 @@ chases-entries (rests is) x at = inr at
 chases-entries {q} (clashes is) x at = inl (never-entry (length (q .head)) x at)
 chases-entries {ds} {q} (replaces {v} {e} is c) x at =
     ⊎-elim inl (forced-entries q (step-replace ds q v e is .0) x) (chases-entries c x at)
-
-pub chase-entries : (ds : List Dependency) (q : Query) (x : Entry) → x ∈ chase ds q .query .head ++ rowEntries (chase ds q .query .rows)
-    → (x ≡ constant 0) ⊎ (x ∈ q .head ++ rowEntries (q .rows))
-chase-entries ds q x at = chases-entries (chase-chases ds q) x at
 
 -- The number of rows: without a clash it stays,
 pub chases-length : {ds : List Dependency} {q result : Query} {count : ℕ} → Chases ds q result count

@@ -15,8 +15,8 @@
 --   6. Losing rows one at a time leads to every result, up to the order of rows.
 -- Assumes nothing.
 use mathlib.Core.Path.{_≡_, refl, sym, _∙_, ap, subst, subst₂}
-use mathlib.Core.Logic.{_≢_, _↔_, Iff·symm, Iff·trans, Iff·trunc, ∥∥₁-elim, _⊎_, inl, inr, ⊎-elim}
-use mathlib.Core.List.{List, [], _∷_, _++_, map, append-nil, List·Memᴰ·head, List·Memᴰ·tail, List·Memᴰ·not-nil, List·Memᴰ·append-cases}
+use mathlib.Core.Logic.{_≢_, _↔_, Iff·symm, Iff·trans, Iff·trunc, ∥∥₁-elim, _⊎_, inl, inr}
+use mathlib.Core.List.{List, [], _∷_, _++_, map, append-nil, List·Memᴰ·head, List·Memᴰ·tail, List·Memᴰ·not-nil}
 use mathlib.Core.List.{Memᴰ·append-left, Memᴰ·append-right, Memᴰ·map, Memᴰ·of-map, Memᴰ·cast}
 use Prim.Native.Nat.{ℕ, zero, suc, _+_, _≤_, _<_}
 use native.Mathlib.Omega.{arith}
@@ -261,19 +261,11 @@ reduction-minimal widths ds S T fit result R rival =
 -- ---- 4. What a result keeps
 
 module _ (ds : List Dependency) (S T : Query) (result : Reduction ds S T) where
-  -- A result has at most as many rows as its source,
+  -- A result has at most as many rows as its source
   pub reduction-length : length (T .rows) ≤ length (S .rows)
   reduction-length =
       let some-rows = nodup-length-le (T .rows) (chase ds S .query .rows) (core-nodup T (result .core)) (result .rows) in
       omega (arith, some-rows, chase-length-le ds S)
-
-  -- no entry that the chased query has not,
-  result-entries : (x : Entry) → x ∈ T .head ++ rowEntries (T .rows) → x ∈ chase ds S .query .head ++ rowEntries (chase ds S .query .rows)
-  result-entries x at =
-      ⊎-elim
-      (λ there. Memᴰ·append-left (rowEntries (chase ds S .query .rows)) (subst (λ es. x ∈ es) (result .head) there))
-      (λ there. Memᴰ·append-right (chase ds S .query .head) (rowEntries-part (result .rows) x there))
-      (List·Memᴰ·append-cases (T .head) at)
 
 -- A result of a well-formed query is well-formed
 pub reduction-wellformed : (widths : List ℕ) (ds : List Dependency) (S T : Query) → WellFormed widths S → Reduction ds S T → WellFormed widths T

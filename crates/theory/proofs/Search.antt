@@ -1,29 +1,27 @@
 -- The search for a mapping is exact: it succeeds where, and only where, there is one (Chandra and Merlin 1977: guess a mapping, check it).
 -- Plan. 1. An assignment fits a partial one if it sends each chosen variable where the partial one does. 2. A match extends the partial assignment by
--- just what it asks:
--- what fits after it is what fitted before and meets the match; where it fails, nothing that fits meets it. 3. Over the rows: a result is sound, and
--- a failure excludes each placing.
--- 4. So `mappable` decides mappings, and `contained` decides containment. 5. Answers are mappings to a query without variables, so they are decided too.
+-- just what it asks: what fits after it is what fitted before and meets the match; where it fails, nothing that fits meets it. 3. Over the rows:
+-- a result is sound, and a failure excludes each placing.
+-- 4. So `mappable` decides mappings, and `contained` decides containment.
 -- Assumes nothing.
-use mathlib.Core.Path.{_≡_, refl, sym, _∙_, ap, subst₂}
+use mathlib.Core.Path.{_≡_, refl, sym, _∙_, ap}
 use mathlib.Core.Logic.{_↔_, _⊎_, inl, inr}
 use mathlib.Core.Bool.{Bool, true, false, cond, true≢false}
-use mathlib.Core.List.{List, [], _∷_, map, map-map, map-id, List·Memᴰ·head, List·Memᴰ·tail, Memᴰ·cast, List·Memᴰ·not-nil, cons≢nil}
+use mathlib.Core.List.{List, [], _∷_, map, List·Memᴰ·head, List·Memᴰ·tail, Memᴰ·cast, List·Memᴰ·not-nil, cons≢nil}
 use mathlib.Core.Option.{Option, none, some, Option·none-ne-some, Option·some-ne-none, Option·some-injective}
 use Prim.Native.Nat.{ℕ, _+_, _≤_, _<_}
 use native.Mathlib.Omega.{arith}
 use lib.Dec.{eqb}
 use borrow.Author.Tests.{eqb-true, eqb-false, eq-eqb}
 use Rattle.theory.specs.Query.{Entry, constant, variable, Row, Query, mapRow, sameEntry, FitsSchema, _∈_}
-use Rattle.theory.specs.Answer.{valueOf, itself, Carries, Answer, Mapping}
+use Rattle.theory.specs.Answer.{valueOf, Carries, Mapping}
 use Rattle.theory.specs.Database.{Database, Dependency}
 use Rattle.theory.specs.Chase.{orElse, chase}
 use Rattle.theory.specs.Containment.{Contained, Counterexample, frozenRows, frozenHead, ConstantsBelow}
 use Rattle.theory.specs.Search.{Partial, lookup, andThen, assignTo, matchEntry, matchEntries, matchRow, tryRows, placeRows, placeQuery}
 use Rattle.theory.specs.Search.{assignment, found, mappable, containedOn, contained}
-use Rattle.theory.proofs.Lists.{map-agree}
 use Rattle.theory.proofs.Entries.{sameEntry-eq, sameEntry-ne}
-use Rattle.theory.proofs.Carry.{mapping-of, carries-map, mapRow-compose, mapRow-id}
+use Rattle.theory.proofs.Carry.{mapping-of}
 use Rattle.theory.proofs.Containment.{contained-iff, counterexample}
 use Rattle.theory.proofs.Reduction.{some-base}
 
@@ -284,14 +282,6 @@ mappable-exact S T = placed-exact (S .head) (S .rows) T
 pub mappable-false : (S T : Query) → mappable S T ≡ false → Mapping S T → ⊥
 mappable-false S T e m = true≢false (sym (mappable-exact S T .1 m) ∙ e)
 
--- Whether there is a mapping is decidable
-pub mapping-dec : (S T : Query) → Dec (Mapping S T)
-mapping-dec S T = go (mappable S T) refl
-  where
-    go : (b : Bool) → mappable S T ≡ b → Dec (Mapping S T)
-    go true e = yes (mappable-exact S T .0 e)
-    go false e = no (mappable-false S T e)
-
 -- `contained` passes exactly where p chases to never or q maps to the chased p
 pub contained-mapping : (ds : List Dependency) (p q : Query) → (contained ds p q ≡ true) ↔ ((chase ds p .query .rows ≡ []) ⊎ Mapping q (chase ds p .query))
 unfolding contained containedOn
@@ -337,30 +327,3 @@ module _ (widths : List ℕ) (ds : List Dependency) (p q : Query) (fit : (r : Ro
         frozenHead (common .0) (chase ds p .query),
         counterexample widths ds p q (common .0) fit (common .2) (common .3) (common .1) (λ none. neither (inl none)) (λ f. neither (inr f)),
       )
-
--- ---- 5. answers
-
--- A database and one of its possible answers, read as a query without variables
-abbrev pub asQuery : Database → List ℕ → Query
-asQuery D t = record { head = map constant t; rows = map (mapRow constant) D }
-
--- An entry read as a number, of which only the constants matter
-abbrev number : Entry → ℕ
-number = valueOf itself itself
-
--- t is an answer of q on D exactly when q can be mapped to them
-pub answer-mapping : (D : Database) (q : Query) (t : List ℕ) → Answer D q t ↔ Mapping q (asQuery D t)
-answer-mapping D q t = (
-  (λ answer. mapping-of q (asQuery D t) (λ v. constant (answer .0 v)) (carries-map itself (answer .0) constant constant (λ n. refl) q D t (answer .1))),
-  λ f. (
-    (λ v. number (f .0 v)),
-    subst₂ (λ rows image. Carries itself (λ v. number (f .0 v)) q rows image) rows-back (map-map number constant t ∙ map-id t)
-        (carries-map constant (f .0) itself number (λ n. refl) q (asQuery D t .rows) (asQuery D t .head) (f .1 .carries)),
-  ),
-)
-  where
-    row-back : (r : Row ℕ) → mapRow number (mapRow constant r) ≡ r
-    row-back r = mapRow-compose number constant r ∙ mapRow-id (λ n. n) r (λ n at. refl)
-
-    rows-back : map (mapRow number) (map (mapRow constant) D) ≡ D
-    rows-back = map-map (mapRow number) (mapRow constant) D ∙ map-agree (λ r. mapRow number (mapRow constant r)) (λ r. r) D (λ r at. row-back r) ∙ map-id D
