@@ -11,7 +11,7 @@ use Rattle.query.specs.declared.Query.{Query}
 use Rattle.query.specs.declared.Dependency.{Dependency}
 use Rattle.query.specs.Rule.{headSafe, noQuery, noPlace}
 use Rattle.query.specs.declared.Place.{Place}
-use Rattle.refusals.specs.Refusals.{badDependency, badDirectory, badOffsets, badQuery, badRelations, unsafeHead}
+use Rattle.refusals.specs.Refusals.{badDependency, badDirectory, badOffsets, badQuery, badRelations, unsafeHead, refusalIn}
 use Rattle.refusals.specs.Refusals.{Condition, firstHolding, Reply, refused, gives, _>>=_}
 use Rattle.lists.proofs.Tests.{and-iff}
 use Rattle.format.specs.Bytes.{number}
@@ -22,7 +22,7 @@ use Rattle.format.specs.File.{recordWith}
 use Rattle.format.specs.File.{safeQuery, stretches, tableFits}
 use Rattle.format.specs.Faults.{isWhole, valueOr, partAt, schemaIn, relationsFault, dependenciesFault, queryFault, headFault, placeConditions}
 use Rattle.format.specs.Faults.{readConditions}
-use Rattle.format.specs.Faults.{refusalIn, FirstFault, WholeWritten}
+use Rattle.format.specs.Faults.{FirstFault, WholeWritten}
 use Rattle.format.proofs.Results.{complete-get, complete-put}
 use Rattle.format.proofs.Stretches.{first-two}
 
