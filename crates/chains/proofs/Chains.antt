@@ -9,7 +9,7 @@ use lib.Dec.{eqb}
 use borrow.Author.Tests.{eq-eqb, ne-eqb, eqb-true, eqb-false}
 use lib.ListN.{length, getD, set, length-set}
 use lib.Seq.{getD-set-same, getD-set-other}
-use Rattle.chains.specs.Chains.{lastBelow, Chained}
+use Rattle.chains.specs.internal.Chains.{lastBelow, Chained}
 
 -- ---- the last node of a key
 

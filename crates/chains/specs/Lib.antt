@@ -1,2 +1,2 @@
 -- Hash chains.
-pub mod Chains
+pub mod internal

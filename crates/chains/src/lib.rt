@@ -4,7 +4,7 @@ ghost use Prim.Native.Nat.{ℕ, _+_, _<_};
 ghost use mathlib.Core.Path.{_≡_};
 ghost use mathlib.Core.List.{List};
 ghost use lib.ListN.{length};
-ghost use Rattle.chains.specs.Chains.{Chained};
+ghost use Rattle.chains.specs.internal.Chains.{Chained};
 
 // Makes all chains empty.
 pub fn clear(heads: &mut [u32])

@@ -1,4 +1,4 @@
--- Comparing and checking a mapping, on files. How a mapping is words is in `images/specs/Images`.
+-- Comparing and checking a mapping, on files. How a mapping is words is in `mapping_words/specs/Images`.
 use mathlib.Core.Path.{_≡_}
 use mathlib.Core.Logic.{_↔_}
 use mathlib.Core.Bool.{Bool, true, false, cond, _&&_}

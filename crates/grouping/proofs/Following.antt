@@ -9,7 +9,7 @@ use borrow.Author.Tests.{eqb-true, eqb-false, ltb-true, ltb-false}
 use lib.ListN.{length, getD}
 use Rattle.query.specs.View.{dependencyOf, columnsOf}
 use Rattle.query.specs.declared.Dependency.{Dependency}
-use Rattle.chains.specs.Chains.{lastBelow}
+use Rattle.chains.specs.internal.Chains.{lastBelow}
 use Rattle.chains.proofs.Chains.{last-le, last-none, last-key}
 use Rattle.words.specs.internal.Rows.{spanAt, agreeRows}
 use Rattle.words.proofs.Obeys.{agree-all}

@@ -12,7 +12,7 @@ use Rattle.theory.specs.Query.{Row, column}
 use Rattle.theory.specs.Database.{Database, Agree}
 use Rattle.query.specs.View.{dependencyOf, columnsOf}
 use Rattle.query.specs.declared.Dependency.{Dependency}
-use Rattle.chains.specs.Chains.{Chained}
+use Rattle.chains.specs.internal.Chains.{Chained}
 use Rattle.chains.proofs.Chains.{chained-agree}
 use Rattle.words.specs.Words.{spellsRows, rowsFrom, rowsOf, spellsRowsFrom}
 use Rattle.words.specs.internal.Rows.{spanAt, rowAt, Next, agreeRows}

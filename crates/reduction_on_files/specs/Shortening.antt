@@ -1,4 +1,4 @@
--- Reducing, on files. How a mapping is words is in `images/specs/Images`.
+-- Reducing, on files. How a mapping is words is in `mapping_words/specs/Images`.
 use mathlib.Core.Path.{_≡_}
 use mathlib.Core.Bool.{true, cond, _&&_}
 use mathlib.Core.List.{List}

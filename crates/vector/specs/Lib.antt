@@ -1,1 +1,2 @@
-pub mod Scan
+-- What reading a vector keeps.
+pub mod internal

@@ -1,6 +1,6 @@
 // A line as numbers, and the fields of a vector among them. The format is in reference/README.md.
 ghost use Prim.Native.Nat.{_≤_};
-ghost use Rattle.vector.specs.Scan.{Within};
+ghost use Rattle.vector.specs.internal.Scan.{Within};
 
 // ---- a line
 

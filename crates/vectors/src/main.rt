@@ -19,7 +19,7 @@ use vector::tally::count;
 use vector::tally::more;
 use vector::tally::tell_all;
 use vector::tally::unread;
-ghost use Rattle.vector.specs.Scan.{Within};
+ghost use Rattle.vector.specs.internal.Scan.{Within};
 
 // What a line comes to whose last number is stored.
 fn verdict(numbers: &[u32; 65536], s: Scan) -> Verdict {

@@ -6,7 +6,7 @@ use Prim.Native.Nat.{ℕ, _+_, _≤_, _<_}
 use lib.ListN.{length, getD}
 use Rattle.query.specs.View.{dependencyOf}
 use Rattle.query.specs.declared.Dependency.{Dependency}
-use Rattle.chains.specs.Chains.{Chained}
+use Rattle.chains.specs.internal.Chains.{Chained}
 use Rattle.words.specs.internal.Rows.{spanAt, agreeRows}
 use Rattle.grouping.specs.internal.Hash.{bucketOf}
 use Rattle.grouping.specs.declared.Leader.{Leader}

@@ -2,7 +2,7 @@
 use Prim.Native.Nat.{_-_}
 use mathlib.Core.Path.{_≡_}
 use lib.ListN.{length}
-use Rattle.vector.specs.Scan.{Within}
+use Rattle.vector.specs.internal.Scan.{Within}
 use borrow.Author.Needs.{needs}
 use Rattle.vectors.proofs.take.Statement.{statement}
 use Rattle.vectors.proofs.take.Tie as tie

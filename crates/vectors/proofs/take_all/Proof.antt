@@ -1,5 +1,5 @@
 -- `vectors::take_all` is safe and ends. Assumes nothing.
-use Rattle.vector.specs.Scan.{Within}
+use Rattle.vector.specs.internal.Scan.{Within}
 use borrow.Author.Needs.{needs}
 use Rattle.vectors.proofs.take_all.Statement.{statement}
 use Rattle.vectors.proofs.take_all.Tie as tie
