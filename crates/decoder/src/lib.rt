@@ -53,10 +53,15 @@ pub fn read_place(part: &[u8], last: bool, count: u8, widths: [u8; 8]) -> PlaceR
     }
     let read = read_query(part, count, widths);
     if !read.good {
-        return no_place_read(refusals::BAD_QUERY); // before the head is judged
+        return no_place_read(refusals::BAD_QUERY);
     }
     let query = read.query;
-    if limits::head_safe(count, widths, query) {
+    let safe = limits::head_safe(count, widths, query);
+    // a byte too many is asked before the head is judged
+    if !read.whole {
+        return no_place_read(refusals::BAD_QUERY);
+    }
+    if safe {
         return PlaceRead {
             answer: Answer::Done,
             place: Place {

@@ -51,7 +51,7 @@ module _ {A B : Type 0} (f : Format A) (g : A → Format B) (bytes : List ℕ) w
 
 -- ---- a part that is to hold one value and no more
 
-pub complete-none : {A : Type 0} (m : ℕ) (o : Reading A) → o ≡ none → complete m o ≡ refused m
+complete-none : {A : Type 0} (m : ℕ) (o : Reading A) → o ≡ none → complete m o ≡ refused m
 unfolding complete
 complete-none m o e = rw e
 
@@ -60,15 +60,6 @@ pub no-low : (high : ℕ) (bytes : List ℕ) → getByte (between 0 high) bytes 
 unfolding getByte
 no-low high [] = refl
 no-low high (b ∷ bytes) = rw (leb·zero b)
-
-module _ {A : Type 0} (m : ℕ) (o : Reading A) (a : A) (s : List ℕ) (at : ℕ) (g : o ≡ got a (drop at s)) where
-  pub got-ends : length s ≤ at → complete m o ≡ gives a
-  unfolding complete
-  got-ends h = rw (g, drop-of-length-le s {i = at} h)
-
-  pub got-long : at < length s → complete m o ≡ refused m
-  unfolding complete
-  got-long h = rw (g, drop-cons s at 0 h)
 
 -- ---- a part that holds a count and then so many values
 

@@ -1,21 +1,19 @@
 -- A query part: what the readings of its pieces say of the whole part.
 use mathlib.Core.Path.{_≡_, refl, ap, _∙_}
 use mathlib.Core.Bool.{true, false, cond}
-use mathlib.Core.List.{List, [], _∷_, map}
+use mathlib.Core.List.{List, map}
 use Prim.Native.Nat.{ℕ}
 use native.Mathlib.Omega.{arith}
 use lib.Dec.{eqb, leb}
-use lib.ListN.{drop}
+use lib.ListN.{length, drop}
 use Rattle.query.specs.declared.Cell.{Cell}
 use Rattle.format.specs.Format.{Reading, none, got, mapReading, Format, getByte, byte, sequence, via}
 use Rattle.format.specs.Parts.{entries, rows, flat, queryWith, query}
-use Rattle.refusals.specs.Refusals.{Reply, gives, refused}
-use Rattle.format.specs.File.{complete}
 use Rattle.parsing.specs.declared.RowsRead.{RowsRead}
 use Rattle.parsing.specs.internal.Read.{rowsRead}
 use Rattle.parsing.proofs.Counted.{sequence-none, sequence-got}
 
-map-none : {A B : Type 0} (f : A → B) (o : Reading A) → o ≡ none → mapReading f o ≡ none
+pub map-none : {A B : Type 0} (f : A → B) (o : Reading A) → o ≡ none → mapReading f o ≡ none
 unfolding mapReading
 map-none f o e = rw e
 
@@ -68,27 +66,29 @@ module _ (schema part : List ℕ) where
           (sequence-got (entries (cond (eqb size 0) 0 arity)) (λ head. rows schema size) (drop 2 part) head rest e)
           ∙ map-map (λ h. queryWith (arity, (size, h))) (λ rs. (head, rs)) (rows schema size .get rest)
 
--- ---- a mapped reading that is to be the whole part
-
-pub complete-map-ok : {A B : Type 0} (m : ℕ) (f : A → B) (o : Reading A) (a : A) → complete m o ≡ gives a → complete m (mapReading f o) ≡ gives (f a)
-unfolding complete mapReading
-complete-map-ok m f none a e = let z : _≡_ {A = ℕ} 0 1 = cc in absurd (omega arith)
-complete-map-ok m f (got x []) a e = let p : x ≡ a = cc in rw p
-complete-map-ok m f (got x (b ∷ rest)) a e = let z : _≡_ {A = ℕ} 0 1 = cc in absurd (omega arith)
-
-pub complete-map-refused : {A B : Type 0} (m : ℕ) (f : A → B) (o : Reading A) (n : ℕ) → complete m o ≡ refused n → complete m (mapReading f o) ≡ refused m
-unfolding complete mapReading
-complete-map-refused m f none n e = refl
-complete-map-refused m f (got x []) n e = let z : _≡_ {A = ℕ} 0 1 = cc in absurd (omega arith)
-complete-map-refused m f (got x (b ∷ rest)) n e = refl
-
 -- ---- the answer of the rows' reader
 
-pub rows-bad : (o : Reply (List (ℕ × List Cell))) (r : RowsRead) → r ≡ rowsRead o → r .good ≡ false → (n : ℕ) × (o ≡ refused n)
-rows-bad (gives rs) r e g = let t : r .good ≡ true = ap (λ (r : RowsRead). r .good) e in let z : _≡_ {A = ℕ} 0 1 = cc in absurd (omega arith)
-rows-bad (refused n) r e g = (n, refl)
+pub rows-bad : (o : Reading (List (ℕ × List Cell))) (r : RowsRead) → r ≡ rowsRead o → r .good ≡ false → o ≡ none
+rows-bad none r e g = refl
+rows-bad (got rs rest) r e g = let t : r .good ≡ true = ap (λ (r : RowsRead). r .good) e in let z : _≡_ {A = ℕ} 0 1 = cc in absurd (omega arith)
 
-pub rows-some : (o : Reply (List (ℕ × List Cell))) (r : RowsRead) → r ≡ rowsRead o → r .good ≡ true
-    → (rs : List (ℕ × List Cell)) × (o ≡ gives rs) × (r .relations ≡ map (λ r. r .0) rs) × (r .cells ≡ flat rs)
-rows-some (gives rs) r e g = (rs, refl, ap (λ (r : RowsRead). r .relations) e, ap (λ (r : RowsRead). r .cells) e)
-rows-some (refused n) r e g = let t : r .good ≡ false = ap (λ (r : RowsRead). r .good) e in let z : _≡_ {A = ℕ} 0 1 = cc in absurd (omega arith)
+-- What the rows that were read are, and the bytes after them
+pub record SomeRows (o : Reading (List (ℕ × List Cell))) (r : RowsRead) : Type 0 where
+  pub all : List (ℕ × List Cell)
+  pub rest : List ℕ
+  pub reading : o ≡ got all rest
+  pub whole : r .whole ≡ eqb (length rest) 0
+  pub relations : r .relations ≡ map (λ r. r .0) all
+  pub cells : r .cells ≡ flat all
+
+pub rows-some : (o : Reading (List (ℕ × List Cell))) (r : RowsRead) → r ≡ rowsRead o → r .good ≡ true → SomeRows o r
+rows-some none r e g = let t : r .good ≡ false = ap (λ (r : RowsRead). r .good) e in let z : _≡_ {A = ℕ} 0 1 = cc in absurd (omega arith)
+rows-some (got rs rest) r e g =
+    record {
+      all = rs;
+      rest = rest;
+      reading = refl;
+      whole = ap (λ (r : RowsRead). r .whole) e;
+      relations = ap (λ (r : RowsRead). r .relations) e;
+      cells = ap (λ (r : RowsRead). r .cells) e;
+    }

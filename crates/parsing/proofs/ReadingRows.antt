@@ -1,23 +1,23 @@
 -- A loop that reads rows into flat arrays, entry by entry: what has been read of all rows, and of the row at hand.
 use mathlib.Core.Path.{_≡_, sym, ap, refl, _∙_}
-use mathlib.Core.Bool.{true}
+use mathlib.Core.Bool.{Bool, true, false}
 use mathlib.Core.List.{List}
 use Prim.Native.Nat.{ℕ, _+_, _*_, _-_, _^_, _≤_, _<_}
 use native.Mathlib.Nat.{add-zero}
 use native.Mathlib.Omega.{arith}
 use borrow.Author.Needs.{needs}
+use borrow.Author.Tests.{leb-true, leb-false, eq-eqb, ne-eqb}
 use mir.Syntax.{w8, w64}
 use mir.Val.{Fits}
-use lib.ListN.{length, take, drop, getD, set, replicate, length-set}
+use lib.Dec.{eqb, leb}
+use lib.ListN.{length, take, drop, getD, set, replicate, length-set, length-drop}
 use lib.Seq.{take-all, drop-drop, getD-take, length-take-le}
-use Rattle.refusals.specs.Refusals.{badQuery, gives}
 use Rattle.query.specs.declared.Entry.{Entry}
 use Rattle.query.specs.declared.Cell.{Cell}
 use Rattle.query.specs.Rule.{noCell, goodRelations}
 use Rattle.lists.specs.Over.{over}
 use Rattle.format.specs.Format.{Reading, none, got, padded}
 use Rattle.format.specs.Parts.{entry, entries, row, noRow, rows, chunk, flat}
-use Rattle.format.specs.File.{complete}
 use Rattle.lists.proofs.Loops.{replicate-drop}
 use Rattle.format.proofs.Parts.{Narrow, map-chunk, flat-chunk}
 use Rattle.format.proofs.Rules.{length-chunk}
@@ -27,7 +27,6 @@ use Rattle.parsing.specs.declared.EntryRead.the-variants.{Read, NoEntry}
 use Rattle.parsing.specs.internal.Read.{entryRead, noRowsRead, rowsRead}
 use Rattle.parsing.proofs.Positions.{entry-read, entry-none}
 use Rattle.format.proofs.Filling.{Filling, filling-starts, filling-turns, filling-fails, filling-ends}
-use Rattle.parsing.proofs.Counted.{complete-none, got-long, got-ends}
 use Rattle.parsing.proofs.RowLaws.{row-bad, row-good, row-bounds, chunk-set, set-over, blank-over, drop-past-over}
 
 -- The rows from the start on, as the format reads them
@@ -90,23 +89,28 @@ begins schema part start size h =
       reading = filling-starts (row schema .get) 12 noRow size (drop start part);
     }
 
+-- whether a position is past the last byte
+at-end : (part : List ℕ) (at : ℕ) → leb (length part) at ≡ eqb (length (drop at part)) 0
+at-end part at = rw length-drop (go (leb (length part) at) refl)
+  where
+    go : (t : Bool) → leb (length part) at ≡ t → t ≡ eqb (length part - at) 0
+    go true e = sym (eq-eqb (length part - at) 0 (let l = leb-true (length part) at e in omega arith))
+    go false e = sym (ne-eqb (length part - at) 0 (λ z. let l = leb-false (length part) at e in omega arith))
+
 module _ (schema part : List ℕ) (start size : ℕ) (relations : List ℕ) (cells : List Cell) (at r : ℕ) (f : At schema part start size relations cells at r) where
   -- a row that can't be read
-  pub fails : r < size → row schema .get (drop at part) ≡ none → noRowsRead ≡ rowsRead (complete badQuery (Rows schema part start size))
-  fails h e = sym (ap rowsRead (complete-none badQuery (Rows schema part start size) (filling-fails (f .reading) h e)))
+  pub fails : r < size → row schema .get (drop at part) ≡ none → noRowsRead ≡ rowsRead (Rows schema part start size)
+  fails h e = sym (ap rowsRead (filling-fails (f .reading) h e))
 
-  pub too-long : size ≤ r → at < length part → noRowsRead ≡ rowsRead (complete badQuery (Rows schema part start size))
-  too-long h l = sym (ap rowsRead (got-long badQuery (Rows schema part start size) (chunk relations cells) part at (filling-ends (f .reading) h) l))
-
-  pub accepted : size ≤ r → length part ≤ at → record { good = true; relations = relations; cells = cells }
-      ≡ rowsRead (complete badQuery (Rows schema part start size))
-  accepted h l =
-      let w : complete badQuery (Rows schema part start size) ≡ gives (chunk relations cells) =
-      got-ends badQuery (Rows schema part start size) (chunk relations cells) part at (filling-ends (f .reading) h) l in
+  -- all of them are read
+  pub accepted : size ≤ r → record { good = true; whole = leb (length part) at; relations = relations; cells = cells } ≡ rowsRead (Rows schema part start size)
+  accepted h =
+      let w : Rows schema part start size ≡ got (chunk relations cells) (drop at part) = filling-ends (f .reading) h in
       let e : cells ≡ flat (chunk relations cells) =
       sym (flat-chunk relations cells ∙ take-all (8 * length relations) cells (omega (arith, f .cells-long, f .relations-long))) in
-      let same : record { good = true; relations = relations; cells = cells } ≡ rowsRead (gives (chunk relations cells)) =
-      λ i. record { good = true; relations = sym (map-chunk relations cells) i; cells = e i } in
+      let same : record { good = true; whole = leb (length part) at; relations = relations; cells = cells }
+      ≡ rowsRead (got (chunk relations cells) (drop at part)) =
+      λ i. record { good = true; whole = at-end part at i; relations = sym (map-chunk relations cells) i; cells = e i } in
       same ∙ sym (ap rowsRead w)
 
   pub row-begins : (width : ℕ) → Known schema part at width → r < 12 → InRow schema part at r width cells cells 0

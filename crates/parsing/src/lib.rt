@@ -9,7 +9,7 @@ ghost use Prim.Native.Nat.{_+_, _≤_, _<_};
 ghost use lib.ListN.{length, take, drop};
 ghost use Rattle.lists.specs.Tests.{between};
 ghost use Rattle.query.specs.Rule.{goodRelations};
-ghost use Rattle.refusals.specs.Refusals.{badDependency, badQuery, badRelations};
+ghost use Rattle.refusals.specs.Refusals.{badDependency, badRelations};
 ghost use Rattle.format.specs.Bytes.{number};
 ghost use Rattle.format.specs.Format.{getByte};
 ghost use Rattle.format.specs.Parts.{entry, entries, rows, query, relations, dependency, dependencies};
@@ -139,9 +139,10 @@ fn read_entries(s: &[u8], at: usize, n: usize) -> CellsRead
 
 // ---- rows
 
-// The relations and cells of some rows.
+// The relations and cells of some rows, and whether the part ends with them.
 pub struct RowsRead {
     pub good: bool,
+    pub whole: bool,
     pub relations: [u8; 12],
     pub cells: [Cell; 96],
 }
@@ -152,6 +153,7 @@ fn no_rows() -> RowsRead
 {
     RowsRead {
         good: false,
+        whole: false,
         relations: [0; 12],
         cells: [Cell {
             entry: Entry::Constant(0),
@@ -159,12 +161,12 @@ fn no_rows() -> RowsRead
     }
 }
 
-// The rows from a position to the end of the part: for each the relation byte and one entry a column, which are stored where they belong.
+// The rows from a position on: for each the relation byte and one entry a column, which are stored where they belong.
 fn read_rows(part: &[u8], start: usize, size: usize, count: u8, widths: [u8; 8]) -> RowsRead
     requires { ⌜ goodRelations count widths ≡ true ⌝ }
     requires { ⌜ start ≤ length (now part) ⌝ }
     requires { ⌜ size ≤ 12 ⌝ }
-    ensures { λ r. ⌜ r ≡ rowsRead (complete badQuery (rows (take count widths) size .get (drop start (now (part .entry))))) ⌝ }
+    ensures { λ r. ⌜ r ≡ rowsRead (rows (take count widths) size .get (drop start (now (part .entry)))) ⌝ }
 {
     let mut relations = [0; 12];
     let mut cells = [Cell {
@@ -193,11 +195,9 @@ fn read_rows(part: &[u8], start: usize, size: usize, count: u8, widths: [u8; 8])
         relations[r] = relation;
         at = at + 1 + 5 * width;
     }
-    if at < part.len() {
-        return no_rows();
-    }
     RowsRead {
         good: true,
+        whole: part.len() <= at,
         relations,
         cells,
     }
@@ -205,9 +205,10 @@ fn read_rows(part: &[u8], start: usize, size: usize, count: u8, widths: [u8; 8])
 
 // ---- query parts
 
-// A query.
+// A query, and whether the part ends with it.
 pub struct QueryRead {
     pub good: bool,
+    pub whole: bool,
     pub query: Query,
 }
 
@@ -217,14 +218,15 @@ fn no_query_read() -> QueryRead
 {
     QueryRead {
         good: false,
+        whole: false,
         query: query::no_query(),
     }
 }
 
-// A part that is a query: head length, row count, head entries, then rows.
+// The query at the start of a part: head length, row count, head entries, then rows.
 pub fn read_query(part: &[u8], count: u8, widths: [u8; 8]) -> QueryRead
     requires { ⌜ goodRelations count widths ≡ true ⌝ }
-    ensures { λ r. ⌜ r ≡ queryRead (complete badQuery (query (take count widths) .get (now (part .entry)))) ⌝ }
+    ensures { λ r. ⌜ r ≡ queryRead (query (take count widths) .get (now (part .entry))) ⌝ }
 {
     let ByteRead::Byte(arity) = read_byte(part, 0, 0, 8) else {
         return no_query_read();
@@ -251,7 +253,12 @@ pub fn read_query(part: &[u8], count: u8, widths: [u8; 8]) -> QueryRead
         relations,
         cells,
     };
-    QueryRead { good: true, query }
+    let whole = rows.whole;
+    QueryRead {
+        good: true,
+        whole,
+        query,
+    }
 }
 
 // ---- part 0: relations

@@ -8,7 +8,7 @@ no-query-requires c κs = search needs
 
 returns : tie.Need-returns
 returns c =
-    λ i. record { good = false; query = c .no-query .ensures i }
+    λ i. record { good = false; whole = false; query = c .no-query .ensures i }
 
 pub no-query-read-spec : {M : Type 1} → statement M
 no-query-read-spec = tie.close (tie.spec no-query-requires returns)

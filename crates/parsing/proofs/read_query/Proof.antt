@@ -8,20 +8,20 @@ use native.Mathlib.Omega.{arith}
 use lib.Dec.{eqb, leb}
 use lib.ListN.{length, take, drop, length-drop}
 use lib.Seq.{drop-drop}
-use Rattle.refusals.specs.Refusals.{badQuery, gives}
+use Rattle.query.specs.declared.Cell.{Cell}
+use Rattle.query.specs.declared.Query.{Query}
 use Rattle.lists.specs.Tests.{between}
-use Rattle.format.specs.Format.{none, got, getByte}
+use Rattle.format.specs.Format.{none, got, mapReading, getByte}
 use Rattle.format.specs.Parts.{entries, rows, queryWith, query}
-use Rattle.format.specs.File.{complete}
 use Rattle.format.proofs.Parts.{headFits}
 use Rattle.parsing.specs.declared.ByteRead.{ByteRead}
 use Rattle.parsing.specs.declared.ByteRead.the-variants.{Byte}
 use Rattle.parsing.specs.declared.CellsRead.{CellsRead}
 use Rattle.parsing.specs.declared.RowsRead.{RowsRead}
 use Rattle.parsing.specs.internal.Read.{byteRead, cellsRead, rowsRead, noQueryRead, queryRead}
-use Rattle.parsing.proofs.Counted.{byte-read, byte-none, no-low, complete-none}
+use Rattle.parsing.proofs.Counted.{byte-read, byte-none, no-low}
 use Rattle.parsing.proofs.RowLaws.{byte-bounds, cells-bad, cells-good, entries-bounds}
-use Rattle.parsing.proofs.QueryLaws.{no-arity, no-size, no-head, after-head, complete-map-ok, complete-map-refused, rows-bad, rows-some}
+use Rattle.parsing.proofs.QueryLaws.{map-none, no-arity, no-size, no-head, after-head, rows-bad, rows-some}
 use Rattle.parsing.proofs.read_query.Statement.{statement}
 use Rattle.parsing.proofs.read_query.Tie as tie
 
@@ -46,8 +46,8 @@ sizes part r r′ arity size e q e′ q′ =
     let m : length (drop 1 part) ≡ length part - 1 = length-drop 1 part in
     record { arity-read = ea; size-read = es; arity-fits = leb-true arity 8 ta; size-fits = leb-true size 12 ts; long = omega arith }
 
-refuses : (schema part : List ℕ) → query schema .get part ≡ none → noQueryRead ≡ queryRead (complete badQuery (query schema .get part))
-refuses schema part e = sym (ap queryRead (complete-none badQuery (query schema .get part) e))
+refuses : (schema part : List ℕ) → query schema .get part ≡ none → noQueryRead ≡ queryRead (query schema .get part)
+refuses schema part e = sym (ap queryRead e)
 
 -- where the head's entries end
 head-ends : (part : List ℕ) (arity size used : ℕ) (front : CellsRead) → Sizes part arity size → used ≡ cond (eqb size 0) 0 arity
@@ -61,35 +61,38 @@ head-ends part arity size used front z eu ef g =
     let d′ : rest ≡ drop (2 + 5 * used) part = sym d ∙ drop-drop (5 * used) 2 part in
     (rw (← eu) (e ∙ ap (λ (t : List ℕ). got (front .cells) t) d′), omega (arith, z .long))
 
-bad-rows : (schema part : List ℕ) (arity size used : ℕ) (front : CellsRead) (rs : RowsRead) → Sizes part arity size → used ≡ cond (eqb size 0) 0 arity
-    → front ≡ cellsRead (entries used .get (drop 2 part)) → front .good ≡ true
-    → rs ≡ rowsRead (complete badQuery (rows schema size .get (drop (2 + 5 * used) part))) → rs .good ≡ false
-    → noQueryRead ≡ queryRead (complete badQuery (query schema .get part))
-bad-rows schema part arity size used front rs z eu ef g er b =
-    let (e, k) = head-ends part arity size used front z eu ef g in
-    let h = after-head schema part arity (z .arity-read) size (z .size-read) (front .cells) (drop (2 + 5 * used) part) e in
-    let (n, w) = rows-bad (complete badQuery (rows schema size .get (drop (2 + 5 * used) part))) rs er b in
-    sym (ap queryRead (ap (complete badQuery) h
-    ∙ complete-map-refused badQuery (λ rs. queryWith (arity, (size, (front .cells, rs)))) (rows schema size .get (drop (2 + 5 * used) part)) n w))
+module _ (schema part : List ℕ) (arity size used : ℕ) (front : CellsRead) (rs : RowsRead) (z : Sizes part arity size) (eu : used ≡ cond (eqb size 0) 0 arity)
+    (ef : front ≡ cellsRead (entries used .get (drop 2 part))) (g : front .good ≡ true) (er : rs ≡ rowsRead (rows schema size .get (drop (2 + 5 * used) part)))
+  where
+    abbrev with-rows : List (ℕ × List Cell) → Query
+    with-rows all = queryWith (arity, (size, (front .cells, all)))
 
-accepts : (schema part : List ℕ) (arity size used : ℕ) (front : CellsRead) (rs : RowsRead) → Sizes part arity size → used ≡ cond (eqb size 0) 0 arity
-    → front ≡ cellsRead (entries used .get (drop 2 part)) → front .good ≡ true
-    → rs ≡ rowsRead (complete badQuery (rows schema size .get (drop (2 + 5 * used) part))) → rs .good ≡ true
-    → record {
-      good =
-          true;
-      query =
-          record { arity = arity; size = size; head = front .cells; relations = rs .relations; cells = rs .cells };
+    on-rows : query schema .get part ≡ mapReading with-rows (rows schema size .get (drop (2 + 5 * used) part))
+    on-rows =
+        after-head schema part arity (z .arity-read) size (z .size-read) (front .cells) (drop (2 + 5 * used) part)
+        (head-ends part arity size used front z eu ef g .0)
+
+    bad-rows : rs .good ≡ false → noQueryRead ≡ queryRead (query schema .get part)
+    bad-rows b =
+        refuses schema part (on-rows ∙ map-none with-rows (rows schema size .get (drop (2 + 5 * used) part))
+        (rows-bad (rows schema size .get (drop (2 + 5 * used) part)) rs er b))
+
+    accepts : rs .good ≡ true → record {
+      good = true;
+      whole = rs .whole;
+      query = record { arity = arity; size = size; head = front .cells; relations = rs .relations; cells = rs .cells };
     }
-    ≡ queryRead (complete badQuery (query schema .get part))
-accepts schema part arity size used front rs z eu ef g er b =
-    let (e, k) = head-ends part arity size used front z eu ef g in
-    let h = after-head schema part arity (z .arity-read) size (z .size-read) (front .cells) (drop (2 + 5 * used) part) e in
-    let (all, w, r, c) = rows-some (complete badQuery (rows schema size .get (drop (2 + 5 * used) part))) rs er b in
-    let done : complete badQuery (query schema .get part) ≡ gives (queryWith (arity, (size, (front .cells, all)))) =
-    ap (complete badQuery) h ∙ complete-map-ok badQuery (λ rs. queryWith (arity, (size, (front .cells, rs)))) (rows schema size .get (drop (2 + 5 * used) part))
-    all w in
-    (λ i. record { good = true; query = record { arity = arity; size = size; head = front .cells; relations = r i; cells = c i } }) ∙ sym (ap queryRead done)
+        ≡ queryRead (query schema .get part)
+    unfolding mapReading
+    accepts b =
+        let r = rows-some (rows schema size .get (drop (2 + 5 * used) part)) rs er b in
+        let done : query schema .get part ≡ got (with-rows (r .all)) (r .rest) = on-rows ∙ ap (mapReading with-rows) (r .reading) in
+        (λ i. record {
+          good = true;
+          whole = r .whole i;
+          query = record { arity = arity; size = size; head = front .cells; relations = r .relations i; cells = r .cells i };
+        })
+        ∙ sym (ap queryRead done)
 
 read-byte-requires : tie.Need-read-byte-requires
 read-byte-requires c κs = search needs

@@ -8,7 +8,7 @@ use lib.ListN.{length, take, getD}
 use Rattle.format.proofs.Rules.{good-narrow}
 use Rattle.query.proofs.Relations.{relations-bounds}
 use Rattle.parsing.proofs.RowLaws.{row-past, row-unknown}
-use Rattle.parsing.proofs.ReadingRows.{schema-length, At, InRow, begins, fails, too-long, accepted, known-row, row-begins, row-goes-on, row-stops}
+use Rattle.parsing.proofs.ReadingRows.{schema-length, At, InRow, begins, fails, accepted, known-row, row-begins, row-goes-on, row-stops}
 use Rattle.parsing.proofs.ReadingRows.{row-ends, next-fits, entry-fits, entries-fit, relation-fits, row-inside, cell-inside, cell-fits, offset-fits}
 use Rattle.parsing.proofs.ReadingRows.{row-fits, next-row-fits, next-entry-fits, fewer-left, short}
 use Rattle.parsing.proofs.read_rows.Statement.{statement}
@@ -261,27 +261,14 @@ loop-again c =
     row-ends S X (a .start) (a .size) (l .relations) (l .cells) (m .cells) (l .at) (l .r) (getD (a .t5) (getD X (l .at) 0) 0) (m .i)
     (good-narrow (a .count) (a .t5) (s .pre .0)) (l .inv) (m .inv) (after-loop-test .loop-test .taken) (s .pre .1 .1) (c .loop2-test .left)
 
-no-rows-requires-4 : tie.Need-no-rows-requires-4 Inv-loop2 μ-loop2 Inv-loop μ-loop
-no-rows-requires-4 c κs = search needs
-
 returns-4 : tie.Need-returns-4 Inv-loop2 μ-loop2 Inv-loop μ-loop
 returns-4 c =
-    let s = c .before .before .before .before .before in
+    let s = c .before .before .before in
     let a = s .args in
     let S = take (a .count) (a .t5) in
     let X = a .part .now in
-    let l = c .before .before .before .loop in
-    c .no-rows4 .ensures ∙ too-long S X (a .start) (a .size) (l .relations) (l .cells) (l .at) (l .r) (l .inv) (c .before .before .loop-test .left)
-    (c .before .if3 .taken)
-
-returns-5 : tie.Need-returns-5 Inv-loop2 μ-loop2 Inv-loop μ-loop
-returns-5 c =
-    let s = c .before .before .before .before in
-    let a = s .args in
-    let S = take (a .count) (a .t5) in
-    let X = a .part .now in
-    let l = c .before .before .loop in
-    accepted S X (a .start) (a .size) (l .relations) (l .cells) (l .at) (l .r) (l .inv) (c .before .loop-test .left) (c .if3 .left)
+    let l = c .before .loop in
+    accepted S X (a .start) (a .size) (l .relations) (l .cells) (l .at) (l .r) (l .inv) (c .loop-test .left)
 
 pub read-rows-spec : {M : Type 1} → statement M
 read-rows-spec =
@@ -323,6 +310,4 @@ read-rows-spec =
     add-r
     loop-less
     loop-again
-    no-rows-requires-4
-    returns-4
-    returns-5)
+    returns-4)

@@ -2,7 +2,8 @@
 use mathlib.Core.Bool.{true, false}
 use mathlib.Core.List.{List, map}
 use Prim.Native.Nat.{ℕ}
-use lib.ListN.{replicate}
+use lib.Dec.{eqb}
+use lib.ListN.{length, replicate}
 use Rattle.query.specs.declared.Cell.{Cell}
 use Rattle.query.specs.declared.Query.{Query}
 use Rattle.query.specs.declared.Dependency.{Dependency}
@@ -39,21 +40,21 @@ cellsRead (got cells rest) = record { good = true; cells = cells }
 
 -- No rows
 abbrev pub noRowsRead : RowsRead
-noRowsRead = record { good = false; relations = replicate 12 0; cells = replicate 96 noCell }
+noRowsRead = record { good = false; whole = false; relations = replicate 12 0; cells = replicate 96 noCell }
 
--- The rows that were read
-abbrev pub rowsRead : Reply (List (ℕ × List Cell)) → RowsRead
-rowsRead (gives rs) = record { good = true; relations = map (λ r. r .0) rs; cells = flat rs }
-rowsRead (refused n) = noRowsRead
+-- The rows that were read, and whether no byte is left
+abbrev pub rowsRead : Reading (List (ℕ × List Cell)) → RowsRead
+rowsRead none = noRowsRead
+rowsRead (got rs rest) = record { good = true; whole = eqb (length rest) 0; relations = map (λ r. r .0) rs; cells = flat rs }
 
 -- No query
 abbrev pub noQueryRead : QueryRead
-noQueryRead = record { good = false; query = noQuery }
+noQueryRead = record { good = false; whole = false; query = noQuery }
 
--- The query that was read
-abbrev pub queryRead : Reply Query → QueryRead
-queryRead (gives q) = record { good = true; query = q }
-queryRead (refused n) = noQueryRead
+-- The query that was read, and whether no byte is left
+abbrev pub queryRead : Reading Query → QueryRead
+queryRead none = noQueryRead
+queryRead (got q rest) = record { good = true; whole = eqb (length rest) 0; query = q }
 
 -- No relations
 abbrev pub noRelations : RelationsRead
