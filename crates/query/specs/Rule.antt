@@ -1,4 +1,5 @@
--- The rule of relations, dependencies and queries as tests on the fields: what refusals 3, 4, 5 and 6 judge. The lengths of the arrays are the types'.
+-- The rule of relations, dependencies, queries and places as tests on the fields: what refusals 3, 4, 5 and 6 judge, and 14 of a place.
+-- The lengths of the arrays are the types'.
 use mathlib.Core.Bool.{Bool, true, false, cond, not, _&&_}
 use mathlib.Core.List.{List, [], _∷_}
 use Prim.Native.Nat.{ℕ, _*_, _^_}

@@ -1,4 +1,4 @@
-// A stored query and a stored functional dependency: their types, and the rule that each keeps.
+// A stored query, a place for one, and a stored functional dependency: their types.
 pub mod code; // code.rt: the code of an entry
 
 ghost use mathlib.Core.Path.{_≡_};
