@@ -25,7 +25,7 @@ use Rattle.chase.specs.declared.Resolution.the-variants.{Clash, Replace}
 use Rattle.chase.specs.declared.Chased as stored-chased
 use Rattle.chase.specs.internal.Wide.{wideRow, wideRows, wideQuery, firstDiffering, foundOf, goodFound, resolutionOf, substituteEntry}
 use Rattle.chase.specs.internal.Wide.{substituteCell, mapCells}
-use Rattle.chase.specs.Outcome.{IsChased}
+use Rattle.chase.specs.internal.Outcome.{IsChased}
 use Rattle.lists.proofs.Maps.{drop-map, take-replicate, map-replicate}
 use Rattle.query.proofs.Stored.{all-cells}
 use Rattle.chase.proofs.View.{StandsFor, entriesOf-take}

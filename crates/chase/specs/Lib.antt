@@ -1,3 +1,2 @@
 -- What the chase of a stored query asks and promises (Outcome). `internal` is this crate's own.
-pub mod Outcome
 pub mod internal

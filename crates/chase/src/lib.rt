@@ -17,7 +17,7 @@ ghost use Rattle.query.specs.View.{entryOf, entriesOf, columnsOf, dependencyOf,
 ghost use Rattle.query.specs.Rule.{noCell, goodCell, goodQuery};
 ghost use Rattle.lists.specs.Tests.{every, between};
 ghost use Rattle.chase.specs.internal.Wide.{rowAt, wideRow, wideQuery, firstDiffering, foundOf, goodFound, entryInHead, resolutionOf, Survivor, substituteCell, mapCells};
-ghost use Rattle.chase.specs.Outcome.{Chasable, IsChased};
+ghost use Rattle.chase.specs.internal.Outcome.{Chasable, IsChased};
 ghost use Rattle.theory.specs.Query as theory;
 ghost use Rattle.theory.specs.Chase as chasing;
 

@@ -22,7 +22,7 @@ use Rattle.lists.proofs.Tests.{and-left, and-right}
 use Rattle.query.proofs.Good.{good-query}
 use Rattle.query.proofs.Shape.{row-count}
 use Rattle.chase.specs.declared.Chased.{Chased}
-use Rattle.chase.specs.Outcome.{Chasable, IsChased}
+use Rattle.chase.specs.internal.Outcome.{Chasable, IsChased}
 use Rattle.chase.proofs.Callers.{chasable}
 use Rattle.mapping.specs.declared.Mapped.{Mapped}
 use Rattle.mapping.specs.internal.Mapped.{Storable, IsMapped, Finds, Checks}

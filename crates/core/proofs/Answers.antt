@@ -13,7 +13,7 @@ use Rattle.theory.specs.Answer.{Answer, Mapping}
 use Rattle.theory.specs.Chase.{chase, chaseFor, chaseOn, step, mapFound, firstBroken, firstFound}
 use Rattle.theory.specs.Reduction.{Reduction}
 use Rattle.theory.proofs.Reduction.{reduction-answers, reduction-wellformed}
-use Rattle.core.specs.CoreOf.{IsCoreOf}
+use Rattle.core.specs.internal.CoreOf.{IsCoreOf}
 
 -- Without dependencies the chase rests at once
 chase-nothing : (q : theory.Query) → chase [] q .query ≡ q

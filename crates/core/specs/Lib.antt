@@ -1,3 +1,2 @@
 -- What a core of a stored query is (CoreOf). `internal` is this crate's own.
-pub mod CoreOf
 pub mod internal

@@ -30,7 +30,7 @@ use Rattle.query.proofs.Stored.{well-formed}
 use Rattle.record.proofs.Kept.{filled-place, place-kept, place-read}
 use Rattle.record.proofs.Refusals.{found-refused, filled-at, vacant-at, place-refused, vacant-refused}
 use Rattle.chase.specs.declared.Chased.{Chased}
-use Rattle.chase.specs.Outcome.{IsChased}
+use Rattle.chase.specs.internal.Outcome.{IsChased}
 use Rattle.chase.proofs.Callers.{good-widths, width-le, chased-count}
 use Rattle.theory.specs.Query as theory
 use Rattle.theory.specs.Query.{WellFormed, variablesOf, rowEntries, _∈_}
@@ -44,7 +44,7 @@ use Rattle.mapping.specs.declared.Mapped.{Mapped}
 use Rattle.reduction.specs.declared.Shortened.{Shortened}
 use Rattle.reduction.specs.declared.Reduced.{Reduced}
 use Rattle.mapping.specs.internal.Mapped.{IsMapped}
-use Rattle.core.specs.CoreOf.{IsCoreOf}
+use Rattle.core.specs.internal.CoreOf.{IsCoreOf}
 use Rattle.reduction.specs.Reduced.{refusal, reductionRefusal, ReducesTo, IsReduced}
 use Rattle.reduction.specs.internal.Steps.{Shortenable, IsShortened, Reducible, IsStored}
 
