@@ -1,2 +1,2 @@
--- What a core of a stored query is (CoreOf). `internal` is this crate's own.
+-- What the core of a stored query is stands in `internal/CoreOf`: the public calls that use it promise the theory's reductions and answers.
 pub mod internal
