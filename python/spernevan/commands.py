@@ -6,7 +6,7 @@ import argparse
 import json
 import os
 import sys
-from typing import Callable, Dict, List, Optional, Sequence, Tuple, Union
+from typing import Callable, Dict, Iterable, List, Optional, Tuple, Union
 
 from .data import Database
 from .engine import Refused
@@ -24,7 +24,7 @@ from .files import (
     text_of,
     write_files,
 )
-from .layout import answer_columns, comparison_json, reduction_json, set_mapping, set_reduction, set_tables, write_answers
+from .layout import comparison_json, reduction_json, set_mapping, set_reduction, set_tables, write_answers
 from .model import FROZEN, PLACES
 from .notation import (
     Names,
@@ -41,7 +41,8 @@ from .notation import (
 )
 from .publish import define_all, render, shape_of
 from .record import Asked, Broken, Comparison, Record
-from .sources import read_database
+from .sources import read_for_command
+from .sql import labels
 from .text import pack, unpack
 from .values import Value, read_cell, read_literal
 
@@ -301,7 +302,7 @@ def equivalent_command(options: Options) -> int:
 
 def _data(options: Options, record: Record) -> Database:
     """The database of DATA."""
-    return read_database(options.data, record.names, _null(options.null), options.text, sys.stderr)
+    return read_for_command(options.data, record.names, _null(options.null), options.text, sys.stderr)
 
 
 def _null(text: Optional[str]) -> Optional[Value]:
@@ -314,11 +315,12 @@ def _null(text: Optional[str]) -> Optional[Value]:
         return text
 
 
-def _missing(database: Database, relations: Sequence[int], names: Names, why: str) -> None:
-    """Failure if a table that is needed is in none of the data."""
-    missing = [names.tables[relation].name for relation in sorted(set(relations)) if relation not in database.tables]
-    if missing:
-        raise Failure(f"the data has no table {', '.join(missing)}, which {why}; for an empty table give a CSV file with its header line alone")
+def _say_notes(database: Database, relations: Iterable[int]) -> None:
+    """Says what is to be known of how some tables were read."""
+    asked = set(relations)
+    for note in database.notes:
+        if note.relation in asked:
+            say(f"spernevan: {note.text}")
 
 
 def _broken(record: Record, database: Database, broken: Broken) -> List[str]:
@@ -332,31 +334,29 @@ def evaluate_command(options: Options) -> int:
     record, names = load(options)
     asked = Subject(record, options.query, "the rule")
     database = _data(options, record)
-    _missing(database, [row.relation for row in asked.query.rows], names, "the query asks for")
-    for note in database.notes:
-        say(f"spernevan: {note}")
-    double = database.text_and_number(constants(asked.query))
+    relations = [row.relation for row in asked.query.rows]
+    record.has_tables(database, relations, "the query asks for")
+    _say_notes(database, relations)
+    double = database.text_and_number(relations, constants(asked.query))
     if double is not None:
         say(
             f"spernevan: the text '{double}' and the number {double} are different values, and both are here; "
             "a query has the text between quotes" + (", and --text TABLE.COLUMN takes a column of CSV as text" if database.has_cells else "")
         )
-    broken = record.test(database)
+    broken = record.broken(database)
     if broken is not None:
         for line in _broken(record, database, broken):
             say(line)
         say("On such a database the long and the short form of a query may have different answers.")
     answers = record.evaluate(asked.asked, database, tested=True)
-    write_answers(answers, answer_columns(asked.query, names, asked.variables), options.format, sys.stdout)
+    write_answers(answers, labels(asked.query, names, asked.variables), options.format, sys.stdout)
     return YES
 
 
 def test_command(options: Options) -> int:
-    record, names = load(options)
+    record, _ = load(options)
     database = _data(options, record)
-    _missing(database, [dependency.relation for dependency in record.dependencies], names, "a dependency speaks of")
-    for note in database.notes:
-        say(f"spernevan: {note}")
+    _say_notes(database, [dependency.relation for dependency in record.dependencies])
     broken = record.test(database)
     if broken is None:
         print(f"Obeys: {count(len(database), 'row')}, {count(len(record.dependencies), 'dependency')}")

@@ -34,7 +34,7 @@ from .model import (
     Variable,
 )
 from .scan import NotationError, Reader, Token, count
-from .values import Value, Values, format_value
+from .values import Value, Values, format_value, is_date
 
 _NUMBERED = re.compile(r"v[0-9]+")
 _VARIABLES = frozenset(f"v{number}" for number in range(VARIABLES))
@@ -371,8 +371,8 @@ def format_row(name: str, entries: Sequence[object]) -> str:
 
 
 def format_datum(name: str, values: Iterable[Value]) -> str:
-    """A row of a database or an answer: `flight(101, 'Lindenberg')`."""
-    return format_row(name, [format_value(value) for value in values])
+    """A row of a database or an answer: `flight(101, 'Lindenberg')`. A text that is a date, which is the same value, is written as one."""
+    return format_row(name, [value if isinstance(value, str) and is_date(value) else format_value(value) for value in values])
 
 
 def format_parts(query: Query, names: Names, variables: Optional[Dict[int, str]] = None) -> Tuple[str, List[str]]:

@@ -178,7 +178,7 @@ class Files(Data):
         self.assertEqual(self.done("test", self.text, cells, status=1).splitlines()[0], "Breaks burst: flight -> height (dependency 2):")
         base = self.sqlite(bursts=[*BURSTS, ("F-2", 1)])
         self.assertIn(
-            f"  {base}: row 2 of Burst: burst('F-2', 29000)\n  {base}: row 4 of Burst: burst('F-2', 1)\n",
+            f"  {base}: row 2 of Burst: burst('F-2', 29000.0)\n  {base}: row 4 of Burst: burst('F-2', 1.0)\n",
             self.done("test", self.text, base, status=1),
         )
 
@@ -304,7 +304,7 @@ class Files(Data):
         status, out, err = run("evaluate", self.text, "ans(h) :- burst(101, h)", base)
         self.assertEqual((status, out), (0, "# 0 answers\n"))
         self.assertIn("the text '101' and the number 101 are different values, and both are here; a query has the text between quotes\n", err)
-        self.assertEqual(self.done("evaluate", self.text, "ans(h) :- burst('101', h)", base), "ans(7)\n# 1 answer\n")
+        self.assertEqual(self.done("evaluate", self.text, "ans(h) :- burst('101', h)", base), "ans(7.0)\n# 1 answer\n")
         more = self.folder_of(burst="flight,height\n101,8\n")
         status, out, err = run("evaluate", self.text, "ans(h) :- flight(f, p, t), burst(f, h)", base, more)
         self.assertIn("the text '101' and the number 101 are different values", err)
@@ -326,7 +326,7 @@ class Files(Data):
         rule = "ans(p, p, 'k', f, v9) :- flight(f, p, v9)"
         self.assertEqual(
             self.done("evaluate", self.text, rule, data, "--format", "csv"),
-            'p,p_2,constant2,f,launch\n,,k,2,3\n"a""b,c","a""b,c",k,1,2026-01-14\n',
+            'p,p_2,constant2,f,launch\n"","",k,2,3\n"a""b,c","a""b,c",k,1,2026-01-14\n',
         )
         found = json.loads(self.done("evaluate", self.text, rule, data, "--format", "json"))
         self.assertEqual(found[1], {"p": 'a"b,c', "p_2": 'a"b,c', "constant2": "k", "f": 1, "launch": "2026-01-14"})
