@@ -9,6 +9,7 @@ import sys
 from typing import Callable, Dict, Iterable, List, Optional, Tuple, Union
 
 from .data import Database
+from .definition import Definition, define, define_all, define_query
 from .engine import Refused
 from .files import (
     FILE_BYTES,
@@ -34,12 +35,14 @@ from .notation import (
     count,
     format_columns,
     format_datum,
+    format_dependencies,
     format_dependency,
     format_query,
     parse_dependencies,
     parse_rule,
 )
-from .publish import define_all, render, shape_of
+from .page import page
+from .publish import Shape, render, render_one, write_definition
 from .record import Asked, Broken, Comparison, Record
 from .sources import read_for_command
 from .sql import labels
@@ -118,9 +121,19 @@ def save(options: Options, record: Record, was_text: bool, said: str) -> None:
         write_out(unpack(record, record.names).encode() if was_text else record.file)
         return
     if was_text and os.path.realpath(out) == os.path.realpath(options.file):
-        raise Failure(f"{out} is a text: pack it first, or say with --output where the archive file goes; a text is changed in an editor")
-    record.write(out)
+        raise Failure(f"{out} is a text: pack it first, or say with --output where the new text or archive file goes; a text is changed in an editor")
+    if out.lower().endswith((".text", ".txt")):
+        write_text(out, unpack(record, record.names))
+    else:
+        record.write(out)
     print(f"{out}: {said}")
+
+
+def write_text(path: str, text: str) -> None:
+    """Writes the text of an archive to a new file."""
+    if os.path.isfile(path):
+        raise Failure(f"{path} is there already, and may have comments that would be lost: write elsewhere, or remove it first")
+    write_files([(path, text.encode())])
 
 
 def write_out(data: bytes) -> None:
@@ -210,17 +223,42 @@ class Subject:
 
 def list_command(options: Options) -> int:
     record, names = load(options)
+    found = [Subject(record, place, "") for place in record.filled()]
     if options.format != "text" or options.form is not None:
         if options.json:
             raise Failure("--form does not go with --json; it goes with --format json")
-        print(render(define_all(record, names, names.values.decode), *shape_of(options)), end="")
-        return YES
-    found = [Subject(record, place, "") for place in record.filled()]
-    if options.json:
+        text = render(define_all(record, names, names.values.decode), shape_of(options))
+    elif options.json:
         shapes = [{"place": one.asked, **reduction_json(one.query, record.shorten(one.asked), names, one.variables)} for one in found]
-        print(json.dumps(shapes, indent=2))
+        text = json.dumps(shapes, indent=2) + "\n"
     else:
-        print("\n\n".join(_reduced(record, one) for one in found) or "Every place is vacant.")
+        text = ("\n\n".join(_reduced(record, one) for one in found) or "Every place is vacant.") + "\n"
+    write_definition(text, options.output)
+    return YES
+
+
+def shape_of(options: Options) -> Shape:
+    """What the options say of how definitions are printed."""
+    return Shape(options.format, options.form, options.dialect, options.fragment, options.without_null)
+
+
+def define_command(options: Options) -> int:
+    record, names = load(options)
+    write_definition(render_one(_defined(Subject(record, options.query, "the rule"), record, names), shape_of(options)), options.output)
+    return YES
+
+
+def _defined(one: Subject, record: Record, names: Names) -> Definition:
+    """The definition of a place or of a rule."""
+    if isinstance(one.asked, int):
+        return define(record, names, one.asked, names.values.decode)
+    return define_query(record, names, one.query, one.variables, names.values.decode)
+
+
+def page_command(options: Options) -> int:
+    record, names = load(options)
+    title = options.title or ("Archive" if options.file == "-" else os.path.basename(options.file))
+    write_definition(page(record, names, title, names.values.decode), options.output)
     return YES
 
 
@@ -411,9 +449,7 @@ def unpack_command(options: Options) -> int:
     if options.text == "-":
         print(text, end="")
         return YES
-    if os.path.isfile(options.text):
-        raise Failure(f"{options.text} is there already, and may have comments that would be lost: write elsewhere, or remove it first")
-    write_files([(options.text, text.encode())])
+    write_text(options.text, text)
     print(f"{options.text}: {count(len(text.splitlines()), 'line')}")
     return YES
 
@@ -444,10 +480,14 @@ def drop_command(options: Options) -> int:
 @_changing
 def add_command(options: Options) -> int:
     record, was_text = load_record(options.file)
-    before = len(record.dependencies)
-    record = record.add_all([one for text in options.dependency for one in parse_dependencies(text, record.names)])
-    held = len(record.dependencies)
-    save(options, record, was_text, f"{count(held - before, 'dependency')} added, {held} in all")
+    given = [one for text in options.dependency for one in parse_dependencies(text, record.names)]
+    new = [one for one in dict.fromkeys(given) if one not in record.dependencies]
+    again = [one for one in dict.fromkeys(given) if one in record.dependencies]
+    after = record.add_all(new)
+    said = f"{count(len(new), 'dependency')} added, {len(after.dependencies)} in all"
+    if again:
+        said += f"; held already: {'; '.join(format_dependencies(again, record.names))}"
+    save(options, after, was_text, said)
     return YES
 
 

@@ -434,13 +434,28 @@ def read_dependencies(reader: Reader, names: Names) -> List[Dependency]:
 
 
 def parse_dependencies(text: str, names: Names, source: str = "dependency") -> List[Dependency]:
-    """The dependencies of a line such as `layer: flight, level -> height`."""
+    """The dependencies of a line such as `layer: flight, level -> height`, or `layer(flight*, level*, height)` for a key of a table."""
     reader = Reader(text, source)
     reader.at_end()
-    found = read_dependencies(reader, names)
+    found = read_key(reader, names) if reader.then.kind == "(" else read_dependencies(reader, names)
     if not reader.at_end():
         raise reader.expected("the end")
     return found
+
+
+def read_key(reader: Reader, names: Names) -> List[Dependency]:
+    """`layer(flight*, level*, height)`: a table that is there, with marks at the columns of a key."""
+    start = reader.next
+    others = [table for table in names.tables if table.name != start.text]
+    if len(others) == len(names.tables):
+        names.relation(reader)
+    table, key = read_keyed_table(reader, others)
+    if table not in names.tables:
+        there = next(held for held in names.tables if held.name == table.name)
+        raise reader.error(start, f"the table is {there}; a key is a mark * at some of these columns")
+    if not key or len(key) == len(table.columns):
+        raise reader.error(start, "a key is a mark * at some of the columns, which determine the others")
+    return key_dependencies(names.tables.index(table), key, len(table.columns))
 
 
 def key_dependencies(relation: int, key: Sequence[int], width: int) -> List[Dependency]:
@@ -499,6 +514,7 @@ __all__ = [
     "parse_rule",
     "read_dependencies",
     "read_entry",
+    "read_key",
     "read_keyed_table",
     "read_names",
     "read_names_file",

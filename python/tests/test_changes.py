@@ -1,5 +1,6 @@
 """The commands that change an archive, and those that take rules: their output, their status and their messages."""
 
+import itertools
 import json
 import shutil
 import subprocess
@@ -39,17 +40,47 @@ class Changes(Command):
         self.assertIn("burst: flight -> height\nburst: height -> flight\nlayer: level -> height, flight\n", self.done("unpack", self.file))
         self.failed("dependency:1:8: burst(flight, height) has no column site", "add", self.file, "burst: site -> flight")
         self.failed("dependency:1:7: the name of a column was expected, not the end", "add", self.file, "burst:")
+        each = [f"flight: {a}, {b} -> number, sonde, site, launch" for a, b in itertools.combinations(["number", "sonde", "site", "launch"], 2)]
         self.failed(
             f"{self.file}: 13 dependencies are held, and 20 more would make 33; there may be 32, and each column on the right counts one",
             "add",
             self.file,
-            *["burst: flight -> height"] * 20,
+            *each[:5],
         )
         self.assertEqual(len(Record.read(self.file).dependencies), 13)
-        self.done("add", self.file, *["burst: flight -> height"] * 18)
-        self.failed(f"{self.file}: 31 dependencies are held, and 2 more would make 33", "add", self.file, "layer: level -> height, flight")
-        self.done("add", self.file, "burst: flight -> height")
-        self.failed(f"{self.file}: 32 dependencies are held, which is as many as there may be", "add", self.file, "burst: flight -> height")
+        self.done("add", self.file, *each[:4], "sonde: maker -> serial, calibration")
+        self.failed(f"{self.file}: 31 dependencies are held, and 2 more would make 33", "add", self.file, "layer: height -> level, flight")
+        self.done("add", self.file, "layer: height -> level")
+        self.failed(f"{self.file}: 32 dependencies are held, which is as many as there may be", "add", self.file, "layer: height -> flight")
+
+    def test_add_what_is_held(self):
+        """A dependency that is held is said, and not added again."""
+        before = self.file.read_bytes()
+        held = "0 dependencies added, 10 in all; held already: burst: flight -> height"
+        self.assertEqual(self.done("add", self.file, "burst: flight -> height"), f"{self.file}: {held}\n")
+        self.assertEqual(self.file.read_bytes(), before)
+        self.assertEqual(
+            self.done("add", self.file, *["burst: height -> flight"] * 2, "burst: flight -> height, flight"),
+            f"{self.file}: 2 dependencies added, 12 in all; held already: burst: flight -> height\n",
+        )
+
+    def test_add_a_key(self):
+        text = self.write("k.text", "layer(flight, level, height, temperature)\nlayer: flight, level -> height\n")
+        file = self.folder / "k.file"
+        self.done("pack", text, file)
+        self.assertEqual(
+            self.done("add", file, "layer(flight*, level*, height, temperature)"),
+            f"{file}: 1 dependency added, 2 in all; held already: layer: flight, level -> height\n",
+        )
+        self.assertIn("layer: flight, level -> height, temperature\n", self.done("unpack", file))
+        for given, message in (
+            ("kite(a*, b)", "dependency:1:1: there is no table kite; there is layer"),
+            ("layer(flight*, level)", "dependency:1:1: the table is layer(flight, level, height, temperature); a key is a mark *"),
+            ("layer(flight, level, height, temperature)", "dependency:1:1: a key is a mark * at some of the columns"),
+            ("layer(flight*, level*, height*, temperature*)", "dependency:1:1: a key is a mark * at some of the columns"),
+            ("layer(flight*, level*, height, temperature) x", "dependency:1:45: the end was expected, not 'x'"),
+        ):
+            self.failed(message, "add", file, given)
 
     def test_reduce(self):
         rule = "ans(f, h) :- flight(f, s, 7, t), sonde(s, c, m), calibration(c, l, 2), burst(f, h)"
@@ -71,7 +102,7 @@ class Changes(Command):
         self.done("drop", self.file, 0, "-o", other)
         self.assertEqual((self.file.read_bytes(), Record.read(other).filled()), (before, [1, 2, 3, 5, 6]))
         text = self.write("a.text", "flight(a, b)\n# a comment\n")
-        self.failed(f"{text} is a text: pack it first, or say with --output where the archive file goes", "put", text, 0, "ans() :- never")
+        self.failed(f"{text} is a text: pack it first, or say with --output where the new text or archive file goes", "put", text, 0, "ans() :- never")
         self.failed(f"{text} is a text: pack it first", "put", text, 0, "ans() :- never", "-o", text)
         self.failed(
             f"{self.folder}/x.names is a name for a names file; an archive file has another ending",
@@ -84,6 +115,14 @@ class Changes(Command):
         self.failed(f"{self.file} is no text; if it is an archive file, unpack makes a text of it", "pack", self.file, other)
         self.done("put", text, 0, "ans() :- never", "--output", other)
         self.assertEqual(Record.read(other).names.tables[0].name, "flight")
+        # A name that ends as a text's does gets a text, which is never replaced.
+        fresh = self.folder / "fresh.text"
+        for source in (text, other):
+            self.done("put", source, 1, "ans(x) :- flight(x, 'y')", "-o", fresh)
+            self.assertIn("\n1: ans(x) :- flight(x, 'y')\n", fresh.read_text())
+            self.failed(f"{fresh} is there already, and may have comments that would be lost", "drop", other, 0, "-o", fresh)
+            self.assertFalse((self.folder / "fresh.names").exists())
+            fresh.unlink()
 
     def test_pipes(self):
         """Text goes through as text and an archive as an archive."""

@@ -272,7 +272,7 @@ class Messages(Command):
         ):
             status, out, err = run(*arguments)
             self.assertEqual((status, out), (2, ""), arguments)
-            self.assertIn("usage: spernevan", err)
+            self.assertRegex(err, r"\Aspernevan.*: .*; spernevan.* --help says more\n\Z")
         self.assertEqual(run("--help")[0], 0)
 
     def test_engine_missing(self):

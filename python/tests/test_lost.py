@@ -102,8 +102,9 @@ class Writing(Lost):
 
     def test_a_text_is_not_replaced(self):
         kept = "which an archive file does not replace: write elsewhere, or remove it first"
-        for arguments in (["pack", self.old, self.new], ["pack", self.old, self.old], ["drop", self.file, 0, "-o", self.old]):
+        for arguments in (["pack", self.old, self.new], ["pack", self.old, self.old]):
             self.failed(f"{arguments[-1]} is a text, {kept}", *arguments)
+        self.failed(f"{self.old} is there already, and may have comments that would be lost", "drop", self.file, 0, "-o", self.old)
         self.failed(f"{self.old} is there already, and may have comments that would be lost", "unpack", self.file, self.old)
         self.failed(f"{self.file} is there already", "unpack", self.file, self.file)
         self.unchanged()

@@ -1,11 +1,9 @@
 """Definitions, and the commands `define` and `page`."""
 
-import contextlib
 import io
 import json
 import os
 import random
-import tempfile
 import unittest
 from decimal import Decimal
 from pathlib import Path
@@ -14,20 +12,8 @@ from unittest import mock
 import context
 from spernevan import Names, Query, Record, parse_query, publish, read_names
 from spernevan.definition import Writer, define, define_all, define_query, lone, used_dependencies
-from spernevan.command import main
-
-FLIGHTS = str(context.SAMPLES / "flights.file")
-
-
-def run(*arguments):
-    """Status, output and messages of the command."""
-    out, err = io.StringIO(), io.StringIO()
-    with contextlib.redirect_stdout(out), contextlib.redirect_stderr(err):
-        try:
-            status = main([str(argument) for argument in arguments])
-        except SystemExit as end:
-            status = end.code
-    return status, out.getvalue(), err.getvalue()
+from spernevan.publish import Shape
+from test_command import FLIGHTS, Command, run
 
 
 def under(record, numbers, *queries):
@@ -111,18 +97,7 @@ class Definitions(unittest.TestCase):
                         self.assertEqual(getattr(saved, field), getattr(loose, field))
 
 
-@context.with_engine
-class Commands(unittest.TestCase):
-    def setUp(self):
-        folder = tempfile.TemporaryDirectory()
-        self.addCleanup(folder.cleanup)
-        self.folder = Path(folder.name)
-
-    def done(self, *arguments):
-        status, out, err = run(*arguments)
-        self.assertEqual((status, err), (0, ""))
-        return out
-
+class Commands(Command):
     def test_text(self):
         self.assertEqual(
             self.done("define", FLIGHTS, 1),
@@ -192,16 +167,16 @@ class Commands(unittest.TestCase):
         record = Record.read(FLIGHTS)
         names = read_names((context.SAMPLES / "flights.names").read_text(), "names")
         found = define_all(record, names)
-        self.assertEqual(publish.render(found, "sql").count("-- Place "), 6)
-        self.assertEqual(len(json.loads(publish.render(found, "json"))), 6)
-        self.assertEqual(publish.render(found, "latex").count("Short form"), 6)
-        self.assertEqual(publish.render(found, "latex", form="short").count("\\begin{tabular}"), 6)
+        self.assertEqual(publish.render(found, Shape("sql")).count("-- Place "), 6)
+        self.assertEqual(len(json.loads(publish.render(found, Shape("json")))), 6)
+        self.assertEqual(publish.render(found, Shape("latex")).count("Short form"), 6)
+        self.assertEqual(publish.render(found, Shape("latex", form="short")).count("\\begin{tabular}"), 6)
         self.assertEqual(publish.render(found).count("Place "), 6)
         self.assertEqual(publish.render([]), "Every place is vacant.\n")
-        self.assertEqual(publish.render([], "json"), "[]\n")
+        self.assertEqual(publish.render([], Shape("json")), "[]\n")
         for wrong in ({"format": "yaml"}, {"form": "middle"}, {"format": "sql", "form": "middle"}):
             with self.assertRaises(ValueError):
-                publish.render(found, **wrong)
+                publish.render(found, Shape(**wrong))
 
     def test_list(self):
         """`list --format` has the definitions of all places; as text and with --json it is as without."""
@@ -278,7 +253,8 @@ class Commands(unittest.TestCase):
             (("9" * 5000,), "7"),
             (("ans(x) :- kite(x)",), "rule:1:11: there is no table kite"),
             (("ans(x) :- burst(x, y) burst(x, y)",), "rule:1:23: "),
-            (("",), "rule:1:1: "),
+            (("",), "neither a place, 0 to 7, nor a rule"),
+            (("foo",), "'foo' is neither a place, 0 to 7, nor a rule"),
         ]:
             status, out, err = run("define", FLIGHTS, *arguments)
             self.assertTrue(status and not out and err.count("\n") == 1 and message in err, err)
