@@ -161,7 +161,7 @@ def render(definitions: Sequence[Definition], shape: Shape = Shape()) -> str:
         return _json([_json_of(definition, shape.form) for definition in definitions])
     if shape.format == "latex":
         forms = [_latex_of(definition, shape.form) for definition in definitions]
-        return _document(latex.archive(definitions) if shape.form is None else "\\par\\bigskip\n".join(forms), shape)
+        return _document("\\par\\bigskip\n".join(forms) if shape.form and forms else latex.archive(definitions), shape)
     if not definitions:
         return "Every place is vacant.\n"
     return "\n".join(_text_of(definition, shape.form) for definition in definitions)

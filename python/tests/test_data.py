@@ -339,6 +339,57 @@ class Files(Data):
             self.assertEqual(self.done("evaluate", self.text, "ans() :- flight(9, p, t)", data, "--format", kind), no)
         self.assertEqual(self.done("evaluate", self.text, "ans(_, _) :- never", data, "--format", "csv"), "column0,column1\n")
 
+    def test_answers_come_out_as_they_went_in(self):
+        rule, kinds = "ans(f, h) :- burst(f, h)", ("rows", "csv", "json")
+        rows = self.write("w.data", "burst(1, 13.0)\nburst(2, 12.50)\nburst(3, 7)\nburst(4, -0.25)\n")
+        cells = self.csv(burst="flight,height\n1,13.0\n2,12.50\n3,7\n4,-0.25\n")
+        for source in (rows, cells):
+            found = self.done("evaluate", self.text, rule, source)
+            self.assertEqual(found, "ans(1, 13.0)\nans(2, 12.50)\nans(3, 7)\nans(4, -0.25)\n# 4 answers\n")
+        base = self.sqlite(bursts=[("001", 13), ("12.5", 1e-7), ("x", 2.5)])
+        self.assertEqual(
+            [self.done("evaluate", self.text, rule, base, "--format", kind) for kind in kinds],
+            [
+                "ans('001', 13.0)\nans('12.5', 1e-07)\nans('x', 2.5)\n# 3 answers\n",
+                'f,h\n"001",13.0\n"12.5",1e-07\nx,2.5\n',
+                '[\n  {"f": "001", "h": 13.0},\n  {"f": "12.5", "h": 1e-07},\n  {"f": "x", "h": 2.5}\n]\n',
+            ],
+        )
+        # What is written as rows or as CSV is read as the same values.
+        base = self.sqlite(bursts=[("001", 13), ("12.5", 0.25), ("x", 2.5)])
+        again = self.write("x.data", self.done("evaluate", self.text, rule, base).replace("ans(", "burst("))
+        self.assertEqual(self.done("evaluate", self.text, rule, again), self.done("evaluate", self.text, rule, base))
+        cells = self.csv(burst=self.done("evaluate", self.text, rule, base, "--format", "csv").replace("f,h", "flight,height"))
+        found = self.done("evaluate", self.text, rule, cells, "--text", "burst.flight")
+        self.assertEqual(found, self.done("evaluate", self.text, rule, base))
+
+    def test_notes_are_on_tables_that_are_asked_for(self):
+        cells = self.csv("number,site,launch\nF-1,1e4,1\nF-2,a,1.10\nF-3,b,1.1\n", "flight,height\nF-1,1e4\n")
+        status, out, err = run("evaluate", self.text, "ans(h) :- burst(f, h)", cells)
+        self.assertEqual((status, out), (0, "ans('1e4')\n# 1 answer\n"))
+        self.assertEqual(err.count("\n"), 1)
+        self.assertIn("burst.csv:2: 1e4 in burst.height is taken as a text; the number is written 10000; if it is no number, say --text", err)
+        self.assertEqual(run("test", self.text, cells)[2].count("\n"), 3)
+        with warnings.catch_warnings(record=True) as seen:
+            warnings.simplefilter("always")
+            database = read_database(cells, self.names)
+        self.assertEqual([str(one.message) for one in seen], [note.text for note in database.notes])
+        self.assertEqual([one.filename for one in seen], [__file__] * 3)
+        self.assertIn("if they are no numbers, give text=['flight.launch']", str(seen[1].message))
+        with warnings.catch_warnings():
+            warnings.simplefilter("error")
+            read_database(cells, self.names, text=["flight.launch", "flight.site", "burst.height"])
+
+    def test_part_of_the_tables(self):
+        """A break in what is there is said; without one, a table that is missing is."""
+        cells = self.folder_of(burst="flight,height\n1,2\n1,3\n")
+        self.assertIn("Breaks burst: flight -> height", self.done("test", self.text, cells, status=1))
+        cells = self.folder_of(burst="flight,height\n1,2\n")
+        self.failed(
+            "the data has no table flight, which a dependency speaks of; an empty table is a CSV file with its header line alone",
+            "test", self.text, cells,
+        )
+
 
 class FromPython(Data):
     def setUp(self):
@@ -363,6 +414,34 @@ class FromPython(Data):
         )
         self.assertEqual(len(self.record.names.values), len(pack(TEXT)[1].values))
 
+    def test_types(self):
+        """A column of one type comes out in that type."""
+        rule = "ans(f, h) :- burst(f, h)"
+        for rows in (
+            [(1, 13.0), (2, 2.5), (3, -1e300)],
+            [(1, Decimal("13")), (2, Decimal("2.50"))],
+            [(True, "2026-01-14"), (False, "x")],
+            [("2026-01-14", 1), ("a", 2.5), ("b", "c")],
+            [(date(2026, 1, 14), datetime(2026, 1, 14, 12)), (date(2026, 1, 15), datetime(2026, 1, 15))],
+        ):
+            found = self.record.evaluate(rule, {"burst": rows})
+            self.assertEqual(sorted(map(repr, found)), sorted(map(repr, rows)))
+        # Each column by its own type, also where the values are the same.
+        data = {"flight": [(1, 1.0, Decimal("1.5"))], "burst": [(1.0, 1.5)]}
+        self.assertEqual(repr(self.record.evaluate("ans(f, p, t) :- flight(f, p, t)", data)), "[(1, 1.0, Decimal('1.5'))]")
+        self.assertEqual(repr(self.record.evaluate("ans(f, t) :- burst(f, t), flight(f, p, t)", data)), "[(1.0, 1.5)]")
+        self.assertEqual(repr(self.record.evaluate("ans(f, t) :- flight(f, p, t), burst(f, t)", data)), "[(1, Decimal('1.5'))]")
+        # What an absent value stands for is taken as a value of the column.
+        null = self.record.database({"burst": [(1, 2.5), (2, float("nan")), (3, None)]}, null=-9)
+        self.assertEqual(repr(self.record.evaluate(rule, null)), "[(1, 2.5), (2, -9.0), (3, -9.0)]")
+
+    def test_part_of_the_tables(self):
+        with self.assertRaisesRegex(DataError, "the data has no table flight, which a dependency speaks of; an empty table is {'flight': "):
+            self.record.test({"burst": [(1, 2)]})
+        self.assertIsNone(self.record.test({"burst": [(1, 2)], "flight": []}))
+        with self.assertWarnsRegex(UserWarning, "the text '7' and the number 7 are different values"):
+            self.record.evaluate("ans(h) :- burst(7, h)", {"burst": [("7", 2)]})
+
     def test_a_table_that_is_not_there(self):
         for place, data, missing in [(0, {}, "flight, burst"), (1, {"burst": [(1, 2)]}, "flight")]:
             message = f"the data has no table {missing}, which the query asks for; an empty table is {{'flight': \\[\\]}}"
@@ -383,7 +462,22 @@ class FromPython(Data):
             self.record.evaluate(1, {"flight": [], "burst": [("F-1", 2), ("F-2", 3)]})
 
     def test_what_is_no_place_and_no_database(self):
+        mapping = {0: Constant(0)}
         for place in (1.5, True, None):
+            for call in (
+                lambda: self.record.put(place, "ans() :- never"),
+                lambda: self.record.drop(place),
+                lambda: self.record.reduce(place, 4),
+                lambda: self.record.reduce(0, place),
+                lambda: self.record.reduce("ans(x) :- burst(x, y)", place),
+                lambda: self.record.shorten(place),
+                lambda: self.record.compare(0, place),
+                lambda: self.record.equivalent(place, 0),
+                lambda: self.record.check(place, 0, mapping),
+                lambda: self.record.check(0, place, mapping),
+            ):
+                with self.assertRaisesRegex(ValueError, f"a place must be a whole number, not {place}"):
+                    call()
             with self.assertRaisesRegex(ValueError, f"a place must be a whole number, not {place}"):
                 self.record.evaluate(place, {"flight": []})
             with self.assertRaisesRegex(ValueError, f"a place must be a whole number, not {place}"):

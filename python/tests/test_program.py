@@ -85,6 +85,17 @@ class Program(unittest.TestCase):
         out, err = running.communicate(timeout=20)
         self.assertEqual((running.returncode, out, err), (-signal.SIGINT, b"", b""))
 
+    def test_an_interrupt_while_python_starts(self):
+        if subprocess.run(["env", "--block-signal=INT", "true"], capture_output=True).returncode != 0:
+            self.skipTest("env does not know --block-signal")
+        for wait in range(0, 60, 4):
+            running = subprocess.Popen([str(context.ROOT / "spernevan"), "list", FLIGHTS], stdout=subprocess.PIPE, stderr=subprocess.PIPE)
+            time.sleep(wait / 1000)
+            running.send_signal(signal.SIGINT)
+            _, err = running.communicate(timeout=20)
+            self.assertEqual(err, b"")
+            self.assertIn(running.returncode, (-signal.SIGINT, 0))
+
     def test_nothing_is_read_before_an_interrupt_ends_the_command(self):
         done = subprocess.run([sys.executable, "-X", "importtime", *PROGRAM[1:], "--version"], capture_output=True, text=True)
         self.assertIn("spernevan.command", done.stderr)

@@ -221,6 +221,15 @@ class Commands(Command):
         self.assertEqual(self.done("page", FLIGHTS, "-o", "/dev/null"), "")
         self.assertTrue(Path("/dev/null").is_char_device())
 
+    def test_list_to_a_file(self):
+        out, vacant = self.folder / "out", self.write("vacant.text", "flight(a)\n")
+        for source in (FLIGHTS, vacant):
+            for kind in ([], ["--json"], *([f"--format={one}"] for one in publish.FORMATS), ["--form=long"], ["--format=latex", "--form=long"]):
+                printed = self.done("list", source, *kind)
+                for _ in range(2):
+                    self.assertEqual(self.done("list", source, *kind, "-o", out), "")
+                    self.assertEqual(out.read_text(), printed)
+
     def test_files_of_others_are_not_replaced(self):
         out = self.folder / "out"
         for kind in ([], ["--format", "latex"], ["--format", "latex", "--fragment"], ["--format", "sql"], ["--format", "json"]):
@@ -235,7 +244,7 @@ class Commands(Command):
         for name in ("a.file", "a.names", "a.text", "a.csv", "a.html"):
             path = self.folder / name
             before = path.read_bytes()
-            for arguments in (["define", archive, 0, "-o", path], ["page", archive, "-o", path]):
+            for arguments in (["define", archive, 0, "-o", path], ["page", archive, "-o", path], ["list", archive, "-o", path]):
                 status, printed, err = run(*arguments)
                 self.assertEqual((status, printed, err.count("\n")), (2, "", 1))
                 self.assertIn(f"{path} is there already, and is no definition or page", err)
