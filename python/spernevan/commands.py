@@ -20,6 +20,7 @@ from .files import (
     read_bytes,
     read_names_beside,
     read_while,
+    settled,
     shown,
     standard_input,
     text_of,
@@ -94,7 +95,7 @@ def load_record(file: str, names: Optional[str] = None, plain: bool = False) -> 
 
 def load(options: Options) -> Tuple[Record, Names]:
     """The record that FILE has, and its names."""
-    record, _ = load_record(options.file, options.names, options.plain)
+    record, _ = settled(options.file, lambda: load_record(options.file, options.names, options.plain))
     return record, record.names
 
 

@@ -13,7 +13,7 @@ from typing import Any, Dict, FrozenSet, Iterable, List, Optional, Sequence, Tup
 from . import engine
 from .data import Database, DataError, Shown, of_python
 from .engine import Refused, Words
-from .files import FILE_BYTES, Failure, Path, checksum, is_text, names_path, read_bytes, read_names_beside, read_text, shown, write_files
+from .files import FILE_BYTES, Failure, Path, checksum, is_text, names_path, read_bytes, read_names_beside, read_text, settled, shown, write_files
 from .model import (
     BYTE,
     FROZEN,
@@ -166,6 +166,10 @@ class Record:
 
         Of a file longer than 65,536 bytes, only those are read.
         """
+        return settled(path, lambda: cls._read(path, names))
+
+    @classmethod
+    def _read(cls, path: Path, names: Union[bool, Path]) -> Record:
         data = read_bytes(path, FILE_BYTES)
         if is_text(data):
             raise Refused(1, f"{shown(path)} is a text: pack it first, as spernevan.pack(text) does")

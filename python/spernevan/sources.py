@@ -100,6 +100,8 @@ def _read(path: Path, database: Database, kept: AbstractSet[Tuple[int, int]]) ->
         return
     if not data and name != "-":
         raise DataError(f"{name}: the file is empty; for no rows at all give a line such as # no rows, or a CSV file with its header line alone")
+    if b"\0" in data[:1024]:
+        raise DataError(f"{shown(path)}: these are neither rows of text, nor CSV, nor an SQLite file")
     text = text_of(data, path)
     if _like_csv(text):
         known = ", ".join(f"{table.name}.csv" for table in database.names.tables)
@@ -306,13 +308,13 @@ def read_csv(path: str, relation: int, database: Database, kept: AbstractSet[Tup
                         words.append(cells.column(columns[number]))
                     except ValueError:
                         position, error = cells.fault(columns[number])
-                        line = _csv_line(path, sign, start + position)
-                        _refuse(f"{path}:{line}: column {table.columns[column]}", error, f"the cell is empty (NULL); {database.null_cure}")
+                        where = _csv_place(path, sign, start + position)
+                        _refuse(f"{where}: column {table.columns[column]}", error, f"the cell is empty (NULL); {database.null_cure}")
                     if known is None and cells.meant is not None:
-                        line = _csv_line(path, sign, start + columns[number].index(cells.meant[0]))
+                        where = _csv_place(path, sign, start + columns[number].index(cells.meant[0]))
                         taken = f"{cells.meant[0].strip()} in {table.name}.{table.columns[column]} is taken as a text"
                         means = f"the number is written {cells.meant[1]}; if it is no number"
-                        _note(database, relation, column, f"{path}:{line}: {taken}; {means}")
+                        _note(database, relation, column, f"{where}: {taken}; {means}")
                 if rows:
                     database.add(relation, words, _csv_where(path, sign, start))
                 start += len(rows)
@@ -372,13 +374,17 @@ def _rows_of(path: str, sign: str) -> Iterable[Tuple[int, List[str]]]:
             line = reader.line_num + 2
 
 
-def _csv_line(path: str, sign: str, row: int) -> int:
-    """The line on which row n begins."""
-    return next(islice(_rows_of(path, sign), row, None))[0]
+def _csv_place(path: str, sign: str, row: int) -> str:
+    """Where row n begins: the file and the line, unless the file has changed since."""
+    try:
+        line, _ = next(islice(_rows_of(path, sign), row, None))
+    except (OSError, StopIteration, csv.Error, UnicodeDecodeError):
+        return f"{path}: row {row + 1}, of a file that has changed since"
+    return f"{path}:{line}"
 
 
 def _csv_where(path: str, sign: str, start: int) -> Where:
-    return lambda row: f"{path}:{_csv_line(path, sign, start + row)}"
+    return lambda row: _csv_place(path, sign, start + row)
 
 
 def _csv_error_line(path: str, sign: str) -> int:
@@ -401,8 +407,7 @@ def _sound_rows(rows: List[List[str]], width: int, path: str, sign: str, start: 
     held = [row for row in rows if row]
     for position, row in enumerate(held):
         if len(row) != width:
-            line = _csv_line(path, sign, start + position)
-            raise DataError(f"{path}:{line}: the row has {count(len(row), 'cell')}, the header {width}")
+            raise DataError(f"{_csv_place(path, sign, start + position)}: the row has {count(len(row), 'cell')}, the header {width}")
     return held
 
 
@@ -425,6 +430,9 @@ def read_sqlite(path: str, database: Database) -> None:
     try:
         connection = sqlite3.connect(f"file:{pathname2url(os.path.abspath(path))}?mode=ro", uri=True)
         try:
+            # One transaction, so that every table is as it was at one moment.
+            connection.isolation_level = None
+            connection.execute("BEGIN")
             _read_connection(connection, path, database)
         finally:
             connection.close()

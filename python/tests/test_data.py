@@ -14,9 +14,10 @@ import warnings
 from datetime import date, datetime
 from decimal import Decimal
 from pathlib import Path
+from unittest import mock
 
 import context
-from spernevan import Broken, Constant, DataError, Query, Record, Refused, Row, Table, pack, read_database
+from spernevan import Broken, Constant, DataError, Query, Record, Refused, Row, Table, pack, read_database, sources
 from spernevan.data import Progress, matched
 from spernevan.notation import format_datum
 from test_command import Command, run
@@ -225,6 +226,8 @@ class Files(Data):
         self.failed(f"{both}: FLIGHT.csv and flight.csv are both for the table flight", "test", self.text, both)
         self.failed("sonde.version is no TABLE.COLUMN of the archive", "test", self.text, self.csv(), "--text", "sonde.version")
         self.failed(f"{self.folder}/none: No such file", "test", self.text, self.folder / "none")
+        picture = self.write("a.png", b"\x89PNG\r\n\x1a\n\0\0\0\rIHDR")
+        self.failed(f"{picture}: these are neither rows of text, nor CSV, nor an SQLite file", "test", self.text, picture)
 
     def test_a_quote_inside_a_cell(self):
         cells = self.csv('number,site,launch\n1,4" pipe,x\n2,"4"" pipe",x\n')
@@ -298,6 +301,28 @@ class Files(Data):
         self.done("test", self.text, base)
         self.assertEqual(base.read_bytes(), before)
         self.assertEqual([path.name for path in self.folder.iterdir() if path.name.startswith(base.name)], [base.name])
+
+    def test_a_file_that_changes_while_it_is_read(self):
+        base = self.sqlite("CREATE INDEX i ON flight (number)")
+        writer = sqlite3.connect(base)
+        self.addCleanup(writer.close)
+        writer.execute("PRAGMA journal_mode = WAL")
+        real = sources._read_sqlite_table
+
+        def between(connection, path, name, *others):
+            real(connection, path, name, *others)
+            writer.execute('DELETE FROM "Burst"')
+            writer.commit()
+
+        with mock.patch.object(sources, "_read_sqlite_table", between):
+            self.assertEqual(self.done("test", self.text, base), "Obeys: 6 rows, 3 dependencies\n")
+        self.assertEqual(self.done("test", self.text, base), "Obeys: 3 rows, 3 dependencies\n")
+        cells = self.csv(burst="flight,height\n1,2\n1,3\n")
+        database = read_database(cells, self.names)
+        (cells / "burst.csv").write_text("flight,height\n")
+        self.assertEqual(database.say(1), f"{cells}/burst.csv: row 2, of a file that has changed since: burst(1, 3)")
+        (cells / "burst.csv").unlink()
+        self.assertEqual(database.say(1), f"{cells}/burst.csv: row 2, of a file that has changed since: burst(1, 3)")
 
     def test_text_that_looks_like_a_number(self):
         base = self.sqlite(flights=[("101", "De Bilt", "x")], bursts=[("101", 7)])

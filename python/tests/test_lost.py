@@ -8,6 +8,8 @@ import resource
 import stat
 import subprocess
 import sys
+import threading
+import time
 import unittest
 from unittest import mock
 
@@ -52,6 +54,8 @@ class Writing(Lost):
             ["pack", self.new, self.file],
             ["put", self.file, "1", "ans(x) :- flight(x, y)"],
             ["unpack", self.file, self.folder / "fresh.text"],
+            ["reduce", self.file, "0", "-o", self.folder / "fresh.text"],
+            ["list", self.file, "-o", self.folder / "fresh"],
         ):
             done = subprocess.run([*PROGRAM, *map(str, arguments)], capture_output=True, preexec_fn=small)
             self.assertEqual((done.returncode, done.stdout), (2, b""))
@@ -202,6 +206,26 @@ class Together(Lost):
             self.unchanged()
         self.assertEqual(waiting.wait(60), 0)
         self.assertEqual(self.done("list", self.file), "Every place is vacant.\n")
+
+    def test_who_reads_waits_for_one_who_writes(self):
+        after = Record.read(self.file).put(3, "ans(a) :- flight(a, b)")
+        other = self.folder / "b.file"
+        after.write(other)
+        found = []
+
+        def read():
+            found.append(Record.read(self.file))
+            found.append(self.done("list", self.file))
+
+        with files.locked(self.file):
+            self.file.write_bytes(after.file)  # The names are still those of the archive before.
+            reader = threading.Thread(target=read)
+            reader.start()
+            time.sleep(0.1)
+            self.assertEqual(found, [])
+            self.names.write_bytes((self.folder / "b.names").read_bytes())
+        reader.join()
+        self.assertEqual(found, [after, self.done("list", other)])
 
     def test_a_folder_that_cannot_be_locked(self):
         with mock.patch.object(files.fcntl, "flock", side_effect=OSError(38, "Function not implemented")):
