@@ -201,6 +201,8 @@ _PLAIN_DECIMAL = re.compile(r"-?(?:0|[1-9][0-9]*)\.[0-9]+")
 _LITERAL = re.compile(r"-?[0-9]+(?:\.[0-9]+)?(?:[eE][+-]?[0-9]+)?")
 # What a program may have written for a number.
 _LIKE_NUMBER = re.compile(r"[+-]?(?:[0-9]+\.?[0-9]*|\.[0-9]+)(?:[eE][+-]?[0-9]+)?")
+_WITH_COMMAS = re.compile(r"[+-]?(?:[0-9]+,[0-9]+|[0-9]{1,3}(?:,[0-9]{3})+(?:\.[0-9]*)?)")
+_THOUSANDS = re.compile(r"[+-]?[0-9]{1,3}(?:,[0-9]{3})+(?:\.[0-9]*)?")
 _DATE = re.compile(r"[0-9]{4}-[0-9]{2}-[0-9]{2}")
 
 
@@ -228,11 +230,13 @@ def read_cell(cell: str) -> Value:
 
 
 def number_meant(cell: str) -> Optional[str]:
-    """How `read_cell` wants the number of a cell that it takes as a text, as 1e4, +5, 5. or .5; None if it looks like none.
+    """How `read_cell` wants the number of a cell that it takes as a text, as 1e4, +5, 5., .5 or 12,5; None if it looks like none.
 
     Digits alone, as 007, are meant as they are.
     """
     word = cell.strip()
+    if "," in word and _WITH_COMMAS.fullmatch(word):
+        return "with a point and without commas" if _THOUSANDS.fullmatch(word) else f"with a point, {word.replace(',', '.'):.40}"
     if word.isdigit() or len(word) > MOST_DIGITS or not _LIKE_NUMBER.fullmatch(word):
         return None
     try:

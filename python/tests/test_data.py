@@ -248,6 +248,11 @@ class Files(Data):
             cells = self.csv(burst=f"flight,height\n1,{cell}\n")
             self.assertEqual(run("evaluate", self.text, "ans(f) :- burst(f, 1e4)", cells), (0, "ans(1)\n# 1 answer\n", ""))
         self.assertEqual(run("test", self.text, self.csv(burst="flight,height\n06610,1\n7,-0\n"))[2], "")
+        for cell, number in [("31200,5", "with a point, 31200.5"), ("1,234", "with a point and without commas")]:
+            err = run("test", self.text, self.csv(burst=f"flight;height\n1;{cell}\n"))[2]
+            self.assertIn(f"burst.csv:2: {cell} in burst.height is taken as a text; the number is written {number}; ", err)
+        for cell in ("1,2,3", "a,5", "2026,x"):
+            self.assertEqual(run("test", self.text, self.csv(burst=f"flight;height\n1;{cell}\n"))[2], "")
 
     def test_null_in_rows_of_text(self):
         path = self.write("n.data", "flight(1, 'x', 2)\nflight(2, NULL, 3)\n")
