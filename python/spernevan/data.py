@@ -11,13 +11,14 @@ import re
 import time
 from array import array
 from bisect import bisect_right
-from decimal import Decimal
 from datetime import date
+from decimal import Decimal
+from operator import itemgetter
 from typing import Any, Callable, Dict, Iterable, Iterator, List, Mapping, NamedTuple, Optional, Sequence, Set, TextIO, Tuple
 
 from .engine import Words
 from .notation import Names, Table, count, format_datum
-from .values import FIRST_CODE, Null, Value, Values, bare, number_meant, order, plain, read_cell, read_literal
+from .values import FIRST_CODE, Null, Value, Values, bare, number_meant, plain, read_cell, read_literal
 
 CHUNK = 50_000
 
@@ -62,36 +63,37 @@ class Form:
         # The numbers of cells without types, by their words, as they were first written.
         self.written: Dict[int, str] = {}
 
-    def shown(self, word: int, value: Value) -> Value:
-        """What a word of the column stands for, which is `value`, in the form in which it was given."""
-        if isinstance(value, (int, Decimal)):
-            written = self.written.get(word)
-            if written is not None:
-                return value if written.lstrip("-").isdigit() else Decimal(written)
-            if self._all(float) or isinstance(value, Decimal) and float in self.types and Decimal not in self.types:
-                return float(value)
-            if self._all(Decimal):
-                return Decimal(value)
-            return bool(value) if self._all(bool) else value
-        return bare(value) if isinstance(value, date) and self._all(str) else value
-
-    def _all(self, kind: type) -> bool:
-        """Whether every cell is of one type; what an absent one stands for is taken as that."""
+    def kind(self) -> Optional[type]:
+        """The type of every cell, if they have one; what an absent one stands for is taken as that."""
         held = self.types - {type(None)}
-        return bool(held) and all(issubclass(one, kind) for one in held)
+        return next((kind for kind in (float, Decimal, bool, str) if held and all(issubclass(one, kind) for one in held)), None)
 
 
 class Shown(Dict[int, Value]):
-    """What the words of a column stand for, in the form in which they were given there."""
+    """What the words of a column stand for, in the form in which they were given there; without a form, as the dictionary has them."""
 
     def __init__(self, values: Values, form: Optional[Form]) -> None:
         super().__init__()
-        self._values, self._form = values, form
+        self._values, self._form = values, form or Form()
+        self._kind = self._form.kind()
+        # The decimals of a column of several types, if only floats can have been decimals.
+        self._floats = float in self._form.types and Decimal not in self._form.types
 
     def __missing__(self, word: int) -> Value:
-        value = self._values.decode(word)
-        found = self[word] = value if self._form is None else self._form.shown(word, value)
+        found = self[word] = self._as_given(word, self._values.decode(word))
         return found
+
+    def _as_given(self, word: int, value: Value) -> Value:
+        if isinstance(value, (int, Decimal)):
+            written = self._form.written.get(word)
+            if written is not None:
+                return value if written.lstrip("-").isdigit() else Decimal(written)
+            if self._kind is float or self._floats and isinstance(value, Decimal):
+                return float(value)
+            if self._kind is Decimal:
+                return Decimal(value)
+            return bool(value) if self._kind is bool else value
+        return bare(value) if isinstance(value, date) and self._kind is str else value
 
 
 class Database:
@@ -172,7 +174,7 @@ class Database:
         inside = position - block.first
         at = block.word + inside * width
         words = self.words[at + 1 : at + width]
-        values = tuple(self.form(block.relation, column).shown(word, self.values.decode(word)) for column, word in enumerate(words))
+        values = tuple(self.shown(block.relation, column)[word] for column, word in enumerate(words))
         return Stands(block.where(inside), block.relation, values)
 
     def say(self, position: int) -> str:
@@ -206,23 +208,27 @@ class Database:
         length = len(shown)
         if not length or not number:
             return [()] * number
-        words = list(zip(*(answers[at : number * length : length] for at in range(length))))
+        columns: List[Sequence[int]] = [answers[at : number * length : length] for at in range(length)]
         if len(self.values) and max(answers) >= FIRST_CODE:
-            rank = _Rank(self.values)
-            words.sort(key=lambda row: tuple(map(rank.__getitem__, row)))
-        return list(zip(*(map(column.__getitem__, held) for column, held in zip(shown, zip(*words)))))
+            ordered = in_order(self.values, set(answers))
+            rank = {word: place for place, word in enumerate(ordered)}
+            rows = sorted(zip(*(map(rank.__getitem__, column) for column in columns)))
+            columns = [list(map(ordered.__getitem__, column)) for column in zip(*rows)]
+        return list(zip(*(map(column.__getitem__, held) for column, held in zip(shown, columns))))
 
 
-class _Rank(Dict[int, Tuple[int, Any, str]]):
-    """The place of a word in the order of values."""
-
-    def __init__(self, values: Values) -> None:
-        super().__init__()
-        self._values = values
-
-    def __missing__(self, word: int) -> Tuple[int, Any, str]:
-        found = self[word] = order(self._values.decode(word))
-        return found
+def in_order(values: Values, words: Iterable[int]) -> List[int]:
+    """Words in the order of what they stand for: numbers, then dates, then texts."""
+    numbers: List[Tuple[Any, int]] = []
+    dates: List[Tuple[str, int]] = []
+    texts: List[Tuple[str, int]] = []
+    for word in words:
+        value = values.decode(word)
+        if isinstance(value, (int, Decimal)):
+            numbers.append((value, word))
+        else:
+            (dates if isinstance(value, date) else texts).append((bare(value), word))
+    return [word for kind in (numbers, dates, texts) for _, word in sorted(kind, key=itemgetter(0))]
 
 
 def _read_row_value(word: str) -> Value:

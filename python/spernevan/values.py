@@ -138,7 +138,7 @@ class Values:
         """The number that stands for a value that `plain` gives."""
         if isinstance(held, int) and 0 <= held < FIRST_CODE:
             return held
-        key = _key(held)
+        key = held if isinstance(held, (str, Decimal)) else _key(held)
         code = self._codes.get(key)
         if code is None:
             code = held if isinstance(held, int) and self._free(held) else self._new()
@@ -277,13 +277,6 @@ def bare(value: Value) -> str:
         text = format(value, "f")
         return text if len(text) <= 40 else str(value)
     return repr(float(value)) if isinstance(value, float) else str(value)
-
-
-def order(value: Value) -> Tuple[int, Union[int, Decimal, float], str]:
-    """A key to sort values by: numbers, then dates, then texts."""
-    if isinstance(value, (int, Decimal, float)):
-        return 0, value, ""
-    return 1 if isinstance(value, date) else 2, 0, bare(value)
 
 
 def read_literal(word: str) -> Value:
