@@ -113,7 +113,7 @@ def usage() -> Parser:
             group.add_argument("--json", action="store_true", help=for_programs)
         group.add_argument("--format", choices=FORMATS, default="text", help="what to print (text if not given)")
         made.add_argument("--form", choices=sql.FORMS, help="only this form; SQL is of the short form if not given")
-        made.add_argument("--dialect", choices=sql.DIALECTS, default="sqlite", help="of SQL (sqlite if not given)")
+        made.add_argument("--dialect", choices=sql.DIALECTS, help="of SQL (sqlite if not given)")
         made.add_argument("--without-null", action="store_true", help="SQL that passes over rows with a NULL")
         made.add_argument("--fragment", action="store_true", help="LaTeX to be \\input, not a document")
         written(made)

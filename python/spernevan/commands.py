@@ -223,12 +223,13 @@ class Subject:
 
 
 def list_command(options: Options) -> int:
+    shape = shape_of(options)
     record, names = load(options)
     found = [Subject(record, place, "") for place in record.filled()]
     if options.format != "text" or options.form is not None:
         if options.json:
             raise Failure("--form does not go with --json; it goes with --format json")
-        text = render(define_all(record, names, names.values.decode), shape_of(options))
+        text = render(define_all(record, names, names.values.decode), shape)
     elif options.json:
         shapes = [{"place": one.asked, **reduction_json(one.query, record.shorten(one.asked), names, one.variables)} for one in found]
         text = json.dumps(shapes, indent=2) + "\n"
@@ -239,13 +240,21 @@ def list_command(options: Options) -> int:
 
 
 def shape_of(options: Options) -> Shape:
-    """What the options say of how definitions are printed."""
-    return Shape(options.format, options.form, options.dialect, options.fragment, options.without_null)
+    """What the options say of how definitions are printed. Failure if one does not go with the format."""
+    for name, given, goes in (
+        ("--dialect", options.dialect, "sql"),
+        ("--without-null", options.without_null, "sql"),
+        ("--fragment", options.fragment, "latex"),
+    ):
+        if given and options.format != goes:
+            raise Failure(f"{name} goes with --format {goes}")
+    return Shape(options.format, options.form, options.dialect or "sqlite", options.fragment, options.without_null)
 
 
 def define_command(options: Options) -> int:
+    shape = shape_of(options)
     record, names = load(options)
-    write_definition(render_one(_defined(Subject(record, options.query, "the rule"), record, names), shape_of(options)), options.output)
+    write_definition(render_one(_defined(Subject(record, options.query, "the rule"), record, names), shape), options.output)
     return YES
 
 

@@ -121,6 +121,10 @@ class Database:
         """How many rows there are."""
         return self._rows
 
+    def __repr__(self) -> str:
+        held = ", ".join(f"{self.names.tables[relation].name} {rows}" for relation, rows in sorted(self.tables.items()))
+        return f"<Database of {count(self._rows, 'row')}: {held or 'no table'}>"
+
     @property
     def null(self) -> Optional[int]:
         """The word of what an absent value stands for, if that is said."""

@@ -550,7 +550,7 @@ class Record:
         if isinstance(data, array):
             return data
         if isinstance(data, (str, bytes, os.PathLike)):
-            raise ValueError(f"a database is no name of a file: read_database([{data!r:.40}], record.names) reads files")
+            raise ValueError(f"a database is no name of a file: read_database({data!r:.40}, record) reads files")
         if isinstance(data, Database):
             if data.names.tables != self.names.tables:
                 raise ValueError(f"the database is of other tables: {', '.join(map(str, data.names.tables))}")

@@ -15,7 +15,7 @@ import sqlite3
 import warnings
 from array import array
 from itertools import islice
-from typing import AbstractSet, Dict, Iterable, Iterator, List, NoReturn, Optional, Pattern, Sequence, TextIO, Tuple, Union
+from typing import AbstractSet, Dict, Iterable, Iterator, List, NoReturn, Optional, Pattern, Protocol, Sequence, TextIO, Tuple, Union
 from urllib.request import pathname2url
 
 from .data import CHUNK, Cells, Database, DataError, Note, Progress, Where, matched, positions
@@ -25,21 +25,28 @@ from .notation import Names, Reader, Table, count, format_row
 from .values import Null, Value, format_value
 
 
+class Named(Protocol):
+    """What has names, as a record."""
+
+    @property
+    def names(self) -> Names: ...
+
+
 def read_database(
     paths: Union[Path, Sequence[Path]],
-    names: Names,
+    names: Union[Named, Names],
     null: Optional[Value] = None,
     text: Iterable[str] = (),
     progress: Optional[TextIO] = None,
 ) -> Database:
-    """The database of a file or some files: rows of text, CSV files or folders of them, SQLite files.
+    """The database of a file or some files, for a record or its names: rows of text, CSV files or folders of them, SQLite files.
 
     `null` is what an absent value stands for; without it, one is refused. `text` has columns of CSV
     files, as `sonde.version`, whose cells stay texts also where they look like numbers. `progress` is
     a stream for a line that says how far it is, if it is a terminal. A cell that may be meant otherwise
     than it is taken is a warning, and one of the database's `notes`.
     """
-    database = Database(names, None, null, Progress(progress))
+    database = Database(names if isinstance(names, Names) else names.names, None, null, Progress(progress))
     database.null_cure = "say what it stands for with null=VALUE"
     fill(database, paths, text)
     for note in database.notes:

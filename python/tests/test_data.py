@@ -514,9 +514,10 @@ class FromPython(Data):
                 self.record.query(place)
         cells = self.csv("number,site,launch\n1,x,2\n")
         for path in (cells, str(cells)):
-            with self.assertRaisesRegex(ValueError, r"a database is no name of a file: read_database\(\[.*\], record.names\) reads files"):
+            with self.assertRaisesRegex(ValueError, r"a database is no name of a file: read_database\(.*, record\) reads files"):
                 self.record.evaluate(1, path)
             self.assertEqual(self.record.evaluate(1, read_database(path, self.names)), [("x",)])
+            self.assertEqual(repr(read_database(path, self.record)), "<Database of 1 row: flight 1, burst 0>")
         with self.assertRaisesRegex(DataError, r"there is no value here \(NULL\); say what it stands for, as in record.database\(data, null=0\)"):
             self.record.test(self.data)
         with self.assertRaisesRegex(Refused, r"a.text is a text: pack it first, as spernevan.pack\(text\) does"):

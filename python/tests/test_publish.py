@@ -191,6 +191,9 @@ class Commands(Command):
         self.assertEqual(self.done("list", FLIGHTS, "--format", "text"), self.done("list", FLIGHTS))
         self.assertEqual([one["place"] for one in json.loads(self.done("list", FLIGHTS, "--json"))], [0, 1, 2, 3, 5, 6])
         self.assertEqual(self.done("list", FLIGHTS, "--plain", "--format", "sql").count('"R4"'), 4)
+        for wrong in (["--dialect", "sqlite"], ["--without-null", "--format", "json"]):
+            self.failed(f"{wrong[0]} goes with --format sql", "list", FLIGHTS, *wrong)
+        self.failed("--fragment goes with --format latex", "define", FLIGHTS, 0, "--format", "sql", "--fragment")
         for wrong in (["--json", "--format", "sql"], ["--json", "--form", "short"]):
             self.assertEqual(run("list", FLIGHTS, *wrong)[:2], (2, ""))
 
