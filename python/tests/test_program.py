@@ -11,22 +11,15 @@ import tempfile
 import threading
 import time
 import unittest
-from pathlib import Path
 
 import context
 from spernevan import Record
-from test_command import DATA, FLIGHTS
+from test_command import DATA, FLIGHTS, Command
 
 PROGRAM = [sys.executable, str(context.HERE.parent / "program")]
 
 
-@context.with_engine
-class Program(unittest.TestCase):
-    def setUp(self):
-        folder = tempfile.TemporaryDirectory()
-        self.addCleanup(folder.cleanup)
-        self.folder = Path(folder.name)
-
+class Program(Command):
     def slow(self):
         """An evaluation that takes far longer than a test."""
         text = self.folder / "slow.text"
@@ -153,14 +146,8 @@ class Program(unittest.TestCase):
         self.assertEqual(subprocess.run(arguments, capture_output=True).stderr, b"")
 
 
-@context.with_engine
-class Install(unittest.TestCase):
+class Install(Command):
     """The wheel, and then the folder in its stead, in a fresh environment without this folder."""
-
-    def setUp(self):
-        folder = tempfile.TemporaryDirectory()
-        self.addCleanup(folder.cleanup)
-        self.folder = Path(folder.name)
 
     def pip(self, *arguments):
         quiet = {**os.environ, "PIP_DISABLE_PIP_VERSION_CHECK": "1", "PIP_ROOT_USER_ACTION": "ignore"}
