@@ -150,7 +150,12 @@ def usage() -> Parser:
     made = changing("drop", drop_command, "make places vacant")
     made.add_argument("place", metavar="PLACE", nargs="+", type=place, help="a filled place, 0 to 7")
     made = changing("add", add_command, "add dependencies after those held")
-    made.add_argument("dependency", metavar="DEPENDENCY", nargs="+", help="as in 'layer: flight, level -> height, temperature', or a key, 'layer(flight*, level*, height, temperature)'")
+    made.add_argument(
+        "dependency",
+        metavar="DEPENDENCY",
+        nargs="+",
+        help="as in 'layer: flight, level -> height, temperature', or a key, 'layer(flight*, level*, height, temperature)'",
+    )
     made = command("pack", pack_command, "make an archive file, and its names file, from a text")
     made.add_argument("text", metavar="TEXT", help="the text of an archive, or - for standard input")
     made.add_argument("file", metavar="FILE", help="the archive file to write, or - for standard output, which has no names then")

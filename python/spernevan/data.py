@@ -18,7 +18,7 @@ from typing import Any, Callable, Dict, Iterable, Iterator, List, Mapping, Named
 
 from .engine import Words
 from .notation import Names, Table, count, format_datum
-from .values import FIRST_CODE, Null, Value, Values, bare, number_meant, plain, read_cell, read_literal
+from .values import FIRST_CODE, Null, Value, Values, bare, doubt, plain, read_cell, read_literal
 
 CHUNK = 50_000
 
@@ -250,8 +250,8 @@ class Cells(Dict[Any, int]):
         self._values, self._null, self._read = values, null, read
         self.form = form
         self.same: Optional[Tuple[str, str]] = None
-        # The first cell of a column without types that is taken as a text and looks like a number, and that number.
-        self.meant: Optional[Tuple[str, str]] = None
+        # The first cell of a column without types that is taken as a text and may be meant otherwise, and what to say of it.
+        self.doubt: Optional[Tuple[str, str]] = None
 
     def column(self, cells: Sequence[Any]) -> Words:
         """Cells in words. A cell that is no value raises ValueError, or Null; `fault` then says which."""
@@ -299,9 +299,9 @@ class Cells(Dict[Any, int]):
             written = self.form.written.setdefault(word, spelled)
             if written != spelled and word and self.same is None:
                 self.same = written, spelled
-        elif self._read is read_cell and self.meant is None and cell[:1] <= "9":
-            number = number_meant(cell)
-            self.meant = None if number is None else (cell, number)
+        elif self._read is read_cell and self.doubt is None and (cell[:1] <= "9" or cell[:1] in "nN"):
+            said = doubt(cell)
+            self.doubt = None if said is None else (cell, said)
         try:
             self[cell] = word
         except TypeError:

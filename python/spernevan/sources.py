@@ -310,18 +310,17 @@ def read_csv(path: str, relation: int, database: Database, kept: AbstractSet[Tup
                 columns = list(zip(*rows)) if rows else [()] * len(header)
                 words = []
                 for column, (number, cells) in enumerate(zip(at, readers)):
-                    known = cells.meant
+                    known = cells.doubt
                     try:
                         words.append(cells.column(columns[number]))
                     except ValueError:
                         position, error = cells.fault(columns[number])
                         where = _csv_place(path, sign, start + position)
                         _refuse(f"{where}: column {table.columns[column]}", error, f"the cell is empty (NULL); {database.null_cure}")
-                    if known is None and cells.meant is not None:
-                        where = _csv_place(path, sign, start + columns[number].index(cells.meant[0]))
-                        taken = f"{cells.meant[0].strip()} in {table.name}.{table.columns[column]} is taken as a text"
-                        means = f"the number is written {cells.meant[1]}; if it is no number"
-                        _note(database, relation, column, f"{where}: {taken}; {means}")
+                    if known is None and cells.doubt is not None:
+                        cell, said = cells.doubt
+                        where = _csv_place(path, sign, start + columns[number].index(cell))
+                        _note(database, relation, column, f"{where}: {cell.strip()} in {table.name}.{table.columns[column]} is taken as a text; {said}")
                 if rows:
                     database.add(relation, words, _csv_where(path, sign, start))
                 start += len(rows)

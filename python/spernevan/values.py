@@ -246,6 +246,17 @@ def number_meant(cell: str) -> Optional[str]:
     return found if len(found) <= 40 else "without an exponent"
 
 
+_ABSENT = frozenset(["nan", "na", "n/a", "#n/a", "null", "none"])
+
+
+def doubt(cell: str) -> Optional[str]:
+    """What to say of a cell that `read_cell` takes as a text and that a program may have meant otherwise; None if there is no doubt."""
+    if cell.strip().casefold() in _ABSENT:
+        return "an absent value is an empty cell; if it is a text"
+    number = number_meant(cell)
+    return None if number is None else f"the number is written {number}; if it is no number"
+
+
 def read_date(word: str) -> Optional[date]:
     """The date of a text such as 2026-01-14, if the calendar has it."""
     try:

@@ -251,6 +251,10 @@ class Files(Data):
         for cell, number in [("31200,5", "with a point, 31200.5"), ("1,234", "with a point and without commas")]:
             err = run("test", self.text, self.csv(burst=f"flight;height\n1;{cell}\n"))[2]
             self.assertIn(f"burst.csv:2: {cell} in burst.height is taken as a text; the number is written {number}; ", err)
+        for cell in ("NaN", "NULL", "n/a", "#N/A", "None"):
+            status, _, err = run("test", self.text, self.csv(burst=f"flight,height\n1,2\n2,{cell}\n"))
+            said = f"burst.csv:3: {cell} in burst.height is taken as a text; an absent value is an empty cell; if it is a text, say --text burst.height\n"
+            self.assertTrue(status == 0 and err.endswith(said), err)
         for cell in ("1,2,3", "a,5", "2026,x"):
             self.assertEqual(run("test", self.text, self.csv(burst=f"flight;height\n1;{cell}\n"))[2], "")
 
