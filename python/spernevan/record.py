@@ -13,7 +13,22 @@ from typing import Any, Dict, FrozenSet, Iterable, List, Optional, Sequence, Tup
 from . import engine
 from .data import Database, DataError, Shown, of_python
 from .engine import Refused, Words
-from .files import FILE_BYTES, Failure, Path, checksum, is_text, names_path, read_bytes, read_names_beside, read_text, settled, shown, write_files
+from .files import (
+    FILE_BYTES,
+    Failure,
+    Path,
+    checksum,
+    is_text,
+    names_path,
+    read_bytes,
+    read_names_beside,
+    read_text,
+    read_while,
+    settled,
+    shown,
+    text_of,
+    write_files,
+)
 from .model import (
     BYTE,
     FROZEN,
@@ -162,22 +177,27 @@ class Record:
 
     @classmethod
     def read(cls, path: Path, names: Union[bool, Path] = True) -> Record:
-        """The record of an archive file, with the names file beside it, or the one given, or with False none.
+        """The record of an archive file, with the names file beside it, or the one given, or with False none; or that of a text.
 
-        Of a file longer than 65,536 bytes, only those are read.
+        Of an archive file longer than 65,536 bytes, only those are read.
         """
         return settled(path, lambda: cls._read(path, names))
 
     @classmethod
     def _read(cls, path: Path, names: Union[bool, Path]) -> Record:
-        data = read_bytes(path, FILE_BYTES)
-        if is_text(data):
-            raise Refused(1, f"{shown(path)} is a text: pack it first, as spernevan.pack(text) does")
+        data, text = read_while(path, FILE_BYTES, is_text)
+        if text:
+            from .text import pack
+
+            if not isinstance(names, bool):
+                raise ValueError(f"{shown(path)} is a text, which has its names in it; names are given for archive files")
+            found, _ = pack(text_of(data, path), shown(path))
+            return found if names else cls(found.file)
         record = cls(data)
         if names is False:
             return record
-        found = read_names_beside(path, data, None if names is True else names, record.codes())
-        return record if found is None else record.named(found.names)
+        beside = read_names_beside(path, data, None if names is True else names, record.codes())
+        return record if beside is None else record.named(beside.names)
 
     def named(self, names: Names) -> Record:
         """The record under other names."""

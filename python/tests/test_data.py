@@ -524,8 +524,10 @@ class FromPython(Data):
             self.assertEqual(repr(read_database(path, self.record)), "<Database of 1 row: flight 1, burst 0>")
         with self.assertRaisesRegex(DataError, r"there is no value here \(NULL\); say what it stands for, as in record.database\(data, null=0\)"):
             self.record.test(self.data)
-        with self.assertRaisesRegex(Refused, r"a.text is a text: pack it first, as spernevan.pack\(text\) does"):
-            Record.read(self.text)
+        self.assertEqual((Record.read(self.text), Record.read(self.text).names), (self.record, self.names))
+        self.assertEqual(Record.read(self.text, names=False).names.tables[0].name, "R0")
+        with self.assertRaisesRegex(ValueError, "a.text is a text, which has its names in it"):
+            Record.read(self.text, names=self.text)
 
     def test_a_single_table(self):
         record = Record.open([Table("burst", ("flight", "height"))])

@@ -313,10 +313,6 @@ class Parting(Lost):
         short.write(self.file)
         self.assertIn("calibration(c, l, 2),\n                 burst(f, h)\n", self.done("show", self.file, 4))
 
-    def test_a_text_is_no_archive_file(self):
-        with self.assertRaisesRegex(Refused, "old.text is a text: pack it first"):
-            Record.read(self.old)
-
     def test_a_dictionary_without_names(self):
         record = Record.open([2])
         record = record.put(0, parse_query("ans(x) :- R0(x, 'Lindenberg')", record.names)).drop(0)
