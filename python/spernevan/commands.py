@@ -391,11 +391,12 @@ def evaluate_command(options: Options) -> int:
             f"spernevan: the text '{double}' and the number {double} are different values, and both are here; "
             "a query has the text between quotes" + (", and --text TABLE.COLUMN takes a column of CSV as text" if database.has_cells else "")
         )
-    broken = record.broken(database)
+    broken = record.broken(database, relations)
     if broken is not None:
         for line in _broken(record, database, broken):
             say(line)
-        say("On such a database the long and the short form of a query may have different answers.")
+        said = record.consequence(broken, asked.query)
+        say(f"{said[:1].upper()}{said[1:]}.")
     answers = record.evaluate(asked.asked, database, tested=True)
     write_answers(answers, labels(asked.query, names, asked.variables), options.format, sys.stdout)
     return YES

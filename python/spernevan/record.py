@@ -483,10 +483,27 @@ class Record:
             self.has_tables(held, [dependency.relation for dependency in self.dependencies], "a dependency speaks of")
         return found
 
-    def broken(self, database: Union[Database, Words]) -> Optional[Broken]:
-        """The first dependency that the rows of a database break, whatever tables it has."""
-        found = engine.test(self.file, database.words if isinstance(database, Database) else database)
-        return None if found is None else Broken(*found)
+    def broken(self, database: Union[Database, Words], first: Iterable[int] = ()) -> Optional[Broken]:
+        """The first dependency that the rows of a database break, whatever tables it has; if there is one, one of the relations `first`."""
+        words = database.words if isinstance(database, Database) else database
+        found = engine.test(self.file, words)
+        if found is None:
+            return None
+        wanted = set(first)
+        held = [number for number, dependency in enumerate(self.dependencies) if dependency.relation in wanted]
+        if held and found[0] not in held:
+            some = Record.open(self.widths).add_all(self.dependencies[number] for number in held)
+            again = engine.test(some.file, words)
+            if again is not None:
+                found = held[again[0]], again[1], again[2]
+        return Broken(*found)
+
+    def consequence(self, broken: Broken, query: Query) -> str:
+        """What a broken dependency, which `broken` finds for the relations of a query, means for its answers."""
+        relation = self.dependencies[broken.dependency].relation
+        if any(row.relation == relation for row in query.rows):
+            return "on such a database the long and the short form of a query may have different answers"
+        return f"the query does not ask for {self.names.tables[relation].name}, and its long and short form have the same answers here"
 
     def evaluate(self, place: Asked, database: Any, room: Optional[int] = None, tested: bool = False) -> List[Tuple[Any, ...]]:
         """The answers of the query at a place, ascending, each once. See `database`.
@@ -532,11 +549,11 @@ class Record:
         double = database.text_and_number([row.relation for row in query.rows], constants(query))
         if double is not None:
             warnings.warn(f"the text {double!r} and the number {double} are different values, and both are here", stacklevel=3)
-        found = self.broken(database)
+        found = self.broken(database, [row.relation for row in query.rows])
         if found is not None:
             warnings.warn(
                 f"the database breaks {format_dependency(self.dependencies[found.dependency], self.names)} "
-                f"({database.say(found.first)}; {database.say(found.second)}): the long and the short form of a query may have different answers",
+                f"({database.say(found.first)}; {database.say(found.second)}): {self.consequence(found, query)}",
                 stacklevel=3,
             )
 

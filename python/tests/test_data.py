@@ -17,7 +17,7 @@ from pathlib import Path
 from unittest import mock
 
 import context
-from spernevan import Broken, Constant, DataError, Query, Record, Refused, Row, Table, pack, read_database, sources
+from spernevan import Broken, Constant, DataError, Query, Record, Row, Table, pack, read_database, sources
 from spernevan.data import Progress, matched
 from spernevan.notation import format_datum
 from test_command import Command, run
@@ -177,6 +177,14 @@ class Files(Data):
             "On such a database the long and the short form of a query may have different answers.\n",
         )
         self.assertEqual(self.done("test", self.text, cells, status=1).splitlines()[0], "Breaks burst: flight -> height (dependency 2):")
+        status, out, err = run("evaluate", self.text, 1, cells)
+        self.assertTrue(err.startswith("Breaks burst: flight -> height"))
+        self.assertTrue(err.endswith("\nThe query does not ask for burst, and its long and short form have the same answers here.\n"), err)
+        # A table that is asked for comes first.
+        cells = self.csv("number,site,launch\nF-1,x,1\nF-1,y,1\n", "flight,height\nF-1,1\nF-1,2\n")
+        for rule, broken in (("ans(h) :- burst(f, h)", "burst: flight -> height"), ("ans(p) :- flight(f, p, t)", "flight: number -> site")):
+            err = run("evaluate", self.text, rule, cells)[2]
+            self.assertTrue(err.startswith(f"Breaks {broken} (dep") and err.endswith("of a query may have different answers.\n"), err)
         base = self.sqlite(bursts=[*BURSTS, ("F-2", 1)])
         self.assertIn(
             f"  {base}: row 2 of Burst: burst('F-2', 29000.0)\n  {base}: row 4 of Burst: burst('F-2', 1.0)\n",
@@ -489,6 +497,8 @@ class FromPython(Data):
         message = r"the database breaks burst: flight -> height \(row 0 of burst: burst\('F-1', 2\); row 1 of burst: "
         with self.assertWarnsRegex(UserWarning, message) as seen:
             self.assertEqual(self.record.evaluate("ans(h) :- burst(f, h)", data), [(2,), (3,)])
+        with self.assertWarnsRegex(UserWarning, "the query does not ask for burst, and its long and short form have the same answers here"):
+            self.record.evaluate(1, data)
         self.assertEqual(seen.filename, __file__)
         with warnings.catch_warnings():
             warnings.simplefilter("error")
