@@ -123,11 +123,16 @@ def save(options: Options, record: Record, was_text: bool, said: str) -> None:
         return
     if was_text and os.path.realpath(out) == os.path.realpath(options.file):
         raise Failure(f"{out} is a text: pack it first, or say with --output where the new text or archive file goes; a text is changed in an editor")
-    if out.lower().endswith((".text", ".txt")):
+    if _names_a_text(out):
         write_text(out, unpack(record, record.names))
     else:
         record.write(out)
     print(f"{out}: {said}")
+
+
+def _names_a_text(path: str) -> bool:
+    """Whether a file is called as a text is."""
+    return path.lower().endswith((".text", ".txt"))
 
 
 def write_text(path: str, text: str) -> None:
@@ -448,6 +453,8 @@ def pack_command(options: Options) -> int:
     path = names_path(options.file)
     if os.path.realpath(path) == os.path.realpath(options.text):
         raise Failure(f"{options.text} is where the names of {options.file} go: give the archive file another name")
+    if _names_a_text(options.file) and not os.path.exists(options.file):
+        raise Failure(f"{options.file} is a name for a text; an archive file has another ending, such as .file")
     with locked(options.file):
         record.write(options.file)
     print(f"{options.file}: {len(record.file)} bytes; names in {path}")

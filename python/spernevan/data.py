@@ -92,7 +92,7 @@ class Shown(Dict[int, Value]):
                 return float(value)
             if self._kind is Decimal:
                 return Decimal(value)
-            return bool(value) if self._kind is bool else value
+            return bool(value) if self._kind is bool and value in (0, 1) else value
         return bare(value) if isinstance(value, date) and self._kind is str else value
 
 

@@ -298,6 +298,8 @@ def read_csv(path: str, relation: int, database: Database, kept: AbstractSet[Tup
             header: List[str] = next(_csv_rows([first], sign), [])
             if not header:
                 raise DataError(f"{path}:1: a header line with the names of the columns was expected, not an empty line")
+            if all(matched(column, header, f"{path}:1") is None for column in table.columns):
+                raise DataError(f"{path}:1: no column of {table} is here; the first line has their names, with , or ; or a tabulator between them")
             at = positions(table.columns, header, f"{path}:1")
             reader = _csv_rows(file, sign)
             start = 0

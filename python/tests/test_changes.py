@@ -123,6 +123,7 @@ class Changes(Command):
             self.failed(f"{fresh} is there already, and may have comments that would be lost", "drop", other, 0, "-o", fresh)
             self.assertFalse((self.folder / "fresh.names").exists())
             fresh.unlink()
+        self.failed(f"{fresh} is a name for a text; an archive file has another ending, such as .file", "pack", text, fresh)
 
     def test_pipes(self):
         """Text goes through as text and an archive as an archive."""
