@@ -537,6 +537,13 @@ class Record:
             return held.decoded(answers[: number * length], number, _shown(query, held))
         return [tuple(answers[start * length : (start + 1) * length]) for start in range(number)]
 
+    def columns(self, place: Asked) -> Tuple[str, ...]:
+        """A name for each column of a query's answers, no two alike, as CSV, JSON and SQL have them."""
+        from .sql import labels
+
+        record, (at,) = self.placed(place)
+        return labels(record.query(at), record.names, record.names.variables.get(at))
+
     def has_tables(self, database: Database, relations: Iterable[int], why: str) -> None:
         """DataError if one of some tables is in none of the data; `why` says what it is needed for."""
         missing = [self.names.tables[relation].name for relation in sorted(set(relations)) if relation not in database.tables]

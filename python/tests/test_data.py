@@ -17,7 +17,7 @@ from pathlib import Path
 from unittest import mock
 
 import context
-from spernevan import Broken, Constant, DataError, Query, Record, Row, Table, pack, read_database, sources
+from spernevan import Broken, Constant, DataError, Query, Record, Refused, Row, Table, pack, read_database, sources
 from spernevan.data import Progress, matched
 from spernevan.notation import format_datum
 from test_command import Command, run
@@ -478,6 +478,13 @@ class FromPython(Data):
         # What an absent value stands for is taken as a value of the column.
         null = self.record.database({"burst": [(1, 2.5), (2, float("nan")), (3, None)]}, null=-9)
         self.assertEqual(repr(self.record.evaluate(rule, null)), "[(1, 2.5), (2, -9.0), (3, -9.0)]")
+
+    def test_columns(self):
+        self.assertEqual(self.record.columns(0), ("f", "h", "t"))
+        self.assertEqual(self.record.columns("ans(p, p, 3, v7) :- flight(f, p, v7)"), ("p", "p_2", "constant2", "launch"))
+        self.assertEqual(self.record.columns(Query.never(2)), ("column0", "column1"))
+        with self.assertRaisesRegex(Refused, "place 7 is vacant"):
+            self.record.columns(7)
 
     def test_part_of_the_tables(self):
         with self.assertRaisesRegex(DataError, "the data has no table flight, which a dependency speaks of; an empty table is {'flight': "):
