@@ -4,14 +4,11 @@ import itertools
 import json
 import shutil
 import subprocess
-import sys
 import unittest
 
 import context
 from spernevan import Record, __version__, pack
 from test_command import DATA, FLIGHTS, Command, run
-
-PROGRAM = [sys.executable, str(context.HERE.parent / "program")]
 
 
 class Changes(Command):
@@ -133,21 +130,21 @@ class Changes(Command):
             ["reduce", "-", "0", "1"],
             ["add", "-", "flight: a -> b"],
         ):
-            done = subprocess.run([*PROGRAM, *command], input=text, capture_output=True)
+            done = subprocess.run([*context.PROGRAM, *command], input=text, capture_output=True)
             self.assertEqual((done.returncode, done.stderr), (0, b""))
             text = done.stdout
         self.assertEqual(
             text.decode(), "flight(a, b)\n\nflight: a -> b\n\n0: ans(x) :- flight(x, 'y'), flight(x, z)\n1: ans(x) :- flight(x, 'y')\n"
         )
-        packed = subprocess.run([*PROGRAM, "pack", "-", "-"], input=text, capture_output=True)
+        packed = subprocess.run([*context.PROGRAM, "pack", "-", "-"], input=text, capture_output=True)
         self.assertEqual(
             (packed.stdout, packed.stderr), (pack(text.decode())[0].file, b"spernevan: standard output has the archive without the names\n")
         )
-        dropped = subprocess.run([*PROGRAM, "drop", "-", "0"], input=packed.stdout, capture_output=True)
+        dropped = subprocess.run([*context.PROGRAM, "drop", "-", "0"], input=packed.stdout, capture_output=True)
         self.assertEqual(dropped.stdout, pack(text.decode())[0].drop(0).file)
-        ruled = subprocess.run([*PROGRAM, "put", str(self.file), "7", "-"], input=b"ans(x) :-\n  burst(x, y)\n", capture_output=True)
+        ruled = subprocess.run([*context.PROGRAM, "put", str(self.file), "7", "-"], input=b"ans(x) :-\n  burst(x, y)\n", capture_output=True)
         self.assertEqual((ruled.returncode, ruled.stderr), (0, b""))
-        both = subprocess.run([*PROGRAM, "put", "-", "7", "-"], input=text, capture_output=True)
+        both = subprocess.run([*context.PROGRAM, "put", "-", "7", "-"], input=text, capture_output=True)
         self.assertEqual((both.returncode, both.stderr), (2, b"spernevan: standard input can be the archive or the rule, not both\n"))
 
 
@@ -209,8 +206,8 @@ class Rules(Command):
 
     def test_pipes_as_files(self):
         """A file that can be read only once."""
-        script = '"$1" "$2" evaluate <(cat "$3") 5 <(cat "$4")'
-        done = subprocess.run(["bash", "-c", script, "bash", *PROGRAM, context.SAMPLES / "flights.text", DATA], capture_output=True)
+        script = 'text=$1 data=$2; shift 2; "$@" evaluate <(cat "$text") 5 <(cat "$data")'
+        done = subprocess.run(["bash", "-c", script, "bash", context.SAMPLES / "flights.text", DATA, *context.PROGRAM], capture_output=True)
         self.assertEqual((done.returncode, done.stdout, done.stderr), (0, b"ans(101, 31200)\nans(102, 29850)\n# 2 answers\n", b""))
 
     def test_keys_and_short_forms(self):

@@ -128,7 +128,7 @@ class Files(Data):
             matched("launch_time", ["Launch time", "Launch-time"], "the tables")
 
     def test_standard_input(self):
-        program = [sys.executable, str(context.HERE.parent / "program")]
+        program = context.PROGRAM
         done = subprocess.run(
             [*program, "evaluate", self.text, "2", "-"],
             input=b"burst('F-1', 31200.5)\nflight('F-1', 'x', 2026-01-14)\n",
@@ -291,7 +291,7 @@ class Files(Data):
             self.failed(f"{empty}: the file is empty; for no rows at all give a line such as # no rows", "test", self.text, empty)
             self.failed(f"{empty}: the file is empty; ", "evaluate", self.text, 1, empty)
         self.assertEqual(self.done("evaluate", self.text, 1, self.write("c.data", "# no rows\n")), "# 0 answers\n")
-        program = [sys.executable, str(context.HERE.parent / "program")]
+        program = context.PROGRAM
         done = subprocess.run([*program, "evaluate", self.text, "1", "-"], input=b"", capture_output=True)
         self.assertEqual((done.returncode, done.stdout), (0, b"# 0 answers\n"))
 

@@ -7,7 +7,6 @@ import pickle
 import resource
 import stat
 import subprocess
-import sys
 import threading
 import time
 import unittest
@@ -17,7 +16,6 @@ import context
 from spernevan import NotationError, Record, Refused, files, pack, parse_query
 from test_command import FLIGHTS, Command, run
 
-PROGRAM = [sys.executable, str(context.HERE.parent / "program")]
 OLD = "flight(number, sonde)\n0: ans(old) :- flight(old, s)\n"
 NEW = "sounding(a, b)\nburst(c, d)\n0: ans(new) :- sounding(new, s)\n1: ans(x) :- burst(x, 'y')\n"
 
@@ -57,7 +55,7 @@ class Writing(Lost):
             ["reduce", self.file, "0", "-o", self.folder / "fresh.text"],
             ["list", self.file, "-o", self.folder / "fresh"],
         ):
-            done = subprocess.run([*PROGRAM, *map(str, arguments)], capture_output=True, preexec_fn=small)
+            done = subprocess.run([*context.PROGRAM, *map(str, arguments)], capture_output=True, preexec_fn=small)
             self.assertEqual((done.returncode, done.stdout), (2, b""))
             self.assertEqual(done.stderr.decode(), f"spernevan: {arguments[-1] if arguments[0] != 'put' else self.file}: File too large\n")
             self.unchanged()
@@ -69,7 +67,7 @@ class Writing(Lost):
                 ["pack", self.old, "-"],
                 ["evaluate", FLIGHTS, "5", str(context.SAMPLES / "flights.data")],
             ):
-                done = subprocess.run([*PROGRAM, *arguments], stdout=full, stderr=subprocess.PIPE)
+                done = subprocess.run([*context.PROGRAM, *arguments], stdout=full, stderr=subprocess.PIPE)
                 self.assertEqual((done.returncode, done.stderr), (2, b"spernevan: output: No space left on device\n"))
 
     def test_a_names_file_that_cannot_be_written(self):
@@ -181,7 +179,7 @@ class Writing(Lost):
         self.assertTrue((self.folder / "later.names").exists())
 
     def test_devices_are_written_as_they_are(self):
-        done = subprocess.run([*PROGRAM, "unpack", str(self.file), "/dev/stdout"], capture_output=True)
+        done = subprocess.run([*context.PROGRAM, "unpack", str(self.file), "/dev/stdout"], capture_output=True)
         self.assertEqual((done.returncode, done.stderr), (0, b""))
         self.assertIn(b"ans(old)", done.stdout)
         self.assertTrue(stat.S_ISCHR(os.stat("/dev/null").st_mode))
@@ -192,7 +190,7 @@ class Together(Lost):
         for _ in range(2):
             self.done("pack", self.old, self.file)
             rules = {place: f"ans(x{place}) :- flight(x{place}, 'y{place}')" for place in range(1, 6)}
-            started = [subprocess.Popen([*PROGRAM, "put", self.file, str(place), rule], stdout=subprocess.DEVNULL) for place, rule in rules.items()]
+            started = [subprocess.Popen([*context.PROGRAM, "put", self.file, str(place), rule], stdout=subprocess.DEVNULL) for place, rule in rules.items()]
             self.assertEqual([one.wait(60) for one in started], [0] * 5)
             text = self.done("unpack", self.file)
             for place, rule in rules.items():
@@ -200,7 +198,7 @@ class Together(Lost):
 
     def test_a_change_waits_for_the_one_before(self):
         with files.locked(self.file):
-            waiting = subprocess.Popen([*PROGRAM, "drop", self.file, "0"], stdout=subprocess.DEVNULL)
+            waiting = subprocess.Popen([*context.PROGRAM, "drop", self.file, "0"], stdout=subprocess.DEVNULL)
             self.assertRaises(subprocess.TimeoutExpired, waiting.wait, 1)
             self.done("list", self.file)
             self.unchanged()
@@ -279,7 +277,7 @@ class Parting(Lost):
         self.assertEqual((status, err.count("\n")), (0, 1))
         self.assertIn(f"{self.file} has the constant 2000000000 and {self.names} has no line for it", err)
         for plain, said in (([], 1), (["--plain"], 0)):
-            done = subprocess.run([*PROGRAM, "unpack", *plain, "-"], input=archive, capture_output=True)
+            done = subprocess.run([*context.PROGRAM, "unpack", *plain, "-"], input=archive, capture_output=True)
             self.assertEqual((done.returncode, done.stderr.count(b"\n")), (0, said))
             self.assertEqual(done.stderr.count(b"standard input has the constant 2000000000 and comes without its names"), said)
         self.assertEqual(self.file.read_bytes(), archive)

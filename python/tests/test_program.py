@@ -16,8 +16,6 @@ import context
 from spernevan import Record
 from test_command import DATA, FLIGHTS, Command
 
-PROGRAM = [sys.executable, str(context.HERE.parent / "program")]
-
 
 class Program(Command):
     def slow(self):
@@ -51,7 +49,7 @@ class Program(Command):
             ["test", FLIGHTS, str(data)],
             ["list", FLIGHTS],
         ):
-            done = subprocess.run([*PROGRAM, *arguments], capture_output=True, preexec_fn=small)
+            done = subprocess.run([*context.PROGRAM, *arguments], capture_output=True, preexec_fn=small)
             self.assertEqual((done.returncode, done.stderr), (0, b""))
 
     def test_a_thread_with_a_small_stack(self):
@@ -71,7 +69,7 @@ class Program(Command):
         self.assertEqual([len(answers) for answers in found], [9000] * 3)
 
     def test_an_interrupt_ends_the_command_at_once(self):
-        running = subprocess.Popen([*PROGRAM, "evaluate", *self.slow()], stdout=subprocess.PIPE, stderr=subprocess.PIPE)
+        running = subprocess.Popen([*context.PROGRAM, "evaluate", *self.slow()], stdout=subprocess.PIPE, stderr=subprocess.PIPE)
         time.sleep(1.5)
         self.assertIsNone(running.poll())
         running.send_signal(signal.SIGINT)
@@ -90,7 +88,7 @@ class Program(Command):
             self.assertIn(running.returncode, (-signal.SIGINT, 0))
 
     def test_nothing_is_read_before_an_interrupt_ends_the_command(self):
-        done = subprocess.run([sys.executable, "-X", "importtime", *PROGRAM[1:], "--version"], capture_output=True, text=True)
+        done = subprocess.run([sys.executable, "-X", "importtime", *context.PROGRAM[1:], "--version"], capture_output=True, text=True)
         self.assertIn("spernevan.command", done.stderr)
         alone = [line.split("| ")[-1] for line in done.stderr.splitlines()]
         self.assertNotIn("signal", alone)
@@ -113,13 +111,13 @@ class Program(Command):
 
     def test_closed_streams(self):
         for closing, status in (("<&-", 0), (">&-", 2), ("2>&-", 0), (">&- 2>&-", 2)):
-            done = subprocess.run(["sh", "-c", f'"$@" {closing}', "sh", *PROGRAM, "list", FLIGHTS], capture_output=True)
+            done = subprocess.run(["sh", "-c", f'"$@" {closing}', "sh", *context.PROGRAM, "list", FLIGHTS], capture_output=True)
             self.assertEqual((done.returncode, b"Traceback" in done.stderr), (status, False), closing)
-        done = subprocess.run(["sh", "-c", '"$@" <&-', "sh", *PROGRAM, "list", "-"], capture_output=True)
+        done = subprocess.run(["sh", "-c", '"$@" <&-', "sh", *context.PROGRAM, "list", "-"], capture_output=True)
         self.assertEqual((done.returncode, done.stderr), (2, b"spernevan: standard input is closed\n"))
 
     def test_a_reader_that_leaves(self):
-        running = subprocess.Popen([*PROGRAM, "list", FLIGHTS], stdout=subprocess.PIPE, stderr=subprocess.PIPE)
+        running = subprocess.Popen([*context.PROGRAM, "list", FLIGHTS], stdout=subprocess.PIPE, stderr=subprocess.PIPE)
         running.stdout.close()
         self.assertEqual((running.stderr.read(), running.wait()), (b"", 128 + signal.SIGPIPE))
         running.stderr.close()
