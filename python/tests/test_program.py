@@ -165,12 +165,24 @@ class Install(Command):
         )
         self.assertTrue(done.stdout.startswith(str(self.folder / "venv")))
 
-    def test_the_wheel_and_the_folder(self):
+    def environment(self):
+        """Makes a fresh environment, with an archive and its data beside it."""
         subprocess.run([sys.executable, "-m", "venv", "--without-pip", str(self.folder / "venv")], check=True)
         if self.pip("--version").returncode != 0:
             self.skipTest("pip is not here, or does not know --python")
         for name in ("flights.file", "flights.names", "flights.data"):
             shutil.copy(context.SAMPLES / name, self.folder)
+
+    @unittest.skipUnless(context.LONG and shutil.which("rt"), "takes a minute and the Rattle toolchain; SPERNEVAN_TEST_LONG=1 runs it")
+    def test_the_engine_is_built_on_the_way(self):
+        self.environment()
+        copy = self.folder / "tree"
+        shutil.copytree(context.ROOT, copy, ignore=shutil.ignore_patterns(".git", "__pycache__", "dist", "*.so", "staticlib"))
+        self.assertFalse((copy / "python" / "spernevan" / "libspernevan.so").exists())
+        self.tried(copy / "python")
+
+    def test_the_wheel_and_the_folder(self):
+        self.environment()
         made = subprocess.run([str(context.HERE.parent / "wheel"), str(self.folder / "dist")], check=True, capture_output=True, text=True)
         path = made.stdout.strip()
         self.assertTrue(path.endswith("-py3-none-linux_x86_64.whl"))
