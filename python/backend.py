@@ -96,6 +96,15 @@ def _script() -> Tuple[str, bytes, int]:
     return f"{stem()}.data/scripts/spernevan", b"\n".join([b"#!python", *lines[1:]]), 0o755
 
 
+def prepare_metadata_for_build_wheel(metadata_directory: str, config_settings: Settings = None) -> str:
+    """The hook of PEP 517: the metadata alone, for which no engine is built."""
+    info = Path(metadata_directory, f"{stem()}.dist-info")
+    info.mkdir(parents=True, exist_ok=True)
+    (info / "METADATA").write_text(metadata(), encoding="utf-8")
+    (info / "WHEEL").write_text(wheel_info(), encoding="utf-8")
+    return info.name
+
+
 def build_wheel(wheel_directory: str, config_settings: Settings = None, metadata_directory: Optional[str] = None) -> str:
     """The hook of PEP 517: a wheel with the package and the engine."""
     held = engine()

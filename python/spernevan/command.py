@@ -13,19 +13,20 @@ import signal
 import sys
 from typing import Callable, NoReturn, Optional, Sequence
 
-from . import __version__, publish
+from . import __version__, sql
 from .commands import (
     TROUBLE,
     Options,
     add_command,
     compare_command,
+    define_command,
     determined_command,
     drop_command,
     equivalent_command,
     evaluate_command,
     list_command,
-    load,
     pack_command,
+    page_command,
     place,
     place_or_rule,
     put_command,
@@ -38,12 +39,20 @@ from .commands import (
 )
 from .engine import EngineMissing, Refused
 from .files import Failure, shown
+from .publish import FORMATS
 
-__all__ = ["load", "main", "run", "usage"]
+__all__ = ["main", "run", "usage"]
 
 
-def usage() -> argparse.ArgumentParser:
-    parser = argparse.ArgumentParser(
+class Parser(argparse.ArgumentParser):
+    """A parser whose error is one line."""
+
+    def error(self, message: str) -> NoReturn:
+        self.exit(TROUBLE, f"{self.prog}: {message}; {self.prog} --help says more\n")
+
+
+def usage() -> Parser:
+    parser = Parser(
         prog="spernevan",
         description="Shortens, compares and runs the saved queries of an archive file.",
         epilog="FILE is an archive file, the text of one, or - for standard input. "
@@ -66,9 +75,13 @@ def usage() -> argparse.ArgumentParser:
 
     def changing(name: str, run: Callable[[Options], int], text: str) -> argparse.ArgumentParser:
         made = command(name, run, text)
-        made.add_argument("file", metavar="FILE", help="an archive file, which is changed; or a text or -, with --output")
+        made.add_argument("file", metavar="FILE", help="an archive file, which is changed; or a text, with --output; or - for standard input")
         made.add_argument(
-            "-o", "--output", metavar="OUT", help="an archive file to write instead of FILE, or - for standard output, in the form of FILE"
+            "-o",
+            "--output",
+            metavar="OUT",
+            help="a file to write instead of FILE: a text if its name ends in .text or .txt, else an archive file; "
+            "or - for standard output, in the form of FILE",
         )
         return made
 
@@ -91,8 +104,22 @@ def usage() -> argparse.ArgumentParser:
     query = "a place, 0 to 7, or a rule, 'ans(x) :- ..', or - for a rule on standard input"
     for_programs = "print JSON, for programs"
 
+    def written(made: argparse.ArgumentParser) -> None:
+        made.add_argument("-o", "--output", metavar="OUT", help="a file to write; without it, or with -, it is printed")
+
+    def shaped(made: argparse.ArgumentParser, json_too: bool = False) -> None:
+        group = made.add_mutually_exclusive_group()
+        if json_too:
+            group.add_argument("--json", action="store_true", help=for_programs)
+        group.add_argument("--format", choices=FORMATS, default="text", help="what to print (text if not given)")
+        made.add_argument("--form", choices=sql.FORMS, help="only this form; SQL is of the short form if not given")
+        made.add_argument("--dialect", choices=sql.DIALECTS, help="of SQL (sqlite if not given)")
+        made.add_argument("--without-null", action="store_true", help="SQL that passes over rows with a NULL")
+        made.add_argument("--fragment", action="store_true", help="LaTeX to be \\input, not a document")
+        written(made)
+
     made = on_file("list", list_command, "print each saved query, its short form, the mapping and the count, or definitions in LaTeX, SQL or JSON")
-    publish.add_shape(made, json_too=True)
+    shaped(made, json_too=True)
     made = on_file("show", show_command, "print an archive as text, or some of its queries, or rules, with their short forms")
     made.add_argument("query", metavar="QUERY", nargs="*", type=place_or_rule, help=query)
     made.add_argument("--json", action="store_true", help=for_programs)
@@ -123,13 +150,23 @@ def usage() -> argparse.ArgumentParser:
     made = changing("drop", drop_command, "make places vacant")
     made.add_argument("place", metavar="PLACE", nargs="+", type=place, help="a filled place, 0 to 7")
     made = changing("add", add_command, "add dependencies after those held")
-    made.add_argument("dependency", metavar="DEPENDENCY", nargs="+", help="as in 'layer: flight, level -> height, temperature'")
+    made.add_argument(
+        "dependency",
+        metavar="DEPENDENCY",
+        nargs="+",
+        help="as in 'layer: flight, level -> height, temperature', or a key, 'layer(flight*, level*, height, temperature)'",
+    )
     made = command("pack", pack_command, "make an archive file, and its names file, from a text")
     made.add_argument("text", metavar="TEXT", help="the text of an archive, or - for standard input")
     made.add_argument("file", metavar="FILE", help="the archive file to write, or - for standard output, which has no names then")
     made = on_file("unpack", unpack_command, "print an archive file as a text; packed again it is the same file, to the byte")
     made.add_argument("text", metavar="TEXT", nargs="?", default="-", help="a file to write the text to; without it, or with -, it is printed")
-    publish.add_commands(commands, load)
+    made = on_file("define", define_command, "print a query's definition: tables, dependencies, both forms, mapping")
+    made.add_argument("query", metavar="QUERY", type=place_or_rule, help=query)
+    shaped(made)
+    made = on_file("page", page_command, "make an HTML page of all saved queries, their short forms and containments")
+    written(made)
+    made.add_argument("--title", metavar="TITLE", help="the page's title (the name of FILE if not given)")
     return parser
 
 

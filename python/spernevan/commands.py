@@ -6,9 +6,10 @@ import argparse
 import json
 import os
 import sys
-from typing import Callable, Dict, List, Optional, Sequence, Tuple, Union
+from typing import Callable, Dict, Iterable, List, Optional, Tuple, Union
 
 from .data import Database
+from .definition import Definition, define, define_all, define_query
 from .engine import Refused
 from .files import (
     FILE_BYTES,
@@ -19,12 +20,13 @@ from .files import (
     read_bytes,
     read_names_beside,
     read_while,
+    settled,
     shown,
     standard_input,
     text_of,
     write_files,
 )
-from .layout import answer_columns, comparison_json, reduction_json, set_mapping, set_reduction, set_tables, write_answers
+from .layout import comparison_json, reduction_json, set_mapping, set_reduction, set_tables, write_answers
 from .model import FROZEN, PLACES
 from .notation import (
     Names,
@@ -34,14 +36,17 @@ from .notation import (
     count,
     format_columns,
     format_datum,
+    format_dependencies,
     format_dependency,
     format_query,
     parse_dependencies,
     parse_rule,
 )
-from .publish import define_all, render, shape_of
+from .page import page
+from .publish import Shape, render, render_one, write_definition
 from .record import Asked, Broken, Comparison, Record
-from .sources import read_database
+from .sources import read_for_command
+from .sql import labels
 from .text import pack, unpack
 from .values import Value, read_cell, read_literal
 
@@ -90,7 +95,7 @@ def load_record(file: str, names: Optional[str] = None, plain: bool = False) -> 
 
 def load(options: Options) -> Tuple[Record, Names]:
     """The record that FILE has, and its names."""
-    record, _ = load_record(options.file, options.names, options.plain)
+    record, _ = settled(options.file, lambda: load_record(options.file, options.names, options.plain))
     return record, record.names
 
 
@@ -117,9 +122,24 @@ def save(options: Options, record: Record, was_text: bool, said: str) -> None:
         write_out(unpack(record, record.names).encode() if was_text else record.file)
         return
     if was_text and os.path.realpath(out) == os.path.realpath(options.file):
-        raise Failure(f"{out} is a text: pack it first, or say with --output where the archive file goes; a text is changed in an editor")
-    record.write(out)
+        raise Failure(f"{out} is a text: pack it first, or say with --output where the new text or archive file goes; a text is changed in an editor")
+    if _names_a_text(out):
+        write_text(out, unpack(record, record.names))
+    else:
+        record.write(out)
     print(f"{out}: {said}")
+
+
+def _names_a_text(path: str) -> bool:
+    """Whether a file is called as a text is."""
+    return path.lower().endswith((".text", ".txt"))
+
+
+def write_text(path: str, text: str) -> None:
+    """Writes the text of an archive to a new file."""
+    if os.path.isfile(path):
+        raise Failure(f"{path} is there already, and may have comments that would be lost: write elsewhere, or remove it first")
+    write_files([(path, text.encode())])
 
 
 def write_out(data: bytes) -> None:
@@ -208,18 +228,52 @@ class Subject:
 
 
 def list_command(options: Options) -> int:
+    shape = shape_of(options)
     record, names = load(options)
+    found = [Subject(record, place, "") for place in record.filled()]
     if options.format != "text" or options.form is not None:
         if options.json:
             raise Failure("--form does not go with --json; it goes with --format json")
-        print(render(define_all(record, names, names.values.decode), *shape_of(options)), end="")
-        return YES
-    found = [Subject(record, place, "") for place in record.filled()]
-    if options.json:
+        text = render(define_all(record, names, names.values.decode), shape)
+    elif options.json:
         shapes = [{"place": one.asked, **reduction_json(one.query, record.shorten(one.asked), names, one.variables)} for one in found]
-        print(json.dumps(shapes, indent=2))
+        text = json.dumps(shapes, indent=2) + "\n"
     else:
-        print("\n\n".join(_reduced(record, one) for one in found) or "Every place is vacant.")
+        text = ("\n\n".join(_reduced(record, one) for one in found) or "Every place is vacant.") + "\n"
+    write_definition(text, options.output)
+    return YES
+
+
+def shape_of(options: Options) -> Shape:
+    """What the options say of how definitions are printed. Failure if one does not go with the format."""
+    for name, given, goes in (
+        ("--dialect", options.dialect, "sql"),
+        ("--without-null", options.without_null, "sql"),
+        ("--fragment", options.fragment, "latex"),
+    ):
+        if given and options.format != goes:
+            raise Failure(f"{name} goes with --format {goes}")
+    return Shape(options.format, options.form, options.dialect or "sqlite", options.fragment, options.without_null)
+
+
+def define_command(options: Options) -> int:
+    shape = shape_of(options)
+    record, names = load(options)
+    write_definition(render_one(_defined(Subject(record, options.query, "the rule"), record, names), shape), options.output)
+    return YES
+
+
+def _defined(one: Subject, record: Record, names: Names) -> Definition:
+    """The definition of a place or of a rule."""
+    if isinstance(one.asked, int):
+        return define(record, names, one.asked, names.values.decode)
+    return define_query(record, names, one.query, one.variables, names.values.decode)
+
+
+def page_command(options: Options) -> int:
+    record, names = load(options)
+    title = options.title or ("Archive" if options.file == "-" else os.path.basename(options.file))
+    write_definition(page(record, names, title, names.values.decode), options.output)
     return YES
 
 
@@ -301,7 +355,7 @@ def equivalent_command(options: Options) -> int:
 
 def _data(options: Options, record: Record) -> Database:
     """The database of DATA."""
-    return read_database(options.data, record.names, _null(options.null), options.text, sys.stderr)
+    return read_for_command(options.data, record.names, _null(options.null), options.text, sys.stderr)
 
 
 def _null(text: Optional[str]) -> Optional[Value]:
@@ -314,11 +368,12 @@ def _null(text: Optional[str]) -> Optional[Value]:
         return text
 
 
-def _missing(database: Database, relations: Sequence[int], names: Names, why: str) -> None:
-    """Failure if a table that is needed is in none of the data."""
-    missing = [names.tables[relation].name for relation in sorted(set(relations)) if relation not in database.tables]
-    if missing:
-        raise Failure(f"the data has no table {', '.join(missing)}, which {why}; for an empty table give a CSV file with its header line alone")
+def _say_notes(database: Database, relations: Iterable[int]) -> None:
+    """Says what is to be known of how some tables were read."""
+    asked = set(relations)
+    for note in database.notes:
+        if note.relation in asked:
+            say(f"spernevan: {note.text}")
 
 
 def _broken(record: Record, database: Database, broken: Broken) -> List[str]:
@@ -332,31 +387,30 @@ def evaluate_command(options: Options) -> int:
     record, names = load(options)
     asked = Subject(record, options.query, "the rule")
     database = _data(options, record)
-    _missing(database, [row.relation for row in asked.query.rows], names, "the query asks for")
-    for note in database.notes:
-        say(f"spernevan: {note}")
-    double = database.text_and_number(constants(asked.query))
+    relations = [row.relation for row in asked.query.rows]
+    record.has_tables(database, relations, "the query asks for")
+    _say_notes(database, relations)
+    double = database.text_and_number(relations, constants(asked.query))
     if double is not None:
         say(
             f"spernevan: the text '{double}' and the number {double} are different values, and both are here; "
             "a query has the text between quotes" + (", and --text TABLE.COLUMN takes a column of CSV as text" if database.has_cells else "")
         )
-    broken = record.test(database)
+    broken = record.broken(database, relations)
     if broken is not None:
         for line in _broken(record, database, broken):
             say(line)
-        say("On such a database the long and the short form of a query may have different answers.")
+        said = record.consequence(broken, asked.query)
+        say(f"{said[:1].upper()}{said[1:]}.")
     answers = record.evaluate(asked.asked, database, tested=True)
-    write_answers(answers, answer_columns(asked.query, names, asked.variables), options.format, sys.stdout)
+    write_answers(answers, labels(asked.query, names, asked.variables), options.format, sys.stdout)
     return YES
 
 
 def test_command(options: Options) -> int:
-    record, names = load(options)
+    record, _ = load(options)
     database = _data(options, record)
-    _missing(database, [dependency.relation for dependency in record.dependencies], names, "a dependency speaks of")
-    for note in database.notes:
-        say(f"spernevan: {note}")
+    _say_notes(database, [dependency.relation for dependency in record.dependencies])
     broken = record.test(database)
     if broken is None:
         print(f"Obeys: {count(len(database), 'row')}, {count(len(record.dependencies), 'dependency')}")
@@ -399,6 +453,8 @@ def pack_command(options: Options) -> int:
     path = names_path(options.file)
     if os.path.realpath(path) == os.path.realpath(options.text):
         raise Failure(f"{options.text} is where the names of {options.file} go: give the archive file another name")
+    if _names_a_text(options.file) and not os.path.exists(options.file):
+        raise Failure(f"{options.file} is a name for a text; an archive file has another ending, such as .file")
     with locked(options.file):
         record.write(options.file)
     print(f"{options.file}: {len(record.file)} bytes; names in {path}")
@@ -411,9 +467,7 @@ def unpack_command(options: Options) -> int:
     if options.text == "-":
         print(text, end="")
         return YES
-    if os.path.isfile(options.text):
-        raise Failure(f"{options.text} is there already, and may have comments that would be lost: write elsewhere, or remove it first")
-    write_files([(options.text, text.encode())])
+    write_text(options.text, text)
     print(f"{options.text}: {count(len(text.splitlines()), 'line')}")
     return YES
 
@@ -444,10 +498,14 @@ def drop_command(options: Options) -> int:
 @_changing
 def add_command(options: Options) -> int:
     record, was_text = load_record(options.file)
-    before = len(record.dependencies)
-    record = record.add_all([one for text in options.dependency for one in parse_dependencies(text, record.names)])
-    held = len(record.dependencies)
-    save(options, record, was_text, f"{count(held - before, 'dependency')} added, {held} in all")
+    given = [one for text in options.dependency for one in parse_dependencies(text, record.names)]
+    new = [one for one in dict.fromkeys(given) if one not in record.dependencies]
+    again = [one for one in dict.fromkeys(given) if one in record.dependencies]
+    after = record.add_all(new)
+    said = f"{count(len(new), 'dependency')} added, {len(after.dependencies)} in all"
+    if again:
+        said += f"; held already: {'; '.join(format_dependencies(again, record.names))}"
+    save(options, after, was_text, said)
     return YES
 
 

@@ -11,12 +11,14 @@ import re
 import time
 from array import array
 from bisect import bisect_right
+from datetime import date
 from decimal import Decimal
-from typing import Any, Callable, Dict, Iterable, Iterator, List, Mapping, NamedTuple, Optional, Sequence, TextIO, Tuple
+from operator import itemgetter
+from typing import Any, Callable, Dict, Iterable, Iterator, List, Mapping, NamedTuple, Optional, Sequence, Set, TextIO, Tuple
 
 from .engine import Words
 from .notation import Names, Table, count, format_datum
-from .values import FIRST_CODE, Null, Value, Values, number_meant, order, plain, read_cell, read_literal
+from .values import FIRST_CODE, Null, Value, Values, bare, doubt, plain, read_cell, read_literal
 
 CHUNK = 50_000
 
@@ -45,6 +47,55 @@ class Stands(NamedTuple):
     values: Tuple[Value, ...]
 
 
+class Note(NamedTuple):
+    """What a person should know of how a table was read."""
+
+    relation: int
+    text: str
+
+
+class Form:
+    """How the values of a column were given, so that answers come out as they went in."""
+
+    def __init__(self) -> None:
+        # The types of the cells; object for cells that have no type.
+        self.types: Set[type] = set()
+        # The numbers of cells without types, by their words, as they were first written.
+        self.written: Dict[int, str] = {}
+
+    def kind(self) -> Optional[type]:
+        """The type of every cell, if they have one; what an absent one stands for is taken as that."""
+        held = self.types - {type(None)}
+        return next((kind for kind in (float, Decimal, bool, str) if held and all(issubclass(one, kind) for one in held)), None)
+
+
+class Shown(Dict[int, Value]):
+    """What the words of a column stand for, in the form in which they were given there; without a form, as the dictionary has them."""
+
+    def __init__(self, values: Values, form: Optional[Form]) -> None:
+        super().__init__()
+        self._values, self._form = values, form or Form()
+        self._kind = self._form.kind()
+        # The decimals of a column of several types, if only floats can have been decimals.
+        self._floats = float in self._form.types and Decimal not in self._form.types
+
+    def __missing__(self, word: int) -> Value:
+        found = self[word] = self._as_given(word, self._values.decode(word))
+        return found
+
+    def _as_given(self, word: int, value: Value) -> Value:
+        if isinstance(value, (int, Decimal)):
+            written = self._form.written.get(word)
+            if written is not None:
+                return value if written.lstrip("-").isdigit() else Decimal(written)
+            if self._kind is float or self._floats and isinstance(value, Decimal):
+                return float(value)
+            if self._kind is Decimal:
+                return Decimal(value)
+            return bool(value) if self._kind is bool and value in (0, 1) else value
+        return bare(value) if isinstance(value, date) and self._kind is str else value
+
+
 class Database:
     """Rows of the tables of `names`, as words; `values` is the dictionary of their codes, which grows with them."""
 
@@ -54,16 +105,25 @@ class Database:
         self.words: Words = array("I")
         self.tables: Dict[int, int] = {}
         self.progress = progress or Progress(None)
-        self.notes: List[str] = []
+        self.notes: List[Note] = []
         self.has_cells = False
+        self.from_files = False
+        # What to do about an absent value, and about a column of numbers that are meant as texts.
+        self.null_cure = "say what it stands for, as in record.database(data, null=0)"
+        self.text_cure = "give text=['{}']"
         self._null = None if null is None else self.values.encode(null)
         self._blocks: List[Block] = []
         self._firsts: List[int] = []
         self._rows = 0
+        self._forms: Dict[Tuple[int, int], Form] = {}
 
     def __len__(self) -> int:
         """How many rows there are."""
         return self._rows
+
+    def __repr__(self) -> str:
+        held = ", ".join(f"{self.names.tables[relation].name} {rows}" for relation, rows in sorted(self.tables.items()))
+        return f"<Database of {count(self._rows, 'row')}: {held or 'no table'}>"
 
     @property
     def null(self) -> Optional[int]:
@@ -89,18 +149,27 @@ class Database:
         self.tables[relation] = self.tables.get(relation, 0) + rows
         self.progress.at(self.names.tables[relation].name, self.tables[relation])
 
-    def cells(self, text: bool = False) -> Cells:
+    def form(self, relation: int, column: int) -> Form:
+        """How the values of a column were given."""
+        return self._forms.setdefault((relation, column), Form())
+
+    def shown(self, relation: int, column: int) -> Shown:
+        """What the words of a column stand for, as they were given."""
+        return Shown(self.values, self.form(relation, column))
+
+    def cells(self, relation: int, column: int, text: bool = False) -> Cells:
         """A reader of one column's cells that have no type, as in CSV; `text` leaves them as they are."""
         self.has_cells = True
-        return Cells(self.values, self._null, str) if text else Cells(self.values, self._null, read_cell)
+        form = self.form(relation, column)
+        return Cells(self.values, self._null, str, form) if text else Cells(self.values, self._null, read_cell, form)
 
-    def literals(self) -> Cells:
+    def literals(self, relation: int, column: int) -> Cells:
         """A reader of one column's values as rows of text have them."""
-        return Cells(self.values, None, read_literal)
+        return Cells(self.values, self._null, _read_row_value, self.form(relation, column))
 
-    def typed(self) -> Cells:
+    def typed(self, relation: int, column: int) -> Cells:
         """A reader of one column's values that have a type."""
-        return Cells(self.values, self._null, plain)
+        return Cells(self.values, self._null, plain, self.form(relation, column))
 
     def stands(self, position: int) -> Stands:
         """The row at a position, from 0 over all rows."""
@@ -108,7 +177,8 @@ class Database:
         width = len(self.names.tables[block.relation].columns) + 1
         inside = position - block.first
         at = block.word + inside * width
-        values = tuple(self.values.decode(word) for word in self.words[at + 1 : at + width])
+        words = self.words[at + 1 : at + width]
+        values = tuple(self.shown(block.relation, column)[word] for column, word in enumerate(words))
         return Stands(block.where(inside), block.relation, values)
 
     def say(self, position: int) -> str:
@@ -116,13 +186,16 @@ class Database:
         found = self.stands(position)
         return f"{found.where}: {format_datum(self.names.tables[found.relation].name, found.values)}"
 
-    def text_and_number(self, others: Iterable[int] = ()) -> Optional[str]:
-        """A text that looks like a number which is there too, in the rows or among `others`; such a pair is never equal."""
+    def text_and_number(self, relations: Iterable[int], others: Iterable[int] = ()) -> Optional[str]:
+        """A text that looks like a number which is there too, in the rows of some tables or among `others`; such a pair is never equal."""
         numbers = self.values.numbers_as_text()
         found = {number for number in numbers if self.values.known(number)}.union(set(numbers).intersection(others))
         if not numbers:
             return None
+        asked = set(relations)
         for start, end, relation in self._spans():
+            if relation not in asked:
+                continue
             width = len(self.names.tables[relation].columns) + 1
             for column in range(1, width):
                 found |= set(numbers).intersection(self.words[start + column : end : width])
@@ -134,51 +207,66 @@ class Database:
         for block, end in zip(self._blocks, ends):
             yield block.word, end, block.relation
 
-    def decoded(self, answers: Words, length: int, number: int) -> List[Tuple[Value, ...]]:
-        """Answers of the engine as values: numbers ascending, then dates, then texts."""
-        decode = self.values.decode
-        if not len(self.values) or not len(answers) or max(answers) < FIRST_CODE:
-            return [tuple(answers[at * length : (at + 1) * length]) for at in range(number)]
-        words = [tuple(answers[at * length : (at + 1) * length]) for at in range(number)]
-        rank = _Rank(self.values)
-        words.sort(key=lambda row: tuple(map(rank.__getitem__, row)))
-        return [tuple(map(decode, row)) for row in words]
+    def decoded(self, answers: Words, number: int, shown: Sequence[Shown]) -> List[Tuple[Value, ...]]:
+        """Answers of the engine as values, by how each column of theirs is shown: numbers ascending, then dates, then texts."""
+        length = len(shown)
+        if not length or not number:
+            return [()] * number
+        columns: List[Sequence[int]] = [answers[at : number * length : length] for at in range(length)]
+        if len(self.values) and max(answers) >= FIRST_CODE:
+            ordered = in_order(self.values, set(answers))
+            rank = {word: place for place, word in enumerate(ordered)}
+            rows = sorted(zip(*(map(rank.__getitem__, column) for column in columns)))
+            columns = [list(map(ordered.__getitem__, column)) for column in zip(*rows)]
+        return list(zip(*(map(column.__getitem__, held) for column, held in zip(shown, columns))))
 
 
-class _Rank(Dict[int, Tuple[int, Any, str]]):
-    """The place of a word in the order of values."""
+def in_order(values: Values, words: Iterable[int]) -> List[int]:
+    """Words in the order of what they stand for: numbers, then dates, then texts."""
+    numbers: List[Tuple[Any, int]] = []
+    dates: List[Tuple[str, int]] = []
+    texts: List[Tuple[str, int]] = []
+    for word in words:
+        value = values.decode(word)
+        if isinstance(value, (int, Decimal)):
+            numbers.append((value, word))
+        else:
+            (dates if isinstance(value, date) else texts).append((bare(value), word))
+    return [word for kind in (numbers, dates, texts) for _, word in sorted(kind, key=itemgetter(0))]
 
-    def __init__(self, values: Values) -> None:
-        super().__init__()
-        self._values = values
 
-    def __missing__(self, word: int) -> Tuple[int, Any, str]:
-        found = self[word] = order(self._values.decode(word))
-        return found
+def _read_row_value(word: str) -> Value:
+    """The value of a literal in a row of text, where NULL may stand."""
+    if word[0] in "nN":
+        raise Null()
+    return read_literal(word)
 
 
 class Cells(Dict[Any, int]):
-    """The words of a column's cells, by the cells that have been met."""
+    """The words of a column's cells, by the cells that have been met; `form` learns how they are given."""
 
-    def __init__(self, values: Values, null: Optional[int], read: Callable[[Any], Value]) -> None:
+    def __init__(self, values: Values, null: Optional[int], read: Callable[[Any], Value], form: Form) -> None:
         super().__init__()
         self._values, self._null, self._read = values, null, read
-        self._written: Dict[int, str] = {}
+        self.form = form
         self.same: Optional[Tuple[str, str]] = None
-        # The first cell of a column without types that is taken as a text and looks like a number, and that number.
-        self.meant: Optional[Tuple[str, str]] = None
+        # The first cell of a column without types that is taken as a text and may be meant otherwise, and what to say of it.
+        self.doubt: Optional[Tuple[str, str]] = None
 
     def column(self, cells: Sequence[Any]) -> Words:
         """Cells in words. A cell that is no value raises ValueError, or Null; `fault` then says which."""
         if self._read is plain:
+            types = set(map(type, cells))
+            self.form.types |= types
             try:
-                if {int}.issuperset(map(type, cells)):
+                if types == {int}:
                     words = array("I", cells)
                     if not words or max(words) < FIRST_CODE:
                         return words
             except OverflowError:
                 pass
         elif self._read is not str:
+            self.form.types.add(object)
             found = _whole_numbers(cells)
             if found is not None:
                 return found
@@ -201,18 +289,19 @@ class Cells(Dict[Any, int]):
             if self._read is not plain and cell == "":
                 raise Null()
             value = self._read(cell)
-            word = self._values.encode(value)
+            word = self._values.code(value)
         except Null:
             if self._null is None:
                 raise
             return self._null
-        if self._read is read_cell and isinstance(value, (int, Decimal)):
-            written = self._written.setdefault(word, cell.strip())
-            if written != cell.strip() and self.same is None:
-                self.same = written, cell.strip()
-        elif self._read is read_cell and self.meant is None and cell[:1] <= "9":
-            number = number_meant(cell)
-            self.meant = None if number is None else (cell, number)
+        if self._read is not plain and isinstance(value, (int, Decimal)):
+            spelled = cell.strip()
+            written = self.form.written.setdefault(word, spelled)
+            if written != spelled and word and self.same is None:
+                self.same = written, spelled
+        elif self._read is read_cell and self.doubt is None and (cell[:1] <= "9" or cell[:1] in "nN"):
+            said = doubt(cell)
+            self.doubt = None if said is None else (cell, said)
         try:
             self[cell] = word
         except TypeError:
@@ -220,13 +309,12 @@ class Cells(Dict[Any, int]):
         return word
 
 
-_NO_NUMBER = re.compile(r"[^0-9\n]|\n\n|\n0[0-9]")
-
-
 def _whole_numbers(cells: Sequence[str]) -> Optional[Words]:
     """A column of cells that are all plain whole numbers, in words; else None."""
-    text = "\n" + "\n".join(cells) + "\n"
-    if _NO_NUMBER.search(text):
+    digits = "".join(cells)
+    if not (digits.isascii() and digits.isdigit()):
+        return None
+    if "\n0" in "\n" + "\n".join(cells) and any(cell[:1] == "0" and cell != "0" for cell in cells):
         return None
     try:
         words = array("I", map(int, cells))
@@ -308,10 +396,10 @@ def of_python(data: object, names: Names, values: Optional[Values] = None, null:
             raise DataError(f"the table {held.name} is there twice, the second time as {table!r:.40}")
         database.has(relation)
         columns = _columns_of(rows, held)
-        readers = [database.typed() for _ in columns]
+        readers = [database.typed(relation, number) for number in range(len(columns))]
         for start in range(0, len(columns[0]), CHUNK):
             words = [
-                _python_column(reader, column[start : start + CHUNK], start, f"{held.name}: column {label}")
+                _python_column(reader, column[start : start + CHUNK], start, f"{held.name}: column {label}", database.null_cure)
                 for reader, column, label in zip(readers, columns, held.columns)
             ]
             database.add(relation, words, _row_of(held.name, start))
@@ -322,10 +410,11 @@ def _row_of(name: str, start: int) -> Where:
     return lambda row: f"row {row + start} of {name}"
 
 
-def _python_column(reader: Cells, cells: Any, start: int, where: str) -> Words:
-    """A stretch of a column in words."""
+def _python_column(reader: Cells, cells: Any, start: int, where: str, cure: str) -> Words:
+    """A stretch of a column in words; `cure` is what to do about an absent value."""
     kind = getattr(getattr(cells, "dtype", None), "kind", "")
     if kind and kind in "iub" and len(cells) and cells.min() >= 0 and cells.max() < FIRST_CODE:
+        reader.form.types.add(bool if kind == "b" else int)
         words: Words = array("I")
         words.frombytes(cells.astype("uint32").tobytes())
         return words
@@ -334,8 +423,7 @@ def _python_column(reader: Cells, cells: Any, start: int, where: str) -> Words:
         return reader.column(held)
     except ValueError:
         position, error = reader.fault(held)
-        cure = "; say what it stands for, as in record.database(data, null=0)" if isinstance(error, Null) else ""
-        raise DataError(f"{where}, row {start + position}: {error}{cure}") from None
+        raise DataError(f"{where}, row {start + position}: {error}{f'; {cure}' if isinstance(error, Null) else ''}") from None
 
 
 def _columns_of(rows: Any, table: Table) -> List[Any]:

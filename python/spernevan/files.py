@@ -11,7 +11,7 @@ import signal
 import stat
 import sys
 from contextlib import contextmanager, nullcontext
-from typing import BinaryIO, Callable, ContextManager, Iterable, Iterator, List, Optional, Sequence, Tuple, Union
+from typing import BinaryIO, Callable, ContextManager, Iterable, Iterator, List, Optional, Sequence, Tuple, TypeVar, Union
 
 from .notation import NamesFile, read_names_file
 
@@ -19,6 +19,7 @@ from .notation import NamesFile, read_names_file
 FILE_BYTES = 65536
 
 Path = Union[str, "os.PathLike[str]"]
+T = TypeVar("T")
 
 
 class Failure(Exception):
@@ -158,7 +159,7 @@ def _uninterrupted() -> Iterator[None]:
 
 
 @contextmanager
-def locked(path: Path) -> Iterator[None]:
+def locked(path: Path, kind: int = fcntl.LOCK_EX) -> Iterator[None]:
     """Keeps other commands from changing an archive file until the work is done: the folder that it is in is locked.
 
     A folder that cannot be locked is left to the one that writes.
@@ -170,12 +171,23 @@ def locked(path: Path) -> Iterator[None]:
         return
     try:
         try:
-            fcntl.flock(descriptor, fcntl.LOCK_EX)
+            fcntl.flock(descriptor, kind)
         except OSError:
             pass
         yield
     finally:
         os.close(descriptor)
+
+
+def settled(path: Path, read: Callable[[], T]) -> T:
+    """What reading an archive file gives; where that fails, what it gives when no command is changing the file."""
+    try:
+        return read()
+    except Failure:
+        if path == "-" or not os.path.isfile(path):
+            raise
+    with locked(path, fcntl.LOCK_SH):
+        return read()
 
 
 def write_files(files: Sequence[Tuple[Path, bytes]]) -> None:
@@ -195,8 +207,7 @@ def _write_files(files: Sequence[Tuple[Path, bytes]]) -> None:
             if not _is_plain(os.fspath(given)):
                 if os.path.isdir(given):
                     raise IsADirectoryError(21, os.strerror(21), os.fspath(given))
-                with open(given, "wb") as device:
-                    device.write(data)
+                _write_device(os.fspath(given), data)
                 continue
             path = os.path.realpath(given)
             if os.path.exists(path) and not os.access(path, os.W_OK):
@@ -222,6 +233,15 @@ def _write_files(files: Sequence[Tuple[Path, bytes]]) -> None:
                 _remove(old)
     for folder in {os.path.dirname(path) for _, path, _ in made}:
         _sync_folder(folder)
+
+
+def _write_device(given: str, data: bytes) -> None:
+    """Writes to a device or a pipe."""
+    try:
+        with open(given, "wb") as device:
+            device.write(data)
+    except OSError as error:
+        raise OSError(error.errno, error.strerror, given) from None
 
 
 def _write_through(new: str, path: str, data: bytes, given: str) -> None:

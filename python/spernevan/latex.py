@@ -8,13 +8,13 @@ that LaTeX cannot set without further fonts is shown by its number, as U+4E2D.
 from __future__ import annotations
 
 import unicodedata
-from datetime import date
 from typing import Dict, Iterable, List, Optional, Sequence, Tuple
 
 from .definition import Definition, lone
 from .model import Constant, Dependency, Entry, Query
 from .notation import Names
 from .scan import count
+from .values import Value, bare
 
 _SIGNS = {
     "\\": r"\textbackslash{}",
@@ -134,11 +134,12 @@ def variable_name(number: int, variables: Dict[int, str]) -> str:
     return rf"\textit{{{escape(variables[number])}}}" if number in variables else f"$v_{{{number}}}$"
 
 
-def value(shown: object) -> str:
+def value(shown: Value) -> str:
     """A number or a date as it is, text between quotes."""
     if isinstance(shown, str):
         return rf"\textquoteleft{{}}{escape(shown)}\textquoteright{{}}"
-    return escape(shown.isoformat() if isinstance(shown, date) else str(shown))
+    text = bare(shown)
+    return f"$-${escape(text[1:])}" if text.startswith("-") else escape(text)
 
 
 class _Form:

@@ -2,16 +2,14 @@
 
 from __future__ import annotations
 
-import csv
 import json
-from datetime import date
 from decimal import Decimal
 from typing import Any, Dict, List, Optional, Sequence, TextIO, Tuple
 
-from .model import Constant, Entry, Mapping, Query, Variable
+from .model import Entry, Mapping, Query, Variable
 from .notation import Names, count, format_datum, format_entry, format_mapping, format_parts, format_query
 from .record import Comparison, Reduction
-from .values import Value, Values, bare, format_value
+from .values import Value, Values, bare, format_value, number_meant, read_cell
 
 Json = Dict[str, Any]
 Variables = Dict[int, str]
@@ -134,30 +132,12 @@ def set_reduction(title: str, query: Query, short: Reduction, names: Names, vari
 # ---- answers
 
 
-def answer_columns(query: Query, names: Names, variables: Variables) -> List[str]:
-    """A name for each column of the answers: its variable's, or that of the first column in which the variable stands."""
-    first: Dict[int, str] = {}
-    for row in query.rows:
-        for entry, column in zip(row.entries, names.tables[row.relation].columns):
-            if isinstance(entry, Variable):
-                first.setdefault(entry.number, column)
-    found: List[str] = []
-    for position, entry in enumerate(query.head):
-        name = f"constant{position}" if isinstance(entry, Constant) else variables.get(entry.number) or first[entry.number]
-        number, unique = 1, name
-        while unique in found:
-            number += 1
-            unique = f"{name}_{number}"
-        found.append(unique)
-    return found or [f"column{position}" for position in range(query.head_length)]
-
-
 def write_answers(answers: Sequence[Tuple[Value, ...]], columns: Sequence[str], kind: str, out: TextIO) -> None:
     """Writes answers as rows of text, CSV or JSON. In CSV an empty head gives one column, `answer`, with yes or no row."""
     if kind == "csv":
-        writer = csv.writer(out, lineterminator="\n")
-        writer.writerow(columns or ["answer"])
-        writer.writerows(([bare(value) for value in answer] for answer in answers) if columns else (["yes"] for _ in answers))
+        cell = _Cells().__getitem__
+        out.write(",".join(map(cell, columns or ["answer"])) + "\n")
+        out.writelines(",".join(map(cell, answer)) + "\n" if columns else "yes\n" for answer in answers)
     elif kind == "json":
         out.write("[")
         for position, answer in enumerate(answers):
@@ -169,8 +149,25 @@ def write_answers(answers: Sequence[Tuple[Value, ...]], columns: Sequence[str], 
         out.write(f"# {count(len(answers), 'answer')}\n")
 
 
+class _Cells(Dict[Value, str]):
+    """Cells of CSV by their values. A text that looks like a number stands between quotes, which a number never does."""
+
+    def __getitem__(self, value: Value) -> str:
+        if not isinstance(value, str):
+            return bare(value)
+        return super().__getitem__(value)
+
+    def __missing__(self, value: str) -> str:
+        quoted = not value or value != value.strip() or any(sign in value for sign in ',;"\t\r\n') or _like_number(value)
+        found = self[value] = '"' + value.replace('"', '""') + '"' if quoted else value
+        return found
+
+
+def _like_number(text: str) -> bool:
+    """Whether a program could take a text for a number."""
+    return isinstance(read_cell(text), (int, Decimal)) or text.isdigit() or number_meant(text) is not None
+
+
 def _json_text(value: Value) -> str:
     """A value in JSON: numbers with all their digits, dates and texts as strings."""
-    if isinstance(value, (int, Decimal)) and not isinstance(value, date):
-        return bare(value)
-    return json.dumps(bare(value))
+    return bare(value) if isinstance(value, (int, Decimal, float)) else json.dumps(bare(value))

@@ -32,8 +32,10 @@ _ENTRY = struct.Struct("<BI")
 
 
 def whole(what: str, value: object, top: Optional[int] = None) -> int:
-    """`value` as a whole number from 0 up, to `top` if that is given; ValueError if `what` is not one."""
+    """`value` as a whole number from 0 up, to `top` if that is given; ValueError if `what` is not one, as True is none."""
     try:
+        if isinstance(value, bool):
+            raise TypeError
         number = operator.index(value)  # type: ignore[arg-type]
     except TypeError:
         raise ValueError(f"{what} must be a whole number, not {value!r:.40}") from None

@@ -34,7 +34,7 @@ from .model import (
     Variable,
 )
 from .scan import NotationError, Reader, Token, count
-from .values import Value, Values, format_value
+from .values import Value, Values, format_value, is_date
 
 _NUMBERED = re.compile(r"v[0-9]+")
 _VARIABLES = frozenset(f"v{number}" for number in range(VARIABLES))
@@ -371,8 +371,8 @@ def format_row(name: str, entries: Sequence[object]) -> str:
 
 
 def format_datum(name: str, values: Iterable[Value]) -> str:
-    """A row of a database or an answer: `flight(101, 'Lindenberg')`."""
-    return format_row(name, [format_value(value) for value in values])
+    """A row of a database or an answer: `flight(101, 'Lindenberg')`. A text that is a date, which is the same value, is written as one."""
+    return format_row(name, [value if isinstance(value, str) and is_date(value) else format_value(value) for value in values])
 
 
 def format_parts(query: Query, names: Names, variables: Optional[Dict[int, str]] = None) -> Tuple[str, List[str]]:
@@ -434,13 +434,28 @@ def read_dependencies(reader: Reader, names: Names) -> List[Dependency]:
 
 
 def parse_dependencies(text: str, names: Names, source: str = "dependency") -> List[Dependency]:
-    """The dependencies of a line such as `layer: flight, level -> height`."""
+    """The dependencies of a line such as `layer: flight, level -> height`, or `layer(flight*, level*, height)` for a key of a table."""
     reader = Reader(text, source)
     reader.at_end()
-    found = read_dependencies(reader, names)
+    found = read_key(reader, names) if reader.then.kind == "(" else read_dependencies(reader, names)
     if not reader.at_end():
         raise reader.expected("the end")
     return found
+
+
+def read_key(reader: Reader, names: Names) -> List[Dependency]:
+    """`layer(flight*, level*, height)`: a table that is there, with marks at the columns of a key."""
+    start = reader.next
+    others = [table for table in names.tables if table.name != start.text]
+    if len(others) == len(names.tables):
+        names.relation(reader)
+    table, key = read_keyed_table(reader, others)
+    if table not in names.tables:
+        there = next(held for held in names.tables if held.name == table.name)
+        raise reader.error(start, f"the table is {there}; a key is a mark * at some of these columns")
+    if not key or len(key) == len(table.columns):
+        raise reader.error(start, "a key is a mark * at some of the columns, which determine the others")
+    return key_dependencies(names.tables.index(table), key, len(table.columns))
 
 
 def key_dependencies(relation: int, key: Sequence[int], width: int) -> List[Dependency]:
@@ -499,6 +514,7 @@ __all__ = [
     "parse_rule",
     "read_dependencies",
     "read_entry",
+    "read_key",
     "read_keyed_table",
     "read_names",
     "read_names_file",

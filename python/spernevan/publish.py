@@ -1,32 +1,24 @@
-"""The commands that print a definition: `define` for one query, as text, LaTeX, SQL or JSON, and `page` for an archive.
-
-The functions take definitions (definition.py), one or those of a whole archive, so that other commands can print them.
-"""
+"""Definitions (definition.py), one or those of a whole archive, as text, LaTeX, SQL or JSON, and the files that they are written to."""
 
 from __future__ import annotations
 
-import argparse
 import json
 import os
 import re
 import sys
 import textwrap
-from typing import Any, Callable, Dict, List, Optional, Sequence, Tuple
+from dataclasses import dataclass
+from typing import Dict, List, Optional, Sequence
 
 from . import latex, sql
-from .definition import Decode, Definition, Writer, define, define_all, define_query, itself, variable_text
-from .files import FILE_BYTES, Failure, read_bytes, standard_input, text_of, write_files
+from .definition import Definition, Writer, variable_text
+from .files import FILE_BYTES, Failure, read_bytes, write_files
 from .model import Constant, Dependency, Entry, Query
-from .notation import Names, format_dependency, parse_rule
-from .page import page
-from .record import Record
+from .notation import Names, format_dependency
 from .scan import count
 from .values import format_value
 
 FORMATS = ("text", "latex", "sql", "json")
-
-# A function that gives the record of a command's FILE and its names.
-Load = Callable[[argparse.Namespace], Tuple[Record, Names]]
 
 
 # ---- a definition as text
@@ -144,46 +136,50 @@ def definition_json(definition: Definition) -> Dict[str, object]:
 # ---- in any format
 
 
-def render(
-    definitions: Sequence[Definition],
-    format: str = "text",
-    form: Optional[str] = None,
-    dialect: str = "sqlite",
-    fragment: bool = False,
-    without_null: bool = False,
-) -> str:
-    """Definitions of a whole archive in one of the formats."""
-    if format == "sql":
-        return sql.archive_sql(definitions, form or "short", dialect, without_null)
-    if format == "json":
-        return _json([_json_of(definition, form) for definition in definitions])
-    if format == "latex":
-        body = latex.archive(definitions) if form is None else "\\par\\bigskip\n".join(_latex_of(d, form) for d in definitions)
-        return body if fragment else latex.document(body)
-    if format != "text":
-        raise ValueError(f"the format must be {', '.join(FORMATS)}, not {format!r:.40}")
+@dataclass(frozen=True)
+class Shape:
+    """What is printed of a definition: the format, one form alone or all, and what belongs to SQL and LaTeX."""
+
+    format: str = "text"
+    form: Optional[str] = None
+    dialect: str = "sqlite"
+    fragment: bool = False
+    without_null: bool = False
+
+    def __post_init__(self) -> None:
+        if self.format not in FORMATS:
+            raise ValueError(f"the format must be {', '.join(FORMATS)}, not {self.format!r:.40}")
+        if self.form is not None and self.form not in sql.FORMS:
+            raise ValueError(f"the form must be {' or '.join(sql.FORMS)}, not {self.form!r:.40}")
+
+
+def render(definitions: Sequence[Definition], shape: Shape = Shape()) -> str:
+    """Definitions of a whole archive."""
+    if shape.format == "sql":
+        return sql.archive_sql(definitions, shape.form or "short", shape.dialect, shape.without_null)
+    if shape.format == "json":
+        return _json([_json_of(definition, shape.form) for definition in definitions])
+    if shape.format == "latex":
+        forms = [_latex_of(definition, shape.form) for definition in definitions]
+        return _document("\\par\\bigskip\n".join(forms) if shape.form and forms else latex.archive(definitions), shape)
     if not definitions:
         return "Every place is vacant.\n"
-    return "\n".join(_text_of(definition, form) for definition in definitions)
+    return "\n".join(_text_of(definition, shape.form) for definition in definitions)
 
 
-def render_one(
-    definition: Definition,
-    format: str = "text",
-    form: Optional[str] = None,
-    dialect: str = "sqlite",
-    fragment: bool = False,
-    without_null: bool = False,
-) -> str:
-    """One definition in one of the formats."""
-    if format == "sql":
-        return sql.definition_sql(definition, form or "short", dialect, without_null) + ";\n"
-    if format == "json":
-        return _json(_json_of(definition, form))
-    if format == "latex":
-        body = _latex_of(definition, form)
-        return body if fragment else latex.document(body)
-    return render([definition], format, form)
+def render_one(definition: Definition, shape: Shape = Shape()) -> str:
+    """One definition."""
+    if shape.format == "sql":
+        return sql.definition_sql(definition, shape.form or "short", shape.dialect, shape.without_null) + ";\n"
+    if shape.format == "json":
+        return _json(_json_of(definition, shape.form))
+    if shape.format == "latex":
+        return _document(_latex_of(definition, shape.form), shape)
+    return _text_of(definition, shape.form)
+
+
+def _document(body: str, shape: Shape) -> str:
+    return body if shape.fragment else latex.document(body)
 
 
 def _json(value: object) -> str:
@@ -192,8 +188,6 @@ def _json(value: object) -> str:
 
 def _query_of(definition: Definition, form: str) -> Query:
     """The short or the long form."""
-    if form not in sql.FORMS:
-        raise ValueError(f"the form must be {' or '.join(sql.FORMS)}, not {form!r:.40}")
     return definition.short if form == "short" else definition.long
 
 
@@ -211,22 +205,25 @@ def _latex_of(definition: Definition, form: Optional[str]) -> str:
     return latex.form(_query_of(definition, form), definition) + "\n"
 
 
-# ---- the commands
+# ---- files of definitions
 
 
-# How what `define` writes begins, in its formats and forms, and how a page does.
+# How what `define` and `list` write begins, in its formats and forms, and how a page does.
 _WRITTEN = re.compile(
     r"""(?:Place\ [0-7]|Query)\n\ \ (?:Tables|Dependencies\ needed|Long\ form)
+    |Every\ place\ is\ vacant\.\n
     |ans\(
-    |(?:\\documentclass\{article\}\n\\begin\{document\}\n)?\\(?:begingroup\\raggedright\n|par\\nobreak\\noindent)
+    |(?:\\documentclass\{article\}\n\\begin\{document\}\n)?(?:\\(?:begingroup\\raggedright\n|par\\nobreak\\noindent)|Every\ place)
     |SELECT\ (?:DISTINCT|1\ AS|NULL\ AS)\ 
-    |\{\n\ \ "(?:place|rule)":\ 
+    |--\ Place\ [0-7],\ 
+    |(?:\[\n\ \ )?\{\n\ +"(?:place|rule)":\ 
+    |\[\]\n\Z
     |<!DOCTYPE\ html>\n.*:\ saved\ queries\ and\ their\ short\ forms</title>""",
     re.DOTALL | re.VERBOSE,
 )
 
 
-def write_out(text: str, path: Optional[str]) -> None:
+def write_definition(text: str, path: Optional[str]) -> None:
     """Prints the text; to a file if a path other than `-` is given, which is replaced only by the whole text.
 
     Failure if the file is there and does not begin as a definition or a page does.
@@ -239,74 +236,3 @@ def write_out(text: str, path: Optional[str]) -> None:
         if before and not _WRITTEN.match(before):
             raise Failure(f"{path} is there already, and is no definition or page that could be replaced: write elsewhere, or remove it first")
     write_files([(path, text.encode())])
-
-
-def add_shape(made: argparse.ArgumentParser, json_too: bool = False) -> None:
-    """Adds the options that say what is printed of a definition; with `--json` beside them if it is asked for."""
-    group = made.add_mutually_exclusive_group()
-    if json_too:
-        group.add_argument("--json", action="store_true", help="print JSON, for programs")
-    group.add_argument("--format", choices=FORMATS, default="text", help="what to print (text if not given)")
-    made.add_argument("--form", choices=sql.FORMS, help="only this form; SQL is of the short form if not given")
-    made.add_argument("--dialect", choices=sql.DIALECTS, default="sqlite", help="of SQL (sqlite if not given)")
-    made.add_argument("--without-null", action="store_true", help="SQL that passes over rows with a NULL")
-    made.add_argument("--fragment", action="store_true", help="LaTeX to be \\input, not a document")
-
-
-def shape_of(options: argparse.Namespace) -> Tuple[str, Optional[str], str, bool, bool]:
-    """What those options say, for `render` and `render_one`."""
-    return options.format, options.form, options.dialect, options.fragment, options.without_null
-
-
-def add_commands(subparsers: Any, load: Load) -> None:
-    """Adds `define` and `page` to the command's parsers. `load` reads the archive that a command's options name."""
-
-    def command(name: str, run: Callable[[argparse.Namespace], int], text: str) -> argparse.ArgumentParser:
-        made: argparse.ArgumentParser = subparsers.add_parser(name, help=text, description=text[:1].upper() + text[1:] + ".")
-        made.set_defaults(run=run)
-        made.add_argument("file", metavar="FILE", help="an archive file, the text of one, or - for standard input")
-        made.add_argument("--names", metavar="NAMES", help="a names file other than the one beside FILE")
-        made.add_argument("--plain", action="store_true", help="no names: tables R0, R1, .., variables v0, v1, .., constants as numbers")
-        made.add_argument("-o", "--output", metavar="OUT", help="a file to write; without it, or with -, it is printed")
-        return made
-
-    def define_command(options: argparse.Namespace) -> int:
-        record, names = load(options)
-        definition = _defined(options.query, record, names, names.values.decode)
-        write_out(render_one(definition, *shape_of(options)), options.output)
-        return 0
-
-    def page_command(options: argparse.Namespace) -> int:
-        record, names = load(options)
-        title = options.title or ("Archive" if options.file == "-" else os.path.basename(options.file))
-        write_out(page(record, names, title, names.values.decode), options.output)
-        return 0
-
-    made = command("define", define_command, "print a query's definition: tables, dependencies, both forms, mapping")
-    made.add_argument("query", metavar="QUERY", help="a place, 0 to 7, or a rule, 'ans(x) :- ..', or - for a rule on standard input")
-    add_shape(made)
-    made = command("page", page_command, "make an HTML page of all saved queries, their short forms and containments")
-    made.add_argument("--title", metavar="TITLE", help="the page's title (the name of FILE if not given)")
-
-
-def _defined(asked: str, record: Record, names: Names, decode: Decode) -> Definition:
-    """The definition of a place or of a rule, as the command line has it. The engine turns away places above 7."""
-    word = asked.strip()
-    if word.isascii() and word.isdigit():
-        return define(record, names, int(word.lstrip("0")[:20] or "0"), decode)
-    query, variables = parse_rule(text_of(standard_input().read(), "-") if word == "-" else word, names)
-    return define_query(record, names, query, variables, decode)
-
-
-__all__ = [
-    "add_commands",
-    "add_shape",
-    "define_all",
-    "definition_json",
-    "definition_text",
-    "itself",
-    "render",
-    "render_one",
-    "shape_of",
-    "write_out",
-]

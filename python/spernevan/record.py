@@ -11,9 +11,24 @@ from functools import cached_property
 from typing import Any, Dict, FrozenSet, Iterable, List, Optional, Sequence, Tuple, Union
 
 from . import engine
-from .data import Database, DataError, of_python
+from .data import Database, DataError, Shown, of_python
 from .engine import Refused, Words
-from .files import FILE_BYTES, Failure, Path, checksum, is_text, names_path, read_bytes, read_names_beside, read_text, shown, write_files
+from .files import (
+    FILE_BYTES,
+    Failure,
+    Path,
+    checksum,
+    is_text,
+    names_path,
+    read_bytes,
+    read_names_beside,
+    read_text,
+    read_while,
+    settled,
+    shown,
+    text_of,
+    write_files,
+)
 from .model import (
     BYTE,
     FROZEN,
@@ -162,18 +177,27 @@ class Record:
 
     @classmethod
     def read(cls, path: Path, names: Union[bool, Path] = True) -> Record:
-        """The record of an archive file, with the names file beside it, or the one given, or with False none.
+        """The record of an archive file, with the names file beside it, or the one given, or with False none; or that of a text.
 
-        Of a file longer than 65,536 bytes, only those are read.
+        Of an archive file longer than 65,536 bytes, only those are read.
         """
-        data = read_bytes(path, FILE_BYTES)
-        if is_text(data):
-            raise Refused(1, f"{shown(path)} is a text: pack it first, as spernevan.pack(text) does")
+        return settled(path, lambda: cls._read(path, names))
+
+    @classmethod
+    def _read(cls, path: Path, names: Union[bool, Path]) -> Record:
+        data, text = read_while(path, FILE_BYTES, is_text)
+        if text:
+            from .text import pack
+
+            if not isinstance(names, bool):
+                raise ValueError(f"{shown(path)} is a text, which has its names in it; names are given for archive files")
+            found, _ = pack(text_of(data, path), shown(path))
+            return found if names else cls(found.file)
         record = cls(data)
         if names is False:
             return record
-        found = read_names_beside(path, data, None if names is True else names, record.codes())
-        return record if found is None else record.named(found.names)
+        beside = read_names_beside(path, data, None if names is True else names, record.codes())
+        return record if beside is None else record.named(beside.names)
 
     def named(self, names: Names) -> Record:
         """The record under other names."""
@@ -215,7 +239,8 @@ class Record:
         return hash(self.file)
 
     def __repr__(self) -> str:
-        return f"Record(bytes.fromhex({self.file.hex()!r}))"
+        tables = ", ".join(table.name for table in self.names.tables)
+        return f"<Record of {tables}; {count(len(self.dependencies), 'dependency')}; filled places: {_listed(self.filled()) or 'none'}>"
 
     def __str__(self) -> str:
         from .text import unpack
@@ -362,7 +387,7 @@ class Record:
 
     def placed(self, *asked: Asked) -> Tuple[Record, List[int]]:
         """A record in which each of one or two queries has a place, and the places: itself, if they are its own places."""
-        places = [_place(one) for one in asked if not isinstance(one, (str, Query))]
+        places = [whole("a place", one) for one in asked if not isinstance(one, (str, Query))]
         if len(places) == len(asked):
             return self, places
         record = self
@@ -378,7 +403,7 @@ class Record:
 
     def query(self, place: int) -> Query:
         """The query of a place; Refused if there is none."""
-        if _place(place) >= PLACES:
+        if whole("a place", place) >= PLACES:
             raise self._explained(Refused(7), [place])
         query = self.queries[place]
         if query is None:
@@ -416,8 +441,7 @@ class Record:
         if isinstance(place, (str, Query)):
             record, _ = self.placed(place)
             return record.reduce(0, 1)
-        if isinstance(place, int) and 0 <= place < PLACES:
-            self.query(place)
+        self.query(place)
         return self.alone(place).reduce(place, 1 if place == 0 else 0)
 
     def compare(self, p: Asked, q: Asked) -> Comparison:
@@ -449,10 +473,37 @@ class Record:
             raise self._explained(refused, [p, q]) from None
 
     def test(self, database: Any) -> Optional[Broken]:
-        """None if the database obeys every dependency, else the first that it breaks. See `database`."""
+        """None if the database obeys every dependency, else the first that it breaks. See `database`.
+
+        A database of named tables that breaks none must have those of which a dependency speaks.
+        """
         held = self._data(database)
-        found = engine.test(self.file, held.words if isinstance(held, Database) else held)
-        return None if found is None else Broken(*found)
+        found = self.broken(held)
+        if found is None and isinstance(held, Database):
+            self.has_tables(held, [dependency.relation for dependency in self.dependencies], "a dependency speaks of")
+        return found
+
+    def broken(self, database: Union[Database, Words], first: Iterable[int] = ()) -> Optional[Broken]:
+        """The first dependency that the rows of a database break, whatever tables it has; if there is one, one of the relations `first`."""
+        words = database.words if isinstance(database, Database) else database
+        found = engine.test(self.file, words)
+        if found is None:
+            return None
+        wanted = set(first)
+        held = [number for number, dependency in enumerate(self.dependencies) if dependency.relation in wanted]
+        if held and found[0] not in held:
+            some = Record.open(self.widths).add_all(self.dependencies[number] for number in held)
+            again = engine.test(some.file, words)
+            if again is not None:
+                found = held[again[0]], again[1], again[2]
+        return Broken(*found)
+
+    def consequence(self, broken: Broken, query: Query) -> str:
+        """What a broken dependency, which `broken` finds for the relations of a query, means for its answers."""
+        relation = self.dependencies[broken.dependency].relation
+        if any(row.relation == relation for row in query.rows):
+            return "on such a database the long and the short form of a query may have different answers"
+        return f"the query does not ask for {self.names.tables[relation].name}, and its long and short form have the same answers here"
 
     def evaluate(self, place: Asked, database: Any, room: Optional[int] = None, tested: bool = False) -> List[Tuple[Any, ...]]:
         """The answers of the query at a place, ascending, each once. See `database`.
@@ -465,9 +516,9 @@ class Record:
         held = record._data(database)
         if isinstance(held, Database):
             if at < PLACES:
-                self._has_tables(held, [row.relation for row in record.query(at).rows])
+                self.has_tables(held, [row.relation for row in record.query(at).rows], "the query asks for")
             if not tested:
-                self._warn(held)
+                self._warn(held, record.query(at))
             record, at = record._translated(at, held)
         words = held.words if isinstance(held, Database) else held
         size = max(4096, 2 * len(words)) if room is None else room
@@ -483,23 +534,33 @@ class Record:
         assert query is not None
         length = query.head_length
         if isinstance(held, Database):
-            return held.decoded(answers[: number * length], length, number)
+            return held.decoded(answers[: number * length], number, _shown(query, held))
         return [tuple(answers[start * length : (start + 1) * length]) for start in range(number)]
 
-    def _has_tables(self, database: Database, relations: Iterable[int]) -> None:
-        """DataError if a table that a query asks for is in none of the data."""
+    def columns(self, place: Asked) -> Tuple[str, ...]:
+        """A name for each column of a query's answers, no two alike, as CSV, JSON and SQL have them."""
+        from .sql import labels
+
+        record, (at,) = self.placed(place)
+        return labels(record.query(at), record.names, record.names.variables.get(at))
+
+    def has_tables(self, database: Database, relations: Iterable[int], why: str) -> None:
+        """DataError if one of some tables is in none of the data; `why` says what it is needed for."""
         missing = [self.names.tables[relation].name for relation in sorted(set(relations)) if relation not in database.tables]
         if missing:
-            raise DataError(f"the data has no table {', '.join(missing)}, which the query asks for; an empty table is {{{missing[0]!r}: []}}")
+            empty = "a CSV file with its header line alone" if database.from_files else f"{{{missing[0]!r}: []}}"
+            raise DataError(f"the data has no table {', '.join(missing)}, which {why}; an empty table is {empty}")
 
-    def _warn(self, database: Database) -> None:
-        """A warning, for who called `evaluate`, if the database breaks a dependency."""
-        found = engine.test(self.file, database.words)
+    def _warn(self, database: Database, query: Query) -> None:
+        """Warnings, for who called `evaluate`, if a text and a number meet that look alike, or the database breaks a dependency."""
+        double = database.text_and_number([row.relation for row in query.rows], constants(query))
+        if double is not None:
+            warnings.warn(f"the text {double!r} and the number {double} are different values, and both are here", stacklevel=3)
+        found = self.broken(database, [row.relation for row in query.rows])
         if found is not None:
-            number, first, second = found
             warnings.warn(
-                f"the database breaks {format_dependency(self.dependencies[number], self.names)} "
-                f"({database.say(first)}; {database.say(second)}): the long and the short form of a query may have different answers",
+                f"the database breaks {format_dependency(self.dependencies[found.dependency], self.names)} "
+                f"({database.say(found.first)}; {database.say(found.second)}): {self.consequence(found, query)}",
                 stacklevel=3,
             )
 
@@ -533,7 +594,7 @@ class Record:
         if isinstance(data, array):
             return data
         if isinstance(data, (str, bytes, os.PathLike)):
-            raise ValueError(f"a database is no name of a file: read_database([{data!r:.40}], record.names) reads files")
+            raise ValueError(f"a database is no name of a file: read_database({data!r:.40}, record) reads files")
         if isinstance(data, Database):
             if data.names.tables != self.names.tables:
                 raise ValueError(f"the database is of other tables: {', '.join(map(str, data.names.tables))}")
@@ -560,11 +621,15 @@ class Record:
         return words
 
 
-def _place(value: object) -> int:
-    """A place that is given in Python."""
-    if isinstance(value, bool):
-        raise ValueError(f"a place must be a whole number, not {value}")
-    return whole("a place", value)
+def _shown(query: Query, database: Database) -> List[Shown]:
+    """How each column of a query's answers is shown: as the first column in which its variable stands."""
+    first: Dict[int, Tuple[int, int]] = {}
+    for row in query.rows:
+        for column, entry in enumerate(row.entries):
+            if isinstance(entry, Variable):
+                first.setdefault(entry.number, (row.relation, column))
+    plain = Shown(database.values, None)
+    return [database.shown(*first[entry.number]) if isinstance(entry, Variable) else plain for entry in query.head]
 
 
 def _listed(places: Sequence[int]) -> str:

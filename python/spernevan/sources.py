@@ -12,34 +12,59 @@ import gc
 import os
 import re
 import sqlite3
+import warnings
 from array import array
 from itertools import islice
-from typing import AbstractSet, Dict, Iterable, Iterator, List, NoReturn, Optional, Sequence, TextIO, Tuple, Union
+from typing import AbstractSet, Dict, Iterable, Iterator, List, NoReturn, Optional, Pattern, Protocol, Sequence, TextIO, Tuple, Union
 from urllib.request import pathname2url
 
-from .data import CHUNK, Cells, Database, DataError, Progress, Where, matched, positions
+from .data import CHUNK, Cells, Database, DataError, Note, Progress, Where, matched, positions
 from .engine import Words
 from .files import Path, read_bytes, read_while, shown, text_of
 from .notation import Names, Reader, Table, count, format_row
 from .values import Null, Value, format_value
 
-CURE = "say what it stands for with --null VALUE"
+
+class Named(Protocol):
+    """What has names, as a record."""
+
+    @property
+    def names(self) -> Names: ...
 
 
 def read_database(
     paths: Union[Path, Sequence[Path]],
-    names: Names,
+    names: Union[Named, Names],
     null: Optional[Value] = None,
     text: Iterable[str] = (),
     progress: Optional[TextIO] = None,
 ) -> Database:
-    """The database of a file or some files: rows of text, CSV files or folders of them, SQLite files.
+    """The database of a file or some files, for a record or its names: rows of text, CSV files or folders of them, SQLite files.
 
     `null` is what an absent value stands for; without it, one is refused. `text` has columns of CSV
     files, as `sonde.version`, whose cells stay texts also where they look like numbers. `progress` is
-    a stream for a line that says how far it is, if it is a terminal.
+    a stream for a line that says how far it is, if it is a terminal. A cell that may be meant otherwise
+    than it is taken is a warning, and one of the database's `notes`.
     """
+    database = Database(names if isinstance(names, Names) else names.names, None, null, Progress(progress))
+    database.null_cure = "say what it stands for with null=VALUE"
+    fill(database, paths, text)
+    for note in database.notes:
+        warnings.warn(note.text, stacklevel=2)
+    return database
+
+
+def read_for_command(paths: Sequence[Path], names: Names, null: Optional[Value], text: Iterable[str], progress: Optional[TextIO]) -> Database:
+    """The same for the command, whose messages name its options, and which says the notes itself."""
     database = Database(names, None, null, Progress(progress))
+    database.null_cure, database.text_cure = "say what it stands for with --null VALUE", "say --text {}"
+    fill(database, paths, text)
+    return database
+
+
+def fill(database: Database, paths: Union[Path, Sequence[Path]], text: Iterable[str] = ()) -> None:
+    """Reads files into a database."""
+    names, database.from_files = database.names, True
     kept = {_column(name, names) for name in text}
     collecting = gc.isenabled()
     gc.disable()  # Rows make no cycles, and looking for them doubles the time.
@@ -50,7 +75,6 @@ def read_database(
         if collecting:
             gc.enable()
         database.progress.done()
-    return database
 
 
 def _column(name: str, names: Names) -> Tuple[int, int]:
@@ -83,6 +107,8 @@ def _read(path: Path, database: Database, kept: AbstractSet[Tuple[int, int]]) ->
         return
     if not data and name != "-":
         raise DataError(f"{name}: the file is empty; for no rows at all give a line such as # no rows, or a CSV file with its header line alone")
+    if b"\0" in data[:1024]:
+        raise DataError(f"{shown(path)}: these are neither rows of text, nor CSV, nor an SQLite file")
     text = text_of(data, path)
     if _like_csv(text):
         known = ", ".join(f"{table.name}.csv" for table in database.names.tables)
@@ -92,12 +118,16 @@ def _read(path: Path, database: Database, kept: AbstractSet[Tuple[int, int]]) ->
 
 # ---- rows of text
 
-_ITEM = r"""(?:'(?:[^'\n]|'')*'|"(?:[^"\\\n]|\\[^\n])*"|-?[0-9][0-9.eE+-]*)"""
-_EACH = re.compile(_ITEM)
-# A row that stands in one line, or a line without one.
-_ROW = re.compile(
-    rf"[ \t]*([^\W\d]\w*)[ \t]*\(([ \t]*{_ITEM}[ \t]*(?:,[ \t]*{_ITEM}[ \t]*)*)\)[ \t]*(?:\#[^\n]*)?(?:\n|\Z)|[ \t]*(?:\#[^\n]*)?\n"
-)
+_ITEM = r"""('(?:[^'\n]|'')*'|"(?:[^"\\\n]|\\[^\n])*"|-?[0-9][0-9.eE+-]*|[nN][uU][lL][lL])"""
+_NAME = re.compile(r"[ \t]*([^\W\d]\w*)")
+_ENDS = r"[ \t]*(?:\#[^\n]*)?(?:\n|\Z)"
+_NO_ROW = re.compile(_ENDS)
+
+
+def _row_pattern(table: Table) -> Pattern[str]:
+    """A row of a table that stands in one line."""
+    items = r"[ \t]*,[ \t]*".join([_ITEM] * len(table.columns))
+    return re.compile(rf"[ \t]*{table.name}[ \t]*\([ \t]*{items}[ \t]*\){_ENDS}")
 
 
 def _like_csv(text: str) -> bool:
@@ -113,6 +143,49 @@ def _like_csv(text: str) -> bool:
     return False
 
 
+class _Rows:
+    """Rows of text, coded a chunk of a table at a time; `end` adds them to the database, if all are sound."""
+
+    def __init__(self, source: str, database: Database) -> None:
+        self._source, self._database = source, database
+        self._tables = [_Chunk(relation, database) for relation in range(len(database.names.tables))]
+        self._read: List[Tuple[int, List[Words], Where]] = []
+
+    def add(self, relation: int, literals: Tuple[str, ...], line: int) -> None:
+        """One more row. ValueError if a value of its chunk is none."""
+        chunk = self._tables[relation]
+        chunk.rows.append(literals)
+        chunk.lines.append(line)
+        if len(chunk.rows) == CHUNK:
+            self._code(relation)
+
+    def _code(self, relation: int) -> None:
+        chunk = self._tables[relation]
+        words = [reader.column(cells) for reader, cells in zip(chunk.readers, zip(*chunk.rows))]
+        self._read.append((relation, words, _line_of(self._source, chunk.lines)))
+        chunk.count += len(chunk.rows)
+        self._database.progress.at(self._database.names.tables[relation].name, chunk.count)
+        chunk.rows, chunk.lines = [], array("I")
+
+    def end(self) -> None:
+        """There are no more rows."""
+        for relation, chunk in enumerate(self._tables):
+            if chunk.rows:
+                self._code(relation)
+        for relation, words, where in self._read:
+            self._database.add(relation, words, where)
+
+
+class _Chunk:
+    """Rows of one table with their lines, and the readers of its columns."""
+
+    def __init__(self, relation: int, database: Database) -> None:
+        self.readers = [database.literals(relation, column) for column in range(len(database.names.tables[relation].columns))]
+        self.rows: List[Tuple[str, ...]] = []
+        self.lines: Words = array("I")
+        self.count = 0
+
+
 def read_rows(text: str, source: str, database: Database) -> None:
     """Rows, one a line: `flight(101, 'Lindenberg', 2026-01-14)`."""
     for relation in range(len(database.names.tables)):
@@ -125,51 +198,31 @@ def _read_simple_rows(text: str, source: str, database: Database) -> bool:
     """The rows of a text in which each stands in one line; False, and none is added, if it is another text."""
     tables = database.names.tables
     numbers = {table.name: relation for relation, table in enumerate(tables)}
-    bodies: List[List[str]] = [[] for _ in tables]
-    lines: List[Words] = [array("I") for _ in tables]
-    at, line, match = 0, 1, _ROW.match
-    while at < len(text):
-        found = match(text, at)
-        if found is None:
-            return False
-        if found.lastindex:
-            relation = numbers.get(found.group(1))
-            if relation is None:
-                return False
-            bodies[relation].append(found.group(2))
-            lines[relation].append(line)
-        at, line = found.end(), line + 1
-    read: List[Tuple[int, List[Words], Where]] = []
-    for relation, table in enumerate(tables):
-        width = len(table.columns)
-        readers = [database.literals() for _ in range(width)]
-        for start in range(0, len(bodies[relation]), CHUNK):
-            cells = _literals(bodies[relation][start : start + CHUNK], width)
-            try:
-                words = [reader.column(cells[column::width]) for column, reader in enumerate(readers)]
-            except ValueError:
-                return False
-            read.append((relation, words, _line_of(source, lines[relation][start : start + CHUNK])))
-            database.progress.at(table.name, start)
-    for relation, words, where in read:
-        database.add(relation, words, where)
+    patterns = list(map(_row_pattern, tables))
+    rows = _Rows(source, database)
+    at = line = relation = 0
+    try:
+        while at < len(text):
+            line += 1
+            found = patterns[relation].match(text, at)
+            if found is None:
+                name = _NAME.match(text, at)
+                if name is None:
+                    found = _NO_ROW.match(text, at)
+                    if found is None:
+                        return False
+                    at = found.end()
+                    continue
+                relation = numbers[name.group(1)]
+                found = patterns[relation].match(text, at)
+                if found is None:
+                    return False
+            rows.add(relation, found.groups(), line)
+            at = found.end()
+        rows.end()
+    except (KeyError, ValueError):
+        return False
     return True
-
-
-def _literals(bodies: Sequence[str], width: int) -> List[str]:
-    """The values of rows, one after another; none at all if a row has another number of them."""
-    text = ",".join(bodies)
-    if "'" not in text and '"' not in text:
-        if any(body.count(",") != width - 1 for body in bodies):
-            return [""]
-        return text.replace(" ", "").replace("\t", "").split(",")
-    cells: List[str] = []
-    for body in bodies:
-        found = _EACH.findall(body)
-        if len(found) != width:
-            return [""]
-        cells += found
-    return cells
 
 
 def _line_of(source: str, lines: Words) -> Where:
@@ -180,27 +233,29 @@ def _read_any_rows(text: str, source: str, database: Database) -> None:
     """The rows of any text, one after another, with an error that says where."""
     reader = Reader(text, source)
     names = database.names
+    rows = _Rows(source, database)
     while not reader.at_end():
         token = reader.next
         relation = names.relation(reader)
-        values = reader.listed(lambda: _word(reader, database))
+        literals = reader.listed(lambda: _literal(reader, database))
         table = names.tables[relation]
-        if len(values) != len(table.columns):
-            raise reader.error(token, f"{table} has {count(len(table.columns), 'column')}, not {len(values)}")
+        if len(literals) != len(table.columns):
+            raise reader.error(token, f"{table} has {count(len(table.columns), 'column')}, not {len(literals)}")
         reader.line_ends()
-        words = [array("I", [value]) for value in values]
-        database.add(relation, words, _line_of(source, array("I", [token.line])))
+        rows.add(relation, tuple(literals), token.line)
+    rows.end()
 
 
-def _word(reader: Reader, database: Database) -> int:
-    """The word of the next value; NULL is one if it is said what that stands for."""
+def _literal(reader: Reader, database: Database) -> str:
+    """The next value as it is written; NULL is one if it is said what that stands for."""
     token = reader.next
-    if token.kind != "name" or token.text.upper() != "NULL":
-        return database.values.encode(reader.value("a value"))
-    if database.null is None:
-        raise reader.error(token, f"there is no value here (NULL); {CURE}")
-    reader.take("name")
-    return database.null
+    if token.kind == "name" and token.text.upper() == "NULL":
+        if database.null is None:
+            raise reader.error(token, f"there is no value here (NULL); {database.null_cure}")
+        reader.take("name")
+    else:
+        reader.value("a value")
+    return token.text
 
 
 # ---- CSV
@@ -235,7 +290,7 @@ def read_csv(path: str, relation: int, database: Database, kept: AbstractSet[Tup
     """A CSV file with a header line, as rows of a table. Cells go by , or ; or a tabulator, as the header does."""
     table = database.names.tables[relation]
     database.has(relation)
-    sign, readers = ",", [database.cells((relation, column) in kept) for column in range(len(table.columns))]
+    sign, readers = ",", [database.cells(relation, column, (relation, column) in kept) for column in range(len(table.columns))]
     try:
         with open(path, encoding="utf-8-sig", newline="") as file:
             first = file.readline()
@@ -243,6 +298,8 @@ def read_csv(path: str, relation: int, database: Database, kept: AbstractSet[Tup
             header: List[str] = next(_csv_rows([first], sign), [])
             if not header:
                 raise DataError(f"{path}:1: a header line with the names of the columns was expected, not an empty line")
+            if all(matched(column, header, f"{path}:1") is None for column in table.columns):
+                raise DataError(f"{path}:1: no column of {table} is here; the first line has their names, with , or ; or a tabulator between them")
             at = positions(table.columns, header, f"{path}:1")
             reader = _csv_rows(file, sign)
             start = 0
@@ -255,16 +312,17 @@ def read_csv(path: str, relation: int, database: Database, kept: AbstractSet[Tup
                 columns = list(zip(*rows)) if rows else [()] * len(header)
                 words = []
                 for column, (number, cells) in enumerate(zip(at, readers)):
-                    known = cells.meant
+                    known = cells.doubt
                     try:
                         words.append(cells.column(columns[number]))
                     except ValueError:
                         position, error = cells.fault(columns[number])
-                        line = _csv_line(path, sign, start + position)
-                        _refuse(f"{path}:{line}: column {table.columns[column]}", error, "the cell is empty (NULL)")
-                    if known is None and cells.meant is not None:
-                        line = _csv_line(path, sign, start + columns[number].index(cells.meant[0]))
-                        database.notes.append(_meant(f"{path}:{line}", *cells.meant, f"{table.name}.{table.columns[column]}"))
+                        where = _csv_place(path, sign, start + position)
+                        _refuse(f"{where}: column {table.columns[column]}", error, f"the cell is empty (NULL); {database.null_cure}")
+                    if known is None and cells.doubt is not None:
+                        cell, said = cells.doubt
+                        where = _csv_place(path, sign, start + columns[number].index(cell))
+                        _note(database, relation, column, f"{where}: {cell.strip()} in {table.name}.{table.columns[column]} is taken as a text; {said}")
                 if rows:
                     database.add(relation, words, _csv_where(path, sign, start))
                 start += len(rows)
@@ -275,14 +333,16 @@ def read_csv(path: str, relation: int, database: Database, kept: AbstractSet[Tup
         raise DataError(f"{path}:{_csv_error_line(path, sign)}: {_csv_error(str(error))}") from None
     for column, cells in enumerate(readers):
         if cells.same is not None:
-            name = f"{table.name}.{table.columns[column]}"
             one, other = cells.same
-            database.notes.append(f"{path}: {one} and {other} are one number in {name}; if they are no numbers, say --text {name}")
+            same = f"{one} and {other} are one number in {table.name}.{table.columns[column]}"
+            _note(database, relation, column, f"{path}: {same}; if they are no numbers")
 
 
-def _meant(where: str, cell: str, number: str, name: str) -> str:
-    """The note of a cell that is taken as a text and looks like a number."""
-    return f"{where}: {cell.strip()} in {name} is taken as a text; the number is written {number}; if it is no number, say --text {name}"
+def _note(database: Database, relation: int, column: int, text: str) -> None:
+    """Notes what may be meant otherwise in a column of CSV, with the cure."""
+    table = database.names.tables[relation]
+    cure = database.text_cure.format(f"{table.name}.{table.columns[column]}")
+    database.notes.append(Note(relation, f"{text}, {cure}"))
 
 
 def _delimiter(header: str, table: Table, path: str) -> str:
@@ -322,13 +382,17 @@ def _rows_of(path: str, sign: str) -> Iterable[Tuple[int, List[str]]]:
             line = reader.line_num + 2
 
 
-def _csv_line(path: str, sign: str, row: int) -> int:
-    """The line on which row n begins."""
-    return next(islice(_rows_of(path, sign), row, None))[0]
+def _csv_place(path: str, sign: str, row: int) -> str:
+    """Where row n begins: the file and the line, unless the file has changed since."""
+    try:
+        line, _ = next(islice(_rows_of(path, sign), row, None))
+    except (OSError, StopIteration, csv.Error, UnicodeDecodeError):
+        return f"{path}: row {row + 1}, of a file that has changed since"
+    return f"{path}:{line}"
 
 
 def _csv_where(path: str, sign: str, start: int) -> Where:
-    return lambda row: f"{path}:{_csv_line(path, sign, start + row)}"
+    return lambda row: _csv_place(path, sign, start + row)
 
 
 def _csv_error_line(path: str, sign: str) -> int:
@@ -351,15 +415,14 @@ def _sound_rows(rows: List[List[str]], width: int, path: str, sign: str, start: 
     held = [row for row in rows if row]
     for position, row in enumerate(held):
         if len(row) != width:
-            line = _csv_line(path, sign, start + position)
-            raise DataError(f"{path}:{line}: the row has {count(len(row), 'cell')}, the header {width}")
+            raise DataError(f"{_csv_place(path, sign, start + position)}: the row has {count(len(row), 'cell')}, the header {width}")
     return held
 
 
 def _refuse(where: str, error: ValueError, absent: str) -> NoReturn:
-    """Raises the error of a value, with its place and the cure."""
+    """Raises the error of a value, with its place; `absent` says that there is none, and the cure."""
     if isinstance(error, Null):
-        raise DataError(f"{where}: {absent}; {CURE}") from None
+        raise DataError(f"{where}: {absent}") from None
     raise DataError(f"{where}: {error}") from None
 
 
@@ -375,6 +438,9 @@ def read_sqlite(path: str, database: Database) -> None:
     try:
         connection = sqlite3.connect(f"file:{pathname2url(os.path.abspath(path))}?mode=ro", uri=True)
         try:
+            # One transaction, so that every table is as it was at one moment.
+            connection.isolation_level = None
+            connection.execute("BEGIN")
             _read_connection(connection, path, database)
         finally:
             connection.close()
@@ -397,7 +463,7 @@ def _read_sqlite_table(connection: sqlite3.Connection, path: str, name: str, rel
     labels = [row[1] for row in connection.execute(f"PRAGMA table_info({_quoted(name)})")]
     wanted = [labels[number] for number in positions(table.columns, labels, f"{path}: table {name}")]
     database.has(relation)
-    readers: List[Cells] = [database.typed() for _ in wanted]
+    readers: List[Cells] = [database.typed(relation, column) for column in range(len(wanted))]
     cursor = connection.execute(f"SELECT {', '.join(map(_quoted, wanted))} FROM {_quoted(name)}")
     start = 0
     while True:
@@ -411,7 +477,7 @@ def _read_sqlite_table(connection: sqlite3.Connection, path: str, name: str, rel
             except ValueError:
                 position, error = reader.fault(cells)
                 row = format_row(name, [_said(value) for value in rows[position]])
-                _refuse(f"{path}: row {start + position + 1} of {name}, column {wanted[column]}", error, f"NULL in {row}")
+                _refuse(f"{path}: row {start + position + 1} of {name}, column {wanted[column]}", error, f"NULL in {row}; {database.null_cure}")
         database.add(relation, words, _sqlite_where(path, name, start))
         start += len(rows)
 

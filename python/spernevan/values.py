@@ -23,8 +23,8 @@ from .model import LARGEST_CONSTANT
 
 FIRST_CODE = 2_000_000_000
 
-# What a value of a database may be.
-Value = Union[int, str, Decimal, date]
+# What a value of a database may be. A float has the code of the decimal that it is written as.
+Value = Union[int, str, Decimal, date, float]
 
 # The most digits of a number: far more than any measurement has, and few enough to compute with.
 MOST_DIGITS = 1000
@@ -41,14 +41,14 @@ def _number(value: Decimal) -> Union[int, Decimal]:
     """A decimal, as a whole number where it is one."""
     if not value.is_finite():
         raise Null() if value.is_nan() else ValueError("an infinite number is no value")
-    if value and (value.adjusted() > MOST_DIGITS or value.adjusted() < -MOST_DIGITS):
+    if value and not -MOST_DIGITS <= value.adjusted() <= MOST_DIGITS:
         raise ValueError(f"a number has at most {MOST_DIGITS} digits")
     whole = int(value)
     return whole if whole == value else value
 
 
 def plain(value: object) -> Value:
-    """A value as one of the four kinds: numbers of other types, such as float or numpy's, are converted."""
+    """A value as a whole number, a decimal, a text or a date: numbers of other types, such as float or numpy's, are converted."""
     if isinstance(value, str):
         return str(value)
     if isinstance(value, int):
@@ -68,7 +68,10 @@ def plain(value: object) -> Value:
     if isinstance(value, Decimal):
         return _number(value)
     if isinstance(value, float):
-        return _number(Decimal(repr(float(value))))
+        if value.is_integer():
+            return int(value)
+        number = Decimal(repr(float(value)))
+        return number if number.is_finite() else _number(number)
     try:
         return operator.index(value)  # type: ignore[arg-type]
     except TypeError:
@@ -83,18 +86,18 @@ def plain(value: object) -> Value:
     raise ValueError(f"a value must be a number, a text or a date, not {value!r:.40}")
 
 
-def _key(value: Value) -> Union[int, Decimal, str]:
+def _key(value: Value) -> Union[int, Decimal, str, float]:
     """What two equal values share."""
-    if isinstance(value, datetime):
-        return value.isoformat(" ")
-    return value.isoformat() if isinstance(value, date) else value
+    if isinstance(value, date):
+        return value.isoformat(" ") if isinstance(value, datetime) else value.isoformat()
+    return value
 
 
 class Values:
     """A dictionary of codes; it only grows. `encode` gives a value's number, `decode` the value of a number."""
 
     def __init__(self, entries: Iterable[Tuple[int, Value]] = ()) -> None:
-        self._codes: Dict[Union[int, Decimal, str], int] = {}
+        self._codes: Dict[Union[int, Decimal, str, float], int] = {}
         self._values: Dict[int, Value] = {}
         self._next = FIRST_CODE
         for code, value in entries:
@@ -129,10 +132,13 @@ class Values:
         """The number that stands for a value; it gets a code if it needs one and has none. Null and ValueError if it is no value."""
         if type(value) is int and 0 <= value < FIRST_CODE:
             return value
-        held = value if type(value) is str else plain(value)
+        return self.code(value if type(value) is str else plain(value))
+
+    def code(self, held: Value) -> int:
+        """The number that stands for a value that `plain` gives."""
         if isinstance(held, int) and 0 <= held < FIRST_CODE:
             return held
-        key = held if type(held) is str else _key(held)
+        key = held if isinstance(held, (str, Decimal)) else _key(held)
         code = self._codes.get(key)
         if code is None:
             code = held if isinstance(held, int) and self._free(held) else self._new()
@@ -191,9 +197,12 @@ class Values:
 
 _WHOLE = re.compile(r"-?(?:0|[1-9][0-9]*)")
 _DECIMAL = re.compile(r"-?(?:0|[1-9][0-9]*)(?:\.[0-9]+(?:[eE][+-]?[0-9]+)?|[eE][+-][0-9]{2,})")
+_PLAIN_DECIMAL = re.compile(r"-?(?:0|[1-9][0-9]*)\.[0-9]+")
 _LITERAL = re.compile(r"-?[0-9]+(?:\.[0-9]+)?(?:[eE][+-]?[0-9]+)?")
 # What a program may have written for a number.
 _LIKE_NUMBER = re.compile(r"[+-]?(?:[0-9]+\.?[0-9]*|\.[0-9]+)(?:[eE][+-]?[0-9]+)?")
+_WITH_COMMAS = re.compile(r"[+-]?(?:[0-9]+,[0-9]+|[0-9]{1,3}(?:,[0-9]{3})+(?:\.[0-9]*)?)")
+_THOUSANDS = re.compile(r"[+-]?[0-9]{1,3}(?:,[0-9]{3})+(?:\.[0-9]*)?")
 _DATE = re.compile(r"[0-9]{4}-[0-9]{2}-[0-9]{2}")
 
 
@@ -205,6 +214,8 @@ def read_cell(cell: str) -> Value:
     if cell[:1] > "9":
         return cell
     word = cell.strip()
+    if _PLAIN_DECIMAL.fullmatch(word) and len(word) <= MOST_DIGITS:
+        return Decimal(word) if word.rstrip("0")[-1] != "." else int(word[: word.index(".")])
     if _WHOLE.fullmatch(word) and len(word) <= MOST_DIGITS:
         return int(word)
     if _DECIMAL.fullmatch(word):
@@ -219,11 +230,13 @@ def read_cell(cell: str) -> Value:
 
 
 def number_meant(cell: str) -> Optional[str]:
-    """How `read_cell` wants the number of a cell that it takes as a text, as 1e4, +5, 5. or .5; None if it looks like none.
+    """How `read_cell` wants the number of a cell that it takes as a text, as 1e4, +5, 5., .5 or 12,5; None if it looks like none.
 
     Digits alone, as 007, are meant as they are.
     """
     word = cell.strip()
+    if "," in word and _WITH_COMMAS.fullmatch(word):
+        return "with a point and without commas" if _THOUSANDS.fullmatch(word) else f"with a point, {word.replace(',', '.'):.40}"
     if word.isdigit() or len(word) > MOST_DIGITS or not _LIKE_NUMBER.fullmatch(word):
         return None
     try:
@@ -233,12 +246,28 @@ def number_meant(cell: str) -> Optional[str]:
     return found if len(found) <= 40 else "without an exponent"
 
 
+_ABSENT = frozenset(["nan", "na", "n/a", "#n/a", "null", "none"])
+
+
+def doubt(cell: str) -> Optional[str]:
+    """What to say of a cell that `read_cell` takes as a text and that a program may have meant otherwise; None if there is no doubt."""
+    if cell.strip().casefold() in _ABSENT:
+        return "an absent value is an empty cell; if it is a text"
+    number = number_meant(cell)
+    return None if number is None else f"the number is written {number}; if it is no number"
+
+
 def read_date(word: str) -> Optional[date]:
     """The date of a text such as 2026-01-14, if the calendar has it."""
     try:
         return date(*map(int, word.split("-")))
     except ValueError:
         return None
+
+
+def is_date(text: str) -> bool:
+    """Whether a text is a date."""
+    return _DATE.fullmatch(text) is not None and read_date(text) is not None
 
 
 def format_value(value: Value) -> str:
@@ -258,14 +287,7 @@ def bare(value: Value) -> str:
     if isinstance(value, Decimal):
         text = format(value, "f")
         return text if len(text) <= 40 else str(value)
-    return str(value)
-
-
-def order(value: Value) -> Tuple[int, Union[int, Decimal], str]:
-    """A key to sort values by: numbers, then dates, then texts."""
-    if isinstance(value, (int, Decimal)):
-        return 0, value, ""
-    return 1 if isinstance(value, date) else 2, 0, bare(value)
+    return repr(float(value)) if isinstance(value, float) else str(value)
 
 
 def read_literal(word: str) -> Value:
@@ -285,6 +307,8 @@ def read_literal(word: str) -> Value:
         if found is None:
             raise ValueError(f"there is no day {word}")
         return found
+    if len(word) <= MOST_DIGITS and _PLAIN_DECIMAL.fullmatch(word):
+        return read_cell(word)
     if re.match("-?0[0-9]", word):
         number = re.sub("^(-?)0+(?=[0-9])", r"\1", word)
         raise ValueError(f"{word:.24} begins with 0: write '{word:.24}' for the text, {number:.24} for the number")

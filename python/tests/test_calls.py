@@ -292,7 +292,7 @@ class Random(Calls):
             self.assertEqual(after.queries, (None,) * place + (query,) + (None,) * (7 - place))
             self.assertEqual(after.drop(place), record)
             self.assertEqual(Record(after.file), after)
-            self.assertEqual(eval(repr(after)), after)
+            self.assertTrue(repr(after).startswith("<Record of R0") and repr(after).endswith(f"filled places: {place}>"))
 
     def test_files(self):
         rng = random.Random(6)

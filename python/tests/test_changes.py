@@ -1,16 +1,14 @@
 """The commands that change an archive, and those that take rules: their output, their status and their messages."""
 
+import itertools
 import json
 import shutil
 import subprocess
-import sys
 import unittest
 
 import context
 from spernevan import Record, __version__, pack
 from test_command import DATA, FLIGHTS, Command, run
-
-PROGRAM = [sys.executable, str(context.HERE.parent / "program")]
 
 
 class Changes(Command):
@@ -39,17 +37,47 @@ class Changes(Command):
         self.assertIn("burst: flight -> height\nburst: height -> flight\nlayer: level -> height, flight\n", self.done("unpack", self.file))
         self.failed("dependency:1:8: burst(flight, height) has no column site", "add", self.file, "burst: site -> flight")
         self.failed("dependency:1:7: the name of a column was expected, not the end", "add", self.file, "burst:")
+        each = [f"flight: {a}, {b} -> number, sonde, site, launch" for a, b in itertools.combinations(["number", "sonde", "site", "launch"], 2)]
         self.failed(
             f"{self.file}: 13 dependencies are held, and 20 more would make 33; there may be 32, and each column on the right counts one",
             "add",
             self.file,
-            *["burst: flight -> height"] * 20,
+            *each[:5],
         )
         self.assertEqual(len(Record.read(self.file).dependencies), 13)
-        self.done("add", self.file, *["burst: flight -> height"] * 18)
-        self.failed(f"{self.file}: 31 dependencies are held, and 2 more would make 33", "add", self.file, "layer: level -> height, flight")
-        self.done("add", self.file, "burst: flight -> height")
-        self.failed(f"{self.file}: 32 dependencies are held, which is as many as there may be", "add", self.file, "burst: flight -> height")
+        self.done("add", self.file, *each[:4], "sonde: maker -> serial, calibration")
+        self.failed(f"{self.file}: 31 dependencies are held, and 2 more would make 33", "add", self.file, "layer: height -> level, flight")
+        self.done("add", self.file, "layer: height -> level")
+        self.failed(f"{self.file}: 32 dependencies are held, which is as many as there may be", "add", self.file, "layer: height -> flight")
+
+    def test_add_what_is_held(self):
+        """A dependency that is held is said, and not added again."""
+        before = self.file.read_bytes()
+        held = "0 dependencies added, 10 in all; held already: burst: flight -> height"
+        self.assertEqual(self.done("add", self.file, "burst: flight -> height"), f"{self.file}: {held}\n")
+        self.assertEqual(self.file.read_bytes(), before)
+        self.assertEqual(
+            self.done("add", self.file, *["burst: height -> flight"] * 2, "burst: flight -> height, flight"),
+            f"{self.file}: 2 dependencies added, 12 in all; held already: burst: flight -> height\n",
+        )
+
+    def test_add_a_key(self):
+        text = self.write("k.text", "layer(flight, level, height, temperature)\nlayer: flight, level -> height\n")
+        file = self.folder / "k.file"
+        self.done("pack", text, file)
+        self.assertEqual(
+            self.done("add", file, "layer(flight*, level*, height, temperature)"),
+            f"{file}: 1 dependency added, 2 in all; held already: layer: flight, level -> height\n",
+        )
+        self.assertIn("layer: flight, level -> height, temperature\n", self.done("unpack", file))
+        for given, message in (
+            ("kite(a*, b)", "dependency:1:1: there is no table kite; there is layer"),
+            ("layer(flight*, level)", "dependency:1:1: the table is layer(flight, level, height, temperature); a key is a mark *"),
+            ("layer(flight, level, height, temperature)", "dependency:1:1: a key is a mark * at some of the columns"),
+            ("layer(flight*, level*, height*, temperature*)", "dependency:1:1: a key is a mark * at some of the columns"),
+            ("layer(flight*, level*, height, temperature) x", "dependency:1:45: the end was expected, not 'x'"),
+        ):
+            self.failed(message, "add", file, given)
 
     def test_reduce(self):
         rule = "ans(f, h) :- flight(f, s, 7, t), sonde(s, c, m), calibration(c, l, 2), burst(f, h)"
@@ -71,7 +99,7 @@ class Changes(Command):
         self.done("drop", self.file, 0, "-o", other)
         self.assertEqual((self.file.read_bytes(), Record.read(other).filled()), (before, [1, 2, 3, 5, 6]))
         text = self.write("a.text", "flight(a, b)\n# a comment\n")
-        self.failed(f"{text} is a text: pack it first, or say with --output where the archive file goes", "put", text, 0, "ans() :- never")
+        self.failed(f"{text} is a text: pack it first, or say with --output where the new text or archive file goes", "put", text, 0, "ans() :- never")
         self.failed(f"{text} is a text: pack it first", "put", text, 0, "ans() :- never", "-o", text)
         self.failed(
             f"{self.folder}/x.names is a name for a names file; an archive file has another ending",
@@ -84,6 +112,15 @@ class Changes(Command):
         self.failed(f"{self.file} is no text; if it is an archive file, unpack makes a text of it", "pack", self.file, other)
         self.done("put", text, 0, "ans() :- never", "--output", other)
         self.assertEqual(Record.read(other).names.tables[0].name, "flight")
+        # A name that ends as a text's does gets a text, which is never replaced.
+        fresh = self.folder / "fresh.text"
+        for source in (text, other):
+            self.done("put", source, 1, "ans(x) :- flight(x, 'y')", "-o", fresh)
+            self.assertIn("\n1: ans(x) :- flight(x, 'y')\n", fresh.read_text())
+            self.failed(f"{fresh} is there already, and may have comments that would be lost", "drop", other, 0, "-o", fresh)
+            self.assertFalse((self.folder / "fresh.names").exists())
+            fresh.unlink()
+        self.failed(f"{fresh} is a name for a text; an archive file has another ending, such as .file", "pack", text, fresh)
 
     def test_pipes(self):
         """Text goes through as text and an archive as an archive."""
@@ -93,21 +130,21 @@ class Changes(Command):
             ["reduce", "-", "0", "1"],
             ["add", "-", "flight: a -> b"],
         ):
-            done = subprocess.run([*PROGRAM, *command], input=text, capture_output=True)
+            done = subprocess.run([*context.PROGRAM, *command], input=text, capture_output=True)
             self.assertEqual((done.returncode, done.stderr), (0, b""))
             text = done.stdout
         self.assertEqual(
             text.decode(), "flight(a, b)\n\nflight: a -> b\n\n0: ans(x) :- flight(x, 'y'), flight(x, z)\n1: ans(x) :- flight(x, 'y')\n"
         )
-        packed = subprocess.run([*PROGRAM, "pack", "-", "-"], input=text, capture_output=True)
+        packed = subprocess.run([*context.PROGRAM, "pack", "-", "-"], input=text, capture_output=True)
         self.assertEqual(
             (packed.stdout, packed.stderr), (pack(text.decode())[0].file, b"spernevan: standard output has the archive without the names\n")
         )
-        dropped = subprocess.run([*PROGRAM, "drop", "-", "0"], input=packed.stdout, capture_output=True)
+        dropped = subprocess.run([*context.PROGRAM, "drop", "-", "0"], input=packed.stdout, capture_output=True)
         self.assertEqual(dropped.stdout, pack(text.decode())[0].drop(0).file)
-        ruled = subprocess.run([*PROGRAM, "put", str(self.file), "7", "-"], input=b"ans(x) :-\n  burst(x, y)\n", capture_output=True)
+        ruled = subprocess.run([*context.PROGRAM, "put", str(self.file), "7", "-"], input=b"ans(x) :-\n  burst(x, y)\n", capture_output=True)
         self.assertEqual((ruled.returncode, ruled.stderr), (0, b""))
-        both = subprocess.run([*PROGRAM, "put", "-", "7", "-"], input=text, capture_output=True)
+        both = subprocess.run([*context.PROGRAM, "put", "-", "7", "-"], input=text, capture_output=True)
         self.assertEqual((both.returncode, both.stderr), (2, b"spernevan: standard input can be the archive or the rule, not both\n"))
 
 
@@ -169,8 +206,8 @@ class Rules(Command):
 
     def test_pipes_as_files(self):
         """A file that can be read only once."""
-        script = '"$1" "$2" evaluate <(cat "$3") 5 <(cat "$4")'
-        done = subprocess.run(["bash", "-c", script, "bash", *PROGRAM, context.SAMPLES / "flights.text", DATA], capture_output=True)
+        script = 'text=$1 data=$2; shift 2; "$@" evaluate <(cat "$text") 5 <(cat "$data")'
+        done = subprocess.run(["bash", "-c", script, "bash", context.SAMPLES / "flights.text", DATA, *context.PROGRAM], capture_output=True)
         self.assertEqual((done.returncode, done.stdout, done.stderr), (0, b"ans(101, 31200)\nans(102, 29850)\n# 2 answers\n", b""))
 
     def test_keys_and_short_forms(self):

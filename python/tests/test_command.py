@@ -165,8 +165,7 @@ class Sample(Command):
         names = self.folder / "a.names"
         self.assertEqual(self.done("pack", text, out), f"{out}: 510 bytes; names in {names}\n")
         self.assertEqual(out.read_bytes(), Path(FLIGHTS).read_bytes())
-        first, rest = names.read_text().split("\n", 1)
-        self.assertEqual(f"{first.partition(', 11 lines')[0]}\n{rest}", Path(names_path(FLIGHTS)).read_text())
+        self.assertEqual(names.read_text(), Path(names_path(FLIGHTS)).read_text())
         self.assertEqual(self.done("unpack", out), Path(text).read_text())
         plain = self.write("b.text", self.done("unpack", "--plain", EXAMPLE))
         self.done("pack", plain, self.folder / "b.file")
@@ -272,7 +271,7 @@ class Messages(Command):
         ):
             status, out, err = run(*arguments)
             self.assertEqual((status, out), (2, ""), arguments)
-            self.assertIn("usage: spernevan", err)
+            self.assertRegex(err, r"\Aspernevan.*: .*; spernevan.* --help says more\n\Z")
         self.assertEqual(run("--help")[0], 0)
 
     def test_engine_missing(self):

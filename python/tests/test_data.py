@@ -14,9 +14,10 @@ import warnings
 from datetime import date, datetime
 from decimal import Decimal
 from pathlib import Path
+from unittest import mock
 
 import context
-from spernevan import Broken, Constant, DataError, Query, Record, Refused, Row, Table, pack, read_database
+from spernevan import Broken, Constant, DataError, Query, Record, Refused, Row, Table, pack, read_database, sources
 from spernevan.data import Progress, matched
 from spernevan.notation import format_datum
 from test_command import Command, run
@@ -127,7 +128,7 @@ class Files(Data):
             matched("launch_time", ["Launch time", "Launch-time"], "the tables")
 
     def test_standard_input(self):
-        program = [sys.executable, str(context.HERE.parent / "program")]
+        program = context.PROGRAM
         done = subprocess.run(
             [*program, "evaluate", self.text, "2", "-"],
             input=b"burst('F-1', 31200.5)\nflight('F-1', 'x', 2026-01-14)\n",
@@ -176,9 +177,17 @@ class Files(Data):
             "On such a database the long and the short form of a query may have different answers.\n",
         )
         self.assertEqual(self.done("test", self.text, cells, status=1).splitlines()[0], "Breaks burst: flight -> height (dependency 2):")
+        status, out, err = run("evaluate", self.text, 1, cells)
+        self.assertTrue(err.startswith("Breaks burst: flight -> height"))
+        self.assertTrue(err.endswith("\nThe query does not ask for burst, and its long and short form have the same answers here.\n"), err)
+        # A table that is asked for comes first.
+        cells = self.csv("number,site,launch\nF-1,x,1\nF-1,y,1\n", "flight,height\nF-1,1\nF-1,2\n")
+        for rule, broken in (("ans(h) :- burst(f, h)", "burst: flight -> height"), ("ans(p) :- flight(f, p, t)", "flight: number -> site")):
+            err = run("evaluate", self.text, rule, cells)[2]
+            self.assertTrue(err.startswith(f"Breaks {broken} (dep") and err.endswith("of a query may have different answers.\n"), err)
         base = self.sqlite(bursts=[*BURSTS, ("F-2", 1)])
         self.assertIn(
-            f"  {base}: row 2 of Burst: burst('F-2', 29000)\n  {base}: row 4 of Burst: burst('F-2', 1)\n",
+            f"  {base}: row 2 of Burst: burst('F-2', 29000.0)\n  {base}: row 4 of Burst: burst('F-2', 1.0)\n",
             self.done("test", self.text, base, status=1),
         )
 
@@ -194,6 +203,8 @@ class Files(Data):
         for flight, message in [
             ("", "flight.csv:1: a header line with the names of the columns was expected, not an empty line"),
             ("number,site\n", "flight.csv:1: there is no column launch; there is number, site"),
+            ("# a logger\nnumber,site,launch\n", "flight.csv:1: no column of flight(number, site, launch) is here; the first line has their names, with"),
+            ("number|site|launch\n", "flight.csv:1: no column of flight(number, site, launch) is here"),
             ("number,site,launch,site\n", "flight.csv:1: site is there 2 times"),
             ("Number,number ,site,launch\n", "flight.csv:1: number is there 2 times"),
             (header + "1,2\n", "flight.csv:2: the row has 2 cells, the header 3"),
@@ -225,6 +236,8 @@ class Files(Data):
         self.failed(f"{both}: FLIGHT.csv and flight.csv are both for the table flight", "test", self.text, both)
         self.failed("sonde.version is no TABLE.COLUMN of the archive", "test", self.text, self.csv(), "--text", "sonde.version")
         self.failed(f"{self.folder}/none: No such file", "test", self.text, self.folder / "none")
+        picture = self.write("a.png", b"\x89PNG\r\n\x1a\n\0\0\0\rIHDR")
+        self.failed(f"{picture}: these are neither rows of text, nor CSV, nor an SQLite file", "test", self.text, picture)
 
     def test_a_quote_inside_a_cell(self):
         cells = self.csv('number,site,launch\n1,4" pipe,x\n2,"4"" pipe",x\n')
@@ -245,6 +258,15 @@ class Files(Data):
             cells = self.csv(burst=f"flight,height\n1,{cell}\n")
             self.assertEqual(run("evaluate", self.text, "ans(f) :- burst(f, 1e4)", cells), (0, "ans(1)\n# 1 answer\n", ""))
         self.assertEqual(run("test", self.text, self.csv(burst="flight,height\n06610,1\n7,-0\n"))[2], "")
+        for cell, number in [("31200,5", "with a point, 31200.5"), ("1,234", "with a point and without commas")]:
+            err = run("test", self.text, self.csv(burst=f"flight;height\n1;{cell}\n"))[2]
+            self.assertIn(f"burst.csv:2: {cell} in burst.height is taken as a text; the number is written {number}; ", err)
+        for cell in ("NaN", "NULL", "n/a", "#N/A", "None"):
+            status, _, err = run("test", self.text, self.csv(burst=f"flight,height\n1,2\n2,{cell}\n"))
+            said = f"burst.csv:3: {cell} in burst.height is taken as a text; an absent value is an empty cell; if it is a text, say --text burst.height\n"
+            self.assertTrue(status == 0 and err.endswith(said), err)
+        for cell in ("1,2,3", "a,5", "2026,x"):
+            self.assertEqual(run("test", self.text, self.csv(burst=f"flight;height\n1;{cell}\n"))[2], "")
 
     def test_null_in_rows_of_text(self):
         path = self.write("n.data", "flight(1, 'x', 2)\nflight(2, NULL, 3)\n")
@@ -269,7 +291,7 @@ class Files(Data):
             self.failed(f"{empty}: the file is empty; for no rows at all give a line such as # no rows", "test", self.text, empty)
             self.failed(f"{empty}: the file is empty; ", "evaluate", self.text, 1, empty)
         self.assertEqual(self.done("evaluate", self.text, 1, self.write("c.data", "# no rows\n")), "# 0 answers\n")
-        program = [sys.executable, str(context.HERE.parent / "program")]
+        program = context.PROGRAM
         done = subprocess.run([*program, "evaluate", self.text, "1", "-"], input=b"", capture_output=True)
         self.assertEqual((done.returncode, done.stdout), (0, b"# 0 answers\n"))
 
@@ -299,12 +321,34 @@ class Files(Data):
         self.assertEqual(base.read_bytes(), before)
         self.assertEqual([path.name for path in self.folder.iterdir() if path.name.startswith(base.name)], [base.name])
 
+    def test_a_file_that_changes_while_it_is_read(self):
+        base = self.sqlite("CREATE INDEX i ON flight (number)")
+        writer = sqlite3.connect(base)
+        self.addCleanup(writer.close)
+        writer.execute("PRAGMA journal_mode = WAL")
+        real = sources._read_sqlite_table
+
+        def between(connection, path, name, *others):
+            real(connection, path, name, *others)
+            writer.execute('DELETE FROM "Burst"')
+            writer.commit()
+
+        with mock.patch.object(sources, "_read_sqlite_table", between):
+            self.assertEqual(self.done("test", self.text, base), "Obeys: 6 rows, 3 dependencies\n")
+        self.assertEqual(self.done("test", self.text, base), "Obeys: 3 rows, 3 dependencies\n")
+        cells = self.csv(burst="flight,height\n1,2\n1,3\n")
+        database = read_database(cells, self.names)
+        (cells / "burst.csv").write_text("flight,height\n")
+        self.assertEqual(database.say(1), f"{cells}/burst.csv: row 2, of a file that has changed since: burst(1, 3)")
+        (cells / "burst.csv").unlink()
+        self.assertEqual(database.say(1), f"{cells}/burst.csv: row 2, of a file that has changed since: burst(1, 3)")
+
     def test_text_that_looks_like_a_number(self):
         base = self.sqlite(flights=[("101", "De Bilt", "x")], bursts=[("101", 7)])
         status, out, err = run("evaluate", self.text, "ans(h) :- burst(101, h)", base)
         self.assertEqual((status, out), (0, "# 0 answers\n"))
         self.assertIn("the text '101' and the number 101 are different values, and both are here; a query has the text between quotes\n", err)
-        self.assertEqual(self.done("evaluate", self.text, "ans(h) :- burst('101', h)", base), "ans(7)\n# 1 answer\n")
+        self.assertEqual(self.done("evaluate", self.text, "ans(h) :- burst('101', h)", base), "ans(7.0)\n# 1 answer\n")
         more = self.folder_of(burst="flight,height\n101,8\n")
         status, out, err = run("evaluate", self.text, "ans(h) :- flight(f, p, t), burst(f, h)", base, more)
         self.assertIn("the text '101' and the number 101 are different values", err)
@@ -326,7 +370,7 @@ class Files(Data):
         rule = "ans(p, p, 'k', f, v9) :- flight(f, p, v9)"
         self.assertEqual(
             self.done("evaluate", self.text, rule, data, "--format", "csv"),
-            'p,p_2,constant2,f,launch\n,,k,2,3\n"a""b,c","a""b,c",k,1,2026-01-14\n',
+            'p,p_2,constant2,f,launch\n"","",k,2,3\n"a""b,c","a""b,c",k,1,2026-01-14\n',
         )
         found = json.loads(self.done("evaluate", self.text, rule, data, "--format", "json"))
         self.assertEqual(found[1], {"p": 'a"b,c', "p_2": 'a"b,c', "constant2": "k", "f": 1, "launch": "2026-01-14"})
@@ -338,6 +382,57 @@ class Files(Data):
             self.assertEqual(self.done("evaluate", self.text, "ans() :- flight(1, p, t)", data, "--format", kind), yes)
             self.assertEqual(self.done("evaluate", self.text, "ans() :- flight(9, p, t)", data, "--format", kind), no)
         self.assertEqual(self.done("evaluate", self.text, "ans(_, _) :- never", data, "--format", "csv"), "column0,column1\n")
+
+    def test_answers_come_out_as_they_went_in(self):
+        rule, kinds = "ans(f, h) :- burst(f, h)", ("rows", "csv", "json")
+        rows = self.write("w.data", "burst(1, 13.0)\nburst(2, 12.50)\nburst(3, 7)\nburst(4, -0.25)\n")
+        cells = self.csv(burst="flight,height\n1,13.0\n2,12.50\n3,7\n4,-0.25\n")
+        for source in (rows, cells):
+            found = self.done("evaluate", self.text, rule, source)
+            self.assertEqual(found, "ans(1, 13.0)\nans(2, 12.50)\nans(3, 7)\nans(4, -0.25)\n# 4 answers\n")
+        base = self.sqlite(bursts=[("001", 13), ("12.5", 1e-7), ("x", 2.5)])
+        self.assertEqual(
+            [self.done("evaluate", self.text, rule, base, "--format", kind) for kind in kinds],
+            [
+                "ans('001', 13.0)\nans('12.5', 1e-07)\nans('x', 2.5)\n# 3 answers\n",
+                'f,h\n"001",13.0\n"12.5",1e-07\nx,2.5\n',
+                '[\n  {"f": "001", "h": 13.0},\n  {"f": "12.5", "h": 1e-07},\n  {"f": "x", "h": 2.5}\n]\n',
+            ],
+        )
+        # What is written as rows or as CSV is read as the same values.
+        base = self.sqlite(bursts=[("001", 13), ("12.5", 0.25), ("x", 2.5)])
+        again = self.write("x.data", self.done("evaluate", self.text, rule, base).replace("ans(", "burst("))
+        self.assertEqual(self.done("evaluate", self.text, rule, again), self.done("evaluate", self.text, rule, base))
+        cells = self.csv(burst=self.done("evaluate", self.text, rule, base, "--format", "csv").replace("f,h", "flight,height"))
+        found = self.done("evaluate", self.text, rule, cells, "--text", "burst.flight")
+        self.assertEqual(found, self.done("evaluate", self.text, rule, base))
+
+    def test_notes_are_on_tables_that_are_asked_for(self):
+        cells = self.csv("number,site,launch\nF-1,1e4,1\nF-2,a,1.10\nF-3,b,1.1\n", "flight,height\nF-1,1e4\n")
+        status, out, err = run("evaluate", self.text, "ans(h) :- burst(f, h)", cells)
+        self.assertEqual((status, out), (0, "ans('1e4')\n# 1 answer\n"))
+        self.assertEqual(err.count("\n"), 1)
+        self.assertIn("burst.csv:2: 1e4 in burst.height is taken as a text; the number is written 10000; if it is no number, say --text", err)
+        self.assertEqual(run("test", self.text, cells)[2].count("\n"), 3)
+        with warnings.catch_warnings(record=True) as seen:
+            warnings.simplefilter("always")
+            database = read_database(cells, self.names)
+        self.assertEqual([str(one.message) for one in seen], [note.text for note in database.notes])
+        self.assertEqual([one.filename for one in seen], [__file__] * 3)
+        self.assertIn("if they are no numbers, give text=['flight.launch']", str(seen[1].message))
+        with warnings.catch_warnings():
+            warnings.simplefilter("error")
+            read_database(cells, self.names, text=["flight.launch", "flight.site", "burst.height"])
+
+    def test_part_of_the_tables(self):
+        """A break in what is there is said; without one, a table that is missing is."""
+        cells = self.folder_of(burst="flight,height\n1,2\n1,3\n")
+        self.assertIn("Breaks burst: flight -> height", self.done("test", self.text, cells, status=1))
+        cells = self.folder_of(burst="flight,height\n1,2\n")
+        self.failed(
+            "the data has no table flight, which a dependency speaks of; an empty table is a CSV file with its header line alone",
+            "test", self.text, cells,
+        )
 
 
 class FromPython(Data):
@@ -363,6 +458,41 @@ class FromPython(Data):
         )
         self.assertEqual(len(self.record.names.values), len(pack(TEXT)[1].values))
 
+    def test_types(self):
+        """A column of one type comes out in that type."""
+        rule = "ans(f, h) :- burst(f, h)"
+        for rows in (
+            [(1, 13.0), (2, 2.5), (3, -1e300)],
+            [(1, Decimal("13")), (2, Decimal("2.50"))],
+            [(True, "2026-01-14"), (False, "x")],
+            [("2026-01-14", 1), ("a", 2.5), ("b", "c")],
+            [(date(2026, 1, 14), datetime(2026, 1, 14, 12)), (date(2026, 1, 15), datetime(2026, 1, 15))],
+        ):
+            found = self.record.evaluate(rule, {"burst": rows})
+            self.assertEqual(sorted(map(repr, found)), sorted(map(repr, rows)))
+        # Each column by its own type, also where the values are the same.
+        data = {"flight": [(1, 1.0, Decimal("1.5"))], "burst": [(1.0, 1.5)]}
+        self.assertEqual(repr(self.record.evaluate("ans(f, p, t) :- flight(f, p, t)", data)), "[(1, 1.0, Decimal('1.5'))]")
+        self.assertEqual(repr(self.record.evaluate("ans(f, t) :- burst(f, t), flight(f, p, t)", data)), "[(1.0, 1.5)]")
+        self.assertEqual(repr(self.record.evaluate("ans(f, t) :- flight(f, p, t), burst(f, t)", data)), "[(1, Decimal('1.5'))]")
+        # What an absent value stands for is taken as a value of the column.
+        null = self.record.database({"burst": [(1, 2.5), (2, float("nan")), (3, None)]}, null=-9)
+        self.assertEqual(repr(self.record.evaluate(rule, null)), "[(1, 2.5), (2, -9.0), (3, -9.0)]")
+
+    def test_columns(self):
+        self.assertEqual(self.record.columns(0), ("f", "h", "t"))
+        self.assertEqual(self.record.columns("ans(p, p, 3, v7) :- flight(f, p, v7)"), ("p", "p_2", "constant2", "launch"))
+        self.assertEqual(self.record.columns(Query.never(2)), ("column0", "column1"))
+        with self.assertRaisesRegex(Refused, "place 7 is vacant"):
+            self.record.columns(7)
+
+    def test_part_of_the_tables(self):
+        with self.assertRaisesRegex(DataError, "the data has no table flight, which a dependency speaks of; an empty table is {'flight': "):
+            self.record.test({"burst": [(1, 2)]})
+        self.assertIsNone(self.record.test({"burst": [(1, 2)], "flight": []}))
+        with self.assertWarnsRegex(UserWarning, "the text '7' and the number 7 are different values"):
+            self.record.evaluate("ans(h) :- burst(7, h)", {"burst": [("7", 2)]})
+
     def test_a_table_that_is_not_there(self):
         for place, data, missing in [(0, {}, "flight, burst"), (1, {"burst": [(1, 2)]}, "flight")]:
             message = f"the data has no table {missing}, which the query asks for; an empty table is {{'flight': \\[\\]}}"
@@ -376,6 +506,8 @@ class FromPython(Data):
         message = r"the database breaks burst: flight -> height \(row 0 of burst: burst\('F-1', 2\); row 1 of burst: "
         with self.assertWarnsRegex(UserWarning, message) as seen:
             self.assertEqual(self.record.evaluate("ans(h) :- burst(f, h)", data), [(2,), (3,)])
+        with self.assertWarnsRegex(UserWarning, "the query does not ask for burst, and its long and short form have the same answers here"):
+            self.record.evaluate(1, data)
         self.assertEqual(seen.filename, __file__)
         with warnings.catch_warnings():
             warnings.simplefilter("error")
@@ -383,20 +515,38 @@ class FromPython(Data):
             self.record.evaluate(1, {"flight": [], "burst": [("F-1", 2), ("F-2", 3)]})
 
     def test_what_is_no_place_and_no_database(self):
+        mapping = {0: Constant(0)}
         for place in (1.5, True, None):
+            for call in (
+                lambda: self.record.put(place, "ans() :- never"),
+                lambda: self.record.drop(place),
+                lambda: self.record.reduce(place, 4),
+                lambda: self.record.reduce(0, place),
+                lambda: self.record.reduce("ans(x) :- burst(x, y)", place),
+                lambda: self.record.shorten(place),
+                lambda: self.record.compare(0, place),
+                lambda: self.record.equivalent(place, 0),
+                lambda: self.record.check(place, 0, mapping),
+                lambda: self.record.check(0, place, mapping),
+            ):
+                with self.assertRaisesRegex(ValueError, f"a place must be a whole number, not {place}"):
+                    call()
             with self.assertRaisesRegex(ValueError, f"a place must be a whole number, not {place}"):
                 self.record.evaluate(place, {"flight": []})
             with self.assertRaisesRegex(ValueError, f"a place must be a whole number, not {place}"):
                 self.record.query(place)
         cells = self.csv("number,site,launch\n1,x,2\n")
         for path in (cells, str(cells)):
-            with self.assertRaisesRegex(ValueError, r"a database is no name of a file: read_database\(\[.*\], record.names\) reads files"):
+            with self.assertRaisesRegex(ValueError, r"a database is no name of a file: read_database\(.*, record\) reads files"):
                 self.record.evaluate(1, path)
             self.assertEqual(self.record.evaluate(1, read_database(path, self.names)), [("x",)])
+            self.assertEqual(repr(read_database(path, self.record)), "<Database of 1 row: flight 1, burst 0>")
         with self.assertRaisesRegex(DataError, r"there is no value here \(NULL\); say what it stands for, as in record.database\(data, null=0\)"):
             self.record.test(self.data)
-        with self.assertRaisesRegex(Refused, r"a.text is a text: pack it first, as spernevan.pack\(text\) does"):
-            Record.read(self.text)
+        self.assertEqual((Record.read(self.text), Record.read(self.text).names), (self.record, self.names))
+        self.assertEqual(Record.read(self.text, names=False).names.tables[0].name, "R0")
+        with self.assertRaisesRegex(ValueError, "a.text is a text, which has its names in it"):
+            Record.read(self.text, names=self.text)
 
     def test_a_single_table(self):
         record = Record.open([Table("burst", ("flight", "height"))])

@@ -55,7 +55,7 @@ class Escapes(unittest.TestCase):
     def test_values(self):
         self.assertEqual(latex.value(7), "7")
         self.assertEqual(latex.value("a&b"), r"\textquoteleft{}a\&b\textquoteright{}")
-        self.assertEqual(latex.value(Decimal("-1.5")), "-{}1.5")
+        self.assertEqual(latex.value(Decimal("-1.5")), "$-$1.5")
         self.assertEqual(latex.value(date(2026, 1, 14)), "2026-{}01-{}14")
 
 

@@ -7,7 +7,8 @@ import pickle
 import resource
 import stat
 import subprocess
-import sys
+import threading
+import time
 import unittest
 from unittest import mock
 
@@ -15,7 +16,6 @@ import context
 from spernevan import NotationError, Record, Refused, files, pack, parse_query
 from test_command import FLIGHTS, Command, run
 
-PROGRAM = [sys.executable, str(context.HERE.parent / "program")]
 OLD = "flight(number, sonde)\n0: ans(old) :- flight(old, s)\n"
 NEW = "sounding(a, b)\nburst(c, d)\n0: ans(new) :- sounding(new, s)\n1: ans(x) :- burst(x, 'y')\n"
 
@@ -52,8 +52,10 @@ class Writing(Lost):
             ["pack", self.new, self.file],
             ["put", self.file, "1", "ans(x) :- flight(x, y)"],
             ["unpack", self.file, self.folder / "fresh.text"],
+            ["reduce", self.file, "0", "-o", self.folder / "fresh.text"],
+            ["list", self.file, "-o", self.folder / "fresh"],
         ):
-            done = subprocess.run([*PROGRAM, *map(str, arguments)], capture_output=True, preexec_fn=small)
+            done = subprocess.run([*context.PROGRAM, *map(str, arguments)], capture_output=True, preexec_fn=small)
             self.assertEqual((done.returncode, done.stdout), (2, b""))
             self.assertEqual(done.stderr.decode(), f"spernevan: {arguments[-1] if arguments[0] != 'put' else self.file}: File too large\n")
             self.unchanged()
@@ -65,7 +67,7 @@ class Writing(Lost):
                 ["pack", self.old, "-"],
                 ["evaluate", FLIGHTS, "5", str(context.SAMPLES / "flights.data")],
             ):
-                done = subprocess.run([*PROGRAM, *arguments], stdout=full, stderr=subprocess.PIPE)
+                done = subprocess.run([*context.PROGRAM, *arguments], stdout=full, stderr=subprocess.PIPE)
                 self.assertEqual((done.returncode, done.stderr), (2, b"spernevan: output: No space left on device\n"))
 
     def test_a_names_file_that_cannot_be_written(self):
@@ -102,8 +104,9 @@ class Writing(Lost):
 
     def test_a_text_is_not_replaced(self):
         kept = "which an archive file does not replace: write elsewhere, or remove it first"
-        for arguments in (["pack", self.old, self.new], ["pack", self.old, self.old], ["drop", self.file, 0, "-o", self.old]):
+        for arguments in (["pack", self.old, self.new], ["pack", self.old, self.old]):
             self.failed(f"{arguments[-1]} is a text, {kept}", *arguments)
+        self.failed(f"{self.old} is there already, and may have comments that would be lost", "drop", self.file, 0, "-o", self.old)
         self.failed(f"{self.old} is there already, and may have comments that would be lost", "unpack", self.file, self.old)
         self.failed(f"{self.file} is there already", "unpack", self.file, self.file)
         self.unchanged()
@@ -176,7 +179,7 @@ class Writing(Lost):
         self.assertTrue((self.folder / "later.names").exists())
 
     def test_devices_are_written_as_they_are(self):
-        done = subprocess.run([*PROGRAM, "unpack", str(self.file), "/dev/stdout"], capture_output=True)
+        done = subprocess.run([*context.PROGRAM, "unpack", str(self.file), "/dev/stdout"], capture_output=True)
         self.assertEqual((done.returncode, done.stderr), (0, b""))
         self.assertIn(b"ans(old)", done.stdout)
         self.assertTrue(stat.S_ISCHR(os.stat("/dev/null").st_mode))
@@ -187,7 +190,7 @@ class Together(Lost):
         for _ in range(2):
             self.done("pack", self.old, self.file)
             rules = {place: f"ans(x{place}) :- flight(x{place}, 'y{place}')" for place in range(1, 6)}
-            started = [subprocess.Popen([*PROGRAM, "put", self.file, str(place), rule], stdout=subprocess.DEVNULL) for place, rule in rules.items()]
+            started = [subprocess.Popen([*context.PROGRAM, "put", self.file, str(place), rule], stdout=subprocess.DEVNULL) for place, rule in rules.items()]
             self.assertEqual([one.wait(60) for one in started], [0] * 5)
             text = self.done("unpack", self.file)
             for place, rule in rules.items():
@@ -195,12 +198,32 @@ class Together(Lost):
 
     def test_a_change_waits_for_the_one_before(self):
         with files.locked(self.file):
-            waiting = subprocess.Popen([*PROGRAM, "drop", self.file, "0"], stdout=subprocess.DEVNULL)
+            waiting = subprocess.Popen([*context.PROGRAM, "drop", self.file, "0"], stdout=subprocess.DEVNULL)
             self.assertRaises(subprocess.TimeoutExpired, waiting.wait, 1)
             self.done("list", self.file)
             self.unchanged()
         self.assertEqual(waiting.wait(60), 0)
         self.assertEqual(self.done("list", self.file), "Every place is vacant.\n")
+
+    def test_who_reads_waits_for_one_who_writes(self):
+        after = Record.read(self.file).put(3, "ans(a) :- flight(a, b)")
+        other = self.folder / "b.file"
+        after.write(other)
+        found = []
+
+        def read():
+            found.append(Record.read(self.file))
+            found.append(self.done("list", self.file))
+
+        with files.locked(self.file):
+            self.file.write_bytes(after.file)  # The names are still those of the archive before.
+            reader = threading.Thread(target=read)
+            reader.start()
+            time.sleep(0.1)
+            self.assertEqual(found, [])
+            self.names.write_bytes((self.folder / "b.names").read_bytes())
+        reader.join()
+        self.assertEqual(found, [after, self.done("list", other)])
 
     def test_a_folder_that_cannot_be_locked(self):
         with mock.patch.object(files.fcntl, "flock", side_effect=OSError(38, "Function not implemented")):
@@ -254,7 +277,7 @@ class Parting(Lost):
         self.assertEqual((status, err.count("\n")), (0, 1))
         self.assertIn(f"{self.file} has the constant 2000000000 and {self.names} has no line for it", err)
         for plain, said in (([], 1), (["--plain"], 0)):
-            done = subprocess.run([*PROGRAM, "unpack", *plain, "-"], input=archive, capture_output=True)
+            done = subprocess.run([*context.PROGRAM, "unpack", *plain, "-"], input=archive, capture_output=True)
             self.assertEqual((done.returncode, done.stderr.count(b"\n")), (0, said))
             self.assertEqual(done.stderr.count(b"standard input has the constant 2000000000 and comes without its names"), said)
         self.assertEqual(self.file.read_bytes(), archive)
@@ -287,10 +310,6 @@ class Parting(Lost):
         short = Record.read(self.file).reduce(0, 4).record
         short.write(self.file)
         self.assertIn("calibration(c, l, 2),\n                 burst(f, h)\n", self.done("show", self.file, 4))
-
-    def test_a_text_is_no_archive_file(self):
-        with self.assertRaisesRegex(Refused, "old.text is a text: pack it first"):
-            Record.read(self.old)
 
     def test_a_dictionary_without_names(self):
         record = Record.open([2])

@@ -11,22 +11,13 @@ import tempfile
 import threading
 import time
 import unittest
-from pathlib import Path
 
 import context
 from spernevan import Record
-from test_command import DATA, FLIGHTS
-
-PROGRAM = [sys.executable, str(context.HERE.parent / "program")]
+from test_command import DATA, FLIGHTS, Command
 
 
-@context.with_engine
-class Program(unittest.TestCase):
-    def setUp(self):
-        folder = tempfile.TemporaryDirectory()
-        self.addCleanup(folder.cleanup)
-        self.folder = Path(folder.name)
-
+class Program(Command):
     def slow(self):
         """An evaluation that takes far longer than a test."""
         text = self.folder / "slow.text"
@@ -58,7 +49,7 @@ class Program(unittest.TestCase):
             ["test", FLIGHTS, str(data)],
             ["list", FLIGHTS],
         ):
-            done = subprocess.run([*PROGRAM, *arguments], capture_output=True, preexec_fn=small)
+            done = subprocess.run([*context.PROGRAM, *arguments], capture_output=True, preexec_fn=small)
             self.assertEqual((done.returncode, done.stderr), (0, b""))
 
     def test_a_thread_with_a_small_stack(self):
@@ -78,15 +69,26 @@ class Program(unittest.TestCase):
         self.assertEqual([len(answers) for answers in found], [9000] * 3)
 
     def test_an_interrupt_ends_the_command_at_once(self):
-        running = subprocess.Popen([*PROGRAM, "evaluate", *self.slow()], stdout=subprocess.PIPE, stderr=subprocess.PIPE)
+        running = subprocess.Popen([*context.PROGRAM, "evaluate", *self.slow()], stdout=subprocess.PIPE, stderr=subprocess.PIPE)
         time.sleep(1.5)
         self.assertIsNone(running.poll())
         running.send_signal(signal.SIGINT)
         out, err = running.communicate(timeout=20)
         self.assertEqual((running.returncode, out, err), (-signal.SIGINT, b"", b""))
 
+    def test_an_interrupt_while_python_starts(self):
+        if subprocess.run(["env", "--block-signal=INT", "true"], capture_output=True).returncode != 0:
+            self.skipTest("env does not know --block-signal")
+        for wait in range(0, 60, 4):
+            running = subprocess.Popen([str(context.ROOT / "spernevan"), "list", FLIGHTS], stdout=subprocess.PIPE, stderr=subprocess.PIPE)
+            time.sleep(wait / 1000)
+            running.send_signal(signal.SIGINT)
+            _, err = running.communicate(timeout=20)
+            self.assertEqual(err, b"")
+            self.assertIn(running.returncode, (-signal.SIGINT, 0))
+
     def test_nothing_is_read_before_an_interrupt_ends_the_command(self):
-        done = subprocess.run([sys.executable, "-X", "importtime", *PROGRAM[1:], "--version"], capture_output=True, text=True)
+        done = subprocess.run([sys.executable, "-X", "importtime", *context.PROGRAM[1:], "--version"], capture_output=True, text=True)
         self.assertIn("spernevan.command", done.stderr)
         alone = [line.split("| ")[-1] for line in done.stderr.splitlines()]
         self.assertNotIn("signal", alone)
@@ -109,13 +111,13 @@ class Program(unittest.TestCase):
 
     def test_closed_streams(self):
         for closing, status in (("<&-", 0), (">&-", 2), ("2>&-", 0), (">&- 2>&-", 2)):
-            done = subprocess.run(["sh", "-c", f'"$@" {closing}', "sh", *PROGRAM, "list", FLIGHTS], capture_output=True)
+            done = subprocess.run(["sh", "-c", f'"$@" {closing}', "sh", *context.PROGRAM, "list", FLIGHTS], capture_output=True)
             self.assertEqual((done.returncode, b"Traceback" in done.stderr), (status, False), closing)
-        done = subprocess.run(["sh", "-c", '"$@" <&-', "sh", *PROGRAM, "list", "-"], capture_output=True)
+        done = subprocess.run(["sh", "-c", '"$@" <&-', "sh", *context.PROGRAM, "list", "-"], capture_output=True)
         self.assertEqual((done.returncode, done.stderr), (2, b"spernevan: standard input is closed\n"))
 
     def test_a_reader_that_leaves(self):
-        running = subprocess.Popen([*PROGRAM, "list", FLIGHTS], stdout=subprocess.PIPE, stderr=subprocess.PIPE)
+        running = subprocess.Popen([*context.PROGRAM, "list", FLIGHTS], stdout=subprocess.PIPE, stderr=subprocess.PIPE)
         running.stdout.close()
         self.assertEqual((running.stderr.read(), running.wait()), (b"", 128 + signal.SIGPIPE))
         running.stderr.close()
@@ -142,14 +144,8 @@ class Program(unittest.TestCase):
         self.assertEqual(subprocess.run(arguments, capture_output=True).stderr, b"")
 
 
-@context.with_engine
-class Install(unittest.TestCase):
+class Install(Command):
     """The wheel, and then the folder in its stead, in a fresh environment without this folder."""
-
-    def setUp(self):
-        folder = tempfile.TemporaryDirectory()
-        self.addCleanup(folder.cleanup)
-        self.folder = Path(folder.name)
 
     def pip(self, *arguments):
         quiet = {**os.environ, "PIP_DISABLE_PIP_VERSION_CHECK": "1", "PIP_ROOT_USER_ACTION": "ignore"}
@@ -169,12 +165,24 @@ class Install(unittest.TestCase):
         )
         self.assertTrue(done.stdout.startswith(str(self.folder / "venv")))
 
-    def test_the_wheel_and_the_folder(self):
+    def environment(self):
+        """Makes a fresh environment, with an archive and its data beside it."""
         subprocess.run([sys.executable, "-m", "venv", "--without-pip", str(self.folder / "venv")], check=True)
         if self.pip("--version").returncode != 0:
             self.skipTest("pip is not here, or does not know --python")
         for name in ("flights.file", "flights.names", "flights.data"):
             shutil.copy(context.SAMPLES / name, self.folder)
+
+    @unittest.skipUnless(context.LONG and shutil.which("rt"), "takes a minute and the Rattle toolchain; SPERNEVAN_TEST_LONG=1 runs it")
+    def test_the_engine_is_built_on_the_way(self):
+        self.environment()
+        copy = self.folder / "tree"
+        shutil.copytree(context.ROOT, copy, ignore=shutil.ignore_patterns(".git", "__pycache__", "dist", "*.so", "staticlib"))
+        self.assertFalse((copy / "python" / "spernevan" / "libspernevan.so").exists())
+        self.tried(copy / "python")
+
+    def test_the_wheel_and_the_folder(self):
+        self.environment()
         made = subprocess.run([str(context.HERE.parent / "wheel"), str(self.folder / "dist")], check=True, capture_output=True, text=True)
         path = made.stdout.strip()
         self.assertTrue(path.endswith("-py3-none-linux_x86_64.whl"))

@@ -1,11 +1,9 @@
 """Definitions, and the commands `define` and `page`."""
 
-import contextlib
 import io
 import json
 import os
 import random
-import tempfile
 import unittest
 from decimal import Decimal
 from pathlib import Path
@@ -14,20 +12,8 @@ from unittest import mock
 import context
 from spernevan import Names, Query, Record, parse_query, publish, read_names
 from spernevan.definition import Writer, define, define_all, define_query, lone, used_dependencies
-from spernevan.command import main
-
-FLIGHTS = str(context.SAMPLES / "flights.file")
-
-
-def run(*arguments):
-    """Status, output and messages of the command."""
-    out, err = io.StringIO(), io.StringIO()
-    with contextlib.redirect_stdout(out), contextlib.redirect_stderr(err):
-        try:
-            status = main([str(argument) for argument in arguments])
-        except SystemExit as end:
-            status = end.code
-    return status, out.getvalue(), err.getvalue()
+from spernevan.publish import Shape
+from test_command import FLIGHTS, Command, run
 
 
 def under(record, numbers, *queries):
@@ -111,18 +97,7 @@ class Definitions(unittest.TestCase):
                         self.assertEqual(getattr(saved, field), getattr(loose, field))
 
 
-@context.with_engine
-class Commands(unittest.TestCase):
-    def setUp(self):
-        folder = tempfile.TemporaryDirectory()
-        self.addCleanup(folder.cleanup)
-        self.folder = Path(folder.name)
-
-    def done(self, *arguments):
-        status, out, err = run(*arguments)
-        self.assertEqual((status, err), (0, ""))
-        return out
-
+class Commands(Command):
     def test_text(self):
         self.assertEqual(
             self.done("define", FLIGHTS, 1),
@@ -192,16 +167,16 @@ class Commands(unittest.TestCase):
         record = Record.read(FLIGHTS)
         names = read_names((context.SAMPLES / "flights.names").read_text(), "names")
         found = define_all(record, names)
-        self.assertEqual(publish.render(found, "sql").count("-- Place "), 6)
-        self.assertEqual(len(json.loads(publish.render(found, "json"))), 6)
-        self.assertEqual(publish.render(found, "latex").count("Short form"), 6)
-        self.assertEqual(publish.render(found, "latex", form="short").count("\\begin{tabular}"), 6)
+        self.assertEqual(publish.render(found, Shape("sql")).count("-- Place "), 6)
+        self.assertEqual(len(json.loads(publish.render(found, Shape("json")))), 6)
+        self.assertEqual(publish.render(found, Shape("latex")).count("Short form"), 6)
+        self.assertEqual(publish.render(found, Shape("latex", form="short")).count("\\begin{tabular}"), 6)
         self.assertEqual(publish.render(found).count("Place "), 6)
         self.assertEqual(publish.render([]), "Every place is vacant.\n")
-        self.assertEqual(publish.render([], "json"), "[]\n")
+        self.assertEqual(publish.render([], Shape("json")), "[]\n")
         for wrong in ({"format": "yaml"}, {"form": "middle"}, {"format": "sql", "form": "middle"}):
             with self.assertRaises(ValueError):
-                publish.render(found, **wrong)
+                publish.render(found, Shape(**wrong))
 
     def test_list(self):
         """`list --format` has the definitions of all places; as text and with --json it is as without."""
@@ -216,6 +191,9 @@ class Commands(unittest.TestCase):
         self.assertEqual(self.done("list", FLIGHTS, "--format", "text"), self.done("list", FLIGHTS))
         self.assertEqual([one["place"] for one in json.loads(self.done("list", FLIGHTS, "--json"))], [0, 1, 2, 3, 5, 6])
         self.assertEqual(self.done("list", FLIGHTS, "--plain", "--format", "sql").count('"R4"'), 4)
+        for wrong in (["--dialect", "sqlite"], ["--without-null", "--format", "json"]):
+            self.failed(f"{wrong[0]} goes with --format sql", "list", FLIGHTS, *wrong)
+        self.failed("--fragment goes with --format latex", "define", FLIGHTS, 0, "--format", "sql", "--fragment")
         for wrong in (["--json", "--format", "sql"], ["--json", "--form", "short"]):
             self.assertEqual(run("list", FLIGHTS, *wrong)[:2], (2, ""))
 
@@ -246,6 +224,15 @@ class Commands(unittest.TestCase):
         self.assertEqual(self.done("page", FLIGHTS, "-o", "/dev/null"), "")
         self.assertTrue(Path("/dev/null").is_char_device())
 
+    def test_list_to_a_file(self):
+        out, vacant = self.folder / "out", self.write("vacant.text", "flight(a)\n")
+        for source in (FLIGHTS, vacant):
+            for kind in ([], ["--json"], *([f"--format={one}"] for one in publish.FORMATS), ["--form=long"], ["--format=latex", "--form=long"]):
+                printed = self.done("list", source, *kind)
+                for _ in range(2):
+                    self.assertEqual(self.done("list", source, *kind, "-o", out), "")
+                    self.assertEqual(out.read_text(), printed)
+
     def test_files_of_others_are_not_replaced(self):
         out = self.folder / "out"
         for kind in ([], ["--format", "latex"], ["--format", "latex", "--fragment"], ["--format", "sql"], ["--format", "json"]):
@@ -260,7 +247,7 @@ class Commands(unittest.TestCase):
         for name in ("a.file", "a.names", "a.text", "a.csv", "a.html"):
             path = self.folder / name
             before = path.read_bytes()
-            for arguments in (["define", archive, 0, "-o", path], ["page", archive, "-o", path]):
+            for arguments in (["define", archive, 0, "-o", path], ["page", archive, "-o", path], ["list", archive, "-o", path]):
                 status, printed, err = run(*arguments)
                 self.assertEqual((status, printed, err.count("\n")), (2, "", 1))
                 self.assertIn(f"{path} is there already, and is no definition or page", err)
@@ -278,7 +265,8 @@ class Commands(unittest.TestCase):
             (("9" * 5000,), "7"),
             (("ans(x) :- kite(x)",), "rule:1:11: there is no table kite"),
             (("ans(x) :- burst(x, y) burst(x, y)",), "rule:1:23: "),
-            (("",), "rule:1:1: "),
+            (("",), "neither a place, 0 to 7, nor a rule"),
+            (("foo",), "'foo' is neither a place, 0 to 7, nor a rule"),
         ]:
             status, out, err = run("define", FLIGHTS, *arguments)
             self.assertTrue(status and not out and err.count("\n") == 1 and message in err, err)
