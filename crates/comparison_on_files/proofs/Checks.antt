@@ -13,7 +13,7 @@ use Rattle.record.specs.declared.Record.{Record}
 use Rattle.record.specs.Calls.{queryAt}
 use Rattle.format.specs.Format.{Reading, none, got}
 use Rattle.mapping.specs.declared.Mapped.{Mapped}
-use Rattle.mapping.specs.Mapped.{imagesOf}
+use Rattle.mapping.specs.internal.Mapped.{imagesOf}
 use Rattle.mapping.proofs.Checked.{test-tells}
 use Rattle.mapping_words.specs.Images.{imagesIn}
 use Rattle.mapping_words.specs.internal.Steps.{mappingRead}

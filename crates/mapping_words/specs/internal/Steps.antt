@@ -4,7 +4,7 @@ use mathlib.Core.List.{List, [], _∷_}
 use Rattle.query.specs.declared.Cell.{Cell}
 use Rattle.format.specs.Format.{Reading, none, got}
 use Rattle.mapping.specs.declared.Mapped.{Mapped}
-use Rattle.mapping.specs.Mapped.{noMapping}
+use Rattle.mapping.specs.internal.Mapped.{noMapping}
 use Rattle.mapping_words.specs.declared.ImageRead.{ImageRead}
 use Rattle.mapping_words.specs.declared.ImageRead.the-variants.{Image, NoImage}
 
