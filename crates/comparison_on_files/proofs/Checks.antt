@@ -8,12 +8,11 @@ use Prim.Native.Nat.{ℕ}
 use native.Mathlib.Omega.{arith}
 use Rattle.refusals.specs.Refusals.{gives, refused, Reply, reply}
 use Rattle.query.specs.declared.Cell.{Cell}
-use Rattle.query.specs.View.{entriesOf}
+use Rattle.query.specs.View.{entriesOf, imagesOf}
 use Rattle.record.specs.declared.Record.{Record}
 use Rattle.record.specs.Calls.{queryAt}
 use Rattle.format.specs.Format.{Reading, none, got}
 use Rattle.mapping.specs.declared.Mapped.{Mapped}
-use Rattle.mapping.specs.internal.Mapped.{imagesOf}
 use Rattle.mapping.proofs.Checked.{test-tells}
 use Rattle.mapping_words.specs.Images.{imagesIn}
 use Rattle.mapping_words.specs.internal.Steps.{mappingRead}
