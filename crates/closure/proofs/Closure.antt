@@ -17,6 +17,7 @@ use lib.Pow.{pow-lt, pow-mono}
 use lib.ListN.{length, take, drop, getD, drop-of-length-le, length-map, List·getD-map}
 use lib.Seq.{drop-cons, getD-take, length-take-le}
 use borrow.Author.Tests.{eqb-true, ltb-true}
+use Rattle.theory.proofs.Determined.{adds-relation}
 use Rattle.theory.specs.Query.{member, _∈_}
 use Rattle.theory.specs.Chase.{firstPassing}
 use Rattle.theory.specs.Database.{Dependency}
@@ -87,15 +88,6 @@ adds-same : (relation : ℕ) (known other : List ℕ) → ((c : ℕ) → member 
 unfolding adds
 adds-same relation known other same d =
     ap₂ (λ (t u : Bool). eqb (d .relation) relation && t && not u) (subset-same (d .left) known other same) (same (d .right))
-
--- A dependency that adds is one of the relation
-adds-relation : (relation : ℕ) (known : List ℕ) (d : Dependency) → adds relation known d ≡ true → d .relation ≡ relation
-unfolding adds
-adds-relation relation known d e =
-    let a : Bool = eqb (d .relation) relation in
-    let b : Bool = subset (d .left) known in
-    let f : Bool = not (member (d .right) known) in
-    eqb-true (d .relation) relation (and-left a b (and-left (a && b) f e))
 
 -- Whether a stored dependency adds to a mask, as the code tests it
 pub adds-mask : (d : stored.Dependency) (relation mask : ℕ) → d .left < 256 → mask < 256

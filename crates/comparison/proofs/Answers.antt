@@ -9,6 +9,7 @@ use Prim.Native.Nat.{ℕ, _≤_, _<_}
 use native.Mathlib.Omega.{arith}
 use lib.ListN.{length, take}
 use Rattle.record.specs.Calls.{storedAt, queryAt}
+use Rattle.mapping.proofs.Never.{never-rows}
 use Rattle.query.specs.declared.Cell.{Cell}
 use Rattle.query.specs.declared.Query.{Query}
 use Rattle.query.specs.declared.Dependency.{Dependency}
@@ -40,11 +41,6 @@ use Rattle.comparison.proofs.Pairs.{standing, paired-places}
 use Rattle.comparison.proofs.Verdicts.{queries, compared-never, compared-contained, compared-apart}
 
 -- ---- two stored queries
-
--- A query of size 0 has no rows
-no-rows : (schema : List ℕ) (q : Query) → q .size ≡ 0 → queryOf schema q .rows ≡ []
-unfolding rowsOf
-no-rows schema q e = ap (λ (n : ℕ). rowsOf schema (take n (q .relations)) (q .cells)) e
 
 -- A query that is mapped to has rows
 mapping-rows : (S T : theory.Query) (f : ℕ → theory.Entry) → answer.IsMapping S T f → T .rows ≢ []
@@ -96,7 +92,7 @@ module _ (r : Record) (p q : ℕ) (first second : Query) (dependencies : List De
     -- It is never
     pub answers-never : chased .query .size ≡ 0 → Compared r p q (bare verdict.Never)
     answers-never zero =
-        compared-never r p q (drawn .accepted) (ap (λ (x : theory.Query). x .rows) (sym chased-is) ∙ no-rows (schemaOf r) (chased .query) zero)
+        compared-never r p q (drawn .accepted) (ap (λ (x : theory.Query). x .rows) (sym chased-is) ∙ never-rows (schemaOf r) (chased .query) zero)
 
     module _ (mapped : Mapped) (finds : Finds second (chased .query) mapped) where
       found : IsMapped (schemaOf r) second (chased .query) mapped

@@ -12,6 +12,7 @@ use native.Mathlib.Omega.{arith}
 use lib.ListN.{length, getD, replicate}
 use Rattle.query.specs.declared.Cell.{Cell}
 use Rattle.query.specs.declared.Query.{Query}
+use Rattle.record.proofs.Kept.{empty-place}
 use Rattle.record.specs.declared.Record.{Record}
 use Rattle.query.specs.View.{queryOf, imagesOf}
 use Rattle.record.specs.View.{schemaOf, dependenciesOf}
@@ -39,16 +40,12 @@ use Rattle.comparison.proofs.Pairs.{standing}
 
 -- ---- the queries of two places
 
-no-place-good : (schema : List ℕ) → goodPlace schema noPlace ≡ true
-unfolding blankQuery every
-no-place-good schema = refl
-
 -- A filled place of a good record holds a good query with a safe head
 filled-good : (r : Record) → goodRecord r ≡ true → (place : ℕ) → isFilled r place ≡ true
     → (goodQuery (schemaOf r) (storedAt r place) ≡ true) × (headSafe (schemaOf r) (storedAt r place) ≡ true)
 filled-good r good place filled =
     stored.filled-parts (schemaOf r) (getD (r .places) place noPlace)
-    (every-getD-else (goodPlace (schemaOf r)) (r .places) place noPlace (good-record r good .places) (no-place-good (schemaOf r))) filled
+    (every-getD-else (goodPlace (schemaOf r)) (r .places) place noPlace (good-record r good .places) (empty-place (schemaOf r))) filled
 
 -- What is known of the queries of two places that are not refused
 pub record Queries (r : Record) (p q : ℕ) : Type 0 where

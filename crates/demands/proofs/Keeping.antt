@@ -42,6 +42,7 @@ use Rattle.format.specs.Bytes.{number}
 use Rattle.format.specs.File.{stretches, readFile, outcomeOf, fileOf}
 use Rattle.format.specs.Faults.{partAt, schemaIn, placeConditions, readConditions}
 use Rattle.format.proofs.Faults.{first-fault}
+use Rattle.format.proofs.Stretches.{length-stretches}
 use Rattle.writer.specs.declared.Written.{Written}
 use Rattle.writer.specs.Write.{writingRefused, lengthUnless, fileUnless, written, afterWriting}
 use Rattle.demands.specs.Demand1.{InOrder, Keeps, determinedAt, answerRefusal, columnsRefusal, verdictRefusal, checkRefusal, testRefusal, evaluationRefusal, writingRefusal, OpenKeeps, AddKeeps, PutKeeps, DropKeeps, DeterminedKeeps, CompareKeeps, CheckKeeps, ReduceKeeps, TestKeeps, EvaluateKeeps, partsOrder, fileOrder, ReadKeeps, WriteKeeps}
@@ -146,7 +147,7 @@ reduce-keeps r source target o is =
     (λ n f. let e = is .refused n f in (ap (λ (x : Reduced). x .«record») e, ap (λ (x : Reduced). x .images) e, ap (λ (x : Reduced). x .count) e)) (λ f. is)
   where
     go : (f : Option ℕ) → firstHolding (reductionConditions r source target) ≡ f → answerRefusal (o .answer) ≡ firstHolding (reductionConditions r source target)
-    go none f = ap answerRefusal (is .accepted f) ∙ sym f
+    go none f = ap answerRefusal (is .accepted f .done) ∙ sym f
     go (some n) f = ap (λ (x : Reduced). answerRefusal (x .answer)) (is .refused n f) ∙ sym f
 
 -- ---- databases
@@ -201,17 +202,12 @@ unfolding follows placeConditions partsOrder
 parts-ordered schema [] m e = refl
 parts-ordered schema (p ∷ ps) m e = rw e (parts-ordered schema ps 6 refl)
 
-stretches-length : (n : ℕ) (file table : List ℕ) → length (stretches n file table) ≡ n
-unfolding stretches
-stretches-length zero file table = refl
-stretches-length (suc n) file table = ap suc (stretches-length n file (drop 4 table))
-
 read-ordered : (file : List ℕ) → InOrder (readConditions file) (fileOrder file)
 unfolding follows readConditions
 read-ordered file =
     let parts = stretches (number 2 file - 2) file (drop 10 file) in
     subst (λ (n : ℕ). follows (map (λ (c : Condition). c .1) (placeConditions (schemaIn (partAt file 0)) parts)) (4 ∷ partsOrder n) ≡ true)
-    (stretches-length (number 2 file - 2) file (drop 10 file)) (parts-ordered (schemaIn (partAt file 0)) parts 4 refl)
+    (length-stretches (number 2 file - 2) file (drop 10 file)) (parts-ordered (schemaIn (partAt file 0)) parts 4 refl)
 
 outcome-said : (x : Reply Record) → answerRefusal (outcomeOf x .answer) ≡ refusalIn x
 outcome-said (gives r) = refl

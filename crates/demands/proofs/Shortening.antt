@@ -6,4 +6,4 @@ use Rattle.reduction.specs.Reduced.{IsReduced}
 use Rattle.demands.specs.Demand3.{Shortens}
 
 pub shortens : (r : Record) (source target : ℕ) (o : Reduced) → IsReduced r source target o → Shortens r source target o
-shortens r source target o is = record { reduces = is .reduces; unchanged = is .unchanged; good = is .good }
+shortens r source target o is = is .accepted

@@ -215,8 +215,8 @@ unfolding _>>=_
 reduce-left file source target r e clear out size count mapping outAfter sizeAfter countAfter mappingAfter g =
     let (o, is, shape, same) = subst (λ (x : Reply Record). Reducing x source target (g .result) (length out) (length mapping)) e (g .reducing) in
     let fits : Bool = leb 192 (length mapping) && leb (length (fileOf (o .«record»))) (length out) in
-    let known : g .result ≡ cond fits (gives o) (refused bufferTooShort) = same ∙ rw (is .accepted clear) refl in
-    let w : Whole (o .«record») = (is .good clear, shape .0) in
+    let known : g .result ≡ cond fits (gives o) (refused bufferTooShort) = same ∙ rw (is .accepted clear .done) refl in
+    let w : Whole (o .«record») = (is .accepted clear .good, shape .0) in
     (o, is, go o w fits (subst (λ (x : Reply Reduced). ReductionGiven x out size count mapping 0 outAfter sizeAfter countAfter mappingAfter) known (g .given)))
   where
     go : (o : Reduced) → Whole (o .«record») → (fits : Bool)

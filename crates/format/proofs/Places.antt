@@ -41,7 +41,7 @@ vacant-is schema p h e =
     blank-query (p .query) (eqb-true _ 8 (s .0 .0)) (eqb-true _ 12 (s .0 .1)) (eqb-true _ 96 (s .1)) (rw e at (k .0)) in
     λ i. record { filled = e i; query = q i }
 
-no-sound : (schema : List ℕ) → sound schema noPlace ≡ true
+pub no-sound : (schema : List ℕ) → sound schema noPlace ≡ true
 unfolding blankQuery every
 no-sound schema = refl
 

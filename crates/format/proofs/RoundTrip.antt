@@ -33,7 +33,7 @@ use Rattle.format.proofs.Rules.{relations-good, good-relations, good-na
 use Rattle.format.proofs.Directory.{directory-assemble, assemble-directory, length-assemble}
 use Rattle.format.proofs.Lengths.{take-short, length-relations, length-dependencies, query-short}
 use Rattle.format.proofs.Results.{bind-ok, not-ok, complete-put, complete-get}
-use Rattle.format.proofs.Places.{sound, read-places, places-read, pad-places, upTo-fits}
+use Rattle.format.proofs.Places.{sound, read-places, places-read, pad-places, upTo-fits, no-sound}
 
 -- The rule of a record, part by part, with its arrays' lengths
 pub record SoundRecord (r : Record) : Type 0 where
@@ -94,16 +94,12 @@ parts-read r k =
 
 -- ---- an accepted file written back
 
-no-place-sound : (schema : List ℕ) → sound schema noPlace ≡ true
-unfolding Rattle.query.specs.Rule.blankQuery every
-no-place-sound schema = refl
-
 -- places that were read, and blank ones after them
 sound-places : (schema : List ℕ) (ps : List Place) → every (sound schema) ps ≡ true → every (sound schema) (pad 8 noPlace ps) ≡ true
 unfolding pad
 sound-places schema ps h =
     let t : every (sound schema) (drop (length ps) (replicate 8 noPlace)) ≡ true =
-    every-drop (sound schema) (length ps) (replicate 8 noPlace) (every-replicate (sound schema) 8 noPlace (no-place-sound schema)) in
+    every-drop (sound schema) (length ps) (replicate 8 noPlace) (every-replicate (sound schema) 8 noPlace (no-sound schema)) in
     every-append-is (sound schema) ps (drop (length ps) (replicate 8 noPlace)) ∙ and-both _ _ h t
 
 -- what is written of them is what was read

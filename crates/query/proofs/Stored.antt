@@ -25,23 +25,15 @@ use Rattle.query.specs.declared.Dependency.{Dependency}
 use Rattle.query.specs.View.{entryOf, entriesOf, rowsOf, queryOf, columnsFrom, dependencyOf}
 use Rattle.lists.specs.Tests.{every, inUse}
 use Rattle.query.specs.Rule.{goodDependency, goodEntry, goodCell, blankEntry, blankCell, goodRow, goodRows, headInUse, goodQuery, headSafe}
+use Rattle.theory.proofs.Lists.{member-mem}
 use Rattle.lists.proofs.Tests.{and-left, and-right, and-both, every-append, used-whole, every-take, used-all, used-good}
 use Rattle.query.proofs.Good.{good-query, good-dependency}
 
 -- ---- 1. members of lists
 
-pub member-in : (n : ℕ) (ms : List ℕ) → member n ms ≡ true → n ∈ ms
-unfolding member
-member-in n [] e = let z : _≡_ {A = ℕ} 0 1 = ap (λ (t : Bool). cond {A = ℕ} t 1 0) e in absurd (omega arith)
-member-in n (m ∷ ms) e = go (eqb n m) refl e (member-in n ms)
-  where
-    go : (t : Bool) → eqb n m ≡ t → cond t true (member n ms) ≡ true → (member n ms ≡ true → n ∈ ms) → n ∈ (m ∷ ms)
-    go true same found rest = List·Memᴰ·head (eqb-true n m same)
-    go false other found rest = List·Memᴰ·tail (rest found)
-
 pub subset-in : (ms ns : List ℕ) {m : ℕ} → subset ms ns ≡ true → m ∈ ms → m ∈ ns
 unfolding subset
-subset-in (k ∷ ms) ns e (List·Memᴰ·head p) = Memᴰ·cast p (member-in k ns (and-left (member k ns) (subset ms ns) e))
+subset-in (k ∷ ms) ns e (List·Memᴰ·head p) = Memᴰ·cast p (member-mem k ns (and-left (member k ns) (subset ms ns) e))
 subset-in (k ∷ ms) ns e (List·Memᴰ·tail at) = subset-in ms ns (and-right (member k ns) (subset ms ns) e) at
 
 -- A variable of some entries is one of the entries
@@ -228,7 +220,7 @@ module _ (schema : List ℕ) (q : Query) (good : goodQuery schema q ≡ true) (i
       ∙ row-at schema (take (q .size) (q .relations)) (q .cells) i (good-query schema q good .rows) inside)
 
 -- All cells of good rows are good, those that are not in use too
-rows-cells : (schema rs : List ℕ) (cells : List Cell) → goodRows schema rs cells ≡ true → every goodCell (take (8 * length rs) cells) ≡ true
+pub rows-cells : (schema rs : List ℕ) (cells : List Cell) → goodRows schema rs cells ≡ true → every goodCell (take (8 * length rs) cells) ≡ true
 unfolding every
 rows-cells schema [] cells e = refl
 rows-cells schema (k ∷ rs) cells e =

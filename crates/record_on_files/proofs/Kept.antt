@@ -52,12 +52,3 @@ module _ (r : Record) (good : goodRecord r ≡ true) where
       → putPart place part r ≡ resultOf (putQuery r place (p .query))
   unfolding _>>=_
   part-read place part p h e = rw (lt-ltb place 8 h, e)
-
--- What reading a query part tells
-pub place-accepted : (x : Reply Place) (p : PlaceRead) → p ≡ placeRead x → p .answer ≡ Done → x ≡ gives (p .place)
-place-accepted (gives q) p e a = cc
-place-accepted (refused n) p e a = let z : _≡_ {A = ℕ} 0 1 = cc in absurd (omega arith)
-
-pub place-refused : (x : Reply Place) (p : PlaceRead) (n : ℕ) → p ≡ placeRead x → p .answer ≡ Refused n → x ≡ refused n
-place-refused (gives q) p n e a = let z : _≡_ {A = ℕ} 0 1 = cc in absurd (omega arith)
-place-refused (refused m) p n e a = cc

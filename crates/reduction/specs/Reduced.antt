@@ -49,14 +49,19 @@ pub record ReducesTo (schema : List ℕ) (ds : List database.Dependency) (S T : 
   -- and at most the number of different variables of S
   pub count-le : count ≤ theory.variableCount S
 
--- What reducing the query at `source` into `target` promises: a refusal, or all of demand 3 and nothing else in the record changed
+-- What an accepted reduction of the place `source` into the place `target` leaves
+pub record Shortened (r : Record) (source target : ℕ) (o : Reduced) : Type 0 where
+  pub done : o .answer ≡ answer.Done
+  -- the target place holds a query, and nothing else in the record has changed
+  pub unchanged : o .«record» ≡ withPlace r target (record { filled = true; query = storedAt (o .«record») target })
+  -- the record keeps its rule
+  pub good : goodRecord (o .«record») ≡ true
+  -- that query is the short form of the source query
+  pub reduces : ReducesTo (schemaOf r) (dependenciesOf r) (queryAt r source) (queryAt (o .«record») target) (o .count) (imagesOf (o .images))
+  -- a mapping that is absent is 0
+  pub no-mapping : queryAt (o .«record») target .rows ≡ [] → o .images ≡ replicate 96 noCell
+
+-- What reducing promises: a refusal, or all of demand 3
 pub record IsReduced (r : Record) (source target : ℕ) (o : Reduced) : Type 0 where
   pub refused : (n : ℕ) → reductionRefusal r source target ≡ some n → o ≡ refusal r n
-  pub accepted : reductionRefusal r source target ≡ none → o .answer ≡ answer.Done
-  pub unchanged : reductionRefusal r source target ≡ none
-      → o .«record» ≡ withPlace r target (record { filled = true; query = storedAt (o .«record») target })
-  pub good : reductionRefusal r source target ≡ none → goodRecord (o .«record») ≡ true
-  pub reduces : reductionRefusal r source target ≡ none
-      → ReducesTo (schemaOf r) (dependenciesOf r) (queryAt r source) (queryAt (o .«record») target) (o .count) (imagesOf (o .images))
-  -- a mapping that is absent is 0
-  pub no-mapping : reductionRefusal r source target ≡ none → queryAt (o .«record») target .rows ≡ [] → o .images ≡ replicate 96 noCell
+  pub accepted : reductionRefusal r source target ≡ none → Shortened r source target o

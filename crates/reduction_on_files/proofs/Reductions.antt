@@ -71,7 +71,7 @@ pub reduced-sound : (r : Record) (source target : ℕ) (o : Reduced) → IsReduc
 reduced-sound r source target o is done = go (reductionRefusal r source target) refl
   where
     go : (x : Option ℕ) → reductionRefusal r source target ≡ x → goodRecord (o .«record») ≡ true
-    go option.none e = is .good e
+    go option.none e = is .accepted e .good
     go (option.some n) e = let p : o ≡ refusal r n = is .refused n e in let z : _≡_ {A = ℕ} 0 1 = cc in absurd (omega arith)
 
 -- ---- the exported call

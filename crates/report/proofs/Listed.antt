@@ -49,17 +49,17 @@ module _ (r : Record) (place : ℕ) (low : place < 8) (good : goodRecord r ≡ t
   -- ---- the result
 
   same-schema : schemaOf (o .«record») ≡ schemaOf r
-  same-schema = ap (λ (x : Record). schemaOf x) (alone-reduced .unchanged accepted)
+  same-schema = ap (λ (x : Record). schemaOf x) (alone-reduced .accepted accepted .unchanged)
 
   alone-long : length (aloneIn r place .places) ≡ 8
   alone-long = simp (length-set, length-replicate)
 
   places-long : length (o .«record» .places) ≡ 8
-  places-long = ap (λ (x : Record). length (x .places)) (alone-reduced .unchanged accepted) ∙ simp (length-set, length-replicate)
+  places-long = ap (λ (x : Record). length (x .places)) (alone-reduced .accepted accepted .unchanged) ∙ simp (length-set, length-replicate)
 
   result-filled : isFilled (o .«record») (otherPlace place) ≡ true
   result-filled =
-      ap (λ (x : Record). isFilled x (otherPlace place)) (alone-reduced .unchanged accepted)
+      ap (λ (x : Record). isFilled x (otherPlace place)) (alone-reduced .accepted accepted .unchanged)
       ∙ ap (λ (p : Place). p .filled)
       (getD-set-same (aloneIn r place .places) (otherPlace place) (record { filled = true; query = storedAt (o .«record») (otherPlace place) }) noPlace
       (rw alone-long (other-low place)))
@@ -69,7 +69,7 @@ module _ (r : Record) (place : ℕ) (low : place < 8) (good : goodRecord r ≡ t
       ap (λ (q : Query). goodQuery (schemaOf r) q) result-stored
       ∙ subst (λ (s : List ℕ). goodQuery s (storedAt (o .«record») (otherPlace place)) ≡ true) same-schema
       (stored.filled-parts (schemaOf (o .«record»)) (getD (o .«record» .places) (otherPlace place) noPlace)
-      (stored.place-good (o .«record») (alone-reduced .good accepted) (otherPlace place) noPlace (rw places-long (other-low place))) result-filled .0)
+      (stored.place-good (o .«record») (alone-reduced .accepted accepted .good) (otherPlace place) noPlace (rw places-long (other-low place))) result-filled .0)
 
   source-kept : (goodQuery (schemaOf r) (storedAt r place) ≡ true) × (headSafe (schemaOf r) (storedAt r place) ≡ true)
   source-kept = stored.filled-parts (schemaOf r) (getD (r .places) place noPlace) (stored.place-good r good place noPlace (rw long low)) held
@@ -89,7 +89,7 @@ module _ (r : Record) (place : ℕ) (low : place < 8) (good : goodRecord r ≡ t
   reduces =
       subst (λ (T : theory.Query). ReducesTo (schemaOf r) (dependenciesOf r) (queryAt r place) T (o .count) (imagesOf (o .images))) target-is
       (subst (λ (S : theory.Query). ReducesTo (schemaOf r) (dependenciesOf r) S (queryAt (o .«record») (otherPlace place)) (o .count) (imagesOf (o .images)))
-      (alone-query r place low) (alone-reduced .reduces accepted))
+      (alone-query r place low) (alone-reduced .accepted accepted .reduces))
 
   good-images : every goodCell (o .images) ≡ true
   good-images =

@@ -41,7 +41,7 @@ subset-of (m ∷ ms) ns part =
 -- ---- 2. sound
 
 -- A dependency that adds is of the relation, its left columns are known and its right one is not
-adds-relation : (relation : ℕ) (known : List ℕ) (d : Dependency) → adds relation known d ≡ true → d .relation ≡ relation
+pub adds-relation : (relation : ℕ) (known : List ℕ) (d : Dependency) → adds relation known d ≡ true → d .relation ≡ relation
 unfolding adds
 adds-relation relation known d e =
     eqb-true (d .relation) relation

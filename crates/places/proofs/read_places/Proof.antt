@@ -15,6 +15,7 @@ use Rattle.record.specs.declared.Answer.the-variants.{Done, Refused}
 use Rattle.query.specs.Rule.{noPlace}
 use Rattle.lists.specs.Over.{over}
 use Rattle.refusals.specs.Refusals.{Reply, gives, refused, _>>=_}
+use Rattle.decoder.proofs.Placed.{place-accepted, place-refused}
 use Rattle.format.specs.File.{stretch, stretches, readPlace, noneLeft, readPlaces, outcomeOf}
 use Rattle.lists.proofs.Over.{over-nil, over-set}
 use Rattle.format.proofs.Arrays.{pad-over}
@@ -92,15 +93,6 @@ stored rs ds places i place (gives ps) h =
     }
 stored rs ds places i place (refused m) h = refl
 
--- the place reader's answer
-place-some : (o : Reply Place) (r : PlaceRead) → r ≡ placeRead o → r .answer ≡ Done → o ≡ gives (r .place)
-place-some (gives p) r e g = ap (λ (r : PlaceRead). gives (r .place)) (sym e)
-place-some (refused m) r e g = let t : r .answer ≡ Refused m = ap (λ (r : PlaceRead). r .answer) e in let z : _≡_ {A = ℕ} 0 1 = cc in absurd (omega arith)
-
-place-none : (o : Reply Place) (r : PlaceRead) (m : ℕ) → r ≡ placeRead o → r .answer ≡ Refused m → o ≡ refused m
-place-none (gives p) r m e g = let t : r .answer ≡ Done = ap (λ (r : PlaceRead). r .answer) e in let z : _≡_ {A = ℕ} 0 1 = cc in absurd (omega arith)
-place-none (refused l) r m e g = let t : r .answer ≡ Refused l = ap (λ (r : PlaceRead). r .answer) e in let s : l ≡ m = cc in rw s
-
 module _ (rs : ℕ × List ℕ) (ds : ℕ × List Dependency) (schema file : List ℕ) (n : ℕ) (places : List Place) (k : ℕ) (f : At rs ds schema file n places k)
     (h : k < n) (few : n ≤ 10)
     (p : List ℕ) (ep : p ≡ stretch file (tableAt file k)) (r : PlaceRead) (er : r ≡ placeRead (readPlace schema (eqb (k + 1) n) p)) where
@@ -120,7 +112,7 @@ module _ (rs : ℕ × List ℕ) (ds : ℕ × List Dependency) (schema file : Lis
   goes-on g =
       let low = f .low in
       let long = f .long in
-      let o = place-some (readPlace schema (eqb (k + 1) n) p) r er g in
+      let o = place-accepted (readPlace schema (eqb (k + 1) n) p) r er g in
       let m : suc (k - 2) ≡ k + 1 - 2 = omega arith in
       record {
         low = omega arith;
@@ -133,7 +125,7 @@ module _ (rs : ℕ × List ℕ) (ds : ℕ × List Dependency) (schema file : Lis
 
   stops : (m : ℕ) → r .answer ≡ Refused m → outcomeOf (refused m) ≡ recordRead rs ds (readPlaces schema (stretches (n - 2) file (drop 10 file)))
   stops m g =
-      let o = place-none (readPlace schema (eqb (k + 1) n) p) r m er g in
+      let o = place-refused (readPlace schema (eqb (k + 1) n) p) r m er g in
       sym (f .rest ∙ ap (recordOver rs ds places (k - 2)) (this ∙ split-refused schema p others m (last ∙ o)))
 
 ended : (rs : ℕ × List ℕ) (ds : ℕ × List Dependency) (schema file : List ℕ) (n : ℕ) (places : List Place) (k : ℕ) → At rs ds schema file n places k → n ≤ k

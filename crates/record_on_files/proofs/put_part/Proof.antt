@@ -5,7 +5,8 @@ use mathlib.Core.Bool.{true}
 use Rattle.record.proofs.Good.{good-record}
 use Rattle.format.specs.File.{readPlace}
 use Rattle.record_on_files.specs.Records.{resultOf}
-use Rattle.record_on_files.proofs.Kept.{refused-sound, put-sound, part-above, part-bad, part-read, place-accepted, place-refused}
+use Rattle.record_on_files.proofs.Kept.{refused-sound, put-sound, part-above, part-bad, part-read}
+use Rattle.decoder.proofs.Placed.{place-accepted, place-refused}
 use borrow.Author.Needs.{needs}
 use Rattle.record_on_files.proofs.put_part.Statement.{statement}
 use Rattle.record_on_files.proofs.put_part.Tie as tie

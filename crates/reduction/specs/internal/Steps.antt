@@ -39,11 +39,3 @@ pub record Reducible (r : Record) (source target : ℕ) : Type 0 where
   pub source-low : source < 8
   pub target-low : target < 8
   pub source-filled : isFilled r source ≡ true
-
--- What an accepted reduction gives: the target place holds the result, and all else in the record is as it was
-pub record IsStored (r : Record) (source target : ℕ) (o : Reduced) : Type 0 where
-  pub done : o .answer ≡ answer.Done
-  pub unchanged : o .«record» ≡ withPlace r target (record { filled = true; query = storedAt (o .«record») target })
-  pub good : goodRecord (o .«record») ≡ true
-  pub reduces : ReducesTo (schemaOf r) (dependenciesOf r) (queryAt r source) (queryAt (o .«record») target) (o .count) (imagesOf (o .images))
-  pub no-mapping : queryAt (o .«record») target .rows ≡ [] → o .images ≡ replicate 96 noCell

@@ -1,0 +1,2 @@
+-- What a query part that was read tells of its reading (Placed).
+pub mod Placed
