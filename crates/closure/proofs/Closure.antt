@@ -16,7 +16,7 @@ use lib.Count.{ones}
 use lib.Pow.{pow-lt, pow-mono}
 use lib.ListN.{length, take, drop, getD, drop-of-length-le, length-map, List·getD-map}
 use lib.Seq.{drop-cons, getD-take, length-take-le}
-use borrow.Author.Tests.{eqb-true, ltb-true}
+use borrow.Author.Tests.{ltb-true}
 use Rattle.theory.proofs.Determined.{adds-relation}
 use Rattle.theory.specs.Query.{member, _∈_}
 use Rattle.theory.specs.Chase.{firstPassing}
@@ -27,7 +27,7 @@ use Rattle.query.specs.View.{columnsFrom, columnsOf, dependencyOf, maskOf}
 use Rattle.lists.specs.Tests.{every}
 use Rattle.query.specs.Rule.{noDependency}
 use Rattle.closure.specs.internal.Closure.{addRight, nextMask, growMask, rightNarrow}
-use Rattle.lists.proofs.Tests.{and-left, every-getD}
+use Rattle.lists.proofs.Tests.{every-getD}
 use Rattle.closure.proofs.Masks.{Same, same-columns, same-more, subset-mask, bit-shift, columns-in, mask-columns, columns-count}
 
 pub passing-in : {A : Type 0} (test : A → Bool) (xs : List A) (x : A) → firstPassing test xs ≡ some x → (x ∈ xs) × (test x ≡ true)

@@ -7,14 +7,14 @@ use mathlib.Core.List.{List, [], _∷_, List·Memᴰ·head, List·Memᴰ·not-ni
 use mathlib.Core.Option.{Option, none, some}
 use Prim.Native.Nat.{ℕ, _≤_, _<_}
 use native.Mathlib.Omega.{arith}
-use lib.ListN.{length, take}
+use lib.ListN.{length}
 use Rattle.record.specs.Calls.{storedAt, queryAt}
 use Rattle.mapping.proofs.Never.{never-rows}
 use Rattle.query.specs.declared.Cell.{Cell}
 use Rattle.query.specs.declared.Query.{Query}
 use Rattle.query.specs.declared.Dependency.{Dependency}
 use Rattle.record.specs.declared.Record.{Record}
-use Rattle.query.specs.View.{entriesOf, rowsOf, queryOf, imagesOf}
+use Rattle.query.specs.View.{entriesOf, queryOf, imagesOf}
 use Rattle.record.specs.View.{schemaOf}
 use Rattle.lists.specs.Tests.{every, between}
 use Rattle.record.specs.Rule.{goodRecord}

@@ -17,7 +17,7 @@ use Rattle.record.specs.declared.Record.{Record}
 use Rattle.query.specs.View.{queryOf, imagesOf}
 use Rattle.record.specs.View.{schemaOf, dependenciesOf}
 use Rattle.lists.specs.Tests.{every, between}
-use Rattle.query.specs.Rule.{blankQuery, goodQuery, headSafe, noCell, noQuery, goodPlace, noPlace}
+use Rattle.query.specs.Rule.{goodQuery, headSafe, noCell, noQuery, goodPlace, noPlace}
 use Rattle.record.specs.Rule.{goodRecord}
 use Rattle.record.specs.Calls.{isFilled, storedAt, queryAt}
 use Rattle.record.proofs.Good.{good-record}

@@ -37,7 +37,7 @@ use Rattle.writer.specs.Write.{written, afterWriting}
 use Rattle.file.proofs.RoundTrip.{written-back, read-back}
 use Rattle.writer.proofs.Writing.{fits-written, written-fits}
 use Rattle.lists.proofs.Over.{over-length}
-use Rattle.demands.specs.Demand2.{Decides, Evaluates, WrittenBack, ReadBack}
+use Rattle.demands.specs.Demand2.{Decides, Evaluates, FileComesBack, RecordComesBack}
 
 -- A verdict that is not a refusal and does not say contained is Apart
 apart-else : (v : Verdict) → ((n : ℕ) → v ≡ Refused n → ⊥) → (SaysContained v → ⊥) → v ≡ Apart
@@ -119,7 +119,7 @@ evaluates r place words before after a is-a is-after =
 
 module _ (file before after : List ℕ) (o : Outcome) (is : o ≡ outcomeOf (readFile file)) where
   -- A file whose record is written back
-  pub written-again : (w : Written) → Bytes file → w ≡ written (o .«record») before → after ≡ afterWriting (o .«record») before → WrittenBack file before after w
+  pub written-again : (w : Written) → Bytes file → w ≡ written (o .«record») before → after ≡ afterWriting (o .«record») before → FileComesBack file before after w
   written-again w bytes says left r reads room =
       let same : o .«record» ≡ r = ap (λ (x : Outcome). x .«record») (is ∙ reads) in
       let back = written-back file before r bytes reads room in
@@ -131,7 +131,7 @@ module _ (file before after : List ℕ) (o : Outcome) (is : o ≡ outcomeOf (rea
       )
 
   -- A file that is refused
-  pub not-read : (w : Written) (n : ℕ) → o .answer ≡ answer.Refused n → WrittenBack file before after w
+  pub not-read : (w : Written) (n : ℕ) → o .answer ≡ answer.Refused n → FileComesBack file before after w
   not-read w n says r reads room =
       let done : answer.Done ≡ answer.Refused n = sym (ap (λ (x : Outcome). x .answer) (is ∙ reads)) ∙ says in
       absurd (let z : _≡_ {A = ℕ} 0 1 = cc in omega arith)
@@ -139,11 +139,11 @@ module _ (file before after : List ℕ) (o : Outcome) (is : o ≡ outcomeOf (rea
 module _ (r : Record) (before after : List ℕ) (o : Outcome) where
   -- A record whose file is read back
   pub read-again : shaped r ≡ true → (n : ℕ) → written r before ≡ variant.Length n → after ≡ afterWriting r before
-      → o ≡ outcomeOf (readFile (take n after)) → ReadBack r before o
+      → o ≡ outcomeOf (readFile (take n after)) → RecordComesBack r before o
   read-again shape n says left is m writes = is ∙ ap (λ (l : List ℕ). outcomeOf (readFile (take n l))) left ∙ read-back r before n shape says
 
   -- A record that is refused
-  pub not-written : (n : ℕ) → written r before ≡ variant.Refused n → ReadBack r before o
+  pub not-written : (n : ℕ) → written r before ≡ variant.Refused n → RecordComesBack r before o
   not-written n says m writes = absurd (let z : _≡_ {A = ℕ} 0 1 = cc in omega arith)
 
 -- What is written lies in the buffer

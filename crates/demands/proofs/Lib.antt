@@ -1,4 +1,4 @@
 -- The demands from the calls' own contracts, a file each.
-pub mod Keeping
+pub mod Conditions
 pub mod Answering
 pub mod Shortening

@@ -1,13 +1,14 @@
--- Demand 1: what every call keeps, whatever it is given. A call asks conditions in an order. It is refused exactly when one of them holds, with the number of
--- the first, and then hands back the record it was given and leaves every buffer as it was; otherwise it answers and leaves what is due.
--- What each call asks, and what is due, is defined at the call. That a call ends is part of every proved contract.
+-- Demand 1: what every public call meets, whatever it is given. A call asks conditions, which its own specs define; the table below has their numbers. It is
+-- refused exactly when one of them holds, with the number of the first, and then hands back the record it was given and leaves every buffer as it was;
+-- otherwise it answers and leaves what is due. That a call ends is part of every proved contract.
 use mathlib.Core.Path.{_≡_}
 use mathlib.Core.Bool.{true}
 use mathlib.Core.List.{List, [], _∷_, _++_, map}
 use mathlib.Core.Option.{Option, none, some}
 use Prim.Native.Nat.{ℕ, zero, suc, _-_}
 use lib.ListN.{length, drop, getD, replicate}
-use Rattle.refusals.specs.Refusals.{badDirectory, badOffsets, badRelations, badDependency, badQuery, unsafeHead}
+use Rattle.refusals.specs.Refusals.{badDirectory, badOffsets, badRelations, badDependency, badQuery, unsafeHead, noSuchPlace, headsDiffer, badDatabase}
+use Rattle.refusals.specs.Refusals.{bufferTooShort, placeVacant, placeFilled, dependenciesFull, badRecord}
 use Rattle.refusals.specs.Refusals.{Condition, order, follows, firstHolding, gives}
 use Rattle.query.specs.declared.Cell.{Cell}
 use Rattle.query.specs.declared.Dependency.{Dependency}
@@ -40,6 +41,7 @@ use Rattle.words.specs.Words.{rowsOf}
 use Rattle.words.specs.Testing.{firstBrokenFrom}
 use Rattle.words.specs.Broken.{violationOf}
 use Rattle.evaluation.specs.Evaluated.{answerWords}
+use Rattle.lists.specs.Tests.{every}
 use Rattle.lists.specs.Over.{over}
 use Rattle.format.specs.Bytes.{number}
 use Rattle.format.specs.File.{readFile, fileOf}
@@ -50,16 +52,69 @@ use Rattle.writer.specs.Write.{writeConditions}
 use Rattle.theory.specs.Checking.{mapsTo}
 use Rattle.theory.specs.Determined.{determined}
 
+-- ---- what each call asks, by the numbers of the refusals
+
+-- Opening a record
+abbrev pub openAsks : List ℕ
+openAsks = badRelations ∷ []
+
+-- Adding a dependency
+abbrev pub addAsks : List ℕ
+addAsks = badRecord ∷ badDependency ∷ dependenciesFull ∷ []
+
+-- Putting a query
+abbrev pub putAsks : List ℕ
+putAsks = badRecord ∷ noSuchPlace ∷ badQuery ∷ unsafeHead ∷ placeFilled ∷ []
+
+-- Dropping a query
+abbrev pub dropAsks : List ℕ
+dropAsks = badRecord ∷ noSuchPlace ∷ placeVacant ∷ []
+
+-- Determined columns
+abbrev pub determinedAsks : List ℕ
+determinedAsks = badRecord ∷ badDependency ∷ []
+
+-- Comparing two places, and checking a mapping between them
+abbrev pub pairAsks : List ℕ
+pairAsks = badRecord ∷ noSuchPlace ∷ noSuchPlace ∷ placeVacant ∷ placeVacant ∷ headsDiffer ∷ []
+
+-- Reducing
+abbrev pub reduceAsks : List ℕ
+reduceAsks = badRecord ∷ noSuchPlace ∷ noSuchPlace ∷ placeVacant ∷ placeFilled ∷ []
+
+-- Testing a database
+abbrev pub testAsks : List ℕ
+testAsks = badRecord ∷ badDatabase ∷ []
+
+-- Evaluating a place
+abbrev pub evaluateAsks : List ℕ
+evaluateAsks = badRecord ∷ noSuchPlace ∷ placeVacant ∷ badDatabase ∷ bufferTooShort ∷ []
+
+-- Writing a record
+abbrev pub writeAsks : List ℕ
+writeAsks = badRecord ∷ bufferTooShort ∷ []
+
+-- Each call asks in the order of the refusals
+abbrev pub AsksInOrder : Type 0
+AsksInOrder =
+    every (λ numbers. follows numbers order)
+    (openAsks ∷ addAsks ∷ putAsks ∷ dropAsks ∷ determinedAsks ∷ pairAsks ∷ reduceAsks ∷ testAsks ∷ evaluateAsks ∷ writeAsks ∷ []) ≡ true
+
+-- The faults of so many query parts: part by part in file order, within a part by number
+unfoldable pub partsAsk : ℕ → List ℕ
+partsAsk zero = []
+partsAsk (suc n) = badQuery ∷ unsafeHead ∷ partsAsk n
+
+-- Reading a file, whose order is its own: the directory's faults, then those of each part in file order
+abbrev pub readAsks : List ℕ → List ℕ
+readAsks file = badDirectory ∷ badOffsets ∷ badRelations ∷ badDependency ∷ partsAsk (number 2 file - 2)
+
 -- ---- what is said of every call
 
--- Numbers are asked in an order, each as often as it likes
-abbrev pub InOrder : List Condition → List ℕ → Type 0
-InOrder conditions numbers = follows (map (λ c. c .1) conditions) numbers ≡ true
-
--- A call that asks these conditions in this order of numbers, and says that it is refused with a number or not
-pub record Keeps (conditions : List Condition) (numbers : List ℕ) (said : Option ℕ) (Unchanged Due : Type 0) : Type 0 where
-  -- It asks them in order
-  pub ordered : InOrder conditions numbers
+-- A call that asks these conditions, and says that it is refused with a number or not
+pub record Meets (conditions : List Condition) (numbers : List ℕ) (said : Option ℕ) (Unchanged Due : Type 0) : Type 0 where
+  -- Its conditions are those of the table, none more and none missing
+  pub asks : map (λ c. c .1) conditions ≡ numbers
   -- It is refused exactly when one holds, with the number of the first that does
   pub first : said ≡ firstHolding conditions
   -- Refused, it hands back the record given, leaves the buffers as they were, and its other fields hold 0
@@ -67,7 +122,7 @@ pub record Keeps (conditions : List Condition) (numbers : List ℕ) (said : Opti
   -- Accepted, it answers and leaves what is due
   pub due : said ≡ none → Due
 
--- Nothing is handed back or lent
+-- There is nothing that a refusal could change: no record and no buffer comes back
 abbrev pub Nothing : Type 0
 Nothing = Unit {0}
 
@@ -103,96 +158,87 @@ testRefusal (test.Broken k i j) = none
 testRefusal (test.Refused n) = some n
 
 -- An evaluation
-abbrev pub evaluationRefusal : Answered → Option ℕ
-evaluationRefusal (answered.Count n) = none
-evaluationRefusal (answered.Refused n) = some n
+abbrev pub countRefusal : Answered → Option ℕ
+countRefusal (answered.Count n) = none
+countRefusal (answered.Refused n) = some n
 
 -- Writing
-abbrev pub writingRefusal : Written → Option ℕ
-writingRefusal (written.Length n) = none
-writingRefusal (written.Refused n) = some n
+abbrev pub lengthRefusal : Written → Option ℕ
+lengthRefusal (written.Length n) = none
+lengthRefusal (written.Refused n) = some n
 
 -- ---- the calls on the record alone
 
 -- Opening a record: it was given none, so a refusal hands back the blank one
-abbrev pub OpenKeeps : List ℕ → Outcome → Type 0
-OpenKeeps widths o =
-    Keeps (openConditions widths) order (answerRefusal (o .answer)) (o .«record» ≡ blankRecord)
+abbrev pub OpenMeets : List ℕ → Outcome → Type 0
+OpenMeets widths o =
+    Meets (openConditions widths) openAsks (answerRefusal (o .answer)) (o .«record» ≡ blankRecord)
     (o .«record» ≡ emptyRecord (length widths) (widths ++ replicate (8 - length widths) 0))
 
 -- Adding a dependency
-abbrev pub AddKeeps : Record → Dependency → Outcome → Type 0
-AddKeeps r d o = Keeps (addConditions r d) order (answerRefusal (o .answer)) (o .«record» ≡ r) (o .«record» ≡ withDependency r d)
+abbrev pub AddMeets : Record → Dependency → Outcome → Type 0
+AddMeets r d o = Meets (addConditions r d) addAsks (answerRefusal (o .answer)) (o .«record» ≡ r) (o .«record» ≡ withDependency r d)
 
 -- Putting a query
-abbrev pub PutKeeps : Record → ℕ → Query → Outcome → Type 0
-PutKeeps r place q o =
-    Keeps (putConditions r place q) order (answerRefusal (o .answer)) (o .«record» ≡ r) (o .«record» ≡ withPlace r place (record { filled = true; query = q }))
+abbrev pub PutMeets : Record → ℕ → Query → Outcome → Type 0
+PutMeets r place q o =
+    Meets (putConditions r place q) putAsks (answerRefusal (o .answer)) (o .«record» ≡ r) (o .«record» ≡ withPlace r place (record { filled = true; query = q }))
 
 -- Dropping a query
-abbrev pub DropKeeps : Record → ℕ → Outcome → Type 0
-DropKeeps r place o = Keeps (dropConditions r place) order (answerRefusal (o .answer)) (o .«record» ≡ r) (o .«record» ≡ withPlace r place noPlace)
+abbrev pub DropMeets : Record → ℕ → Outcome → Type 0
+DropMeets r place o = Meets (dropConditions r place) dropAsks (answerRefusal (o .answer)) (o .«record» ≡ r) (o .«record» ≡ withPlace r place noPlace)
 
 -- The columns that a left set determines
 abbrev pub determinedAt : Record → ℕ → ℕ → List ℕ
 determinedAt r relation left = determined (dependenciesOf r) relation (getD (schemaOf r) relation 0) (columnsOf left)
 
 -- Asking for determined columns
-abbrev pub DeterminedKeeps : Record → ℕ → ℕ → Columns → Type 0
-DeterminedKeeps r relation left c =
-    Keeps (determinedConditions r relation left) order (columnsRefusal c) Nothing
+abbrev pub DeterminedMeets : Record → ℕ → ℕ → Columns → Type 0
+DeterminedMeets r relation left c =
+    Meets (determinedConditions r relation left) determinedAsks (columnsRefusal c) Nothing
     (c ≡ columns.Determined (maskOf (determinedAt r relation left)) (length (determinedAt r relation left)))
 
 -- ---- comparing, checking a mapping, reducing
 
 -- Comparing two places: what is due leaves free only which mapping
-abbrev pub CompareKeeps : Record → ℕ → ℕ → Comparison → Type 0
-CompareKeeps r p q c =
-    Keeps (pairConditions r p q) order (verdictRefusal (c .verdict)) ((c .images ≡ replicate 96 noCell) × (c .query ≡ noQuery)) (Compared r p q c)
+abbrev pub CompareMeets : Record → ℕ → ℕ → Comparison → Type 0
+CompareMeets r p q c =
+    Meets (pairConditions r p q) pairAsks (verdictRefusal (c .verdict)) ((c .images ≡ replicate 96 noCell) × (c .query ≡ noQuery)) (Compared r p q c)
 
 -- Checking a mapping
-abbrev pub CheckKeeps : Record → ℕ → ℕ → List Cell → Checked → Type 0
-CheckKeeps r p q images c =
-    Keeps (pairConditions r p q) order (checkRefusal c) Nothing (checkOf c ≡ gives (mapsTo (queryAt r q) (queryAt r p) (entriesOf images)))
+abbrev pub CheckMeets : Record → ℕ → ℕ → List Cell → Checked → Type 0
+CheckMeets r p q images c =
+    Meets (pairConditions r p q) pairAsks (checkRefusal c) Nothing (checkOf c ≡ gives (mapsTo (queryAt r q) (queryAt r p) (entriesOf images)))
 
 -- Reducing: what is due leaves free which rows stay, their order, and the mapping
-abbrev pub ReduceKeeps : Record → ℕ → ℕ → Reduced → Type 0
-ReduceKeeps r source target o =
-    Keeps (reductionConditions r source target) order (answerRefusal (o .answer))
+abbrev pub ReduceMeets : Record → ℕ → ℕ → Reduced → Type 0
+ReduceMeets r source target o =
+    Meets (reductionConditions r source target) reduceAsks (answerRefusal (o .answer))
     ((o .«record» ≡ r) × (o .images ≡ replicate 96 noCell) × (o .count ≡ 0)) (IsReduced r source target o)
 
 -- ---- databases
 
 -- Testing a database
-abbrev pub TestKeeps : Record → List ℕ → Conformance → Type 0
-TestKeeps r words v =
-    Keeps (testConditions r words) order (testRefusal v) Nothing (v ≡ testOf (violationOf (firstBrokenFrom 0 (dependenciesOf r) (rowsOf (schemaOf r) words))))
+abbrev pub TestMeets : Record → List ℕ → Conformance → Type 0
+TestMeets r words v =
+    Meets (testConditions r words) testAsks (testRefusal v) Nothing (v ≡ testOf (violationOf (firstBrokenFrom 0 (dependenciesOf r) (rowsOf (schemaOf r) words))))
 
 -- Evaluating a place
-abbrev pub EvaluateKeeps : Record → ℕ → List ℕ → List ℕ → List ℕ → Answered → Type 0
-EvaluateKeeps r place words before after a =
-    Keeps (evaluationConditions r place words (length before)) order (evaluationRefusal a) (after ≡ before)
+abbrev pub EvaluateMeets : Record → ℕ → List ℕ → List ℕ → List ℕ → Answered → Type 0
+EvaluateMeets r place words before after a =
+    Meets (evaluationConditions r place words (length before)) evaluateAsks (countRefusal a) (after ≡ before)
     ((a ≡ answered.Count (length (placeAnswers r place words)))
     × (after ≡ answerWords (placeAnswers r place words) ++ drop (length (answerWords (placeAnswers r place words))) before))
 
 -- ---- files
 
--- The order of the faults of so many query parts: part by part, within a part by number
-unfoldable pub partsOrder : ℕ → List ℕ
-partsOrder zero = []
-partsOrder (suc n) = badQuery ∷ unsafeHead ∷ partsOrder n
-
--- The order of the faults of a file: the directory's, then those of each part in file order
-abbrev pub fileOrder : List ℕ → List ℕ
-fileOrder file = badDirectory ∷ badOffsets ∷ badRelations ∷ badDependency ∷ partsOrder (number 2 file - 2)
-
 -- Reading a file: it was given no record, so a refusal hands back the blank one
-abbrev pub ReadKeeps : List ℕ → Outcome → Type 0
-ReadKeeps file o =
-    Keeps (readConditions file) (fileOrder file) (answerRefusal (o .answer)) (o .«record» ≡ blankRecord) (readFile file ≡ gives (o .«record»))
+abbrev pub ReadMeets : List ℕ → Outcome → Type 0
+ReadMeets file o =
+    Meets (readConditions file) (readAsks file) (answerRefusal (o .answer)) (o .«record» ≡ blankRecord) (readFile file ≡ gives (o .«record»))
 
 -- Writing a record into a buffer
-abbrev pub WriteKeeps : Record → List ℕ → List ℕ → Written → Type 0
-WriteKeeps r before after w =
-    Keeps (writeConditions r (length before)) order (writingRefusal w) (after ≡ before)
+abbrev pub WriteMeets : Record → List ℕ → List ℕ → Written → Type 0
+WriteMeets r before after w =
+    Meets (writeConditions r (length before)) writeAsks (lengthRefusal w) (after ≡ before)
     ((w ≡ written.Length (length (fileOf r))) × (after ≡ over before 0 (fileOf r)))

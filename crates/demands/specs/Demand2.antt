@@ -50,10 +50,10 @@ pub record Evaluates (r : Record) (place : ℕ) (words before after : List ℕ) 
 -- ---- files
 
 -- A file that reading accepts, read and written into a buffer with room for it: the same bytes, and those after them stay
-abbrev pub WrittenBack : List ℕ → List ℕ → List ℕ → Written → Type 0
-WrittenBack file before after w =
+abbrev pub FileComesBack : List ℕ → List ℕ → List ℕ → Written → Type 0
+FileComesBack file before after w =
     (r : Record) → Reads file r → length file ≤ length before → (w ≡ written.Length (length file)) × (after ≡ file ++ drop (length file) before)
 
 -- A record that writing accepts, written and read back: the same record
-abbrev pub ReadBack : Record → List ℕ → Outcome → Type 0
-ReadBack r before o = (n : ℕ) → Writes r before n → o ≡ record { answer = answer.Done; «record» = r }
+abbrev pub RecordComesBack : Record → List ℕ → Outcome → Type 0
+RecordComesBack r before o = (n : ℕ) → Writes r before n → o ≡ record { answer = answer.Done; «record» = r }

@@ -1,4 +1,4 @@
-// Demand 1: every call keeps the order of refusals, hands back what it was given where it is refused, and otherwise leaves what is due.
+// Demand 1: every call is refused in the order of refusals and then hands back what it was given; otherwise it leaves what is due.
 use comparison::Checked;
 use comparison::Comparison;
 use database::Answered;
@@ -11,41 +11,41 @@ use record::Columns;
 use record::Outcome;
 use record::Record;
 use reduction::Reduced;
-ghost use Rattle.demands.specs.Demand1.{OpenKeeps, AddKeeps, PutKeeps, DropKeeps, DeterminedKeeps, CompareKeeps, CheckKeeps, ReduceKeeps, TestKeeps, EvaluateKeeps, ReadKeeps, WriteKeeps};
+ghost use Rattle.demands.specs.Demand1.{OpenMeets, AddMeets, PutMeets, DropMeets, DeterminedMeets, CompareMeets, CheckMeets, ReduceMeets, TestMeets, EvaluateMeets, ReadMeets, WriteMeets};
 
 // ---- the record
 
 // Opens a record from relation widths.
 pub fn open(widths: &[u8]) -> Outcome
-    ensures { λ o. ⌜ OpenKeeps (now (widths .entry)) o ⌝ }
+    ensures { λ o. ⌜ OpenMeets (now (widths .entry)) o ⌝ }
 {
     Record::open(widths)
 }
 
 // Adds a dependency.
 pub fn add(given: Record, d: Dependency) -> Outcome
-    ensures { λ o. ⌜ AddKeeps given d o ⌝ }
+    ensures { λ o. ⌜ AddMeets given d o ⌝ }
 {
     given.add_dependency(d)
 }
 
 // Puts a query into a vacant place.
 pub fn put(given: Record, place: usize, q: Query) -> Outcome
-    ensures { λ o. ⌜ PutKeeps given place q o ⌝ }
+    ensures { λ o. ⌜ PutMeets given place q o ⌝ }
 {
     given.put(place, q)
 }
 
 // Drops the query of a filled place.
 pub fn drop_query(given: Record, place: usize) -> Outcome
-    ensures { λ o. ⌜ DropKeeps given place o ⌝ }
+    ensures { λ o. ⌜ DropMeets given place o ⌝ }
 {
     given.drop_query(place)
 }
 
 // The columns that a left set determines.
 pub fn determined(given: Record, relation: u8, left: u8) -> Columns
-    ensures { λ c. ⌜ DeterminedKeeps given relation left c ⌝ }
+    ensures { λ c. ⌜ DeterminedMeets given relation left c ⌝ }
 {
     given.determined(relation, left)
 }
@@ -54,21 +54,21 @@ pub fn determined(given: Record, relation: u8, left: u8) -> Columns
 
 // Compares the queries of two places.
 pub fn compare(given: Record, p: usize, q: usize) -> Comparison
-    ensures { λ c. ⌜ CompareKeeps given p q c ⌝ }
+    ensures { λ c. ⌜ CompareMeets given p q c ⌝ }
 {
     comparison::compare(given, p, q)
 }
 
 // Checks a mapping from the query of place q to that of place p.
 pub fn check(given: Record, p: usize, q: usize, images: [Cell; 96]) -> Checked
-    ensures { λ c. ⌜ CheckKeeps given p q images c ⌝ }
+    ensures { λ c. ⌜ CheckMeets given p q images c ⌝ }
 {
     comparison::check_mapping(given, p, q, images)
 }
 
 // Reduces the query of one place into another.
 pub fn reduce(given: Record, source: usize, target: usize) -> Reduced
-    ensures { λ o. ⌜ ReduceKeeps given source target o ⌝ }
+    ensures { λ o. ⌜ ReduceMeets given source target o ⌝ }
 {
     reduction::reduce(given, source, target)
 }
@@ -77,14 +77,14 @@ pub fn reduce(given: Record, source: usize, target: usize) -> Reduced
 
 // Tests a database against the dependencies.
 pub fn test(given: Record, words: &[u32]) -> Conformance
-    ensures { λ v. ⌜ TestKeeps given (now (words .entry)) v ⌝ }
+    ensures { λ v. ⌜ TestMeets given (now (words .entry)) v ⌝ }
 {
     database::test(given, words)
 }
 
 // Evaluates the query of a place on a database.
 pub fn evaluate(given: Record, place: usize, words: &[u32], buffer: &mut [u32]) -> Answered
-    ensures { λ a. ⌜ EvaluateKeeps given place (now (words .entry)) (now (buffer .entry)) (now (buffer .exit)) a ⌝ }
+    ensures { λ a. ⌜ EvaluateMeets given place (now (words .entry)) (now (buffer .entry)) (now (buffer .exit)) a ⌝ }
 {
     database::evaluate(given, place, words, buffer)
 }
@@ -93,14 +93,14 @@ pub fn evaluate(given: Record, place: usize, words: &[u32], buffer: &mut [u32]) 
 
 // Reads a file.
 pub fn read(file: &[u8]) -> Outcome
-    ensures { λ o. ⌜ ReadKeeps (now (file .entry)) o ⌝ }
+    ensures { λ o. ⌜ ReadMeets (now (file .entry)) o ⌝ }
 {
     file::read(file)
 }
 
 // Writes a record into a lent buffer.
 pub fn write(given: Record, buffer: &mut [u8]) -> Written
-    ensures { λ w. ⌜ WriteKeeps given (now (buffer .entry)) (now (buffer .exit)) w ⌝ }
+    ensures { λ w. ⌜ WriteMeets given (now (buffer .entry)) (now (buffer .exit)) w ⌝ }
 {
     file::write(given, buffer)
 }

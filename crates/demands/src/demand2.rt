@@ -5,7 +5,7 @@ use file::Written;
 use record::Answer;
 use record::Outcome;
 use record::Record;
-ghost use Rattle.demands.specs.Demand2.{Decides, Evaluates, WrittenBack, ReadBack};
+ghost use Rattle.demands.specs.Demand2.{Decides, Evaluates, FileComesBack, RecordComesBack};
 
 // Contained exactly when it is so on every database that obeys the dependencies; otherwise one is shown on which it is not.
 pub fn compare(given: Record, p: usize, q: usize) -> Comparison
@@ -23,7 +23,7 @@ pub fn evaluate(given: Record, place: usize, words: &[u32], buffer: &mut [u32]) 
 
 // A file that is read, and its record written: the same bytes.
 pub fn write_back(file: &[u8], buffer: &mut [u8]) -> Written
-    ensures { λ w. ⌜ WrittenBack (now (file .entry)) (now (buffer .entry)) (now (buffer .exit)) w ⌝ }
+    ensures { λ w. ⌜ FileComesBack (now (file .entry)) (now (buffer .entry)) (now (buffer .exit)) w ⌝ }
 {
     let read = file::read(file);
     let answer = read.answer;
@@ -35,7 +35,7 @@ pub fn write_back(file: &[u8], buffer: &mut [u8]) -> Written
 
 // A record that is written, and its file read: the same record.
 pub fn read_back(given: Record, buffer: &mut [u8]) -> Outcome
-    ensures { λ o. ⌜ ReadBack given (now (buffer .entry)) o ⌝ }
+    ensures { λ o. ⌜ RecordComesBack given (now (buffer .entry)) o ⌝ }
 {
     let written = file::write(given, buffer);
     match written {

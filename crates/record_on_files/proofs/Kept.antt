@@ -6,20 +6,17 @@ use Prim.Native.Nat.{ℕ, _≤_, _<_}
 use native.Mathlib.Omega.{arith}
 use lib.ListN.{length}
 use borrow.Author.Tests.{lt-ltb, le-ltb}
-use Rattle.refusals.specs.Refusals.{_>>=_, gives, noSuchPlace, refused, Reply}
+use Rattle.refusals.specs.Refusals.{_>>=_, gives, noSuchPlace, refused}
 use Rattle.query.specs.declared.Query.{Query}
 use Rattle.query.specs.declared.Dependency.{Dependency}
 use Rattle.query.specs.declared.Place.{Place}
 use Rattle.record.specs.declared.Record.{Record}
-use Rattle.record.specs.declared.Answer.the-variants.{Done, Refused}
 use Rattle.record.specs.declared.Outcome.{Outcome}
 use Rattle.record.specs.View.{schemaOf}
 use Rattle.record.specs.Rule.{goodRecord}
 use Rattle.record.specs.Calls.{openRecord, addDependency, putQuery, dropQuery}
 use Rattle.record.proofs.Meaning.{open-keeps, add-keeps, put-keeps, drop-keeps}
 use Rattle.format.specs.File.{readPlace}
-use Rattle.decoder.specs.declared.PlaceRead.{PlaceRead}
-use Rattle.decoder.specs.internal.Read.{placeRead}
 use Rattle.record_on_files.specs.Records.{resultOf, putPart}
 use Rattle.record_on_files.specs.internal.Steps.{GoodIfDone}
 

@@ -94,7 +94,7 @@ module _ (r : Record) (place : ℕ) (low : place < 8) (good : goodRecord r ≡ t
   good-images : every goodCell (o .images) ≡ true
   good-images =
       images-good (schemaOf r) (stored.narrow r good) result result-good (queryAt r place) (o .images) (reduces .mapping)
-      (λ e. alone-reduced .no-mapping accepted (ap (λ (q : theory.Query). q .rows) target-is ∙ e))
+      (λ e. alone-reduced .accepted accepted .no-mapping (ap (λ (q : theory.Query). q .rows) target-is ∙ e))
 
   -- ---- the lines
 

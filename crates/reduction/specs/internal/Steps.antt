@@ -7,16 +7,13 @@ use lib.ListN.{replicate}
 use Rattle.query.specs.declared.Query.{Query}
 use Rattle.query.specs.declared.Dependency.{Dependency}
 use Rattle.record.specs.declared.Record.{Record}
-use Rattle.record.specs.declared.Answer.the-variants as answer
 use Rattle.query.specs.View.{queryOf, imagesOf}
-use Rattle.record.specs.View.{schemaOf, dependenciesOf}
 use Rattle.lists.specs.Tests.{every, between}
 use Rattle.query.specs.Rule.{goodDependencies, goodQuery, headSafe, noCell}
 use Rattle.record.specs.Rule.{goodRecord}
-use Rattle.record.specs.Calls.{isFilled, withPlace, storedAt, queryAt}
+use Rattle.record.specs.Calls.{isFilled}
 use Rattle.theory.specs.Database as database
 use Rattle.reduction.specs.declared.Shortened.{Shortened}
-use Rattle.reduction.specs.declared.Reduced.{Reduced}
 use Rattle.reduction.specs.Reduced.{ReducesTo}
 
 -- A query and dependencies that are good under some schema, as those of a good record

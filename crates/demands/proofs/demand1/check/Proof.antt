@@ -1,5 +1,5 @@
 -- `demands::demand1::check` meets its contract. Assumes nothing.
-use Rattle.demands.proofs.Keeping.{check-keeps}
+use Rattle.demands.proofs.Conditions.{check-meets}
 use borrow.Author.Needs.{needs}
 use Rattle.demands.proofs.demand1.check.Statement.{statement}
 use Rattle.demands.proofs.demand1.check.Tie as tie
@@ -8,7 +8,7 @@ check-mapping-requires : tie.Need-check-mapping-requires
 check-mapping-requires c κs = search needs
 
 returns : tie.Need-returns
-returns c = check-keeps (c .before .args .given) (c .before .args .p) (c .before .args .q) (c .before .args .images) (c .check-mapping .result) (c .check-mapping .ensures)
+returns c = check-meets (c .before .args .given) (c .before .args .p) (c .before .args .q) (c .before .args .images) (c .check-mapping .result) (c .check-mapping .ensures)
 
 pub check-spec : {M : Type 1} → statement M
 check-spec = tie.close (tie.spec check-mapping-requires returns)

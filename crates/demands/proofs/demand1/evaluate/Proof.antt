@@ -1,5 +1,5 @@
 -- `demands::demand1::evaluate` meets its contract. Assumes nothing.
-use Rattle.demands.proofs.Keeping.{evaluate-keeps}
+use Rattle.demands.proofs.Conditions.{evaluate-meets}
 use borrow.Author.Needs.{needs}
 use Rattle.demands.proofs.demand1.evaluate.Statement.{statement}
 use Rattle.demands.proofs.demand1.evaluate.Tie as tie
@@ -14,7 +14,7 @@ returns : tie.Need-returns
 returns c =
     let k = c .before .before in
     let a = k .before .before .before .before .args in
-    evaluate-keeps (a .given) (a .place) (a .words .now) (a .buffer .now) _ (k .evaluate .result) (k .evaluate .ensures .0) (k .evaluate .ensures .1)
+    evaluate-meets (a .given) (a .place) (a .words .now) (a .buffer .now) _ (k .evaluate .result) (k .evaluate .ensures .0) (k .evaluate .ensures .1)
 
 pub evaluate-spec : {M : Type 1} → statement M
 evaluate-spec = tie.close (tie.spec evaluate-requires same-length returns)

@@ -1,5 +1,5 @@
 -- `demands::demand1::reduce` meets its contract. Assumes nothing.
-use Rattle.demands.proofs.Keeping.{reduce-keeps}
+use Rattle.demands.proofs.Conditions.{reduce-meets}
 use borrow.Author.Needs.{needs}
 use Rattle.demands.proofs.demand1.reduce.Statement.{statement}
 use Rattle.demands.proofs.demand1.reduce.Tie as tie
@@ -8,7 +8,7 @@ reduce-requires : tie.Need-reduce-requires
 reduce-requires c κs = search needs
 
 returns : tie.Need-returns
-returns c = reduce-keeps (c .before .args .given) (c .before .args .source) (c .before .args .target) (c .reduce .result) (c .reduce .ensures)
+returns c = reduce-meets (c .before .args .given) (c .before .args .source) (c .before .args .target) (c .reduce .result) (c .reduce .ensures)
 
 pub reduce-spec : {M : Type 1} → statement M
 reduce-spec = tie.close (tie.spec reduce-requires returns)

@@ -1,5 +1,5 @@
 -- `demands::demand1::write` meets its contract. Assumes nothing.
-use Rattle.demands.proofs.Keeping.{write-keeps}
+use Rattle.demands.proofs.Conditions.{write-meets}
 use borrow.Author.Needs.{needs}
 use Rattle.demands.proofs.demand1.write.Statement.{statement}
 use Rattle.demands.proofs.demand1.write.Tie as tie
@@ -14,7 +14,7 @@ returns : tie.Need-returns
 returns c =
     let k = c .before .before in
     let a = k .before .before .before .args in
-    write-keeps (a .given) (a .buffer .now) _ (k .write .result) (k .write .ensures .0) (k .write .ensures .1)
+    write-meets (a .given) (a .buffer .now) _ (k .write .result) (k .write .ensures .0) (k .write .ensures .1)
 
 pub write-spec : {M : Type 1} → statement M
 write-spec = tie.close (tie.spec write-requires same-length returns)

@@ -3,10 +3,11 @@ use mathlib.Core.Path.{_≡_, refl, sym, ap, subst, _∙_}
 use mathlib.Core.Bool.{Bool, true, false}
 use mathlib.Core.List.{List, [], _∷_, map}
 use mathlib.Core.Option.{Option, none, some}
-use Prim.Native.Nat.{ℕ, zero, suc, _-_}
+use Prim.Native.Nat.{ℕ, _-_}
 use lib.Dec.{eqb}
 use lib.ListN.{length, drop}
 use native.Mathlib.Omega.{arith}
+use Rattle.lists.specs.Tests.{every}
 use Rattle.refusals.specs.Refusals.{Condition, order, follows, firstHolding, Reply, refused, gives, reply, refusalIn}
 use Rattle.query.specs.declared.Cell.{Cell}
 use Rattle.query.specs.declared.Dependency.{Dependency}
@@ -45,16 +46,16 @@ use Rattle.format.proofs.Faults.{first-fault}
 use Rattle.format.proofs.Stretches.{length-stretches}
 use Rattle.writer.specs.declared.Written.{Written}
 use Rattle.writer.specs.Write.{writingRefused, lengthUnless, fileUnless, written, afterWriting}
-use Rattle.demands.specs.Demand1.{InOrder, Keeps, determinedAt, answerRefusal, columnsRefusal, verdictRefusal, checkRefusal, testRefusal, evaluationRefusal, writingRefusal, OpenKeeps, AddKeeps, PutKeeps, DropKeeps, DeterminedKeeps, CompareKeeps, CheckKeeps, ReduceKeeps, TestKeeps, EvaluateKeeps, partsOrder, fileOrder, ReadKeeps, WriteKeeps}
+use Rattle.demands.specs.Demand1.{Meets, determinedAt, answerRefusal, columnsRefusal, verdictRefusal, checkRefusal, testRefusal, countRefusal, lengthRefusal, OpenMeets, AddMeets, PutMeets, DropMeets, DeterminedMeets, CompareMeets, CheckMeets, ReduceMeets, TestMeets, EvaluateMeets, partsAsk, readAsks, AsksInOrder, ReadMeets, WriteMeets}
 
 -- ---- every call
 
 module _ (conditions : List Condition) (numbers : List ℕ) (said : Option ℕ) (Unchanged Due : Type 0) where
   -- What a call does, by what is found of its conditions
-  pub keeps : InOrder conditions numbers → said ≡ firstHolding conditions → ((n : ℕ) → firstHolding conditions ≡ some n → Unchanged)
-      → (firstHolding conditions ≡ none → Due) → Keeps conditions numbers said Unchanged Due
-  keeps ordered first turned-down accepted =
-      record { ordered = ordered; first = first; unchanged = λ n e. turned-down n (sym first ∙ e); due = λ e. accepted (sym first ∙ e) }
+  pub meets : map (λ (c : Condition). c .1) conditions ≡ numbers → said ≡ firstHolding conditions → ((n : ℕ) → firstHolding conditions ≡ some n → Unchanged)
+      → (firstHolding conditions ≡ none → Due) → Meets conditions numbers said Unchanged Due
+  meets asks first turned-down accepted =
+      record { asks = asks; first = first; unchanged = λ n e. turned-down n (sym first ∙ e); due = λ e. accepted (sym first ∙ e) }
 
 -- ---- the calls on the record alone
 
@@ -63,39 +64,39 @@ concluded-said none given after = refl
 concluded-said (some n) given after = refl
 
 -- A call that hands back the record given, or leaves another
-concluded-keeps : (conditions : List Condition) → InOrder conditions order → (given after : Record) (o : Outcome)
+concluded-meets : (conditions : List Condition) (numbers : List ℕ) → map (λ (c : Condition). c .1) conditions ≡ numbers → (given after : Record) (o : Outcome)
     → o ≡ concluded (firstHolding conditions) given after
-    → Keeps conditions order (answerRefusal (o .answer)) (o .«record» ≡ given) (o .«record» ≡ after)
-concluded-keeps conditions ordered given after o e =
-    keeps conditions order _ _ _ ordered
+    → Meets conditions numbers (answerRefusal (o .answer)) (o .«record» ≡ given) (o .«record» ≡ after)
+concluded-meets conditions numbers asks given after o e =
+    meets conditions numbers _ _ _ asks
     (ap (λ (x : Outcome). answerRefusal (x .answer)) e ∙ concluded-said (firstHolding conditions) given after)
     (λ n f. ap (λ (x : Outcome). x .«record») (e ∙ ap (λ (y : Option ℕ). concluded y given after) f))
     (λ f. ap (λ (x : Outcome). x .«record») (e ∙ ap (λ (y : Option ℕ). concluded y given after) f))
 
-pub open-keeps : (widths : List ℕ) (o : Outcome) → o ≡ openRecord widths → OpenKeeps widths o
-unfolding follows openRecord
-open-keeps widths o e = concluded-keeps _ refl _ _ o e
+pub open-meets : (widths : List ℕ) (o : Outcome) → o ≡ openRecord widths → OpenMeets widths o
+unfolding openRecord
+open-meets widths o e = concluded-meets _ _ refl _ _ o e
 
-pub add-keeps : (r : Record) (d : Dependency) (o : Outcome) → o ≡ addDependency r d → AddKeeps r d o
-unfolding follows addDependency
-add-keeps r d o e = concluded-keeps _ refl _ _ o e
+pub add-meets : (r : Record) (d : Dependency) (o : Outcome) → o ≡ addDependency r d → AddMeets r d o
+unfolding addDependency
+add-meets r d o e = concluded-meets _ _ refl _ _ o e
 
-pub put-keeps : (r : Record) (place : ℕ) (q : Query) (o : Outcome) → o ≡ putQuery r place q → PutKeeps r place q o
-unfolding follows putQuery
-put-keeps r place q o e = concluded-keeps _ refl _ _ o e
+pub put-meets : (r : Record) (place : ℕ) (q : Query) (o : Outcome) → o ≡ putQuery r place q → PutMeets r place q o
+unfolding putQuery
+put-meets r place q o e = concluded-meets _ _ refl _ _ o e
 
-pub drop-keeps : (r : Record) (place : ℕ) (o : Outcome) → o ≡ dropQuery r place → DropKeeps r place o
-unfolding follows dropQuery
-drop-keeps r place o e = concluded-keeps _ refl _ _ o e
+pub drop-meets : (r : Record) (place : ℕ) (o : Outcome) → o ≡ dropQuery r place → DropMeets r place o
+unfolding dropQuery
+drop-meets r place o e = concluded-meets _ _ refl _ _ o e
 
 columns-said : (f : Option ℕ) (cs : List ℕ) → columnsRefusal (columnsAnswer f cs) ≡ f
 columns-said none cs = refl
 columns-said (some n) cs = refl
 
-pub determined-keeps : (r : Record) (relation left : ℕ) (c : Columns) → c ≡ determinedColumns r relation left → DeterminedKeeps r relation left c
-unfolding follows determinedColumns
-determined-keeps r relation left c e =
-    keeps _ order _ _ _ refl (ap columnsRefusal e ∙ columns-said _ _) (λ n f. tt)
+pub determined-meets : (r : Record) (relation left : ℕ) (c : Columns) → c ≡ determinedColumns r relation left → DeterminedMeets r relation left c
+unfolding determinedColumns
+determined-meets r relation left c e =
+    meets _ _ _ _ _ refl (ap columnsRefusal e ∙ columns-said _ _) (λ n f. tt)
     (λ f. e ∙ ap (λ (y : Option ℕ). columnsAnswer y (determinedAt r relation left)) f)
 
 -- ---- comparing, checking a mapping, reducing
@@ -114,10 +115,10 @@ refused-else : (v : Verdict) (n : ℕ) → v ≡ verdict.Refused n → ((v ≡ v
 refused-else v n e =
     ((λ c. let z : _≡_ {A = ℕ} 0 1 = cc in omega arith), λ a. let z : _≡_ {A = ℕ} 0 1 = cc in omega arith)
 
-pub compare-keeps : (r : Record) (p q : ℕ) (c : Comparison) → Compared r p q c → CompareKeeps r p q c
-unfolding follows pairRefusal
-compare-keeps r p q c compared =
-    keeps _ order _ _ _ refl (ap verdictRefusal (compared .verdict) ∙ judged-said _ on (verdict-on (chasedAt r p .rows) _))
+pub compare-meets : (r : Record) (p q : ℕ) (c : Comparison) → Compared r p q c → CompareMeets r p q c
+unfolding pairRefusal
+compare-meets r p q c compared =
+    meets _ _ _ _ _ refl (ap verdictRefusal (compared .verdict) ∙ judged-said _ on (verdict-on (chasedAt r p .rows) _))
     (λ n f.
     let e = compared .verdict ∙ ap (λ (y : Option ℕ). judged y on) f in
     let other = refused-else (c .verdict) n e in
@@ -135,15 +136,15 @@ check-said (some n) b checked.Yes e = let z : _≡_ {A = ℕ} 0 1 = cc in absurd
 check-said (some n) b checked.No e = let z : _≡_ {A = ℕ} 0 1 = cc in absurd (omega arith)
 check-said (some n) b (checked.Refused m) e = cc
 
-pub check-keeps : (r : Record) (p q : ℕ) (images : List Cell) (c : Checked) → CheckedMapping r p q images c → CheckKeeps r p q images c
-unfolding follows pairRefusal
-check-keeps r p q images c e =
-    keeps _ order _ _ _ refl (check-said _ _ c e) (λ n f. tt) (λ f. e ∙ ap (λ (y : Option ℕ). reply y (mapsTo (queryAt r q) (queryAt r p) (entriesOf images))) f)
+pub check-meets : (r : Record) (p q : ℕ) (images : List Cell) (c : Checked) → CheckedMapping r p q images c → CheckMeets r p q images c
+unfolding pairRefusal
+check-meets r p q images c e =
+    meets _ _ _ _ _ refl (check-said _ _ c e) (λ n f. tt) (λ f. e ∙ ap (λ (y : Option ℕ). reply y (mapsTo (queryAt r q) (queryAt r p) (entriesOf images))) f)
 
-pub reduce-keeps : (r : Record) (source target : ℕ) (o : Reduced) → IsReduced r source target o → ReduceKeeps r source target o
-unfolding follows reductionRefusal
-reduce-keeps r source target o is =
-    keeps _ order _ _ _ refl (go (firstHolding (reductionConditions r source target)) refl)
+pub reduce-meets : (r : Record) (source target : ℕ) (o : Reduced) → IsReduced r source target o → ReduceMeets r source target o
+unfolding reductionRefusal
+reduce-meets r source target o is =
+    meets _ _ _ _ _ refl (go (firstHolding (reductionConditions r source target)) refl)
     (λ n f. let e = is .refused n f in (ap (λ (x : Reduced). x .«record») e, ap (λ (x : Reduced). x .images) e, ap (λ (x : Reduced). x .count) e)) (λ f. is)
   where
     go : (f : Option ℕ) → firstHolding (reductionConditions r source target) ≡ f → answerRefusal (o .answer) ≡ firstHolding (reductionConditions r source target)
@@ -160,54 +161,53 @@ test-none : (x : Violation) → testRefusal (testOf x) ≡ none
 test-none violation.Absent = refl
 test-none (violation.At k i j) = refl
 
-pub test-keeps : (r : Record) (words : List ℕ) (v : Conformance) → v ≡ tested r words → TestKeeps r words v
-unfolding follows tested
-test-keeps r words v e =
+pub test-meets : (r : Record) (words : List ℕ) (v : Conformance) → v ≡ tested r words → TestMeets r words v
+unfolding tested
+test-meets r words v e =
     let found = violationOf (firstBrokenFrom 0 (dependenciesOf r) (rowsOf (schemaOf r) words)) in
-    keeps _ order _ _ _ refl (ap testRefusal e ∙ found-said _ _ (test-none found)) (λ n f. tt)
+    meets _ _ _ _ _ refl (ap testRefusal e ∙ found-said _ _ (test-none found)) (λ n f. tt)
     (λ f. e ∙ ap (λ (y : Option ℕ). testUnless y (testOf found)) f)
 
-count-said : (f : Option ℕ) (n : ℕ) → evaluationRefusal (countUnless f n) ≡ f
+count-said : (f : Option ℕ) (n : ℕ) → countRefusal (countUnless f n) ≡ f
 count-said none n = refl
 count-said (some m) n = refl
 
-pub evaluate-keeps : (r : Record) (place : ℕ) (words before after : List ℕ) (a : Answered)
-    → a ≡ evaluated r place words (length before) → after ≡ bufferThen r place words before → EvaluateKeeps r place words before after a
-unfolding follows evaluated bufferThen evaluationRefused
-evaluate-keeps r place words before after a is-a is-after =
+pub evaluate-meets : (r : Record) (place : ℕ) (words before after : List ℕ) (a : Answered)
+    → a ≡ evaluated r place words (length before) → after ≡ bufferThen r place words before → EvaluateMeets r place words before after a
+unfolding evaluated bufferThen evaluationRefused
+evaluate-meets r place words before after a is-a is-after =
     let found = answerWords (placeAnswers r place words) in
-    keeps _ order _ _ _ refl (ap evaluationRefusal is-a ∙ count-said _ _)
+    meets _ _ _ _ _ refl (ap countRefusal is-a ∙ count-said _ _)
     (λ n f. is-after ∙ ap (λ (y : Option ℕ). wordsUnless y found before) f)
     (λ f.
     (is-a ∙ ap (λ (y : Option ℕ). countUnless y (length (placeAnswers r place words))) f, is-after ∙ ap (λ (y : Option ℕ). wordsUnless y found before) f))
 
 -- ---- files
 
-length-said : (f : Option ℕ) (n : ℕ) → writingRefusal (lengthUnless f n) ≡ f
+length-said : (f : Option ℕ) (n : ℕ) → lengthRefusal (lengthUnless f n) ≡ f
 length-said none n = refl
 length-said (some m) n = refl
 
-pub write-keeps : (r : Record) (before after : List ℕ) (w : Written) → w ≡ written r before → after ≡ afterWriting r before → WriteKeeps r before after w
-unfolding follows written afterWriting writingRefused
-write-keeps r before after w is-w is-after =
-    keeps _ order _ _ _ refl (ap writingRefusal is-w ∙ length-said _ _)
+pub write-meets : (r : Record) (before after : List ℕ) (w : Written) → w ≡ written r before → after ≡ afterWriting r before → WriteMeets r before after w
+unfolding written afterWriting writingRefused
+write-meets r before after w is-w is-after =
+    meets _ _ _ _ _ refl (ap lengthRefusal is-w ∙ length-said _ _)
     (λ n f. is-after ∙ ap (λ (y : Option ℕ). fileUnless y (fileOf r) before) f)
     (λ f.
     (is-w ∙ ap (λ (y : Option ℕ). lengthUnless y (length (fileOf r))) f, is-after ∙ ap (λ (y : Option ℕ). fileUnless y (fileOf r) before) f))
 
--- Past a number that is not 5, the faults of query parts are in their order
-parts-ordered : (schema : List ℕ) (parts : List (List ℕ)) (m : ℕ) → eqb 5 m ≡ false
-    → follows (map (λ (c : Condition). c .1) (placeConditions schema parts)) (m ∷ partsOrder (length parts)) ≡ true
-unfolding follows placeConditions partsOrder
-parts-ordered schema [] m e = refl
-parts-ordered schema (p ∷ ps) m e = rw e (parts-ordered schema ps 6 refl)
+-- The numbers of the faults of query parts
+parts-ask : (schema : List ℕ) (parts : List (List ℕ)) → map (λ (c : Condition). c .1) (placeConditions schema parts) ≡ partsAsk (length parts)
+unfolding placeConditions partsAsk
+parts-ask schema [] = refl
+parts-ask schema (p ∷ ps) = ap (λ (ns : List ℕ). 5 ∷ 6 ∷ ns) (parts-ask schema ps)
 
-read-ordered : (file : List ℕ) → InOrder (readConditions file) (fileOrder file)
-unfolding follows readConditions
-read-ordered file =
+read-asks : (file : List ℕ) → map (λ (c : Condition). c .1) (readConditions file) ≡ readAsks file
+unfolding readConditions
+read-asks file =
     let parts = stretches (number 2 file - 2) file (drop 10 file) in
-    subst (λ (n : ℕ). follows (map (λ (c : Condition). c .1) (placeConditions (schemaIn (partAt file 0)) parts)) (4 ∷ partsOrder n) ≡ true)
-    (length-stretches (number 2 file - 2) file (drop 10 file)) (parts-ordered (schemaIn (partAt file 0)) parts 4 refl)
+    ap (λ (ns : List ℕ). 1 ∷ 2 ∷ 3 ∷ 4 ∷ ns)
+    (parts-ask (schemaIn (partAt file 0)) parts ∙ ap partsAsk (length-stretches (number 2 file - 2) file (drop 10 file)))
 
 outcome-said : (x : Reply Record) → answerRefusal (outcomeOf x .answer) ≡ refusalIn x
 outcome-said (gives r) = refl
@@ -222,8 +222,14 @@ reply-blank : (x : Reply Record) (n : ℕ) → refusalIn x ≡ some n → outcom
 reply-blank (gives r) n e = let z : _≡_ {A = ℕ} 0 1 = cc in absurd (omega arith)
 reply-blank (refused m) n e = refl
 
-pub read-keeps : (file : List ℕ) (o : Outcome) → o ≡ outcomeOf (readFile file) → ReadKeeps file o
-read-keeps file o is =
-    keeps _ _ _ _ _ (read-ordered file) (ap (λ (x : Outcome). answerRefusal (x .answer)) is ∙ outcome-said (readFile file) ∙ first-fault file)
+pub read-meets : (file : List ℕ) (o : Outcome) → o ≡ outcomeOf (readFile file) → ReadMeets file o
+read-meets file o is =
+    meets _ _ _ _ _ (read-asks file) (ap (λ (x : Outcome). answerRefusal (x .answer)) is ∙ outcome-said (readFile file) ∙ first-fault file)
     (λ n f. ap (λ (x : Outcome). x .«record») is ∙ reply-blank (readFile file) n (first-fault file ∙ f))
     (λ f. reply-gives (readFile file) (first-fault file ∙ f) ∙ ap (λ (x : Outcome). gives (x .«record»)) (sym is))
+
+-- ---- the order
+
+pub asks-in-order : AsksInOrder
+unfolding follows every
+asks-in-order = refl
