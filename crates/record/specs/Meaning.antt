@@ -22,16 +22,19 @@ use Rattle.record.specs.Calls.{openRecord, addDependency, putQuery, drop
 abbrev pub LeavesGood : Outcome → Type 0
 LeavesGood o = o .answer ≡ answer.Done → goodRecord (o .«record») ≡ true
 
--- So does each call that changes the record. A record has room for 32 dependencies
+-- So does opening a record
 abbrev pub OpenKeeps : Type 0
 OpenKeeps = (widths : List ℕ) → LeavesGood (openRecord widths)
 
+-- So does adding a dependency: a record has room for 32
 abbrev pub AddKeeps : Type 0
 AddKeeps = (r : Record) (d : Dependency) → length (r .dependencies) ≡ 32 → LeavesGood (addDependency r d)
 
+-- So does putting a query
 abbrev pub PutKeeps : Type 0
 PutKeeps = (r : Record) (place : ℕ) (q : Query) → LeavesGood (putQuery r place q)
 
+-- So does dropping one
 abbrev pub DropKeeps : Type 0
 DropKeeps = (r : Record) (place : ℕ) → LeavesGood (dropQuery r place)
 

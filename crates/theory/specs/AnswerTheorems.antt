@@ -12,10 +12,11 @@ use Rattle.theory.specs.Answer.{Answer, Mapping}
 abbrev pub NeverHasNoAnswer : Type 0
 NeverHasNoAnswer = (D : Database) (q : Query) (t : List ℕ) → q .rows ≡ [] → Answer D q t → ⊥
 
--- An answer is as long as the head. So with a head of length 0 the only possible answer is the empty one
+-- An answer is as long as the head
 abbrev pub AnswerLength : Type 0
 AnswerLength = (D : Database) (q : Query) (t : List ℕ) → Answer D q t → length t ≡ length (q .head)
 
+-- So with a head of length 0 the only possible answer is the empty one
 abbrev pub EmptyHead : Type 0
 EmptyHead = (D : Database) (q : Query) (t : List ℕ) → q .head ≡ [] → Answer D q t → t ≡ []
 

@@ -97,18 +97,23 @@ holds (determines ds relation left columns) =
 
 -- ---- how the table is written
 
+-- A variable
 abbrev v : ℕ → Entry
 v n = variable n
 
+-- A constant
 abbrev k : ℕ → Entry
 k n = constant n
 
+-- A row of R, with columns a and b
 abbrev R : Entry → Entry → Row Entry
 R a b = record { relation = 0; values = a ∷ b ∷ [] }
 
+-- A row of S, with columns a, b and c
 abbrev S : Entry → Entry → Entry → Row Entry
 S a b c = record { relation = 1; values = a ∷ b ∷ c ∷ [] }
 
+-- A row of a third relation, with two columns
 abbrev B : Entry → Entry → Row Entry
 B a b = record { relation = 2; values = a ∷ b ∷ [] }
 
@@ -120,6 +125,7 @@ query head rows = record { head = head; rows = rows }
 abbrev from : ℕ → ℕ → ℕ → Dependency
 from relation left right = record { relation = relation; left = left ∷ []; right = right }
 
+-- a determines b in R
 abbrev R·a→b : List Dependency
 R·a→b = from 0 0 1 ∷ []
 
@@ -161,10 +167,11 @@ reference =
     ∷ determines (from 1 0 1 ∷ from 1 1 2 ∷ []) 1 (2 ∷ []) 1
     ∷ []
 
--- Two queries that are often shown first, with x = v0 and y = v1: R(y,x), R(x,z) and R(y,x), R(w,x), R(x,u)
+-- The first of two queries that are often shown first, with x = v0 and y = v1: R(y,x), R(x,z) and R(y,x), R(w,x), R(x,u)
 abbrev twoJoins : Query
 twoJoins = query (v 0 ∷ v 1 ∷ []) (R (v 1) (v 0) ∷ R (v 0) (v 2) ∷ [])
 
+-- The second of them
 abbrev threeJoins : Query
 threeJoins = query (v 0 ∷ v 1 ∷ []) (R (v 1) (v 0) ∷ R (v 2) (v 0) ∷ R (v 0) (v 3) ∷ [])
 

@@ -71,5 +71,6 @@ pub record FirstStep (ds : List Dependency) (q : Query) (o : Resolution) : Type 
   pub pair : FirstPair (breaks dependency) (q .rows) first second
   pub leads : o ≡ resolve (inHead q) (column (constant 0) first (dependency .right)) (column (constant 0) second (dependency .right))
 
+-- A step of the chase is one on the first broken pair
 abbrev pub StepIsFirst : Type 0
 StepIsFirst = (ds : List Dependency) (q : Query) (o : Resolution) → step ds q ≡ some o → FirstStep ds q o

@@ -37,7 +37,7 @@ pub data Shrinks : Query → Query → Type 0 where
   stays : {q : Query} → Core q → Shrinks q q
   loses : {q T : Query} {r : Row Entry} (at : r ∈ q .rows) → Mapping q (dropRow q at) → Shrinks (dropRow q at) T → Shrinks q T
 
--- U is T with its rows in another order
+-- U has the rows of T and as many, so where T has no row twice its rows in another order
 pub record Reordered (T U : Query) : Type 0 where
   pub head : U .head ≡ T .head
   pub into : (r : Row Entry) → r ∈ T .rows → r ∈ U .rows
