@@ -45,7 +45,7 @@ use Rattle.reduction.specs.declared.Shortened.{Shortened}
 use Rattle.reduction.specs.declared.Reduced.{Reduced}
 use Rattle.mapping.specs.internal.Mapped.{IsMapped}
 use Rattle.core.specs.internal.CoreOf.{IsCoreOf}
-use Rattle.reduction.specs.Reduced.{refusal, reductionRefusal, ReducesTo, IsReduced, Shortened}
+use Rattle.reduction.specs.Reduced.{refusal, reductionRefusal, ReducesTo, IsReduced, ShortFormStored}
 use Rattle.reduction.specs.internal.Steps.{Shortenable, IsShortened, Reducible}
 
 -- ---- 1. the shortened query
@@ -134,7 +134,7 @@ module _ (r : Record) (source target : ℕ) (able : Reducible r source target) (
   pub stored-reduced : (q : Query) → q ≡ storedAt r source → (s : Shortened)
       → ((schema : List ℕ) → every (between 1 8) schema ≡ true → goodQuery schema q ≡ true → headSafe schema q ≡ true
       → IsShortened schema (dependenciesOf r) q s)
-      → Shortened r source target
+      → ShortFormStored r source target
       (record { answer = answer.Done; «record» = withPlace r target (record { filled = true; query = s .query }); count = s .count; images = s .images })
   stored-reduced q is s tells =
       let schema = schemaOf r in
@@ -221,12 +221,12 @@ module _ (r : Record) (source target : ℕ) (o : Reduced) where
           rw (good, lt-ltb source 8 (f .1), lt-ltb target 8 low, f .2, g .2)
 
       -- An accepted call
-      pub reduce-done : (from to : ℕ) → filledPlace r source ≡ lookup.At from → vacantPlace r target ≡ lookup.At to → Shortened r from to o
+      pub reduce-done : (from to : ℕ) → filledPlace r source ≡ lookup.At from → vacantPlace r target ≡ lookup.At to → ShortFormStored r from to o
           → IsReduced r source target o
       reduce-done from to at free stored =
           let accepts : reductionRefusal r source target ≡ none = accepted-none from to at free in
-          let is : Shortened r source target o =
-          subst₂ (λ (p q : ℕ). Shortened r p q o) (filled-at r source from at .0) (vacant-at r target to free .0) stored
+          let is : ShortFormStored r source target o =
+          subst₂ (λ (p q : ℕ). ShortFormStored r p q o) (filled-at r source from at .0) (vacant-at r target to free .0) stored
           in
           record {
             refused = λ m e. let z : _≡_ {A = ℕ} 0 1 = cc in absurd (omega arith);

@@ -50,7 +50,7 @@ pub record ReducesTo (schema : List ℕ) (ds : List database.Dependency) (S T : 
   pub count-le : count ≤ theory.variableCount S
 
 -- What an accepted reduction of the place `source` into the place `target` leaves
-pub record Shortened (r : Record) (source target : ℕ) (o : Reduced) : Type 0 where
+pub record ShortFormStored (r : Record) (source target : ℕ) (o : Reduced) : Type 0 where
   pub done : o .answer ≡ answer.Done
   -- the target place holds a query, and nothing else in the record has changed
   pub unchanged : o .«record» ≡ withPlace r target (record { filled = true; query = storedAt (o .«record») target })
@@ -64,4 +64,4 @@ pub record Shortened (r : Record) (source target : ℕ) (o : Reduced) : Type 0 w
 -- What reducing promises: a refusal, or all of demand 3
 pub record IsReduced (r : Record) (source target : ℕ) (o : Reduced) : Type 0 where
   pub refused : (n : ℕ) → reductionRefusal r source target ≡ some n → o ≡ refusal r n
-  pub accepted : reductionRefusal r source target ≡ none → Shortened r source target o
+  pub accepted : reductionRefusal r source target ≡ none → ShortFormStored r source target o

@@ -15,7 +15,7 @@ ghost use Prim.Native.Nat.{ℕ};
 ghost use Rattle.lists.specs.Tests.{every, between};
 ghost use Rattle.query.specs.Rule.{goodQuery, headSafe};
 ghost use Rattle.query.specs.View.{heldOf};
-ghost use Rattle.reduction.specs.Reduced.{refusal, IsReduced, Shortened};
+ghost use Rattle.reduction.specs.Reduced.{refusal, IsReduced, ShortFormStored};
 ghost use Rattle.reduction.specs.internal.Steps.{Shortenable, IsShortened, Reducible};
 
 // What a reduction gives: its answer, the record after it, the number of replacements, and the mapping from the source query to the result.
@@ -69,7 +69,7 @@ fn shorten(q: Query, dependencies: [Dependency; 32], held: usize) -> Shortened
 // Reduces the query at a filled place into a vacant one.
 fn store_reduced(given: Record, source: usize, target: usize) -> Reduced
     requires { ⌜ Reducible given source target ⌝ }
-    ensures { λ o. ⌜ Shortened given source target o ⌝ }
+    ensures { λ o. ⌜ ShortFormStored given source target o ⌝ }
 {
     let dependencies = given.dependencies;
     let held = given.held as usize;
