@@ -1,6 +1,6 @@
 // Whether a choice of images is consistent: rows as codes of entries, 8 to a row.
+use entries::code::decode;
 use query::Entry;
-use query::code::decode;
 ghost use Prim.Native.Nat.{_+_, _≤_};
 ghost use lib.ListN.{length};
 ghost use Rattle.lists.specs.Tests.{Tells};

@@ -2,12 +2,12 @@
 // the survivor of its two entries, the replacement, and the whole. The widths of the relations play no part: where a row has no column its cell holds
 // constant 0, as in every row of its relation.
 
+use entries::never;
+use entries::same_entry;
 use query::Cell;
 use query::Dependency;
 use query::Entry;
 use query::Query;
-use query::never;
-use query::same_entry;
 ghost use mathlib.Core.Path.{_≡_};
 ghost use mathlib.Core.Bool.{Bool, true};
 ghost use mathlib.Core.List.{List, map};

@@ -1,10 +1,10 @@
 // Comparing two places of a record, and checking a mapping between their queries.
 
+use entries::no_query;
 use query::Cell;
 use query::Dependency;
 use query::Entry;
 use query::Query;
-use query::no_query;
 use record::Lookup;
 use record::Record;
 use record::calls::number;

@@ -10,7 +10,7 @@ pub fn pair(arity: u8, shown: Entry, size: u8, b: Entry, c: Entry) -> Query {
     let v0 = Cell {
         entry: Entry::Variable(0),
     };
-    let mut q = query::no_query();
+    let mut q = entries::no_query();
     q.arity = arity;
     q.size = size;
     if 0 < size {

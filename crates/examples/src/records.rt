@@ -60,7 +60,7 @@ fn open_widths() {
 
 // A query with an empty head and that many rows, the first R(e, 0), the others R(0, 0).
 fn rows(size: u8, e: Entry) -> Query {
-    let mut q = query::no_query();
+    let mut q = entries::no_query();
     q.size = size;
     q.cells[0] = Cell { entry: e };
     q

@@ -1,9 +1,9 @@
 // The images of a source's variables, from the images of its rows.
 use candidates::table::image_at;
 use candidates::table::row_at;
+use entries::code::decode;
 use query::Cell;
 use query::Entry;
-use query::code::decode;
 ghost use Prim.Native.Nat.{ℕ, _+_, _≤_, _<_};
 ghost use lib.ListN.{getD};
 ghost use Rattle.mapping.specs.internal.Lines.{choiceOf, RowAssigned, Assigned};

@@ -1,7 +1,7 @@
 // Whether given images carry entries, rows and a head of a source to those of a target.
+use entries::same_entry;
 use query::Cell;
 use query::Entry;
-use query::same_entry;
 ghost use mathlib.Core.Path.{_≡_};
 ghost use Prim.Native.Nat.{ℕ, _+_, _≤_, _<_};
 ghost use Rattle.theory.specs.Query.{constant};

@@ -1,8 +1,8 @@
 // A query in one line: the cells of its rows, then those of its head; and their codes. Rows and head are 8 wide, blanks included.
+use entries::code::code;
 use query::Cell;
 use query::Entry;
 use query::Query;
-use query::code::code;
 ghost use mathlib.Core.Path.{_≡_};
 ghost use Prim.Native.Nat.{ℕ, _<_};
 ghost use lib.ListN.{getD};

@@ -219,7 +219,7 @@ fn no_query_read() -> QueryRead
     QueryRead {
         good: false,
         whole: false,
-        query: query::no_query(),
+        query: entries::no_query(),
     }
 }
 

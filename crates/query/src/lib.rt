@@ -1,10 +1,4 @@
 // A stored query, a place for one, and a stored functional dependency: their types.
-pub mod code; // code.rt: the code of an entry
-
-ghost use mathlib.Core.Path.{_≡_};
-ghost use Rattle.theory.specs.Query as theory;
-ghost use Rattle.query.specs.View.{entryOf};
-ghost use Rattle.query.specs.Rule.{noQuery, neverQuery};
 
 // An entry of a query: a constant or a variable, each by its number.
 pub enum Entry {
@@ -38,43 +32,4 @@ pub struct Dependency {
     pub relation: u8,
     pub left: u8,
     pub right: u8,
-}
-
-// Whether two entries are the same constant or the same variable.
-pub fn same_entry(a: Entry, b: Entry) -> bool
-    ensures { λ r. ⌜ r ≡ theory.sameEntry (entryOf a) (entryOf b) ⌝ }
-{
-    match a {
-        Entry::Constant(m) => match b {
-            Entry::Constant(n) => m == n,
-            Entry::Variable(_) => false,
-        },
-        Entry::Variable(v) => match b {
-            Entry::Constant(_) => false,
-            Entry::Variable(w) => v == w,
-        },
-    }
-}
-
-// The never query with a head of `arity` entries.
-pub fn never(arity: u8) -> Query
-    ensures { λ r. ⌜ r ≡ neverQuery arity ⌝ }
-{
-    let blank = Cell {
-        entry: Entry::Constant(0),
-    };
-    Query {
-        arity: arity,
-        size: 0,
-        head: [blank; 8],
-        relations: [0; 12],
-        cells: [blank; 96],
-    }
-}
-
-// The query of a vacant place.
-pub fn no_query() -> Query
-    ensures { λ r. ⌜ r ≡ noQuery ⌝ }
-{
-    never(0)
 }

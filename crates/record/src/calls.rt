@@ -70,7 +70,7 @@ pub fn no_place() -> Place
 {
     Place {
         filled: false,
-        query: query::no_query(),
+        query: entries::no_query(),
     }
 }
 

@@ -1,2 +1,0 @@
--- What reading a vector keeps.
-pub mod internal
