@@ -15,7 +15,8 @@ use Rattle.query.specs.View.{queryOf, heldOf}
 use Rattle.lists.specs.Tests.{every, between, isZero, inUse}
 use Rattle.query.specs.Rule.{blankDependency, goodRelations, goodSet, goodDependency, goodDependencies, goodQuery, headSafe, noDependency}
 use Rattle.chase.specs.declared.Chased.{Chased}
-use Rattle.chase.specs.internal.Outcome.{Chasable, IsChased}
+use Rattle.first_step.specs.internal.Wide.{Chasable}
+use Rattle.chase.specs.internal.Outcome.{IsChased}
 use Rattle.lists.proofs.Tests.{every-weaken}
 use Rattle.lists.proofs.Positions.{every-getD-else}
 use Rattle.query.proofs.Good.{good-query}

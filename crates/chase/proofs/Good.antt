@@ -1,4 +1,4 @@
--- What a replacement keeps of the rule for a query, and what the rule says of the cells that the chase reads.
+-- What a replacement keeps of the rule for a query.
 -- Assumes nothing.
 use mathlib.Core.Path.{_≡_, refl}
 use mathlib.Core.Bool.{true, false≢true}
@@ -13,18 +13,13 @@ use Rattle.query.specs.declared.Entry.the-variants.{Constant, Variable}
 use Rattle.query.specs.declared.Cell.{Cell}
 use Rattle.query.specs.declared.Query.{Query}
 use Rattle.lists.specs.Tests.{every, inUse}
-use Rattle.query.specs.Rule.{blankEntry, blankCell, goodEntry, goodCell, goodRow, goodRows, headInUse, goodQuery, noCell, neverQuery}
+use Rattle.query.specs.Rule.{blankEntry, blankCell, goodEntry, goodCell, goodRow, goodRows, headInUse, goodQuery, neverQuery}
 use Rattle.lists.proofs.Tests.{and-right, used-good, used-blank, used-whole}
 use Rattle.lists.proofs.Maps.{take-map, drop-map, every-map}
-use Rattle.lists.proofs.Positions.{every-getD-else}
 use Rattle.query.proofs.Good.{good-query, make-query}
 use Rattle.query.proofs.Stored.{row-parts, row-at}
-use Rattle.chase.specs.internal.Wide.{substituteEntry, substituteCell, mapCells}
+use Rattle.replacement.specs.internal.Replacement.{substituteEntry, substituteCell, mapCells}
 use Rattle.theory.proofs.Lists.{bool-cases}
-
--- An entry that is read from good cells is good
-pub good-read : (cells : List Cell) (k : ℕ) (e : Entry) → e ≡ getD cells k noCell .entry → every goodCell cells ≡ true → goodEntry e ≡ true
-good-read cells k e is good = rw is (every-getD-else goodCell cells k noCell good refl)
 
 -- A replacement keeps blank entries blank, and good entries good if the new entry is
 substitute-blank : (v : ℕ) (e x : Entry) → blankEntry x ≡ true → blankEntry (substituteEntry v e x) ≡ true

@@ -1,8 +1,5 @@
 -- The laws on which the proofs of the chase's functions stand. `Callers` is of use to whoever calls the chase.
 pub mod View
-pub mod Columns
-pub mod Steps
-pub mod Search
 pub mod Good
 pub mod Narrow
 pub mod Callers

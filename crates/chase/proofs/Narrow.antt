@@ -14,7 +14,7 @@ use Rattle.query.specs.declared.Query as stored
 use Rattle.query.specs.View.{entryOf, entriesOf, rowsOf, queryOf}
 use Rattle.lists.specs.Tests.{every}
 use Rattle.query.specs.Rule.{goodCell, blankCell, goodRows, goodQuery}
-use Rattle.chase.specs.internal.Wide.{wideRows, wideQuery, differing, firstDiffering}
+use Rattle.first_step.specs.internal.Wide.{wideRows, wideQuery, differing, firstDiffering}
 use Rattle.lists.proofs.Maps.{take-map, map-square}
 use Rattle.lists.proofs.Tests.{used-blank}
 use Rattle.query.proofs.Good.{good-query}

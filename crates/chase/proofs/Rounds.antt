@@ -19,12 +19,13 @@ use Rattle.query.specs.declared.Query as stored
 use Rattle.query.specs.View.{entryOf, entriesOf, queryOf, heldOf}
 use Rattle.lists.specs.Tests.{every, between}
 use Rattle.query.specs.Rule.{goodEntry, goodCell, goodQuery, neverQuery, noCell}
-use Rattle.chase.specs.declared.Found.the-variants.{Rest, Step}
-use Rattle.chase.specs.declared.Resolution.{Resolution}
-use Rattle.chase.specs.declared.Resolution.the-variants.{Clash, Replace}
+use Rattle.first_step.specs.declared.Found.the-variants.{Rest, Step}
+use Rattle.replacement.specs.declared.Resolution.{Resolution}
+use Rattle.replacement.specs.declared.Resolution.the-variants.{Clash, Replace}
 use Rattle.chase.specs.declared.Chased as stored-chased
-use Rattle.chase.specs.internal.Wide.{wideRow, wideRows, wideQuery, firstDiffering, foundOf, goodFound, resolutionOf, substituteEntry}
-use Rattle.chase.specs.internal.Wide.{substituteCell, mapCells}
+use Rattle.first_step.specs.internal.Wide.{wideRow, wideRows, wideQuery, firstDiffering, foundOf, goodFound}
+use Rattle.replacement.specs.internal.Replacement.{resolutionOf, substituteEntry}
+use Rattle.replacement.specs.internal.Replacement.{substituteCell, mapCells}
 use Rattle.chase.specs.internal.Outcome.{IsChased}
 use Rattle.lists.proofs.Maps.{drop-map, take-replicate, map-replicate}
 use Rattle.query.proofs.Stored.{all-cells}

@@ -1,3 +1,2 @@
--- What functions of this crate cite (Wide), and what the crates above it get (Outcome).
-pub mod Wide
+-- What the crates above this one get.
 pub mod Outcome

@@ -23,7 +23,8 @@ use Rattle.lists.proofs.Tests.{and-left, and-right}
 use Rattle.query.proofs.Good.{good-query}
 use Rattle.query.proofs.Shape.{row-count}
 use Rattle.chase.specs.declared.Chased.{Chased}
-use Rattle.chase.specs.internal.Outcome.{Chasable, IsChased}
+use Rattle.first_step.specs.internal.Wide.{Chasable}
+use Rattle.chase.specs.internal.Outcome.{IsChased}
 use Rattle.chase.proofs.Callers.{chasable}
 use Rattle.mapping.specs.declared.Mapped.{Mapped}
 use Rattle.mapping.specs.internal.Mapped.{Storable, IsMapped, Finds, Checks}

@@ -6,7 +6,7 @@ use Prim.Native.Nat.{suc}
 use native.Mathlib.Omega.{arith}
 use borrow.Author.Needs.{needs}
 use lib.ListN.{length}
-use Rattle.chase.specs.internal.Wide.{wideQuery}
+use Rattle.first_step.specs.internal.Wide.{wideQuery}
 use Rattle.query.specs.View.{heldOf}
 use Rattle.lists.proofs.Loops.{mapped-length}
 use Rattle.chase.proofs.Rounds.{Under, under-start, under-replace, replaced-count, under-count, under-rest, under-clash}

@@ -1,0 +1,277 @@
+-- `first_step::find_step` meets its contract. The invariant of each loop: what the whole search finds is what is found from this position on (`Search`). The
+-- labelled loop goes round once, so it has nothing to keep. Assumes nothing.
+use mathlib.Core.Path.{_≡_, refl, sym, _∙_}
+use Prim.Native.Nat.{_≤_, _<_, _+_, _*_, _-_}
+use native.Mathlib.Omega.{arith}
+use lib.ListN.{getD}
+use borrow.Author.Needs.{needs}
+use Rattle.first_step.proofs.Search.{brokenFrom, brokenFromRow, brokenFromPair, dependency-next, dependency-last, row-next, row-last, pair-next}
+use Rattle.first_step.proofs.Search.{pair-last, nothing-found, pair-found}
+use Rattle.lists.proofs.Tests.{and-both}
+use Rattle.first_step.proofs.Columns.{good-read}
+use Rattle.query.specs.Rule.{noDependency}
+use Rattle.first_step.proofs.find_step.Statement.{statement}
+use Rattle.first_step.proofs.find_step.Tie as tie
+
+abbrev Inv-loop3 : tie.InvT-loop3
+Inv-loop3 q held dependencies size cells d dependency right i j₀ j = (i < j) × (j ≤ size)
+    × (brokenFrom q dependencies held 0 ≡ brokenFromPair q dependencies held d i j)
+
+abbrev μ-loop3 : tie.MeasureT-loop3
+μ-loop3 q held dependencies size cells d dependency right i j₀ j = size - j
+
+abbrev Inv-loop2 : tie.InvT-loop2
+Inv-loop2 q held dependencies size cells d dependency right i₀ i = (i ≤ size) × (brokenFrom q dependencies held 0 ≡ brokenFromRow q dependencies held d i)
+
+abbrev μ-loop2 : tie.MeasureT-loop2
+μ-loop2 q held dependencies size cells d dependency right i₀ i = size - i
+
+abbrev Inv-loop : tie.InvT-loop
+Inv-loop q held dependencies size cells d₀ d = (d ≤ held) × (brokenFrom q dependencies held 0 ≡ brokenFrom q dependencies held d)
+
+abbrev μ-loop : tie.MeasureT-loop
+μ-loop q held dependencies size cells d₀ d = held - d
+
+abbrev Inv-search : tie.InvT-search
+Inv-search q held dependencies size cells = Unit {0}
+
+abbrev μ-search : tie.MeasureT-search
+μ-search q held dependencies size cells = 0
+
+cast-size :
+    tie.Need-cast-size Inv-loop3 μ-loop3 Inv-loop2 μ-loop2 Inv-loop μ-loop Inv-search μ-search
+cast-size c = search needs
+
+search-holds :
+    tie.Need-search-holds Inv-loop3 μ-loop3 Inv-loop2 μ-loop2 Inv-loop μ-loop Inv-search μ-search
+search-holds c = tt
+
+loop-holds :
+    tie.Need-loop-holds Inv-loop3 μ-loop3 Inv-loop2 μ-loop2 Inv-loop μ-loop Inv-search μ-search
+loop-holds c = (search needs, refl)
+
+mul-dependency :
+    tie.Need-mul-dependency Inv-loop3 μ-loop3 Inv-loop2 μ-loop2 Inv-loop μ-loop Inv-search μ-search
+mul-dependency c = search needs
+
+array-copy-out-dependency :
+    tie.Need-array-copy-out-dependency
+    Inv-loop3
+    μ-loop3
+    Inv-loop2
+    μ-loop2
+    Inv-loop
+    μ-loop
+    Inv-search
+    μ-search
+array-copy-out-dependency c = search needs
+
+cast-right :
+    tie.Need-cast-right Inv-loop3 μ-loop3 Inv-loop2 μ-loop2 Inv-loop μ-loop Inv-search μ-search
+cast-right c = search needs
+
+loop2-holds :
+    tie.Need-loop2-holds Inv-loop3 μ-loop3 Inv-loop2 μ-loop2 Inv-loop μ-loop Inv-search μ-search
+loop2-holds c =
+    let a = c .before .before .before .before .before .before .before .args in
+    let d = c .before .before .before .loop .d in
+    (search needs, c .before .before .before .loop .inv .1 ∙ dependency-next (a .q) (a .t2) (a .held) d (search needs) (search needs))
+
+add-j : tie.Need-add-j Inv-loop3 μ-loop3 Inv-loop2 μ-loop2 Inv-loop μ-loop Inv-search μ-search
+add-j c = search needs
+
+loop3-holds :
+    tie.Need-loop3-holds Inv-loop3 μ-loop3 Inv-loop2 μ-loop2 Inv-loop μ-loop Inv-search μ-search
+loop3-holds c =
+    let a = c .before .before .before .before .before .before .before .before .before .args in
+    let d = c .before .before .before .before .before .loop .d in
+    let i = c .before .loop2 .i in
+    (search needs, search needs, c .before .loop2 .inv .1 ∙ row-next (a .q) (a .t2) (a .held) d i (search needs))
+
+breaks-requires :
+    tie.Need-breaks-requires
+    Inv-loop3
+    μ-loop3
+    Inv-loop2
+    μ-loop2
+    Inv-loop
+    μ-loop
+    Inv-search
+    μ-search
+breaks-requires c κs =
+    let at7 = c .before .before .before .before .before .before .before in
+    let at11 = at7 .before .before .before .before in
+    (search needs, search needs, at11 .pre .right-fits (at7 .loop .d) (search needs))
+
+mul-entry-at :
+    tie.Need-mul-entry-at Inv-loop3 μ-loop3 Inv-loop2 μ-loop2 Inv-loop μ-loop Inv-search μ-search
+mul-entry-at c = search needs
+
+add-entry-at :
+    tie.Need-add-entry-at Inv-loop3 μ-loop3 Inv-loop2 μ-loop2 Inv-loop μ-loop Inv-search μ-search
+add-entry-at c = search needs
+
+entry-at-requires :
+    tie.Need-entry-at-requires
+    Inv-loop3
+    μ-loop3
+    Inv-loop2
+    μ-loop2
+    Inv-loop
+    μ-loop
+    Inv-search
+    μ-search
+entry-at-requires c κs =
+    let a = c .before .before .before .before .before .before .before .before .before .before .before .before .before .args in
+    let d = c .before .before .before .before .before .before .before .before .before .loop .d in
+    let i = c .before .before .before .before .before .loop2 .i in
+    let j = c .before .before .before .loop3 .j in
+    let fits : getD (a .t2) d noDependency .right < 8 =
+    c .before .before .before .before .before .before .before .before .before .before .before .before .before .pre .right-fits d (search needs) in
+    let inside : 8 * i + getD (a .t2) d noDependency .right < 96 = omega arith in
+    inside
+
+mul-entry-at-2 :
+    tie.Need-mul-entry-at-2 Inv-loop3 μ-loop3 Inv-loop2 μ-loop2 Inv-loop μ-loop Inv-search μ-search
+mul-entry-at-2 c = search needs
+
+add-entry-at-2 :
+    tie.Need-add-entry-at-2 Inv-loop3 μ-loop3 Inv-loop2 μ-loop2 Inv-loop μ-loop Inv-search μ-search
+add-entry-at-2 c = search needs
+
+entry-at-requires-2 :
+    tie.Need-entry-at-requires-2
+    Inv-loop3
+    μ-loop3
+    Inv-loop2
+    μ-loop2
+    Inv-loop
+    μ-loop
+    Inv-search
+    μ-search
+entry-at-requires-2 c κs =
+    let at4 = c .before .before .before .before in
+    let at6 = at4 .before .before in
+    let at10 = at6 .before .before .before .before in
+    let at14 = at10 .before .before .before .before in
+    let a = at14 .args in
+    let d = at10 .loop .d in
+    let i = at6 .loop2 .i in
+    let j = at4 .loop3 .j in
+    let fits : getD (a .t2) d noDependency .right < 8 = at14 .pre .right-fits d (search needs) in
+    let inside : 8 * j + getD (a .t2) d noDependency .right < 96 = omega arith in
+    inside
+
+add-j-2 : tie.Need-add-j-2 Inv-loop3 μ-loop3 Inv-loop2 μ-loop2 Inv-loop μ-loop Inv-search μ-search
+add-j-2 c = search needs
+
+loop3-less :
+    tie.Need-loop3-less Inv-loop3 μ-loop3 Inv-loop2 μ-loop2 Inv-loop μ-loop Inv-search μ-search
+loop3-less c = search needs
+
+loop3-again :
+    tie.Need-loop3-again Inv-loop3 μ-loop3 Inv-loop2 μ-loop2 Inv-loop μ-loop Inv-search μ-search
+loop3-again c =
+    let a = c .before .before .before .before .before .before .before .before .before .before .before .before .before .args in
+    let d = c .before .before .before .before .before .before .before .before .before .loop .d in
+    let i = c .before .before .before .before .before .loop2 .i in
+    let j = c .before .before .before .loop3 .j in (
+      search needs,
+      search needs,
+      c .before .before .before .loop3 .inv .2
+          ∙ pair-next (a .q) (a .t2) (a .held) d i j (search needs) (sym (c .before .breaks .ensures) ∙ c .if1 .left),
+    )
+
+add-i : tie.Need-add-i Inv-loop3 μ-loop3 Inv-loop2 μ-loop2 Inv-loop μ-loop Inv-search μ-search
+add-i c = search needs
+
+loop2-less :
+    tie.Need-loop2-less Inv-loop3 μ-loop3 Inv-loop2 μ-loop2 Inv-loop μ-loop Inv-search μ-search
+loop2-less c = search needs
+
+loop2-again :
+    tie.Need-loop2-again Inv-loop3 μ-loop3 Inv-loop2 μ-loop2 Inv-loop μ-loop Inv-search μ-search
+loop2-again c =
+    let a = c .before .before .before .before .before .before .before .before .before .before .before .args in
+    let d = c .before .before .before .before .before .before .before .loop .d in
+    let i = c .before .before .before .loop2 .i in
+    let j = c .before .loop3 .j in
+    (search needs, c .before .loop3 .inv .2 ∙ pair-last (a .q) (a .t2) (a .held) d i j (search needs))
+
+add-d : tie.Need-add-d Inv-loop3 μ-loop3 Inv-loop2 μ-loop2 Inv-loop μ-loop Inv-search μ-search
+add-d c = search needs
+
+loop-less :
+    tie.Need-loop-less Inv-loop3 μ-loop3 Inv-loop2 μ-loop2 Inv-loop μ-loop Inv-search μ-search
+loop-less c = search needs
+
+loop-again :
+    tie.Need-loop-again Inv-loop3 μ-loop3 Inv-loop2 μ-loop2 Inv-loop μ-loop Inv-search μ-search
+loop-again c =
+    let a = c .before .before .before .before .before .before .before .before .before .args in
+    let d = c .before .before .before .before .before .loop .d in
+    let i = c .before .loop2 .i in
+    (search needs, c .before .loop2 .inv .1 ∙ row-last (a .q) (a .t2) (a .held) d i (search needs))
+
+returns : tie.Need-returns Inv-loop3 μ-loop3 Inv-loop2 μ-loop2 Inv-loop μ-loop Inv-search μ-search
+returns c =
+    let at5 = c .before .before .before .before .before in
+    let at7 = at5 .before .before in
+    let at11 = at7 .before .before .before .before in
+    let at15 = at11 .before .before .before .before in
+    let a = at15 .args in
+    let d = at11 .loop .d in
+    let i = at7 .loop2 .i in
+    let j = at5 .loop3 .j in
+    let fits : getD (a .t2) d noDependency .right < 8 = at15 .pre .right-fits d (search needs) in (
+      pair-found (a .q) (a .t2) (a .held) d i j _ _ (search needs) fits (sym (c .before .before .if1 .taken) ∙ c .before .before .before .breaks .ensures)
+          (c .before .entry-at .ensures) (c .entry-at2 .ensures) (at5 .loop3 .inv .2),
+      λ good. and-both _ _ (good-read _ _ _ (c .before .entry-at .ensures) good) (good-read _ _ _ (c .entry-at2 .ensures) good),
+    )
+
+returns-2 :
+    tie.Need-returns-2 Inv-loop3 μ-loop3 Inv-loop2 μ-loop2 Inv-loop μ-loop Inv-search μ-search
+returns-2 c =
+    let a = c .before .before .before .before .before .args in
+    let l = c .before .loop in
+    (nothing-found (a .q) (a .t2) (a .held) (l .inv .1 ∙ dependency-last (a .q) (a .t2) (a .held) (l .d) (search needs)), λ good. refl)
+
+pub find-step-spec : {M : Type 1} → statement M
+find-step-spec =
+    tie.close
+    (tie.spec
+    Inv-loop3
+    μ-loop3
+    Inv-loop2
+    μ-loop2
+    Inv-loop
+    μ-loop
+    Inv-search
+    μ-search
+    cast-size
+    search-holds
+    loop-holds
+    mul-dependency
+    array-copy-out-dependency
+    cast-right
+    loop2-holds
+    add-j
+    loop3-holds
+    breaks-requires
+    mul-entry-at
+    add-entry-at
+    entry-at-requires
+    mul-entry-at-2
+    add-entry-at-2
+    entry-at-requires-2
+    add-j-2
+    loop3-less
+    loop3-again
+    add-i
+    loop2-less
+    loop2-again
+    add-d
+    loop-less
+    loop-again
+    returns
+    returns-2)

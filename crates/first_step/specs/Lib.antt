@@ -1,0 +1,2 @@
+-- What the search for a step asks and answers.
+pub mod internal

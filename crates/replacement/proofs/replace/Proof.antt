@@ -1,0 +1,22 @@
+-- `replacement::replace` meets its contract: field by field. Assumes nothing.
+use mathlib.Core.Path.{ap₂}
+use borrow.Author.Needs.{needs}
+use Rattle.replacement.proofs.replace.Statement.{statement}
+use Rattle.replacement.proofs.replace.Tie as tie
+
+substitute-head-requires : tie.Need-substitute-head-requires
+substitute-head-requires c κs = search needs
+
+substitute-cells-requires : tie.Need-substitute-cells-requires
+substitute-cells-requires c κs = search needs
+
+returns : tie.Need-returns
+returns c =
+    let q = c .before .before .before .before .before .args .q in
+    ap₂
+    (λ head cells. record { arity = q .arity; size = q .size; head = head; relations = q .relations; cells = cells })
+    (c .before .substitute-head .ensures)
+    (c .substitute-cells .ensures)
+
+pub replace-spec : {M : Type 1} → statement M
+replace-spec = tie.close (tie.spec substitute-head-requires substitute-cells-requires returns)

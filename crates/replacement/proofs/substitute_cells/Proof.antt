@@ -1,0 +1,61 @@
+-- `replacement::substitute_cells` meets its contract. The loop's invariant: the first k cells are done. Assumes nothing.
+use mathlib.Core.Path.{_≡_}
+use Prim.Native.Nat.{_≤_, _-_}
+use borrow.Author.Needs.{needs}
+use Rattle.replacement.specs.internal.Replacement.{substituteCell}
+use Rattle.lists.proofs.Maps.{mapFirst, mapFirst-none, mapFirst-more, mapFirst-done}
+use Rattle.replacement.proofs.substitute_cells.Statement.{statement}
+use Rattle.replacement.proofs.substitute_cells.Tie as tie
+
+abbrev Inv-loop : tie.InvT-loop
+Inv-loop v e cells out₀ k₀ out k = (k ≤ 96) × (out ≡ mapFirst (substituteCell v e) k cells)
+
+abbrev μ-loop : tie.MeasureT-loop
+μ-loop v e cells out₀ k₀ out k = 96 - k
+
+loop-holds : tie.Need-loop-holds Inv-loop μ-loop
+loop-holds c = (search needs, mapFirst-none _ _)
+
+mul-substitute : tie.Need-mul-substitute Inv-loop μ-loop
+mul-substitute c = search needs
+
+array-copy-out-substitute : tie.Need-array-copy-out-substitute Inv-loop μ-loop
+array-copy-out-substitute c = search needs
+
+substitute-requires : tie.Need-substitute-requires Inv-loop μ-loop
+substitute-requires c κs = search needs
+
+mul-out : tie.Need-mul-out Inv-loop μ-loop
+mul-out c = search needs
+
+array-set-from-out : tie.Need-array-set-from-out Inv-loop μ-loop
+array-set-from-out c = search needs
+
+add-k : tie.Need-add-k Inv-loop μ-loop
+add-k c = search needs
+
+loop-less : tie.Need-loop-less Inv-loop μ-loop
+loop-less c = search needs
+
+loop-again : tie.Need-loop-again Inv-loop μ-loop
+loop-again c = (search needs, mapFirst-more _ _ _ _ _ _ (c .before .before .before .loop .inv .1) (c .substitute .ensures) (search needs))
+
+returns : tie.Need-returns Inv-loop μ-loop
+returns c = mapFirst-done _ _ 96 _ _ (c .before .loop .inv .1) (search needs) (search needs)
+
+pub substitute-cells-spec : {M : Type 1} → statement M
+substitute-cells-spec =
+    tie.close
+    (tie.spec
+    Inv-loop
+    μ-loop
+    loop-holds
+    mul-substitute
+    array-copy-out-substitute
+    substitute-requires
+    mul-out
+    array-set-from-out
+    add-k
+    loop-less
+    loop-again
+    returns)

@@ -1,0 +1,2 @@
+-- What the survivor and the replacement answer.
+pub mod internal

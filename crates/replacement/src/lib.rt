@@ -1,0 +1,150 @@
+// What a step of the chase does with the two entries that it finds (SPECIFICATION, The chase): which of them survives, and the replacement of the other.
+use query::Cell;
+use query::Entry;
+use query::Query;
+ghost use mathlib.Core.Path.{_≡_};
+ghost use mathlib.Core.Bool.{Bool};
+ghost use mathlib.Core.List.{map};
+ghost use Prim.Native.Nat.{ℕ, _≤_};
+ghost use lib.ListN.{take};
+ghost use Rattle.query.specs.View.{entryOf, entriesOf};
+ghost use Rattle.replacement.specs.internal.Replacement.{headHolds, entryInHead, resolutionOf, Survivor, substituteCell, mapCells};
+ghost use Rattle.theory.specs.Query as theory;
+ghost use Rattle.theory.specs.Chase as chasing;
+
+// What two different entries that must be equal lead to: a clash, or the variable that goes and the entry that takes its place.
+pub enum Resolution {
+    Clash,
+    Replace(u8, Entry),
+}
+
+// Whether a variable stands among the first `arity` entries of a head.
+fn stands(head: [Cell; 8], arity: usize, v: u8) -> bool
+    requires { ⌜ arity ≤ 8 ⌝ }
+    ensures { λ r. ⌜ r ≡ theory.member v (theory.variablesOf (entriesOf (take arity head))) ⌝ }
+{
+    for k in 0..arity {
+        let cell = head[k];
+        let entry = cell.entry;
+        match entry {
+            Entry::Constant(_) => {}
+            Entry::Variable(w) => {
+                if v == w {
+                    return true;
+                }
+            }
+        }
+    }
+    false
+}
+
+// Whether an entry is a variable that stands in the head.
+fn in_head(q: Query, e: Entry) -> bool
+    requires { ⌜ q .arity ≤ 8 ⌝ }
+    ensures { λ r. ⌜ r ≡ entryInHead (headHolds q) (entryOf e) ⌝ }
+{
+    match e {
+        Entry::Constant(_) => false,
+        Entry::Variable(v) => {
+            let head = q.head;
+            stands(head, q.arity as usize, v)
+        }
+    }
+}
+
+// Whether variable v survives variable w: one in the head survives one that is not, otherwise the lower number survives.
+fn survives(v: u8, v_in_head: bool, w: u8, w_in_head: bool) -> bool
+    ensures { λ r. ⌜ ((inHead : ℕ → Bool) → inHead v ≡ v_in_head → inHead w ≡ w_in_head → r ≡ chasing.survives inHead v w) ⌝ }
+{
+    if v_in_head {
+        if w_in_head {
+            return v < w;
+        }
+        return true;
+    }
+    if w_in_head {
+        return false;
+    }
+    v < w
+}
+
+// The survivor of two different entries: two constants clash, a constant survives a variable, and of two variables one `survives`.
+fn survivor(a: Entry, a_in_head: bool, b: Entry, b_in_head: bool) -> Resolution
+    ensures { λ r. ⌜ Survivor a a_in_head b b_in_head (resolutionOf r) ⌝ }
+{
+    match a {
+        Entry::Constant(_) => match b {
+            Entry::Constant(_) => Resolution::Clash,
+            Entry::Variable(w) => Resolution::Replace(w, a),
+        },
+        Entry::Variable(v) => match b {
+            Entry::Constant(_) => Resolution::Replace(v, b),
+            Entry::Variable(w) => {
+                if survives(v, a_in_head, w, b_in_head) {
+                    Resolution::Replace(w, a)
+                } else {
+                    Resolution::Replace(v, b)
+                }
+            }
+        },
+    }
+}
+
+// What two different entries of a query lead to.
+pub fn resolve(q: Query, a: Entry, b: Entry) -> Resolution
+    requires { ⌜ q .arity ≤ 8 ⌝ }
+    ensures { λ r. ⌜ resolutionOf r ≡ chasing.resolve (headHolds q) (entryOf a) (entryOf b) ⌝ }
+{
+    survivor(a, in_head(q, a), b, in_head(q, b))
+}
+
+// A cell with entry e in place of variable v.
+fn substitute(cell: Cell, v: u8, e: Entry) -> Cell
+    ensures { λ r. ⌜ r ≡ substituteCell v e cell ⌝ }
+{
+    let entry = cell.entry;
+    match entry {
+        Entry::Constant(_) => cell,
+        Entry::Variable(w) => { if w == v { Cell { entry: e } } else { cell } }
+    }
+}
+
+// The same in each cell of a head.
+fn substitute_head(head: [Cell; 8], v: u8, e: Entry) -> [Cell; 8]
+    ensures { λ r. ⌜ r ≡ map (substituteCell v e) head ⌝ }
+{
+    let mut out = head;
+    for k in 0..8 {
+        out[k] = substitute(head[k], v, e);
+    }
+    out
+}
+
+// The same in each cell of the rows.
+fn substitute_cells(cells: [Cell; 96], v: u8, e: Entry) -> [Cell; 96]
+    ensures { λ r. ⌜ r ≡ map (substituteCell v e) cells ⌝ }
+{
+    let mut out = cells;
+    for k in 0..96 {
+        out[k] = substitute(cells[k], v, e);
+    }
+    out
+}
+
+// Entry e in place of variable v, in the head and in all rows. Cells that are not in use hold a constant, which stays.
+pub fn replace(q: Query, v: u8, e: Entry) -> Query
+    ensures { λ r. ⌜ r ≡ mapCells (substituteCell v e) q ⌝ }
+{
+    let relations = q.relations;
+    let head = q.head;
+    let cells = q.cells;
+    let new_head = substitute_head(head, v, e);
+    let new_cells = substitute_cells(cells, v, e);
+    Query {
+        arity: q.arity,
+        size: q.size,
+        head: new_head,
+        relations: relations,
+        cells: new_cells,
+    }
+}
