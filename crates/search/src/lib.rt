@@ -18,7 +18,7 @@ ghost use Rattle.consistency.specs.internal.Consistent.{Below};
 ghost use Rattle.search.specs.internal.Invariant.{IsEarlier, IsNext, IsCandidate, RowFits, Tested, Attempted, Placeable, Tryable};
 
 // Whether there is a solution, and one. Without one, chosen means nothing.
-pub struct Outcome {
+pub struct Solved {
     pub found: bool,
     pub chosen: [u8; 13],
 }
@@ -215,7 +215,7 @@ fn try_candidate(
 }
 
 // A solution, where there is one; found says whether. Candidates from 12 on are passed over.
-pub fn solve(domain: &[u16; 13], table: &[u16; 2028], rows: usize) -> Outcome
+pub fn solve(domain: &[u16; 13], table: &[u16; 2028], rows: usize) -> Solved
     requires { ⌜ rows ≤ 13 ⌝ }
     ensures found { λ o. ⌜ (o .found ≡ true → Solution rows (now (domain .entry)) (now (table .entry)) (λ r. getD (o .chosen) r 0)) ⌝ }
     ensures none { λ o. ⌜ (o .found ≡ false → (f : ℕ → ℕ) → Solution rows (now (domain .entry)) (now (table .entry)) f → ⊥) ⌝ }
@@ -224,7 +224,7 @@ pub fn solve(domain: &[u16; 13], table: &[u16; 2028], rows: usize) -> Outcome
     let state = settled(&links, table, rows, start(domain));
     let last = place_row(domain, table, &links, rows, state, 14 * rows + 1);
     let chosen = last.chosen;
-    Outcome {
+    Solved {
         found: last.found,
         chosen,
     }

@@ -3,7 +3,7 @@
 use mathlib.Core.Path.{_≡_}
 use mathlib.Core.Bool.{Bool, true, false, cond, _&&_}
 use mathlib.Core.List.{List, [], _∷_, map}
-use mathlib.Core.Option.{Option, none, some}
+use mathlib.Core.Option.{Option, none, some, Option·map}
 use Prim.Native.Nat.{ℕ, zero, suc, _*_}
 use lib.Dec.{eqb}
 use lib.ListN.{take, drop, getD}
@@ -11,7 +11,6 @@ use Rattle.query.specs.declared.Entry.{Entry}
 use Rattle.query.specs.declared.Entry.the-variants.{Constant, Variable}
 use Rattle.query.specs.declared.Cell.{Cell}
 use Rattle.query.specs.declared.Query.{Query}
-use Rattle.query.specs.declared.Dependency.{Dependency}
 use Rattle.query.specs.View.{entryOf, entriesOf}
 use Rattle.query.specs.Rule.{goodEntry}
 use Rattle.chase.specs.declared.Found.{Found}
@@ -50,7 +49,7 @@ differing found =
 
 -- What the search should find
 abbrev pub firstDiffering : List database.Dependency → List (theory.Row theory.Entry) → Option (theory.Entry × theory.Entry)
-firstDiffering ds rows = chasing.mapFound differing (chasing.firstBroken ds rows)
+firstDiffering ds rows = Option·map differing (chasing.firstBroken ds rows)
 
 -- What the answer of the search stands for
 abbrev pub foundOf : Found → Option (theory.Entry × theory.Entry)
