@@ -15,7 +15,7 @@ ghost use Prim.Native.Nat.{ℕ, _<_, _≤_};
 ghost use lib.ListN.{getD};
 ghost use Rattle.consistency.specs.internal.Solution.{Solution};
 ghost use Rattle.consistency.specs.internal.Consistent.{Below};
-ghost use Rattle.search.specs.internal.Invariant.{IsEarlier, IsNext, IsCandidate, RowFits, Tested, Attempted, Placeable, Tryable};
+ghost use Rattle.search.specs.internal.Invariant.{IsEarlier, IsNext, IsCandidate, RowFits, TestSays, Attempted, Placeable, Tryable};
 
 // Whether there is a solution, and one. Without one, chosen means nothing.
 pub struct Solved {
@@ -103,7 +103,7 @@ fn test_row(
     r: usize,
 ) -> Clash
     requires { ⌜ (rows ≤ 13) × (r < rows) × Below chosen ⌝ }
-    ensures { λ c. ⌜ Tested rows (now (domain .entry)) (now (table .entry)) chosen (RowFits rows (now (domain .entry)) (now (table .entry)) chosen r) c ⌝ }
+    ensures { λ c. ⌜ TestSays rows (now (domain .entry)) (now (table .entry)) chosen (RowFits rows (now (domain .entry)) (now (table .entry)) chosen r) c ⌝ }
 {
     let d = chosen[r] as usize;
     if (domain[r] >> d) % 2 == 0 {
@@ -120,7 +120,7 @@ fn test_row(
 // Whether the choices are a solution.
 fn test_choices(domain: &[u16; 13], table: &[u16; 2028], rows: usize, chosen: [u8; 13]) -> Clash
     requires { ⌜ (rows ≤ 13) × Below chosen ⌝ }
-    ensures { λ c. ⌜ Tested rows (now (domain .entry)) (now (table .entry)) chosen (Solution rows (now (domain .entry)) (now (table .entry)) (λ q. getD chosen q 0)) c ⌝ }
+    ensures { λ c. ⌜ TestSays rows (now (domain .entry)) (now (table .entry)) chosen (Solution rows (now (domain .entry)) (now (table .entry)) (λ q. getD chosen q 0)) c ⌝ }
 {
     for r in 0..rows {
         let at = test_row(domain, table, rows, chosen, r);
