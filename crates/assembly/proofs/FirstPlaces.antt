@@ -8,7 +8,7 @@ use lib.Seq.{length-take-le, drop-cons, getD-take}
 use native.Mathlib.Numerals.{add-one}
 use Rattle.query.specs.declared.Place.{Place}
 use Rattle.format.specs.File.{putPlace}
-use Rattle.format.proofs.Arrays.{pastPlace}
+use Rattle.query.proofs.Shape.{pastPlace}
 
 module _ (schema : List ℕ) (places : List Place) (n k : ℕ) (l : n ≤ length places) where
   pub parts-next : k < n

@@ -1,7 +1,7 @@
 -- The parts of a good record: their lengths, and the file as directory and parts.
 use mathlib.Core.Path.{_≡_, refl, ap, _∙_}
 use mathlib.Core.Bool.{true}
-use mathlib.Core.List.{List, _++_, map, append-assoc}
+use mathlib.Core.List.{List, _++_, map, append-assoc, flatMap}
 use Prim.Native.Nat.{ℕ, suc, _+_, _*_, _≤_}
 use native.Mathlib.Omega.{arith}
 use lib.ListN.{length, take, length-append, length-map}
@@ -10,12 +10,12 @@ use Rattle.record.specs.declared.Record.{Record}
 use Rattle.record.specs.View.{schemaOf}
 use Rattle.record.specs.Rule.{goodRecord}
 use Rattle.format.specs.Bytes.{bytesOf}
-use Rattle.format.specs.Format.{putAll, byte, sequence, padded}
+use Rattle.format.specs.Format.{byte, sequence, padded}
 use Rattle.format.specs.Parts.{relations, dependency, dependencies}
 use Rattle.format.specs.File.{tableOf, join, assemble, putPlace, upToFilled, partsOf, fileOf}
 use Rattle.format.proofs.Numbers.{length-bytes}
 use Rattle.format.proofs.Directory.{length-table}
-use Rattle.format.proofs.Lengths.{length-putAll, length-relations}
+use Rattle.format.proofs.Lengths.{length-flatMap, length-relations}
 use Rattle.assembly.specs.internal.Pieces.{putDependency, dependencyBytes, directoryBytes, partBytes}
 use Rattle.record.proofs.Good.{good-record}
 use Rattle.query.proofs.Relations.{relations-bounds}
@@ -30,8 +30,8 @@ module _ (r : Record) (good : goodRecord r ≡ true) where
 
     pub second-long : length (dependencyBytes (r .held) (r .dependencies)) ≡ 1 + 3 * r .held
     second-long =
-        let e : length (putAll putDependency (take (r .held) (r .dependencies))) ≡ 3 * length (take (r .held) (r .dependencies)) =
-        length-putAll putDependency 3 (λ d. refl) (take (r .held) (r .dependencies)) in
+        let e : length (flatMap putDependency (take (r .held) (r .dependencies))) ≡ 3 * length (take (r .held) (r .dependencies)) =
+        length-flatMap putDependency 3 (λ d. refl) (take (r .held) (r .dependencies)) in
         let k : length (take (r .held) (r .dependencies)) ≡ r .held = length-take-le (r .held) (r .dependencies) (omega (arith, good-record r good .held)) in
         omega arith
 

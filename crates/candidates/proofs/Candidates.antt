@@ -9,7 +9,7 @@ use native.Mathlib.Nat.{le-trans}
 use native.Mathlib.Omega.{arith}
 use lib.Dec.{eqb}
 use lib.ListN.{getD}
-use Rattle.lists.specs.Tests.{Tells}
+use Rattle.lists.specs.internal.Tells.{Tells}
 use Rattle.candidates.specs.internal.Candidates.{Agrees, Fixes, Repeats, Marks, rowStart, imageStart, candidatesOf, Together, Possible, IsTable}
 use Rattle.candidates.specs.internal.Sharing.{Shares, IsMask}
 

@@ -1,13 +1,14 @@
 -- Rows of a target that are the same as earlier ones: each row is the same as one that repeats none.
 -- Assumes nothing.
 use mathlib.Core.Path.{_≡_, refl, _∙_}
+use mathlib.Core.Logic.{Dec·and}
 use mathlib.Core.List.{List}
 use Prim.Native.Nat.{ℕ, zero, suc, _+_, _*_, _≤_, _<_}
 use native.Mathlib.Nat.{not-suc-le-zero}
 use native.Mathlib.Decide.{ℕ-discrete}
 use native.Mathlib.Omega.{arith}
 use lib.ListN.{getD}
-use Rattle.lists.proofs.Positions.{below-each, below-some, both-or-not}
+use Rattle.lists.proofs.Positions.{below-each, below-some}
 use Rattle.candidates.specs.internal.Candidates.{SameRow, Repeats}
 
 repeats-or-not : (target offered : List ℕ) (d : ℕ) → Dec (Repeats target offered d)
@@ -15,7 +16,7 @@ repeats-or-not target offered d =
     go
     (below-some Like
     (λ e.
-    both-or-not (getD offered e 0 ≡ getD offered d 0) (SameRow target (8 * e) (8 * d)) (ℕ-discrete (getD offered e 0) (getD offered d 0))
+    Dec·and (ℕ-discrete (getD offered e 0) (getD offered d 0))
     (below-each (λ (i : ℕ). getD target (8 * e + i) 0 ≡ getD target (8 * d + i) 0)
     (λ i. ℕ-discrete (getD target (8 * e + i) 0) (getD target (8 * d + i) 0)) 8))
     d)

@@ -3,7 +3,7 @@ use entries::code::decode;
 use query::Entry;
 ghost use Prim.Native.Nat.{_+_, _≤_};
 ghost use lib.ListN.{length};
-ghost use Rattle.lists.specs.Tests.{Tells};
+ghost use Rattle.lists.specs.internal.Tells.{Tells};
 ghost use Rattle.candidates.specs.internal.Candidates.{Takes, Agrees, Fixes, SameRow};
 ghost use Rattle.candidates.specs.internal.Sharing.{Holds, Shares};
 

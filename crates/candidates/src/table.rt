@@ -7,7 +7,7 @@ use crate::agree::shares;
 ghost use mathlib.Core.Path.{_≡_};
 ghost use Prim.Native.Nat.{_+_, _≤_, _<_};
 ghost use lib.ListN.{length};
-ghost use Rattle.lists.specs.Tests.{Tells};
+ghost use Rattle.lists.specs.internal.Tells.{Tells};
 ghost use Rattle.candidates.specs.internal.Candidates.{Marks, Repeats, rowStart, imageStart, candidatesOf, Laid, Together, Possible, IsDomain, IsTable};
 ghost use Rattle.candidates.specs.internal.Sharing.{IsMask};
 

@@ -4,7 +4,7 @@
 use mathlib.Core.Path.{_≡_, refl, sym, _∙_, ap, ap₂, subst}
 use mathlib.Core.Bool.{true}
 use mathlib.Core.List.{List, [], _∷_, map}
-use mathlib.Core.Option.{Option, none, some}
+use mathlib.Core.Option.{Option, none, some, orElse, Option·map, map-map}
 use Prim.Native.Nat.{ℕ, zero, suc, _+_, _*_, _≤_, _<_}
 use native.Mathlib.Omega.{arith}
 use lib.ListN.{length, take, drop, getD, List·getD-map}
@@ -22,7 +22,7 @@ use Rattle.query.proofs.Shape.{blank-entry}
 use Rattle.chase.proofs.Good.{good-row}
 use Rattle.theory.specs.Query.{Entry, constant, Row, Query, column, mapRow, mapQuery}
 use Rattle.theory.specs.Database.{Dependency}
-use Rattle.theory.specs.Chase.{orElse, mapFound, firstPassing, firstPair, firstFound, firstBroken, agree, breaks, resolve, inHead, step, substitute}
+use Rattle.theory.specs.Chase.{firstPassing, firstPair, firstFound, firstBroken, agree, breaks, resolve, inHead, step, substitute}
 use Rattle.theory.specs.Chase.{Chases, rests, clashes, replaces}
 use Rattle.lists.proofs.Tests.{and-left, and-right}
 use Rattle.theory.proofs.Lists.{bool-cases}
@@ -48,15 +48,10 @@ AllPadded schema (r ∷ rs) = Padded schema r × AllPadded schema rs
 
 -- ---- the search
 
-mapFound-orElse : {A B : Type 0} (f : A → B) (a b : Option A) → mapFound f (orElse a b) ≡ orElse (mapFound f a) (mapFound f b)
-unfolding mapFound orElse
-mapFound-orElse f none b = refl
-mapFound-orElse f (some x) b = refl
-
-mapFound-mapFound : {A B C : Type 0} (f : B → C) (g : A → B) (a : Option A) → mapFound f (mapFound g a) ≡ mapFound (λ x. f (g x)) a
-unfolding mapFound
-mapFound-mapFound f g none = refl
-mapFound-mapFound f g (some x) = refl
+map-orElse : {A B : Type 0} (f : A → B) (a b : Option A) → Option·map f (orElse a b) ≡ orElse (Option·map f a) (Option·map f b)
+unfolding orElse
+map-orElse f none b = refl
+map-orElse f (some x) b = refl
 
 module _ (schema : List ℕ) where
   agree-narrow : (columns : List ℕ) (r s : Row Entry) → Padded schema r → Padded schema s
@@ -70,9 +65,9 @@ module _ (schema : List ℕ) where
   breaks-narrow d r s p p' = rw (agree-narrow (d .left) r s p p', p (d .right), p' (d .right))
 
   second-narrow : (d : Dependency) (r : Row Entry) (ss : List (Row Entry)) → Padded schema r → AllPadded schema ss
-      → mapFound (λ s. differing (d, (narrowRow schema r, s))) (firstPassing (breaks d (narrowRow schema r)) (map (narrowRow schema) ss))
-      ≡ mapFound (λ s. differing (d, (r, s))) (firstPassing (breaks d r) ss)
-  unfolding firstPassing mapFound
+      → Option·map (λ s. differing (d, (narrowRow schema r, s))) (firstPassing (breaks d (narrowRow schema r)) (map (narrowRow schema) ss))
+      ≡ Option·map (λ s. differing (d, (r, s))) (firstPassing (breaks d r) ss)
+  unfolding firstPassing
   second-narrow d r [] p ps = refl
   second-narrow d r (s ∷ ss) p ps =
       rw
@@ -84,18 +79,18 @@ module _ (schema : List ℕ) where
 
   -- A pair among the rows, by its differing entries
   pair-cons : (d : Dependency) (r : Row Entry) (rs : List (Row Entry))
-      → mapFound (λ p. differing (d, p)) (firstPair (breaks d) (r ∷ rs))
-      ≡ orElse (mapFound (λ s. differing (d, (r, s))) (firstPassing (breaks d r) rs)) (mapFound (λ p. differing (d, p)) (firstPair (breaks d) rs))
+      → Option·map (λ p. differing (d, p)) (firstPair (breaks d) (r ∷ rs))
+      ≡ orElse (Option·map (λ s. differing (d, (r, s))) (firstPassing (breaks d r) rs)) (Option·map (λ p. differing (d, p)) (firstPair (breaks d) rs))
   unfolding firstPair
   pair-cons d r rs =
-      mapFound-orElse (λ p. differing (d, p)) (mapFound (λ y. (r, y)) (firstPassing (breaks d r) rs)) (firstPair (breaks d) rs)
+      map-orElse (λ p. differing (d, p)) (Option·map (λ y. (r, y)) (firstPassing (breaks d r) rs)) (firstPair (breaks d) rs)
       ∙ ap
-      (λ o. orElse o (mapFound (λ p. differing (d, p)) (firstPair (breaks d) rs)))
-      (mapFound-mapFound (λ p. differing (d, p)) (λ y. (r, y)) (firstPassing (breaks d r) rs))
+      (λ o. orElse o (Option·map (λ p. differing (d, p)) (firstPair (breaks d) rs)))
+      (map-map (λ p. differing (d, p)) (λ y. (r, y)) (firstPassing (breaks d r) rs))
 
   pair-narrow : (d : Dependency) (rs : List (Row Entry)) → AllPadded schema rs
-      → mapFound (λ p. differing (d, p)) (firstPair (breaks d) (map (narrowRow schema) rs)) ≡ mapFound (λ p. differing (d, p)) (firstPair (breaks d) rs)
-  unfolding firstPair mapFound
+      → Option·map (λ p. differing (d, p)) (firstPair (breaks d) (map (narrowRow schema) rs)) ≡ Option·map (λ p. differing (d, p)) (firstPair (breaks d) rs)
+  unfolding firstPair
   pair-narrow d [] ps = refl
   pair-narrow d (r ∷ rs) ps =
       pair-cons d (narrowRow schema r) (map (narrowRow schema) rs)
@@ -103,17 +98,17 @@ module _ (schema : List ℕ) where
       ∙ sym (pair-cons d r rs)
 
   differing-cons : (d : Dependency) (ds : List Dependency) (rows : List (Row Entry))
-      → firstDiffering (d ∷ ds) rows ≡ orElse (mapFound (λ p. differing (d, p)) (firstPair (breaks d) rows)) (firstDiffering ds rows)
+      → firstDiffering (d ∷ ds) rows ≡ orElse (Option·map (λ p. differing (d, p)) (firstPair (breaks d) rows)) (firstDiffering ds rows)
   unfolding firstBroken firstFound
   differing-cons d ds rows =
-      mapFound-orElse differing (mapFound (λ x. (d, x)) (firstPair (breaks d) rows)) (firstFound (λ d. firstPair (breaks d) rows) ds)
+      map-orElse differing (Option·map (λ x. (d, x)) (firstPair (breaks d) rows)) (firstFound (λ d. firstPair (breaks d) rows) ds)
       ∙ ap
-      (λ o. orElse o (mapFound differing (firstFound (λ d. firstPair (breaks d) rows) ds)))
-      (mapFound-mapFound differing (λ x. (d, x)) (firstPair (breaks d) rows))
+      (λ o. orElse o (Option·map differing (firstFound (λ d. firstPair (breaks d) rows) ds)))
+      (map-map differing (λ x. (d, x)) (firstPair (breaks d) rows))
 
   differing-narrow : (ds : List Dependency) (rows : List (Row Entry)) → AllPadded schema rows
       → firstDiffering ds (map (narrowRow schema) rows) ≡ firstDiffering ds rows
-  unfolding firstBroken firstFound mapFound
+  unfolding firstBroken firstFound
   differing-narrow [] rows ps = refl
   differing-narrow (d ∷ ds) rows ps =
       differing-cons d ds (map (narrowRow schema) rows)
@@ -122,15 +117,15 @@ module _ (schema : List ℕ) where
 
 -- ---- the step, by the differing entries
 
-pub step-differing : (ds : List Dependency) (q : Query) → step ds q ≡ mapFound (λ p. resolve (inHead q) (p .0) (p .1)) (firstDiffering ds (q .rows))
+pub step-differing : (ds : List Dependency) (q : Query) → step ds q ≡ Option·map (λ p. resolve (inHead q) (p .0) (p .1)) (firstDiffering ds (q .rows))
 unfolding step
-step-differing ds q = sym (mapFound-mapFound (λ p. resolve (inHead q) (p .0) (p .1)) differing (firstBroken ds (q .rows)))
+step-differing ds q = sym (map-map (λ p. resolve (inHead q) (p .0) (p .1)) differing (firstBroken ds (q .rows)))
 
 module _ (schema : List ℕ) where
   step-narrow : (ds : List Dependency) (q : Query) → AllPadded schema (q .rows) → step ds (narrowQuery schema q) ≡ step ds q
   step-narrow ds q ps =
       step-differing ds (narrowQuery schema q)
-      ∙ ap (mapFound (λ p. resolve (inHead q) (p .0) (p .1))) (differing-narrow schema ds (q .rows) ps)
+      ∙ ap (Option·map (λ p. resolve (inHead q) (p .0) (p .1))) (differing-narrow schema ds (q .rows) ps)
       ∙ sym (step-differing ds q)
 
   -- ---- the chase

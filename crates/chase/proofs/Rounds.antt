@@ -33,9 +33,9 @@ use Rattle.chase.proofs.View.{StandsFor, entriesOf-take}
 use Rattle.chase.proofs.Good.{good-kept, never-good}
 use Rattle.chase.proofs.Callers.{width-le}
 use Rattle.chase.proofs.Narrow.{step-differing, chases-narrow, wide-padded, narrow-wide}
-use Rattle.theory.specs.Query.{Entry, constant, variable, Query, never, mapRow, mapQuery, rowEntries, variablesOf, member, distinct, variableCount}
+use Rattle.theory.specs.Query.{Entry, constant, variable, never, mapRow, mapQuery, rowEntries, variablesOf, member, distinct, variableCount}
 use Rattle.theory.specs.Database.{Dependency}
-use Rattle.theory.specs.Chase.{mapFound, resolve, inHead, substitute, step, Chased, oneMore, Chases, chase}
+use Rattle.theory.specs.Chase.{resolve, inHead, substitute, step, Chased, oneMore, Chases, chase}
 use Rattle.lists.proofs.Tests.{and-left, and-right}
 use Rattle.theory.proofs.Lists.{bool-cases}
 use Rattle.theory.proofs.Entries.{constant-same, variable-same, constant-variable}
@@ -138,11 +138,9 @@ under-start q ds =
 pub step-some : (ds : List Dependency) (query : stored.Query) (a b : stored-entry.Entry) (r : Resolution)
     → foundOf (Step a b) ≡ firstDiffering ds (wideQuery query .rows) → resolutionOf r ≡ resolve (inHead (wideQuery query)) (entryOf a) (entryOf b)
     → step ds (wideQuery query) ≡ some (resolutionOf r)
-unfolding mapFound
 step-some ds query a b r found resolved = step-differing ds (wideQuery query) ∙ rw (← found, resolved)
 
 pub step-none : (ds : List Dependency) (query : stored.Query) → foundOf Rest ≡ firstDiffering ds (wideQuery query .rows) → step ds (wideQuery query) ≡ none
-unfolding mapFound
 step-none ds query found = step-differing ds (wideQuery query) ∙ rw (← found)
 
 -- The entry that survives is one of the two, so it is good if they are

@@ -4,7 +4,7 @@
 -- It is an element, and passes
 use mathlib.Core.Path.{_≡_, refl, sym, ap, ap₂, subst, _∙_}
 use mathlib.Core.Bool.{Bool, true, false, cond, not, _&&_}
-use mathlib.Core.List.{List, [], _∷_, map, List·Memᴰ·head, List·Memᴰ·tail}
+use mathlib.Core.List.{List, [], _∷_, map}
 use mathlib.Core.Option.{Option, none, some}
 use Prim.Native.Nat.{ℕ, zero, suc, _+_, _-_, _/_, _%_, _^_, _≤_, _<_}
 use native.Mathlib.Nat.{lt-of-lt-of-le}
@@ -28,17 +28,8 @@ use Rattle.lists.specs.Tests.{every}
 use Rattle.query.specs.Rule.{noDependency}
 use Rattle.closure.specs.internal.Closure.{addRight, nextMask, growMask, rightNarrow}
 use Rattle.lists.proofs.Tests.{every-getD}
+use Rattle.theory.proofs.Step.{firstPassing-found}
 use Rattle.closure.proofs.Masks.{Same, same-columns, same-more, subset-mask, bit-shift, columns-in, mask-columns, columns-count}
-
-pub passing-in : {A : Type 0} (test : A → Bool) (xs : List A) (x : A) → firstPassing test xs ≡ some x → (x ∈ xs) × (test x ≡ true)
-unfolding firstPassing
-passing-in test [] x e = let z : _≡_ {A = ℕ} 0 1 = cc in absurd (omega arith)
-passing-in {A} test (y ∷ xs) x e = go (test y) refl e (passing-in test xs x)
-  where
-    go : (t : Bool) → test y ≡ t → cond t (some y) (firstPassing test xs) ≡ some x → (firstPassing test xs ≡ some x → (x ∈ xs) × (test x ≡ true))
-        → (x ∈ (y ∷ xs)) × (test x ≡ true)
-    go true p q rest = let same : y ≡ x = cc in (List·Memᴰ·head (sym same), ap test (sym same) ∙ p)
-    go false p q rest = let found = rest q in (List·Memᴰ·tail (found .0), found .1)
 
 -- Tests that agree pass the same first element
 pub passing-same : {A : Type 0} (test other : A → Bool) → ((x : A) → test x ≡ other x) → (xs : List A) → firstPassing test xs ≡ firstPassing other xs
@@ -144,7 +135,7 @@ module _ (ds : List Dependency) (relation w : ℕ) (narrow : (d : Dependency) �
       go : (o : Option Dependency) → firstPassing (adds relation (columnsOf mask)) ds ≡ o → addRight mask o < 2 ^ w
       go none e = h
       go (some d) e =
-          let found = passing-in (adds relation (columnsOf mask)) ds d e in
+          let found = firstPassing-found (adds relation (columnsOf mask)) d ds e in
           or-lt w mask (2 ^ d .right) h (pow-lt (narrow d (found .0) (adds-relation relation (columnsOf mask) d (found .1))))
 
   -- And so do all looks

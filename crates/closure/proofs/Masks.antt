@@ -1,5 +1,4 @@
 -- Sets of columns as masks, bit c for column c: membership, subset, union and size of a mask are those of its columns.
--- Whether column c is in a mask
 use mathlib.Core.Path.{_≡_, refl, sym, ap, ap₂, _∙_}
 use mathlib.Core.Bool.{Bool, true, false, cond, _&&_, _||_}
 use mathlib.Core.List.{List, _∷_}
@@ -12,10 +11,12 @@ use lib.Bits.{bitAnd, bitOr, and-step, or-step, and-zero-l}
 use lib.Count.{ones, ones-step}
 use lib.ListN.{length}
 use borrow.Author.Tests.{eqb-true, eqb-false, eq-eqb, ne-eqb}
+use Rattle.lists.specs.Numbers.{numbersWhere}
 use Rattle.theory.specs.Query.{member}
-use Rattle.theory.specs.Determined.{subset, columnsIn}
+use Rattle.theory.specs.Determined.{subset}
 use Rattle.query.specs.View.{columnsFrom, columnsOf, maskOf}
 
+-- Whether column c is in a mask
 unfoldable pub bit : ℕ → ℕ → Bool
 bit mask zero = eqb (mask % 2) 1
 bit mask (suc c) = bit (mask / 2) c
@@ -192,8 +193,8 @@ subset-mask l m known h same =
 
 -- ---- back from a mask
 
-columns-in-from : (n s m : ℕ) (known : List ℕ) → ((k : ℕ) → member (s + k) known ≡ bit m k) → columnsIn known s n ≡ columnsFrom s n m
-unfolding columnsIn columnsFrom bit
+columns-in-from : (n s m : ℕ) (known : List ℕ) → ((k : ℕ) → member (s + k) known ≡ bit m k) → numbersWhere (λ c. member c known) s n ≡ columnsFrom s n m
+unfolding numbersWhere columnsFrom bit
 columns-in-from zero s m known same = refl
 columns-in-from (suc n) s m known same =
     let first : member s known ≡ eqb (m % 2) 1 = ap (λ (k : ℕ). member k known) (omega arith) ∙ same 0 in
@@ -203,7 +204,7 @@ columns-in-from (suc n) s m known same =
     ap₂ (λ (t : Bool) (cs : List ℕ). cond t (s ∷ cs) cs) first (columns-in-from n (suc s) (m / 2) known next)
 
 -- The columns below a width that stand in a list are those of the list's mask
-pub columns-in : (width m : ℕ) (known : List ℕ) → Same known m → columnsIn known 0 width ≡ columnsFrom 0 width m
+pub columns-in : (width m : ℕ) (known : List ℕ) → Same known m → numbersWhere (λ c. member c known) 0 width ≡ columnsFrom 0 width m
 columns-in width m known same =
     columns-in-from width 0 m known (λ k. let shift : 0 + k ≡ k = omega arith in ap (λ (i : ℕ). member i known) shift ∙ same .at k)
 

@@ -7,7 +7,7 @@ use Prim.Native.Nat.{ℕ}
 use Rattle.theory.specs.Answer.{IsMapping}
 use Rattle.query.specs.declared.Cell.{Cell}
 use Rattle.query.specs.View.{imagesOf}
-use Rattle.query.specs.Meaning.{Sized}
+use Rattle.query.specs.Rule.{shapedQuery}
 use Rattle.record.specs.declared.Record.{Record}
 use Rattle.record.specs.Calls.{queryAt}
 use Rattle.comparison.specs.declared.Comparison.{Comparison}
@@ -31,5 +31,5 @@ CheckDenies =
 -- Two comparisons of the same places, with arrays as long as their types say, have the same verdict and the same query
 abbrev pub ComparedOnce : Type 0
 ComparedOnce =
-    (r : Record) (p q : ℕ) (c d : Comparison) → Sized (c .query) → Sized (d .query) → Compared r p q c → Compared r p q d
+    (r : Record) (p q : ℕ) (c d : Comparison) → shapedQuery (c .query) ≡ true → shapedQuery (d .query) ≡ true → Compared r p q c → Compared r p q d
     → (c .verdict ≡ d .verdict) × (c .query ≡ d .query)

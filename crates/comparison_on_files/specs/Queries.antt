@@ -14,8 +14,9 @@ use Rattle.record.specs.View.{schemaOf}
 use Rattle.lists.specs.Over.{over}
 use Rattle.format.specs.Format.{Reading, none, got}
 use Rattle.format.specs.Parts.{query}
-use Rattle.format.specs.File.{readFile, shapedQuery}
+use Rattle.format.specs.File.{readFile}
 use Rattle.query.specs.View.{entriesOf, imagesOf}
+use Rattle.query.specs.Rule.{shapedQuery}
 use Rattle.mapping_words.specs.Images.{mappingWords, imagesIn}
 use Rattle.comparison.specs.declared.Comparison.{Comparison}
 use Rattle.comparison.specs.declared.Verdict.{Verdict}

@@ -10,7 +10,7 @@ use lib.ListN.{getD, set, length, replicate}
 use lib.Seq.{getD-set-same, getD-set-other}
 use lib.Bits.{bitAnd, bitOr}
 use Rattle.consistency.specs.internal.Solution.{Bit, together, Solution}
-use Rattle.consistency.specs.internal.Consistent.{NoBit, Below, Agrees, Refuted, Sound, Settles}
+use Rattle.consistency.specs.internal.Consistent.{NoBit, Below, HasChosen, Refuted, Accounted, Settles}
 use Rattle.consistency.specs.internal.Steps.{RowAfter, Supports}
 use Rattle.consistency.specs.declared.State.{State}
 use Rattle.consistency.proofs.Masks.{bit-and, bit-or-left, bit-or-right, bit-or-other, bit-one}
@@ -51,12 +51,12 @@ module _ (rows : ℕ) (domain table : List ℕ) (s t : State) (r d : ℕ) (chose
   placed-before q n b = bit-or-other (s .placed) r q n (subst (λ (m : ℕ). Bit m q) placed-is b)
 
   -- what agrees after the choice, at more rows, agreed before it
-  agrees-before : (m n : ℕ) (f : ℕ → ℕ) → ((q : ℕ) → Bit m q → Bit n q) → Agrees (t .placed) n (t .chosen) f → Agrees (s .placed) m (s .chosen) f
+  agrees-before : (m n : ℕ) (f : ℕ → ℕ) → ((q : ℕ) → Bit m q → Bit n q) → HasChosen (t .placed) n (t .chosen) f → HasChosen (s .placed) m (s .chosen) f
   agrees-before m n f sub ag q p b =
       ag q (placed-still q p) (sub q b) ∙ chosen-other q (apart (s .placed) q r p free)
 
   -- what agrees before the choice, and has the choice if row r counts, agrees after it
-  agrees-after : (m : ℕ) (f : ℕ → ℕ) → (Bit m r → f r ≡ d) → Agrees (s .placed) m (s .chosen) f → Agrees (t .placed) m (t .chosen) f
+  agrees-after : (m : ℕ) (f : ℕ → ℕ) → (Bit m r → f r ≡ d) → HasChosen (s .placed) m (s .chosen) f → HasChosen (t .placed) m (t .chosen) f
   agrees-after m f at ag q p b = go (ℕ-discrete q r)
     where
       go : Dec (q ≡ r) → f q ≡ getD (t .chosen) q 0
@@ -64,7 +64,7 @@ module _ (rows : ℕ) (domain table : List ℕ) (s t : State) (r d : ℕ) (chose
           subst⁻¹ (λ (x : ℕ). f x ≡ getD (t .chosen) x 0) e (at (subst (Bit m) e b) ∙ sym chosen-same)
       go (no n) = ag q (placed-before q n p) b ∙ sym (chosen-other q n)
 
-  pub sound-after : r < rows → ((q : ℕ) → q < rows → RowAfter table s t r d q) → Sound rows domain table s → Sound rows domain table t
+  pub sound-after : r < rows → ((q : ℕ) → q < rows → RowAfter table s t r d q) → Accounted rows domain table s → Accounted rows domain table t
   sound-after h each sound q k f sol ag = go (each q k .blamed)
     where
       kept : ((m : ℕ) → Bit (getD (s .culprits) q 0) m → Bit (getD (t .culprits) q 0) m) → Bit (getD (s .current) q 0) (f q)
@@ -88,11 +88,11 @@ module _ (rows : ℕ) (domain table : List ℕ) (s t : State) (r d : ℕ) (chose
 
   -- otherwise candidate d of row r is excluded by the placed rows to blame
   pub excludes : (m : ℕ) → Refuted rows domain table (t .placed) m (t .chosen)
-      → (f : ℕ → ℕ) → Solution rows domain table f → Agrees (s .placed) m (s .chosen) f → f r ≡ d → ⊥
+      → (f : ℕ → ℕ) → Solution rows domain table f → HasChosen (s .placed) m (s .chosen) f → f r ≡ d → ⊥
   excludes m fails f sol ag e = fails f sol (agrees-after m f (λ b. e) ag)
 
 -- ---- a row compared with another
-pub agrees-part : (placed a b : ℕ) (chosen : List ℕ) (f : ℕ → ℕ) → ((q : ℕ) → Bit a q → Bit b q) → Agrees placed b chosen f → Agrees placed a chosen f
+pub agrees-part : (placed a b : ℕ) (chosen : List ℕ) (f : ℕ → ℕ) → ((q : ℕ) → Bit a q → Bit b q) → HasChosen placed b chosen f → HasChosen placed a chosen f
 agrees-part placed a b chosen f sub ag q p m = ag q p (sub q m)
 
 -- the state with other candidates and culprits of row q
@@ -112,13 +112,13 @@ settles-revised rows table s p q m changed hp hq lc lb supports = record { chose
     both : ℕ
     both = bitOr (getD (s .culprits) q 0) (getD (s .culprits) p 0)
 
-    after : (domain : List ℕ) → Sound rows domain table s → Sound rows domain table (stored s q left both changed)
+    after : (domain : List ℕ) → Accounted rows domain table s → Accounted rows domain table (stored s q left both changed)
     after domain sound k h f sol ag = go (ℕ-discrete k q)
       where
         go : Dec (k ≡ q) → Bit (getD (set (s .current) q left) k 0) (f k)
         go (yes e) =
-            let agree : Agrees (s .placed) both (s .chosen) f =
-            subst (λ (x : ℕ). Agrees (s .placed) x (s .chosen) f)
+            let agree : HasChosen (s .placed) both (s .chosen) f =
+            subst (λ (x : ℕ). HasChosen (s .placed) x (s .chosen) f)
             (ap (λ (x : ℕ). getD (set (s .culprits) q both) x 0) e ∙ getD-set-same (s .culprits) q both 0 lb) ag
             in
             let own : Bit (getD (s .current) q 0) (f q) =
@@ -137,7 +137,7 @@ settles-revised rows table s p q m changed hp hq lc lb supports = record { chose
         go (no n) =
             subst⁻¹ (λ (x : ℕ). Bit x (f k)) (getD-set-other (s .current) q k left 0 n)
             (sound k h f sol
-            (subst (λ (x : ℕ). Agrees (s .placed) x (s .chosen) f) (getD-set-other (s .culprits) q k both 0 n) ag))
+            (subst (λ (x : ℕ). HasChosen (s .placed) x (s .chosen) f) (getD-set-other (s .culprits) q k both 0 n) ag))
 
 -- a state that is compared no more is settled, and settling is transitive
 pub settles-same : (rows : ℕ) (table : List ℕ) (s : State) → Settles rows table s s

@@ -10,14 +10,14 @@ use Rattle.theory.specs.Query as theory
 use Rattle.theory.specs.Query.{WellFormed, variablesOf, rowEntries, _∈_}
 use Rattle.theory.specs.Database.{Database}
 use Rattle.theory.specs.Answer.{Answer, Mapping}
-use Rattle.theory.specs.Chase.{chase, chaseFor, chaseOn, step, mapFound, firstBroken, firstFound}
+use Rattle.theory.specs.Chase.{chase, chaseFor, chaseOn, step, firstBroken, firstFound}
 use Rattle.theory.specs.Reduction.{Reduction}
 use Rattle.theory.proofs.Reduction.{reduction-answers, reduction-wellformed}
 use Rattle.core.specs.internal.CoreOf.{IsCoreOf}
 
 -- Without dependencies the chase rests at once
 chase-nothing : (q : theory.Query) → chase [] q .query ≡ q
-unfolding chase chaseFor chaseOn step mapFound firstBroken firstFound
+unfolding chase chaseFor chaseOn step firstBroken firstFound
 chase-nothing q = refl
 
 core-reduction : (schema : List ℕ) (q r : Query) → IsCoreOf schema q r → Reduction [] (queryOf schema q) (queryOf schema r)

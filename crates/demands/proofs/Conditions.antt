@@ -34,7 +34,7 @@ use Rattle.theory.specs.Search as search
 use Rattle.theory.specs.Checking.{mapsTo}
 use Rattle.record.specs.View.{schemaOf, dependenciesOf}
 use Rattle.record.specs.Rule.{blankRecord}
-use Rattle.words.specs.Words.{rowsOf}
+use Rattle.words.specs.Words.{databaseOf}
 use Rattle.words.specs.Testing.{firstBrokenFrom}
 use Rattle.words.specs.Broken.{violationOf}
 use Rattle.words.specs.declared.Violation.{Violation}
@@ -164,7 +164,7 @@ test-none (violation.At k i j) = refl
 pub test-meets : (r : Record) (words : List ℕ) (v : Conformance) → v ≡ tested r words → TestMeets r words v
 unfolding tested
 test-meets r words v e =
-    let found = violationOf (firstBrokenFrom 0 (dependenciesOf r) (rowsOf (schemaOf r) words)) in
+    let found = violationOf (firstBrokenFrom 0 (dependenciesOf r) (databaseOf (schemaOf r) words)) in
     meets _ _ _ _ _ refl (ap testRefusal e ∙ found-said _ _ (test-none found)) (λ n f. tt)
     (λ f. e ∙ ap (λ (y : Option ℕ). testUnless y (testOf found)) f)
 

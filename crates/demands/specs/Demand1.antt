@@ -37,7 +37,7 @@ use Rattle.database.specs.declared.Conformance.the-variants as test
 use Rattle.database.specs.declared.Answered.{Answered}
 use Rattle.database.specs.declared.Answered.the-variants as answered
 use Rattle.database.specs.Calls.{testConditions, testOf, evaluationConditions, placeAnswers}
-use Rattle.words.specs.Words.{rowsOf}
+use Rattle.words.specs.Words.{databaseOf}
 use Rattle.words.specs.Testing.{firstBrokenFrom}
 use Rattle.words.specs.Broken.{violationOf}
 use Rattle.evaluation.specs.Evaluated.{answerWords}
@@ -221,7 +221,7 @@ ReduceMeets r source target o =
 -- Testing a database
 abbrev pub TestMeets : Record → List ℕ → Conformance → Type 0
 TestMeets r words v =
-    Meets (testConditions r words) testAsks (testRefusal v) Nothing (v ≡ testOf (violationOf (firstBrokenFrom 0 (dependenciesOf r) (rowsOf (schemaOf r) words))))
+    Meets (testConditions r words) testAsks (testRefusal v) Nothing (v ≡ testOf (violationOf (firstBrokenFrom 0 (dependenciesOf r) (databaseOf (schemaOf r) words))))
 
 -- Evaluating a place
 abbrev pub EvaluateMeets : Record → ℕ → List ℕ → List ℕ → List ℕ → Answered → Type 0

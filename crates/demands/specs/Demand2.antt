@@ -13,7 +13,7 @@ use Rattle.record.specs.View.{schemaOf, dependenciesOf}
 use Rattle.record.specs.Calls.{queryAt}
 use Rattle.comparison.specs.declared.Comparison.{Comparison}
 use Rattle.comparison.specs.Comparison.{pairRefusal, SaysContained, base}
-use Rattle.words.specs.Words.{rowsOf}
+use Rattle.words.specs.Words.{databaseOf}
 use Rattle.answers.specs.Ascending.{Ascending}
 use Rattle.evaluation.specs.Evaluated.{answerWords}
 use Rattle.database.specs.declared.Answered.{Answered}
@@ -45,7 +45,7 @@ pub record Evaluates (r : Record) (place : ℕ) (words before after : List ℕ) 
       → after ≡ answerWords (placeAnswers r place words) ++ drop (length (answerWords (placeAnswers r place words))) before
   pub ascends : Ascending (placeAnswers r place words)
   pub exactly : evaluationRefused r place words (length before) ≡ none
-      → (t : List ℕ) → (t ∈ placeAnswers r place words) ↔ Answer (rowsOf (schemaOf r) words) (queryAt r place) t
+      → (t : List ℕ) → (t ∈ placeAnswers r place words) ↔ Answer (databaseOf (schemaOf r) words) (queryAt r place) t
 
 -- ---- files
 

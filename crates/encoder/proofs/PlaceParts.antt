@@ -1,7 +1,7 @@
 -- The part of a place: its bytes and its length.
 use mathlib.Core.Path.{_≡_, refl, _∙_}
 use mathlib.Core.Bool.{true, false, cond, _&&_}
-use mathlib.Core.List.{List, [], _∷_}
+use mathlib.Core.List.{List, [], _∷_, flatMap}
 use Prim.Native.Nat.{ℕ, zero, suc, _+_, _*_, _≤_}
 use native.Mathlib.Omega.{arith}
 use lib.Dec.{eqb}
@@ -11,7 +11,6 @@ use Rattle.query.specs.declared.Cell.{Cell}
 use Rattle.query.specs.declared.Query.{Query}
 use Rattle.query.specs.declared.Place.{Place}
 use Rattle.query.specs.Rule.{goodQuery, headSafe, goodPlace}
-use Rattle.format.specs.Format.{putAll}
 use Rattle.format.specs.Parts.{row, chunk, query}
 use Rattle.format.specs.File.{putPlace}
 use Rattle.lists.proofs.Tests.{and-left}
@@ -22,17 +21,17 @@ use Rattle.encoder.specs.internal.Lengths.{rowsLength}
 
 module _ (schema : List ℕ) (narrow : Narrow schema) where
   rows-exact : (named : List ℕ) (cells : List Cell) (size : ℕ) → length cells ≡ 8 * length named
-      → length (putAll (row schema .put) (take size (chunk named cells))) ≡ rowsLength schema (take size named)
-  unfolding chunk putAll rowsLength
+      → length (flatMap (row schema .put) (take size (chunk named cells))) ≡ rowsLength schema (take size named)
+  unfolding chunk flatMap rowsLength
   rows-exact named cells zero l = refl
   rows-exact [] cells (suc size) l = refl
   rows-exact (r ∷ named) cells (suc size) l =
       let w : ℕ = getD schema r 0 in
       let front : length (take 8 cells) ≡ 8 = length-take-le 8 cells (omega arith) in
       let used : length (take w (take 8 cells)) ≡ w = length-take-le w (take 8 cells) (omega (arith, narrow-at schema r narrow)) in
-      let ih : length (putAll (row schema .put) (take size (chunk named (drop 8 cells)))) ≡ rowsLength schema (take size named) =
+      let ih : length (flatMap (row schema .put) (take size (chunk named (drop 8 cells)))) ≡ rowsLength schema (take size named) =
       rows-exact named (drop 8 cells) size (length-drop 8 cells ∙ omega arith) in
-      length-append (row schema .put (r, take 8 cells)) (putAll (row schema .put) (take size (chunk named (drop 8 cells))))
+      length-append (row schema .put (r, take 8 cells)) (flatMap (row schema .put) (take size (chunk named (drop 8 cells))))
       ∙ omega (arith, length-row schema (r, take 8 cells))
 
   pub query-exact : (q : Query) (used rows : ℕ) → length (q .head) ≡ 8 → length (q .relations) ≡ 12 → length (q .cells) ≡ 96

@@ -1,14 +1,13 @@
 -- Runs of stores are one list written over another; and a loop that writes values one after the other.
 use mathlib.Core.Path.{_≡_, refl, sym, ap, _∙_}
-use mathlib.Core.List.{List, [], _∷_, _++_}
-use Prim.Native.Nat.{ℕ, _+_, _-_, _≤_, _<_}
+use mathlib.Core.List.{List, [], _∷_, _++_, flatMap}
+use Prim.Native.Nat.{ℕ, _+_, _≤_, _<_}
 use native.Mathlib.Numerals.{add-one, add-two, add-three, add-four}
 use native.Mathlib.Omega.{arith}
 use lib.ListN.{length, getD, drop, set, length-append, drop-of-length-le}
 use lib.Seq.{sets-eq, drop-cons}
 use Rattle.lists.specs.Over.{over}
 use Rattle.format.specs.Bytes.{bytesOf}
-use Rattle.format.specs.Format.{putAll}
 use Rattle.format.proofs.Numbers.{length-bytes}
 use Rattle.lists.proofs.Over.{over-nil, over-set, over-over, over-length}
 
@@ -31,33 +30,33 @@ byte-and-run d at a run next h e = e ∙ ap (λ (n : ℕ). over (set d at a) n r
 -- The buffer with all of xs written is the present one with those from i on
 pub record Writing {A : Type 0} (put : A → List ℕ) (before : List ℕ) (start : ℕ) (xs : List A) (buffer : List ℕ) (at i : ℕ) : Type 0 where
   pub long : length buffer ≡ length before
-  pub room : at + length (putAll put (drop i xs)) ≤ length buffer
-  pub end : at + length (putAll put (drop i xs)) ≡ start + length (putAll put xs)
-  pub rest : over before start (putAll put xs) ≡ over buffer at (putAll put (drop i xs))
+  pub room : at + length (flatMap put (drop i xs)) ≤ length buffer
+  pub end : at + length (flatMap put (drop i xs)) ≡ start + length (flatMap put xs)
+  pub rest : over before start (flatMap put xs) ≡ over buffer at (flatMap put (drop i xs))
 
-pub writing-starts : {A : Type 0} (put : A → List ℕ) (before : List ℕ) (start : ℕ) (xs : List A) → start + length (putAll put xs) ≤ length before
+pub writing-starts : {A : Type 0} (put : A → List ℕ) (before : List ℕ) (start : ℕ) (xs : List A) → start + length (flatMap put xs) ≤ length before
     → Writing put before start xs before start 0
 writing-starts put before start xs h = record { long = refl; room = h; end = refl; rest = refl }
 
 module _ {A : Type 0} {put : A → List ℕ} {before : List ℕ} {start : ℕ} {xs : List A} {buffer : List ℕ} {at i : ℕ} (w : Writing put before start xs buffer at i)
   where
-    put-next : (d : A) → i < length xs → putAll put (drop i xs) ≡ put (getD xs i d) ++ putAll put (drop (i + 1) xs)
-    unfolding putAll
+    put-next : (d : A) → i < length xs → flatMap put (drop i xs) ≡ put (getD xs i d) ++ flatMap put (drop (i + 1) xs)
+    unfolding flatMap
     put-next d h = rw (drop-cons xs i d h, add-one)
 
     -- there is room for the next value
     pub writing-room : (d : A) → i < length xs → at + length (put (getD xs i d)) ≤ length buffer
     writing-room d h =
-        let l : length (putAll put (drop i xs)) ≡ length (put (getD xs i d)) + length (putAll put (drop (i + 1) xs)) =
-        ap length (put-next d h) ∙ length-append (put (getD xs i d)) (putAll put (drop (i + 1) xs)) in
+        let l : length (flatMap put (drop i xs)) ≡ length (put (getD xs i d)) + length (flatMap put (drop (i + 1) xs)) =
+        ap length (put-next d h) ∙ length-append (put (getD xs i d)) (flatMap put (drop (i + 1) xs)) in
         omega (arith, w .room)
 
     pub writing-turns : (d : A) (next : List ℕ) (to : ℕ) → i < length xs → next ≡ over buffer at (put (getD xs i d)) → to ≡ at + length (put (getD xs i d))
         → Writing put before start xs next to (i + 1)
     writing-turns d next to h e t =
         let one : List ℕ = put (getD xs i d) in
-        let more : List ℕ = putAll put (drop (i + 1) xs) in
-        let l : length (putAll put (drop i xs)) ≡ length one + length more = ap length (put-next d h) ∙ length-append one more in
+        let more : List ℕ = flatMap put (drop (i + 1) xs) in
+        let l : length (flatMap put (drop i xs)) ≡ length one + length more = ap length (put-next d h) ∙ length-append one more in
         let room = w .room in
         let ln : length next ≡ length buffer = ap length e ∙ over-length buffer one at (omega arith) in
         record {
@@ -67,12 +66,12 @@ module _ {A : Type 0} {put : A → List ℕ} {before : List ℕ} {start : ℕ} {
           rest = w .rest ∙ ap (over buffer at) (put-next d h) ∙ sym (rw (e, t) (over-over buffer at one more (omega arith)));
         }
 
-    pub writing-ends : length xs ≤ i → (buffer ≡ over before start (putAll put xs)) × (at ≡ start + length (putAll put xs))
-    unfolding putAll
+    pub writing-ends : length xs ≤ i → (buffer ≡ over before start (flatMap put xs)) × (at ≡ start + length (flatMap put xs))
+    unfolding flatMap
     writing-ends h =
         let e : drop i xs ≡ [] = drop-of-length-le xs {i = i} h in
-        let z : putAll put (drop i xs) ≡ [] = ap (putAll put) e in
-        let l : length (putAll put (drop i xs)) ≡ 0 = ap length z in
+        let z : flatMap put (drop i xs) ≡ [] = ap (flatMap put) e in
+        let l : length (flatMap put (drop i xs)) ≡ 0 = ap length z in
         (sym (w .rest ∙ ap (over buffer at) z ∙ over-nil buffer at), omega (arith, w .end))
 
 -- ---- pieces one after the other

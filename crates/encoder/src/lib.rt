@@ -5,13 +5,12 @@ use query::Place;
 use query::Query;
 ghost use mathlib.Core.Path.{_≡_};
 ghost use mathlib.Core.Bool.{true};
-ghost use mathlib.Core.List.{_∷_};
+ghost use mathlib.Core.List.{_∷_, flatMap};
 ghost use Prim.Native.Nat.{_+_, _*_, _≤_, _<_};
 ghost use lib.ListN.{length, take, drop, getD};
 ghost use Rattle.lists.specs.Over.{over};
 ghost use Rattle.query.specs.Rule.{goodRelations, goodPlace};
 ghost use Rattle.format.specs.Bytes.{bytesOf};
-ghost use Rattle.format.specs.Format.{putAll};
 ghost use Rattle.format.specs.Parts.{putEntry, entries, row, chunk, query};
 ghost use Rattle.format.specs.File.{putPlace};
 ghost use Rattle.encoder.specs.internal.Lengths.{rowsLength};
@@ -115,8 +114,8 @@ fn put_rows(
 ) -> usize
     requires { ⌜ goodRelations count widths ≡ true ⌝ }
     requires { ⌜ size ≤ 12 ⌝ }
-    requires { ⌜ start + length (putAll (row (take count widths) .put) (take size (chunk named cells))) ≤ length (now buffer) ⌝ }
-    ensures { λ r. ⌜ (now (buffer .exit) ≡ over (now (buffer .entry)) start (putAll (row (take count widths) .put) (take size (chunk named cells)))) × (r ≡ start + length (putAll (row (take count widths) .put) (take size (chunk named cells)))) ⌝ }
+    requires { ⌜ start + length (flatMap (row (take count widths) .put) (take size (chunk named cells))) ≤ length (now buffer) ⌝ }
+    ensures { λ r. ⌜ (now (buffer .exit) ≡ over (now (buffer .entry)) start (flatMap (row (take count widths) .put) (take size (chunk named cells)))) × (r ≡ start + length (flatMap (row (take count widths) .put) (take size (chunk named cells)))) ⌝ }
 {
     let mut at = start;
     for r in 0..size {

@@ -18,8 +18,9 @@ use Rattle.query.proofs.Cell as cell
 use Rattle.query.proofs.Dependency as dependency
 use Rattle.query.proofs.Query as query
 use Rattle.query.proofs.Place as place
+use Rattle.query.specs.Rule.{shapedQuery}
 use Rattle.record.proofs.Record as recorded
-use Rattle.format.specs.File.{shapedQuery, shaped}
+use Rattle.format.specs.File.{shaped}
 
 -- An array of n elements
 pub long : (F : Field) (n : ℕ) (xs : List (F .Value)) (vs : List Val) → Is (array-field F n .row) (array-field F n .into xs) vs → length xs ≡ n
@@ -33,7 +34,8 @@ query-shaped q vs p =
     let cells = long cell.the-field 96 (q .cells) _ (p .1 .1 .1 .1 .1 .1 .0) in rw (head, relations, cells)
 
 -- Each of some places
-places-shaped : (places : List Place) (us : List Val) → shadow (each (place.the-field .row .Denot) (place.the-field .row .own) (map (place.the-field .into) places) us)
+places-shaped : (places : List Place) (us : List Val)
+    → shadow (each (place.the-field .row .Denot) (place.the-field .row .own) (map (place.the-field .into) places) us)
     → every (λ p. shapedQuery (p .query)) places ≡ true
 unfolding every
 places-shaped [] us p = refl

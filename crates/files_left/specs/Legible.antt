@@ -1,4 +1,5 @@
--- What a caller relies on: the file that an accepted call leaves is read as the record after the call, and so a query part. Each statement is proved in `proofs/Legible`.
+-- What a caller relies on: the file that an accepted call leaves is read as the record after the call, and so a query part.
+-- Each statement is proved in `proofs/Legible`.
 -- `Bytes` holds of every file and query part that a call can be given: bytes are below 256.
 use mathlib.Core.Path.{_≡_}
 use mathlib.Core.Bool.{true}

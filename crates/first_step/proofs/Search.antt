@@ -19,7 +19,7 @@ use Rattle.lists.proofs.Positions.{left-cons, left-none}
 use Rattle.first_step.proofs.Columns.{wide-column}
 use Rattle.theory.specs.Query.{Entry, Row}
 use Rattle.theory.specs.Database.{Dependency}
-use Rattle.theory.specs.Chase.{mapFound, firstBroken, breaks}
+use Rattle.theory.specs.Chase.{firstBroken, breaks}
 use Rattle.theory.proofs.Step.{brokenFor, brokenWith, firstBroken-nil, firstBroken-cons, brokenFor-nil, brokenFor-cons, brokenWith-nil}
 use Rattle.theory.proofs.Step.{brokenWith-true, brokenWith-false}
 
@@ -85,7 +85,6 @@ module _ (q : Query) (dependencies : List stored-dependency.Dependency) (held : 
 
   -- Where the search ends with nothing
   pub nothing-found : brokenFrom 0 ≡ none → none ≡ firstDiffering (dependenciesLeft 0) rowsAll
-  unfolding mapFound
   nothing-found e = rw e
 
   -- The entries that the code hands out for a broken pair
@@ -94,7 +93,6 @@ module _ (q : Query) (dependencies : List stored-dependency.Dependency) (held : 
       → a ≡ getD (q .cells) (8 * i + getD dependencies d noDependency .right) noCell .entry
       → b ≡ getD (q .cells) (8 * j + getD dependencies d noDependency .right) noCell .entry
       → brokenFrom 0 ≡ brokenFromPair d i j → some (entryOf a, entryOf b) ≡ firstDiffering (dependenciesLeft 0) rowsAll
-  unfolding mapFound
   pair-found d i j a b h fits broken a-is b-is before =
       let right = getD dependencies d noDependency .right in
       rw (

@@ -6,10 +6,10 @@ use native.Mathlib.Nat.{sub-zero}
 use native.Mathlib.Numerals.{add-one}
 use native.Mathlib.Omega.{arith}
 use lib.ListN.{length, set, replicate}
-use Rattle.lists.specs.Over.{over}
-use Rattle.format.specs.Format.{Reading, none, got, andThen, mapReading, getTimes, pad}
+use Rattle.lists.specs.Over.{over, pad}
+use Rattle.format.specs.Format.{Reading, none, got, thenRead, mapReading, getTimes}
 use Rattle.lists.proofs.Over.{over-nil, over-set}
-use Rattle.format.proofs.Arrays.{pad-over}
+use Rattle.lists.proofs.Over.{pad-over}
 
 -- The whole reading of n values, of which i are in the array and the others are read off the bytes
 pub record Filling {A : Type 0} (get : List ℕ → Reading A) (all : Reading (List A)) (n : ℕ) (xs : List A) (i : ℕ) (bytes : List ℕ) : Type 0 where
@@ -28,7 +28,7 @@ filling-starts get total blank n bytes =
 -- one value more
 turn : {A : Type 0} (get : List ℕ → Reading A) (m : ℕ) (bytes : List ℕ) (x : A) (rest : List ℕ) → get bytes ≡ got x rest
     → getTimes get (suc m) bytes ≡ mapReading (λ ys. x ∷ ys) (getTimes get m rest)
-unfolding getTimes andThen
+unfolding getTimes thenRead
 turn get m bytes x rest e = rw e
 
 stored : {A : Type 0} (xs : List A) (i : ℕ) (x : A) → i < length xs → (o : Reading (List A))
@@ -48,7 +48,7 @@ module _ {A : Type 0} {get : List ℕ → Reading A} {all : Reading (List A)} {n
         }
 
     pub filling-fails : i < n → get bytes ≡ none → all ≡ none
-    unfolding getTimes andThen mapReading
+    unfolding getTimes thenRead mapReading
     filling-fails h e =
         let m : n - i ≡ suc (n - (i + 1)) = omega arith in
         f .rest ∙ rw (m, e)

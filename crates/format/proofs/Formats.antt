@@ -1,8 +1,8 @@
 -- The two laws of each combinator.
 use mathlib.Core.Path.{_≡_, refl, sym, ap, _∙_, subst}
 use mathlib.Core.Bool.{Bool, true, false, _&&_}
-use mathlib.Core.List.{List, [], _∷_, _++_, append-assoc}
-use Prim.Native.Nat.{ℕ, zero, suc, _+_, _-_, _≤_}
+use mathlib.Core.List.{List, [], _∷_, _++_, append-assoc, flatMap}
+use Prim.Native.Nat.{ℕ, zero, suc, _-_, _≤_}
 use native.Mathlib.Omega.{arith}
 use lib.Dec.{eqb}
 use lib.ListN.{length, take, drop, replicate, length-drop, take-append-drop}
@@ -10,11 +10,13 @@ use lib.Seq.{take-at, drop-at, length-take-le}
 use borrow.Author.Tests.{eqb-true, eq-eqb}
 use Rattle.lists.specs.Tests.{every}
 use Rattle.format.specs.Bytes.{Bytes}
-use Rattle.format.specs.Format.{Reading, none, got, andThen, mapReading, gotIf, Format, Lawful, getByte, byte, sequence, putAll, getTimes, pad, padded}
+use Rattle.lists.specs.Over.{pad}
+use Rattle.format.specs.Format.{Reading, none, got, thenRead, mapReading, gotIf, Format, Lawful, getByte, byte, sequence, getTimes, padded}
 use Rattle.format.specs.Format.{via}
 use Rattle.lists.proofs.Tests.{and-left, and-right, and-both, and-iff, every-drop, every-replicate, every-same}
 use Rattle.lists.proofs.Loops.{replicate-drop}
-use Rattle.format.proofs.Arrays.{length-pad, bytes-append}
+use Rattle.format.proofs.Bytes.{bytes-append}
+use Rattle.lists.proofs.Over.{pad-is, length-pad}
 
 -- ---- readings
 
@@ -35,11 +37,11 @@ mapReading-got f none b rest e = absurd (not-got e)
 mapReading-got f (got a r) b rest e = let p : r ≡ rest = cc in (a, rw p, cc)
 
 -- what two readings give
-pub andThen-got : {A B : Type 0} (o : Reading A) (next : A → List ℕ → Reading B) (b : B) (rest : List ℕ) → andThen o next ≡ got b rest
+pub thenRead-got : {A B : Type 0} (o : Reading A) (next : A → List ℕ → Reading B) (b : B) (rest : List ℕ) → thenRead o next ≡ got b rest
     → (a : A) × (r : List ℕ) × (o ≡ got a r) × (next a r ≡ got b rest)
-unfolding andThen
-andThen-got none next b rest e = absurd (not-got e)
-andThen-got (got a r) next b rest e = (a, r, refl, e)
+unfolding thenRead
+thenRead-got none next b rest e = absurd (not-got e)
+thenRead-got (got a r) next b rest e = (a, r, refl, e)
 
 -- ---- a byte
 
@@ -62,7 +64,7 @@ byte-lawful test = record { get-put = getByte-put test; put-get = λ bytes b res
 
 module _ {A B : Type 0} (f : Format A) (g : A → Format B) (lf : Lawful f) (lg : (a : A) → f .good a ≡ true → Lawful (g a)) where
   pub sequence-lawful : Lawful (sequence f g)
-  unfolding sequence andThen mapReading
+  unfolding sequence thenRead mapReading
   sequence-lawful =
       record {
         get-put = λ p rest h.
@@ -70,7 +72,7 @@ module _ {A B : Type 0} (f : Format A) (g : A → Format B) (lf : Lawful f) (lg 
             rw (append-assoc (f .put (p .0)) (g (p .0) .put (p .1)) rest, lf .get-put (p .0) (g (p .0) .put (p .1) ++ rest) (k .0))
             (rw (lg (p .0) (k .0) .get-put (p .1) rest (k .1)));
         put-get = λ bytes p rest hb e.
-            let (a, r, ea, e₁) = andThen-got (f .get bytes) (λ a rest. mapReading (λ b. (a, b)) (g a .get rest)) p rest e in
+            let (a, r, ea, e₁) = thenRead-got (f .get bytes) (λ a rest. mapReading (λ b. (a, b)) (g a .get rest)) p rest e in
             let (b, eb, ep) = mapReading-got (λ b. (a, b)) (g a .get r) p rest e₁ in
             let ka : (f .good a ≡ true) × (f .put a ++ r ≡ bytes) = lf .put-get bytes a r hb ea in
             let kb : (g a .good b ≡ true) × (g a .put b ++ rest ≡ r) = lg a (ka .0) .put-get r b rest (bytes-append (f .put a) r (rw ka.1 hb) .1) eb in
@@ -81,27 +83,27 @@ module _ {A B : Type 0} (f : Format A) (g : A → Format B) (lf : Lawful f) (lg 
 -- ---- n values
 
 module _ {A : Type 0} (f : Format A) (lf : Lawful f) where
-  pub times-get-put : (xs : List A) (rest : List ℕ) → every (f .good) xs ≡ true → getTimes (f .get) (length xs) (putAll (f .put) xs ++ rest) ≡ got xs rest
-  unfolding every getTimes putAll andThen mapReading
+  pub times-get-put : (xs : List A) (rest : List ℕ) → every (f .good) xs ≡ true → getTimes (f .get) (length xs) (flatMap (f .put) xs ++ rest) ≡ got xs rest
+  unfolding every getTimes flatMap thenRead mapReading
   times-get-put [] rest h = refl
   times-get-put (x ∷ xs) rest h =
-      rw (append-assoc (f .put x) (putAll (f .put) xs) rest, lf .get-put x (putAll (f .put) xs ++ rest) (and-left (f .good x) (every (f .good) xs) h))
+      rw (append-assoc (f .put x) (flatMap (f .put) xs) rest, lf .get-put x (flatMap (f .put) xs ++ rest) (and-left (f .good x) (every (f .good) xs) h))
       (rw (times-get-put xs rest (and-right (f .good x) (every (f .good) xs) h)))
 
   pub times-put-get : (n : ℕ) (bytes : List ℕ) (xs : List A) (rest : List ℕ) → Bytes bytes → getTimes (f .get) n bytes ≡ got xs rest
-      → (length xs ≡ n) × (every (f .good) xs ≡ true) × (putAll (f .put) xs ++ rest ≡ bytes)
-  unfolding every getTimes putAll
+      → (length xs ≡ n) × (every (f .good) xs ≡ true) × (flatMap (f .put) xs ++ rest ≡ bytes)
+  unfolding every getTimes flatMap
   times-put-get zero bytes xs rest hb e = let p : [] ≡ xs = cc in let q : bytes ≡ rest = cc in rw (← p) (refl, refl, sym q)
   times-put-get (suc n) bytes xs rest hb e =
-      let (y, r, ey, e₁) = andThen-got (f .get bytes) (λ x rest. mapReading (λ xs. x ∷ xs) (getTimes (f .get) n rest)) xs rest e in
+      let (y, r, ey, e₁) = thenRead-got (f .get bytes) (λ x rest. mapReading (λ xs. x ∷ xs) (getTimes (f .get) n rest)) xs rest e in
       let (ys, es, ep) = mapReading-got (λ ys. y ∷ ys) (getTimes (f .get) n r) xs rest e₁ in
       let ky : (f .good y ≡ true) × (f .put y ++ r ≡ bytes) = lf .put-get bytes y r hb ey in
-      let ih : (length ys ≡ n) × (every (f .good) ys ≡ true) × (putAll (f .put) ys ++ rest ≡ r) =
+      let ih : (length ys ≡ n) × (every (f .good) ys ≡ true) × (flatMap (f .put) ys ++ rest ≡ r) =
       times-put-get n r ys rest (bytes-append (f .put y) r (rw ky.1 hb) .1) es in
       rw (← ep) (
         ap suc (ih .0),
         and-both _ _ (ky .0) (ih .1),
-        append-assoc (f .put y) (putAll (f .put) ys) rest ∙ ap (λ (t : List ℕ). f .put y ++ t) (ih .2) ∙ ky .1,
+        append-assoc (f .put y) (flatMap (f .put) ys) rest ∙ ap (λ (t : List ℕ). f .put y ++ t) (ih .2) ∙ ky .1,
       )
 
 -- ---- an array of which the first n elements are in use
@@ -111,21 +113,20 @@ module _ {A : Type 0} (total : ℕ) (blank : A) (isBlank : A → Bool) (n : ℕ)
     (fits : n ≤ total) (lf : Lawful f) where
   -- the elements in use, padded, are the array
   pad-take : (xs : List A) → length xs ≡ total → every isBlank (drop n xs) ≡ true → pad total blank (take n xs) ≡ xs
-  unfolding pad
   pad-take xs l h =
       let lt : length (take n xs) ≡ n = length-take-le n xs (omega arith) in
       let ld : length (drop n xs) ≡ total - n = simp length-drop (omega arith) in
       let e : drop n xs ≡ drop n (replicate total blank) =
       every-same isBlank blank is (drop n xs) h ∙ ap (λ (k : ℕ). replicate k blank) ld ∙ sym (replicate-drop n total blank) in
-      rw (lt, ← e) (take-append-drop n xs)
+      pad-is total blank (take n xs) ∙ rw (lt, ← e) (take-append-drop n xs)
 
   take-pad : (ys : List A) → length ys ≡ n → take n (pad total blank ys) ≡ ys
-  unfolding pad
-  take-pad ys l = take-at ys (drop (length ys) (replicate total blank)) n l
+  take-pad ys l = ap (take n) (pad-is total blank ys) ∙ take-at ys (drop (length ys) (replicate total blank)) n l
 
   drop-pad : (ys : List A) → length ys ≡ n → drop n (pad total blank ys) ≡ drop n (replicate total blank)
-  unfolding pad
-  drop-pad ys l = drop-at ys (drop (length ys) (replicate total blank)) n l ∙ ap (λ (k : ℕ). drop k (replicate total blank)) l
+  drop-pad ys l =
+      ap (drop n) (pad-is total blank ys) ∙ drop-at ys (drop (length ys) (replicate total blank)) n l
+      ∙ ap (λ (k : ℕ). drop k (replicate total blank)) l
 
   padded-back : (ys : List A) → length ys ≡ n → every (f .good) ys ≡ true
       → (eqb (length (pad total blank ys)) total && (every (f .good) (take n (pad total blank ys)) && every isBlank (drop n (pad total blank ys)))) ≡ true
@@ -143,15 +144,15 @@ module _ {A : Type 0} (total : ℕ) (blank : A) (isBlank : A → Bool) (n : ℕ)
             let k : (eqb (length xs) total ≡ true) × ((every (f .good) (take n xs) ≡ true) × (every isBlank (drop n xs) ≡ true)) = simp and-iff at h in
             let l : length xs ≡ total = eqb-true (length xs) total (k .0) in
             let lt : length (take n xs) ≡ n = length-take-le n xs (omega arith) in
-            let e : getTimes (f .get) n (putAll (f .put) (take n xs) ++ rest) ≡ got (take n xs) rest =
+            let e : getTimes (f .get) n (flatMap (f .put) (take n xs) ++ rest) ≡ got (take n xs) rest =
             rw lt at (times-get-put f lf (take n xs) rest (k .1 .0)) in
             rw (e, pad-take xs l (k .1 .1));
         put-get = λ bytes xs rest hb e.
             let (ys, ey, ep) = mapReading-got (pad total blank) (getTimes (f .get) n bytes) xs rest e in
-            let k : (length ys ≡ n) × (every (f .good) ys ≡ true) × (putAll (f .put) ys ++ rest ≡ bytes) = times-put-get f lf n bytes ys rest hb ey in
+            let k : (length ys ≡ n) × (every (f .good) ys ≡ true) × (flatMap (f .put) ys ++ rest ≡ bytes) = times-put-get f lf n bytes ys rest hb ey in
             subst (λ (zs : List A). ((eqb (length zs) total && (every (f .good) (take n zs) && every isBlank (drop n zs))) ≡ true)
-            × (putAll (f .put) (take n zs) ++ rest ≡ bytes)) ep
-            (padded-back ys (k .0) (k .1), ap (λ (zs : List A). putAll (f .put) zs ++ rest) (take-pad ys (k .0)) ∙ k .2);
+            × (flatMap (f .put) (take n zs) ++ rest ≡ bytes)) ep
+            (padded-back ys (k .0) (k .1), ap (λ (zs : List A). flatMap (f .put) zs ++ rest) (take-pad ys (k .0)) ∙ k .2);
       }
 
 -- ---- values held as others

@@ -1,8 +1,8 @@
 -- How long the parts are: exactly, and at most.
 use mathlib.Core.Path.{_≡_, refl, sym, ap}
 use mathlib.Core.Bool.{cond}
-use mathlib.Core.List.{List, [], _∷_}
-use Prim.Native.Nat.{ℕ, suc, _+_, _*_, _-_, _≤_}
+use mathlib.Core.List.{List, [], _∷_, flatMap}
+use Prim.Native.Nat.{ℕ, suc, _+_, _*_, _≤_}
 use native.Mathlib.Nat.{mul-suc, mul-zero}
 use native.Mathlib.Omega.{arith}
 use lib.Dec.{eqb, lit≤}
@@ -12,7 +12,7 @@ use Rattle.query.specs.declared.Entry.the-variants.{Constant, Variable}
 use Rattle.query.specs.declared.Cell.{Cell}
 use Rattle.query.specs.declared.Query.{Query}
 use Rattle.query.specs.declared.Dependency.{Dependency}
-use Rattle.format.specs.Format.{byte, sequence, padded, via, putAll}
+use Rattle.format.specs.Format.{byte, sequence, padded, via}
 use Rattle.format.specs.Parts.{relations, dependency, dependencies, putEntry, entry, entries, row, rows, chunk, query}
 use Rattle.format.proofs.Numbers.{length-bytes}
 use Rattle.format.proofs.Parts.{Narrow, narrow-at, headFits}
@@ -22,12 +22,12 @@ take-short n xs = simp length-take (omega arith)
 
 -- ---- exact lengths
 
-pub length-putAll : {A : Type 0} (put : A → List ℕ) (c : ℕ) → ((x : A) → length (put x) ≡ c) → (xs : List A) → length (putAll put xs) ≡ c * length xs
-unfolding putAll
-length-putAll put c h [] = sym (mul-zero c)
-length-putAll put c h (x ∷ xs) =
-    let ih : length (putAll put xs) ≡ c * length xs = length-putAll put c h xs in
-    rw (length-append (put x) (putAll put xs), h x, ih, mul-suc c (length xs)) (omega arith)
+pub length-flatMap : {A : Type 0} (put : A → List ℕ) (c : ℕ) → ((x : A) → length (put x) ≡ c) → (xs : List A) → length (flatMap put xs) ≡ c * length xs
+unfolding flatMap
+length-flatMap put c h [] = sym (mul-zero c)
+length-flatMap put c h (x ∷ xs) =
+    let ih : length (flatMap put xs) ≡ c * length xs = length-flatMap put c h xs in
+    rw (length-append (put x) (flatMap put xs), h x, ih, mul-suc c (length xs)) (omega arith)
 
 pub length-entry : (e : Entry) → length (putEntry e) ≡ 5
 unfolding putEntry
@@ -36,7 +36,7 @@ length-entry (Variable v) = ap suc (length-bytes 4 v)
 
 pub length-entries : (n : ℕ) (cells : List Cell) → length (entries n .put cells) ≡ 5 * length (take n cells)
 unfolding entries padded entry
-length-entries n cells = length-putAll (λ c. putEntry (c .entry)) 5 (λ c. length-entry (c .entry)) (take n cells)
+length-entries n cells = length-flatMap (λ c. putEntry (c .entry)) 5 (λ c. length-entry (c .entry)) (take n cells)
 
 pub length-row : (schema : List ℕ) (r : ℕ × List Cell) → length (row schema .put r) ≡ 1 + 5 * length (take (getD schema (r .0) 0) (r .1))
 unfolding row sequence byte
@@ -47,33 +47,33 @@ length-row schema r =
 pub length-relations : (n : ℕ) (widths : List ℕ) → length (relations .put (n, widths)) ≡ 1 + length (take n widths)
 unfolding relations sequence byte padded
 length-relations n widths =
-    let e : length (putAll (λ b. b ∷ []) (take n widths)) ≡ 1 * length (take n widths) = length-putAll (λ b. b ∷ []) 1 (λ b. refl) (take n widths) in
+    let e : length (flatMap (λ b. b ∷ []) (take n widths)) ≡ 1 * length (take n widths) = length-flatMap (λ b. b ∷ []) 1 (λ b. refl) (take n widths) in
     omega arith
 
 pub length-dependencies : (schema : List ℕ) (n : ℕ) (ds : List Dependency) → length (dependencies schema .put (n, ds)) ≡ 1 + 3 * length (take n ds)
 unfolding dependencies sequence byte padded dependency
 length-dependencies schema n ds =
-    let e = length-putAll (λ d. dependency schema .put d) 3 (λ d. refl) (take n ds) in omega arith
+    let e = length-flatMap (λ d. dependency schema .put d) 3 (λ d. refl) (take n ds) in omega arith
 
 pub length-query : (schema : List ℕ) (q : Query)
     → length (query schema .put q)
-    ≡ 2 + (5 * length (take (cond (eqb (q .size) 0) 0 (q .arity)) (q .head)) + length (putAll (row schema .put)
+    ≡ 2 + (5 * length (take (cond (eqb (q .size) 0) 0 (q .arity)) (q .head)) + length (flatMap (row schema .put)
     (take (q .size) (chunk (q .relations) (q .cells)))))
 unfolding query via sequence byte rows padded
 length-query schema q =
     let n : ℕ = cond (eqb (q .size) 0) 0 (q .arity) in
-    let e = length-append (entries n .put (q .head)) (putAll (row schema .put) (take (q .size) (chunk (q .relations) (q .cells)))) in
+    let e = length-append (entries n .put (q .head)) (flatMap (row schema .put) (take (q .size) (chunk (q .relations) (q .cells)))) in
     let l = length-entries n (q .head) in
     omega arith
 
 -- ---- at most
 
-putAll-short : {A : Type 0} (put : A → List ℕ) (b : ℕ) → ((x : A) → length (put x) ≤ b) → (xs : List A) → length (putAll put xs) ≤ b * length xs
-unfolding putAll
-putAll-short put b h [] = rw mul-zero (lit≤ tt)
-putAll-short put b h (x ∷ xs) =
-    let ih : length (putAll put xs) ≤ b * length xs = putAll-short put b h xs in
-    rw (length-append (put x) (putAll put xs), mul-suc b (length xs)) (omega (arith, h x))
+flatMap-short : {A : Type 0} (put : A → List ℕ) (b : ℕ) → ((x : A) → length (put x) ≤ b) → (xs : List A) → length (flatMap put xs) ≤ b * length xs
+unfolding flatMap
+flatMap-short put b h [] = rw mul-zero (lit≤ tt)
+flatMap-short put b h (x ∷ xs) =
+    let ih : length (flatMap put xs) ≤ b * length xs = flatMap-short put b h xs in
+    rw (length-append (put x) (flatMap put xs), mul-suc b (length xs)) (omega (arith, h x))
 
 pub query-short : (schema : List ℕ) (q : Query) → Narrow schema → q .arity ≤ 8 → q .size ≤ 12 → length (query schema .put q) ≤ 534
 query-short schema q hn ha hz =
@@ -82,7 +82,7 @@ query-short schema q hn ha hz =
     let hd : length (take n (q .head)) ≤ n = take-short n (q .head) in
     let rs : List (ℕ × List Cell) = take (q .size) (chunk (q .relations) (q .cells)) in
     let hr : length rs ≤ q .size = take-short (q .size) (chunk (q .relations) (q .cells)) in
-    let l : length (putAll (row schema .put) rs) ≤ 41 * length rs =
-    putAll-short (row schema .put) 41
+    let l : length (flatMap (row schema .put) rs) ≤ 41 * length rs =
+    flatMap-short (row schema .put) 41
     (λ r. omega (arith, length-row schema r, take-short (getD schema (r .0) 0) (r .1), narrow-at schema (r .0) hn)) rs in
     omega (arith, length-query schema q)

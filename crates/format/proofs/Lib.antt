@@ -1,6 +1,6 @@
--- Laws of arrays and bytes; of little-endian numbers; of the format combinators; of loops that fill an array; of the parts; of the directory; of results; of
+-- Laws of bytes; of little-endian numbers; of the format combinators; of loops that fill an array; of the parts; of the directory; of results; of
 -- the order of faults; the two round trips.
-pub mod Arrays
+pub mod Bytes
 pub mod Numbers
 pub mod Formats
 pub mod Filling

@@ -2,7 +2,7 @@
 use mathlib.Core.Path.{_≡_, refl, sym, ap, _∙_, subst}
 use mathlib.Core.Bool.{Bool, true, false, cond, _&&_}
 use mathlib.Core.List.{List, [], _∷_, _++_, map}
-use Prim.Native.Nat.{ℕ, zero, suc, _+_, _*_, _-_, _≤_}
+use Prim.Native.Nat.{ℕ, zero, suc, _+_, _*_, _≤_}
 use native.Mathlib.Nat.{not-suc-le-zero, le-of-suc-le-suc}
 use native.Mathlib.Omega.{arith}
 use lib.Dec.{eqb, leb, ltb, lit≤}
@@ -19,7 +19,7 @@ use Rattle.query.proofs.Shape.{blank-number, blank-cell, blank-dependency}
 use Rattle.format.specs.Bytes.{number, bytesOf, Bytes}
 use Rattle.format.specs.Format.{got, gotIf, Format, Lawful, byte, sequence, padded}
 use Rattle.format.specs.Parts.{relations, dependencyAt, dependency, dependencies, putEntry, isEntry, entryFrom, entry, entries, row, noRow, blankRow}
-use Rattle.format.specs.Parts.{rows, chunk, flat, Fields, queryWith, fieldsOf, fullCells, query}
+use Rattle.format.specs.Parts.{rows, chunk, flat, QueryFields, queryWith, fieldsOf, fullCells, query}
 use Rattle.lists.proofs.Tests.{and-left, and-right, and-iff, every-join, every-weaken, every-same}
 use Rattle.format.proofs.Numbers.{number-bytes, bytes-number, length-bytes}
 use Rattle.format.proofs.Formats.{gotIf-true, byte-lawful, sequence-lawful, padded-lawful, via-lawful}
@@ -191,7 +191,7 @@ rows-full schema n rs h =
 -- ---- queries
 
 -- The format of a query's fields
-fields : List ℕ → Format Fields
+fields : List ℕ → Format QueryFields
 fields schema =
     sequence (byte (λ n. leb n 8))
     (λ arity.
@@ -218,7 +218,7 @@ fields-lawful schema hs =
     (entries-lawful (cond (eqb size 0) 0 arity) (headFits size arity (leb-true arity 8 ha))) (λ head hh. rows-lawful schema size hs (leb-true size 12 hz))))
 
 -- good fields have good rows
-fields-rows : (schema : List ℕ) (f : Fields) → fields schema .good f ≡ true → rows schema (f .1 .0) .good (f .1 .1 .1) ≡ true
+fields-rows : (schema : List ℕ) (f : QueryFields) → fields schema .good f ≡ true → rows schema (f .1 .0) .good (f .1 .1 .1) ≡ true
 unfolding fields sequence
 fields-rows schema f h =
     let a : Bool = entries (cond (eqb (f .1 .0) 0) 0 (f .0)) .good (f .1 .1 .0) in
@@ -231,7 +231,7 @@ pub query-lawful : (schema : List ℕ) → Narrow schema → Lawful (query schem
 unfolding query fields
 query-lawful schema hs = via-lawful fullCells queryWith fieldsOf (fields schema) there back (fields-lawful schema hs)
   where
-    there : (f : Fields) → fields schema .good f ≡ true → (fieldsOf (queryWith f) ≡ f) × (fullCells (queryWith f) ≡ true)
+    there : (f : QueryFields) → fields schema .good f ≡ true → (fieldsOf (queryWith f) ≡ f) × (fullCells (queryWith f) ≡ true)
     there f h =
         let k : (length (f .1 .1 .1) ≡ 12) × (every fullRow (f .1 .1 .1) ≡ true) = rows-full schema (f .1 .0) (f .1 .1 .1) (fields-rows schema f h) in
         let p : chunk (map (λ r. r .0) (f .1 .1 .1)) (flat (f .1 .1 .1)) ≡ f .1 .1 .1 = chunk-flat (f .1 .1 .1) (k .1) in

@@ -2,7 +2,7 @@
 use mathlib.Core.Path.{_≡_, refl, sym, ap, _∙_, subst}
 use mathlib.Core.Bool.{Bool, true, false, cond, _&&_}
 use mathlib.Core.List.{List, [], _∷_, _++_, map}
-use Prim.Native.Nat.{ℕ, zero, suc, _+_, _-_, _≤_}
+use Prim.Native.Nat.{ℕ, zero, suc, _≤_}
 use native.Mathlib.Omega.{arith}
 use lib.Dec.{eqb, lit≤}
 use lib.ListN.{length, take, drop, replicate, length-map, take-append-drop}
@@ -11,15 +11,16 @@ use borrow.Author.Tests.{eqb-true}
 use Rattle.query.specs.declared.Query.{Query}
 use Rattle.query.specs.declared.Place.{Place}
 use Rattle.lists.specs.Tests.{every}
-use Rattle.query.specs.Rule.{blankQuery, goodQuery, headSafe, noQuery, goodPlace, noPlace}
+use Rattle.query.specs.Rule.{blankQuery, goodQuery, headSafe, noQuery, goodPlace, noPlace, shapedQuery}
 use Rattle.refusals.specs.Refusals.{_>>=_, badQuery, gives, refused}
 use Rattle.format.specs.Bytes.{Bytes}
-use Rattle.format.specs.Format.{byte, sequence, via, pad}
+use Rattle.lists.specs.Over.{pad}
+use Rattle.format.specs.Format.{byte, sequence, via}
 use Rattle.format.specs.Parts.{query}
 use Rattle.format.specs.File.{complete, isVacant, placeWith, safeQuery, readPlace, noneLeft, readPlaces, join, putPlace, oneMoreIfAny, upToFilled}
-use Rattle.format.specs.File.{shapedQuery}
 use Rattle.lists.proofs.Tests.{and-left, and-right, and-both, and-iff}
-use Rattle.format.proofs.Arrays.{bytes-append}
+use Rattle.lists.proofs.Over.{pad-is}
+use Rattle.format.proofs.Bytes.{bytes-append}
 use Rattle.query.proofs.Shape.{blank-query}
 use Rattle.format.proofs.Parts.{Narrow, query-lawful}
 use Rattle.format.proofs.Rules.{query-good, good-query}
@@ -238,8 +239,8 @@ upTo-fits (p ∷ ps) = go (p .filled) (upToFilled ps) (upTo-fits ps)
 -- the places that are written, padded, are all places
 pub pad-places : (schema : List ℕ) (places : List Place) → every (sound schema) places ≡ true → length places ≡ 8
     → pad 8 noPlace (take (upToFilled places) places) ≡ places
-unfolding pad
 pad-places schema places h l =
     let lt : length (take (upToFilled places) places) ≡ upToFilled places = length-take-le (upToFilled places) places (upTo-fits places) in
     let e : drop (upToFilled places) (replicate 8 noPlace) ≡ drop (upToFilled places) places = rw l at (sym (blank-after schema places h)) in
-    rw lt (ap (λ (ps : List Place). take (upToFilled places) places ++ ps) e ∙ take-append-drop (upToFilled places) places)
+    pad-is 8 noPlace (take (upToFilled places) places)
+    ∙ rw lt (ap (λ (ps : List Place). take (upToFilled places) places ++ ps) e ∙ take-append-drop (upToFilled places) places)

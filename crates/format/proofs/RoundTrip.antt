@@ -16,18 +16,19 @@ use Rattle.record.specs.declared.Record.{Record}
 use Rattle.record.specs.View.{schemaOf}
 use Rattle.lists.specs.Tests.{every}
 use Rattle.record.specs.Rule.{goodRecord}
-use Rattle.query.specs.Rule.{goodRelations, goodDependencies, goodQuery, headSafe, blankQuery, goodPlace, noPlace}
+use Rattle.query.specs.Rule.{goodRelations, goodDependencies, goodQuery, headSafe, blankQuery, goodPlace, noPlace, shapedQuery}
 use Rattle.query.proofs.Good as good
 use Rattle.refusals.specs.Refusals.{_>>=_, badDependency, badRelations, gives}
 use Rattle.format.specs.Bytes.{Bytes}
-use Rattle.format.specs.Format.{pad}
+use Rattle.lists.specs.Over.{pad}
 use Rattle.format.specs.Parts.{relations, dependencies, query}
 use Rattle.format.specs.File.{complete, directory, join, assemble, readPlaces, recordWith, readParts, readAll, readFile, putPlace, upToFilled, partsOf}
-use Rattle.format.specs.File.{fileOf, shapedQuery, shaped}
+use Rattle.format.specs.File.{fileOf, shaped}
 use Rattle.lists.proofs.Tests.{and-left, and-right, and-both, and-iff, every-take, every-drop, every-both, every-weaken, every-replicate}
 use Rattle.lists.proofs.Tests.{every-append-is}
 use Rattle.lists.proofs.Loops.{replicate-drop}
-use Rattle.format.proofs.Arrays.{length-pad, bytes-append}
+use Rattle.format.proofs.Bytes.{bytes-append}
+use Rattle.lists.proofs.Over.{pad-is, length-pad}
 use Rattle.format.proofs.Parts.{Narrow, relations-lawful, dependencies-lawful}
 use Rattle.format.proofs.Rules.{relations-good, good-relations, good-narrow, dependencies-good, good-dependencies}
 use Rattle.format.proofs.Directory.{directory-assemble, assemble-directory, length-assemble}
@@ -96,18 +97,16 @@ parts-read r k =
 
 -- places that were read, and blank ones after them
 sound-places : (schema : List ℕ) (ps : List Place) → every (sound schema) ps ≡ true → every (sound schema) (pad 8 noPlace ps) ≡ true
-unfolding pad
 sound-places schema ps h =
     let t : every (sound schema) (drop (length ps) (replicate 8 noPlace)) ≡ true =
     every-drop (sound schema) (length ps) (replicate 8 noPlace) (every-replicate (sound schema) 8 noPlace (no-sound schema)) in
-    every-append-is (sound schema) ps (drop (length ps) (replicate 8 noPlace)) ∙ and-both _ _ h t
+    ap (every (sound schema)) (pad-is 8 noPlace ps) ∙ every-append-is (sound schema) ps (drop (length ps) (replicate 8 noPlace)) ∙ and-both _ _ h t
 
 -- what is written of them is what was read
 take-places : (ps : List Place) → ((k : ℕ) → upToFilled (ps ++ replicate k noPlace) ≡ length ps) → take (upToFilled (pad 8 noPlace ps)) (pad 8 noPlace ps) ≡ ps
-unfolding pad
 take-places ps last =
     let n : upToFilled (ps ++ drop (length ps) (replicate 8 noPlace)) ≡ length ps = rw replicate-drop (last (8 - length ps)) in
-    rw n (take-at ps (drop (length ps) (replicate 8 noPlace)) (length ps) refl)
+    rw (pad-is 8 noPlace ps, n) (take-at ps (drop (length ps) (replicate 8 noPlace)) (length ps) refl)
 
 -- the record of good parts
 read-fields : (part0 part1 : List ℕ) (parts : List (List ℕ)) (rs : ℕ × List ℕ) (ds : ℕ × List Dependency) (ps : List Place)

@@ -2,7 +2,7 @@
 use mathlib.Core.Path.{_≡_, refl, sym, ap, _∙_}
 use mathlib.Core.Bool.{Bool, true, false, _&&_}
 use mathlib.Core.List.{List, [], _∷_}
-use Prim.Native.Nat.{ℕ, zero, suc, _+_, _*_, _-_}
+use Prim.Native.Nat.{ℕ, zero, suc, _+_, _*_}
 use native.Mathlib.Omega.{arith}
 use lib.Dec.{eqb, leb}
 use lib.ListN.{length, take, drop, length-drop, take-append-drop, length-map}
@@ -12,11 +12,10 @@ use Rattle.query.specs.declared.Cell.{Cell}
 use Rattle.query.specs.declared.Query.{Query}
 use Rattle.query.specs.declared.Dependency.{Dependency}
 use Rattle.lists.specs.Tests.{between, every, isZero}
-use Rattle.query.specs.Rule.{blankCell, blankDependency, goodDependency, goodRow, goodRows, goodRelations, goodDependencies, goodQuery}
+use Rattle.query.specs.Rule.{blankCell, blankDependency, goodDependency, goodRow, goodRows, goodRelations, goodDependencies, goodQuery, shapedQuery}
 use Rattle.format.specs.Format.{byte, sequence, padded, via}
 use Rattle.format.specs.Parts.{relations, dependency, dependencies, entry, entries, row, blankRow, rows, chunk}
 use Rattle.format.specs.Parts.{query}
-use Rattle.format.specs.File.{shapedQuery}
 use Rattle.lists.proofs.Tests.{and-right, and-both, and-iff, every-append-is, every-weaken}
 use Rattle.format.proofs.Parts.{Narrow, map-chunk}
 

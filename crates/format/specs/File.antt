@@ -12,11 +12,12 @@ use Rattle.record.specs.declared.Answer.the-variants.{Done, Refused}
 use Rattle.record.specs.declared.Outcome.{Outcome}
 use Rattle.record.specs.View.{schemaOf}
 use Rattle.lists.specs.Tests.{between, every}
-use Rattle.query.specs.Rule.{headSafe, noPlace}
+use Rattle.lists.specs.Over.{pad}
+use Rattle.query.specs.Rule.{headSafe, shapedQuery, noPlace}
 use Rattle.record.specs.Rule.{blankRecord}
 use Rattle.refusals.specs.Refusals.{badDependency, badDirectory, badOffsets, badQuery, badRelations, unsafeHead, Reply, refused, gives, _>>=_}
 use Rattle.format.specs.Bytes.{number, bytesOf}
-use Rattle.format.specs.Format.{Reading, none, got, pad}
+use Rattle.format.specs.Format.{Reading, none, got}
 use Rattle.format.specs.Parts.{relations, dependencies, query}
 
 -- ---- the first fault decides
@@ -159,10 +160,6 @@ unfoldable pub fileOf : Record → List ℕ
 fileOf r = assemble (partsOf r)
 
 -- ---- the lengths of the record's arrays, which its types give
-
--- A query has 8 head cells, 12 relations and 96 cells
-abbrev pub shapedQuery : Query → Bool
-shapedQuery q = eqb (length (q .head)) 8 && eqb (length (q .relations)) 12 && eqb (length (q .cells)) 96
 
 -- A record has 8 widths, 32 dependencies and 8 places, each with the arrays of a query
 abbrev pub shaped : Record → Bool

@@ -2,11 +2,12 @@
 -- The two laws of a format are `Lawful`; that they hold is in `proofs/`.
 use mathlib.Core.Path.{_≡_}
 use mathlib.Core.Bool.{Bool, true, false, _&&_}
-use mathlib.Core.List.{List, [], _∷_, _++_}
+use mathlib.Core.List.{List, [], _∷_, _++_, flatMap}
 use Prim.Native.Nat.{ℕ, zero, suc}
 use lib.Dec.{eqb}
-use lib.ListN.{length, take, drop, replicate}
+use lib.ListN.{length, take}
 use Rattle.lists.specs.Tests.{inUse}
+use Rattle.lists.specs.Over.{pad}
 use Rattle.format.specs.Bytes.{Bytes}
 
 -- What is read off the front of some bytes: nothing good, or a value and the bytes after it
@@ -15,9 +16,9 @@ pub data Reading (A : Type 0) : Type 0 where
   got : A → List ℕ → Reading A
 
 -- Go on with the value and the rest, if something good was read
-unfoldable pub andThen : {A B : Type 0} → Reading A → (A → List ℕ → Reading B) → Reading B
-andThen none next = none
-andThen (got a rest) next = next a rest
+unfoldable pub thenRead : {A B : Type 0} → Reading A → (A → List ℕ → Reading B) → Reading B
+thenRead none next = none
+thenRead (got a rest) next = next a rest
 
 -- The same reading with another value
 unfoldable pub mapReading : {A B : Type 0} → (A → B) → Reading A → Reading B
@@ -55,29 +56,20 @@ sequence f g =
     record {
       good = λ p. f .good (p .0) && g (p .0) .good (p .1);
       put = λ p. f .put (p .0) ++ g (p .0) .put (p .1);
-      get = λ bytes. andThen (f .get bytes) (λ a rest. mapReading (λ b. (a, b)) (g a .get rest));
+      get = λ bytes. thenRead (f .get bytes) (λ a rest. mapReading (λ b. (a, b)) (g a .get rest));
     }
-
--- The bytes of some values, one after the other
-unfoldable pub putAll : {A : Type 0} → (A → List ℕ) → List A → List ℕ
-putAll put [] = []
-putAll put (x ∷ xs) = put x ++ putAll put xs
 
 -- n values are read one after the other
 unfoldable pub getTimes : {A : Type 0} → (List ℕ → Reading A) → ℕ → List ℕ → Reading (List A)
 getTimes get zero bytes = got [] bytes
-getTimes get (suc n) bytes = andThen (get bytes) (λ x rest. mapReading (λ xs. x ∷ xs) (getTimes get n rest))
-
--- Some values in an array, blank after them
-unfoldable pub pad : {A : Type 0} → ℕ → A → List A → List A
-pad total blank xs = xs ++ drop (length xs) (replicate total blank)
+getTimes get (suc n) bytes = thenRead (get bytes) (λ x rest. mapReading (λ xs. x ∷ xs) (getTimes get n rest))
 
 -- An array whose first n elements are in use, those alone being written
 unfoldable pub padded : {A : Type 0} → ℕ → A → (A → Bool) → ℕ → Format A → Format (List A)
 padded total blank isBlank n f =
     record {
       good = λ xs. eqb (length xs) total && inUse n (f .good) isBlank xs;
-      put = λ xs. putAll (f .put) (take n xs);
+      put = λ xs. flatMap (f .put) (take n xs);
       get = λ bytes. mapReading (pad total blank) (getTimes (f .get) n bytes);
     }
 

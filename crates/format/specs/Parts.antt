@@ -96,16 +96,16 @@ flat [] = []
 flat (r ∷ rs) = r .1 ++ flat rs
 
 -- A query's head length, row count, head and rows
-abbrev pub Fields : Type 0
-Fields = ℕ × (ℕ × (List Cell × List (ℕ × List Cell)))
+abbrev pub QueryFields : Type 0
+QueryFields = ℕ × (ℕ × (List Cell × List (ℕ × List Cell)))
 
 -- The query with the given fields
-abbrev pub queryWith : Fields → Query
+abbrev pub queryWith : QueryFields → Query
 queryWith f =
     record { arity = f .0; size = f .1 .0; head = f .1 .1 .0; relations = map (λ r. r .0) (f .1 .1 .1); cells = flat (f .1 .1 .1) }
 
 -- The fields of a query
-abbrev pub fieldsOf : Query → Fields
+abbrev pub fieldsOf : Query → QueryFields
 fieldsOf q = (q .arity, (q .size, (q .head, chunk (q .relations) (q .cells))))
 
 -- Whether a query has 8 cells for each of 12 rows

@@ -2,7 +2,7 @@
 use mathlib.Core.Path.{_≡_, refl, ap, sym, subst, _∙_}
 use mathlib.Core.Bool.{Bool, true, false}
 use mathlib.Core.List.{[], _∷_}
-use mathlib.Core.Option.{Option, none}
+use mathlib.Core.Option.{Option, none, orElse, Option·map}
 use Prim.Native.Nat.{ℕ, zero, suc, _+_, _≤_, _<_}
 use native.Mathlib.Omega.{arith}
 use lib.Dec.{eqb, ltb}
@@ -10,7 +10,7 @@ use borrow.Author.Tests.{ltb-true, ltb-false, eqb-true, eqb-false}
 use lib.ListN.{length, drop}
 use Rattle.theory.specs.Query.{Row, column}
 use Rattle.theory.specs.Database.{Database, Dependency, Agree}
-use Rattle.theory.specs.Chase.{orElse, mapFound, firstPassing, firstPair}
+use Rattle.theory.specs.Chase.{firstPassing, firstPair}
 use Rattle.words.specs.Testing.{numberedFrom, breaksWith, firstPairFrom}
 use Rattle.words.proofs.Obeys.{kept-breaks}
 use Rattle.grouping.specs.internal.Groups.{Keeps, Groups}
@@ -210,13 +210,13 @@ positions-fail test n (r ∷ D) h = rw (h 0 (omega arith) n) (positions-fail tes
 -- the first m rows keep the dependency with every later row: the first broken pair is among the rows after them
 pub pairs-skip : (d : Dependency) (n m : ℕ) (D : Database) → ((k j : ℕ) → k < j → j < length D → k < m → Keeps d (nthRow D k) (nthRow D j))
     → firstPairFrom d n D ≡ firstPairFrom d (n + m) (drop m D)
-unfolding firstPair numberedFrom orElse mapFound
+unfolding firstPair numberedFrom orElse
 pairs-skip d n zero D h = let e : n ≡ n + 0 = omega arith in ap (λ (x : ℕ). firstPairFrom d x D) e
 pairs-skip d n (suc m) [] h = refl
 pairs-skip d n (suc m) (r ∷ D) h =
     let e : suc n + m ≡ n + suc m = omega arith in
     let fails : firstPassing (breaksWith d r) (numberedFrom (suc n) D) ≡ none =
     positions-fail (breaksWith d r) (suc n) D (λ k l x. kept-breaks d r (nthRow D k) (h 0 (suc k) (omega arith) (omega arith) (omega arith))) in
-    ap (λ (o : Option (ℕ × Row ℕ)). orElse (mapFound (λ y. ((n, r), y)) o) (firstPairFrom d (suc n) D)) fails
+    ap (λ (o : Option (ℕ × Row ℕ)). orElse (Option·map (λ y. ((n, r), y)) o) (firstPairFrom d (suc n) D)) fails
     ∙ pairs-skip d (suc n) m D (λ k j l i b. h (suc k) (suc j) (omega arith) (omega arith) (omega arith))
     ∙ ap (λ (x : ℕ). firstPairFrom d x (drop m D)) e

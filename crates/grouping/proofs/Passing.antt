@@ -14,7 +14,7 @@ use Rattle.query.specs.View.{dependencyOf, columnsOf}
 use Rattle.query.specs.declared.Dependency.{Dependency}
 use Rattle.chains.specs.internal.Chains.{Chained}
 use Rattle.chains.proofs.Chains.{chained-agree}
-use Rattle.words.specs.Words.{spellsRows, rowsFrom, rowsOf, spellsRowsFrom}
+use Rattle.words.specs.Words.{spellsRows, rowsFrom, databaseOf, spellsRowsFrom}
 use Rattle.words.specs.internal.Rows.{spanAt, rowAt, Next, agreeRows}
 use Rattle.words.specs.Testing.{firstPairFrom}
 use Rattle.words.specs.internal.Found.{From}
@@ -73,10 +73,10 @@ module _ (schema words : List ℕ) (d : Dependency) where
   unfolding spellsRowsFrom rowsFrom
   placed-end =
       let none : drop (length words) words ≡ [] = drop-length words in
-      let few : length (rowsOf schema words) ≤ length words = rows-few schema 0 words in
+      let few : length (databaseOf schema words) ≤ length words = rows-few schema 0 words in
       record {
         from = record { inside = omega arith; counted = omega arith; good = ap (λ (l : List ℕ). spellsRows schema l) none };
-        read = drop-of-length-le (rowsOf schema words) {i = length words} few ∙ sym (ap (λ (l : List ℕ). rowsOf schema l) none);
+        read = drop-of-length-le (databaseOf schema words) {i = length words} few ∙ sym (ap (λ (l : List ℕ). databaseOf schema l) none);
       }
 
   -- the row after the one at `at`
@@ -84,15 +84,15 @@ module _ (schema words : List ℕ) (d : Dependency) where
   placed-next at after n p next =
       record {
         from = record { inside = next .fits; counted = omega (arith, next .place, p .from .counted); good = next .good };
-        read = sym (drop-drop 1 n (rowsOf schema words)) ∙ ap (drop 1) (p .read ∙ next .read);
+        read = sym (drop-drop 1 n (databaseOf schema words)) ∙ ap (drop 1) (p .read ∙ next .read);
       }
 
   -- the row at `at`
-  pub placed-row : (at after n : ℕ) → Placed schema words at n → Next schema words at after → nthRow (rowsOf schema words) n ≡ rowAt schema words at
+  pub placed-row : (at after n : ℕ) → Placed schema words at n → Next schema words at after → nthRow (databaseOf schema words) n ≡ rowAt schema words at
   placed-row at after n p next =
       let z : Row ℕ = record { relation = 0; values = [] } in
       let e : n + 0 ≡ n = omega arith in
-      ap (λ (m : ℕ). getD (rowsOf schema words) m z) (sym e) ∙ sym (getD-drop n (rowsOf schema words) 0 z)
+      ap (λ (m : ℕ). getD (databaseOf schema words) m z) (sym e) ∙ sym (getD-drop n (databaseOf schema words) 0 z)
       ∙ ap (λ (l : Database). getD l 0 z) (p .read ∙ next .read)
 
   module _ (at n : ℕ) (m : Member schema words d at n) where
@@ -104,21 +104,21 @@ module _ (schema words : List ℕ) (d : Dependency) where
     pub member-room : at + 1 + getD schema (d .relation) 0 ≤ length words
     member-room = member-next .fits
 
-    pub member-row : nthRow (rowsOf schema words) n ≡ spanAt (getD schema (d .relation) 0) words at
+    pub member-row : nthRow (databaseOf schema words) n ≡ spanAt (getD schema (d .relation) 0) words at
     member-row =
         placed-row at (at + 1 + getD schema (d .relation) 0) n (m .placed) member-next
         ∙ ap (λ (r : ℕ). spanAt (getD schema r 0) words at) (m .relation)
 
-    member-relation : nthRow (rowsOf schema words) n .relation ≡ d .relation
+    member-relation : nthRow (databaseOf schema words) n .relation ≡ d .relation
     member-relation = ap (λ (r : Row ℕ). r .relation) member-row ∙ m .relation
 
-    member-value : (c : ℕ) → c < getD schema (d .relation) 0 → column 0 (nthRow (rowsOf schema words) n) c ≡ getD words (at + 1 + c) 0
+    member-value : (c : ℕ) → c < getD schema (d .relation) 0 → column 0 (nthRow (databaseOf schema words) n) c ≡ getD words (at + 1 + c) 0
     member-value c h = ap (λ (r : Row ℕ). column 0 r c) member-row ∙ span-value (getD schema (d .relation) 0) words at c h
 
   -- two rows of the relation agree as their spans do
   agreed : (at n o k : ℕ) → Member schema words d at n → Member schema words d o k
       → agreeRows (dependencyOf d) (spanAt (getD schema (d .relation) 0) words o) (spanAt (getD schema (d .relation) 0) words at) ≡ true
-      → Agree 0 (columnsOf (d .left)) (nthRow (rowsOf schema words) k) (nthRow (rowsOf schema words) n)
+      → Agree 0 (columnsOf (d .left)) (nthRow (databaseOf schema words) k) (nthRow (databaseOf schema words) n)
   agreed at n o k m l e =
       let W : ℕ = getD schema (d .relation) 0 in
       let a : Agree 0 (columnsOf (d .left)) (spanAt W words o) (spanAt W words at) = agree-all (columnsOf (d .left)) (spanAt W words o) (spanAt W words at) e in
@@ -126,7 +126,7 @@ module _ (schema words : List ℕ) (d : Dependency) where
 
   disagreed : (at n o k : ℕ) → Member schema words d at n → Member schema words d o k
       → agreeRows (dependencyOf d) (spanAt (getD schema (d .relation) 0) words o) (spanAt (getD schema (d .relation) 0) words at) ≡ false
-      → Agree 0 (columnsOf (d .left)) (nthRow (rowsOf schema words) k) (nthRow (rowsOf schema words) n) → ⊥
+      → Agree 0 (columnsOf (d .left)) (nthRow (databaseOf schema words) k) (nthRow (databaseOf schema words) n) → ⊥
   disagreed at n o k m l e a =
       let W : ℕ = getD schema (d .relation) 0 in
       let b : Agree 0 (columnsOf (d .left)) (spanAt W words o) (spanAt W words at) =
@@ -144,7 +144,7 @@ module _ (schema words : List ℕ) (d : Dependency) where
           room = h .room;
           table = h .table;
           members = h .members;
-          groups = groups-other (dependencyOf d) (rowsOf schema words) n (w .least .number) (w .count) (λ s. getD N s 0) (h .groups)
+          groups = groups-other (dependencyOf d) (databaseOf schema words) n (w .least .number) (w .count) (λ s. getD N s 0) (h .groups)
               (λ e. other (sym (ap (λ (r : Row ℕ). r .relation) (placed-row at after n p next)) ∙ e));
           least = h .least;
         }
@@ -160,7 +160,7 @@ module _ (schema words : List ℕ) (d : Dependency) where
             room = h .room;
             table = h .table;
             members = h .members;
-            groups = groups-member (dependencyOf d) (rowsOf schema words) n (w .least .number) (w .count) (λ t. getD N t 0) (h .groups) (w .least .number) s
+            groups = groups-member (dependencyOf d) (databaseOf schema words) n (w .least .number) (w .count) (λ t. getD N t 0) (h .groups) (w .least .number) s
                 (omega arith) below (agreed at n (getD O s 0) (getD N s 0) m l agree)
                 (λ _. member-value (getD O s 0) (getD N s 0) l (d .right) fits ∙ same ∙ sym (member-value at n m (d .right) fits));
             least = h .least;
@@ -180,7 +180,7 @@ module _ (schema words : List ℕ) (d : Dependency) where
             room = h .room;
             table = h .table;
             members = h .members;
-            groups = groups-member (dependencyOf d) (rowsOf schema words) n (w .least .number) (w .count) (λ t. getD N t 0) (h .groups) (p .number) s
+            groups = groups-member (dependencyOf d) (databaseOf schema words) n (w .least .number) (w .count) (λ t. getD N t 0) (h .groups) (p .number) s
                 left below (agreed at n (getD O s 0) (getD N s 0) m l agree) (λ i. absurd (omega arith));
             least = subst (λ (x : Position). Placed schema words (x .at) (x .number)) (sym e) (earlier-placed schema words (w .least) q (h .least) (l .placed));
           }
@@ -188,7 +188,7 @@ module _ (schema words : List ℕ) (d : Dependency) where
       module _
           (absent : (s : ℕ) → s < w .count
           → agreeRows (dependencyOf d) (spanAt (getD schema (d .relation) 0) words (getD O s 0)) (spanAt (getD schema (d .relation) 0) words at) ≡ false) where
-        alone : (s : ℕ) → s < w .count → Agree 0 (columnsOf (d .left)) (nthRow (rowsOf schema words) (getD N s 0)) (nthRow (rowsOf schema words) n) → ⊥
+        alone : (s : ℕ) → s < w .count → Agree 0 (columnsOf (d .left)) (nthRow (databaseOf schema words) (getD N s 0)) (nthRow (databaseOf schema words) n) → ⊥
         alone s below = disagreed at n (getD O s 0) (getD N s 0) m (h .members s below) (absent s below)
 
         -- it would be a leader, and there is no room for it
@@ -202,7 +202,7 @@ module _ (schema words : List ℕ) (d : Dependency) where
               room = h .room;
               table = h .table;
               members = h .members;
-              groups = groups-full (dependencyOf d) (rowsOf schema words) n (w .least .number) (w .count) (λ t. getD N t 0) (h .groups)
+              groups = groups-full (dependencyOf d) (databaseOf schema words) n (w .least .number) (w .count) (λ t. getD N t 0) (h .groups)
                   (p .number) left right alone;
               least = subst (λ (x : Position). Placed schema words (x .at) (x .number)) (sym e)
                   (earlier-placed schema words (w .least) q (h .least) (m .placed));
@@ -264,7 +264,7 @@ module _ (schema words : List ℕ) (d : Dependency) where
                   chained = new-chained;
                 };
                 members = λ s low. new-member s low (eqb s (w .count)) refl;
-                groups = groups-new (dependencyOf d) (rowsOf schema words) n (w .least .number) (w .count) (λ t. getD N t 0) (h .groups)
+                groups = groups-new (dependencyOf d) (databaseOf schema words) n (w .least .number) (w .count) (λ t. getD N t 0) (h .groups)
                     (λ t. getD (set N (w .count) n) t 0)
                     old-number new-number (member-relation at n m) alone;
                 least = h .least;
@@ -285,7 +285,7 @@ module _ (schema words : List ℕ) (d : Dependency) where
           chained = clear (keyOf (getD schema (d .relation) 0) words d (length H) O) L;
         };
         members = λ s low. absurd (omega arith);
-        groups = groups-start (dependencyOf d) (rowsOf schema words) (length words) (λ s. getD N s 0);
+        groups = groups-start (dependencyOf d) (databaseOf schema words) (length words) (λ s. getD N s 0);
         least = placed-end;
       }
 
@@ -304,13 +304,13 @@ module _ (schema words : List ℕ) (d : Dependency) where
       → Skips schema words d (w .least)
   unfolding rowsFrom
   walked-end at n w H L O N h p end =
-      let none : drop n (rowsOf schema words) ≡ [] = p .read ∙ ap (λ (l : List ℕ). rowsOf schema l) (drop-of-length-le words {i = at} end) in
-      let size : length (drop n (rowsOf schema words)) ≡ length (rowsOf schema words) - n = length-drop n (rowsOf schema words) in
-      let zero-size : length (drop n (rowsOf schema words)) ≡ 0 = ap (λ (l : Database). length l) none in
+      let none : drop n (databaseOf schema words) ≡ [] = p .read ∙ ap (λ (l : List ℕ). databaseOf schema l) (drop-of-length-le words {i = at} end) in
+      let size : length (drop n (databaseOf schema words)) ≡ length (databaseOf schema words) - n = length-drop n (databaseOf schema words) in
+      let zero-size : length (drop n (databaseOf schema words)) ≡ 0 = ap (λ (l : Database). length l) none in
       record {
         from = h .least .from;
         same = λ m.
-            pairs-skip (dependencyOf d) m (w .least .number) (rowsOf schema words)
+            pairs-skip (dependencyOf d) m (w .least .number) (databaseOf schema words)
             (λ k j before below low. h .groups .kept k j before (omega arith) low)
             ∙ ap (λ (l : Database). firstPairFrom (dependencyOf d) (m + w .least .number) l) (h .least .read);
       }
@@ -322,8 +322,8 @@ rest-all words at = let size : length (drop at words) ≡ length words - at = le
 -- from the rows of a part of the words to those of all words
 pub skips-on : (schema words : List ℕ) (d : Dependency) (at i : ℕ) (p : Position) → From schema words at i → Skips schema (drop at words) d p
     → From schema words (at + p .at) (i + p .number)
-    × (firstPairFrom (dependencyOf d) i (rowsOf schema (drop at words)) ≡ firstPairFrom (dependencyOf d) (i + p .number)
-    (rowsOf schema (drop (at + p .at) words)))
+    × (firstPairFrom (dependencyOf d) i (databaseOf schema (drop at words)) ≡ firstPairFrom (dependencyOf d) (i + p .number)
+    (databaseOf schema (drop (at + p .at) words)))
 skips-on schema words d at i p f k =
     let e : drop (p .at) (drop at words) ≡ drop (at + p .at) words = drop-drop (p .at) at words in
     let size : length (drop at words) ≡ length words - at = length-drop at words in
@@ -332,5 +332,5 @@ skips-on schema words d at i p f k =
     let counted : p .number ≤ p .at = k .from .counted in
     let before : i ≤ at = f .counted in (
       record { inside = omega arith; counted = omega arith; good = subst (λ (l : List ℕ). spellsRows schema l ≡ true) e (k .from .good) },
-      k .same i ∙ ap (λ (l : List ℕ). firstPairFrom (dependencyOf d) (i + p .number) (rowsOf schema l)) e,
+      k .same i ∙ ap (λ (l : List ℕ). firstPairFrom (dependencyOf d) (i + p .number) (databaseOf schema l)) e,
     )

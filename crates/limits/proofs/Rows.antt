@@ -2,7 +2,7 @@
 use mathlib.Core.Path.{_≡_, refl, ap, _∙_}
 use mathlib.Core.Bool.{Bool, _&&_}
 use mathlib.Core.List.{List, [], _∷_}
-use Prim.Native.Nat.{ℕ, suc, _+_, _*_, _-_}
+use Prim.Native.Nat.{ℕ, suc, _+_, _*_}
 use native.Mathlib.Omega.{arith}
 use lib.ListN.{take, drop}
 use lib.Seq.{drop-drop}

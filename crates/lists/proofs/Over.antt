@@ -1,12 +1,12 @@
--- Laws of one list written over another: nothing, a store, adjacent runs, a run copied element by element.
-use mathlib.Core.Path.{_≡_, sym, ap, _∙_}
+-- Laws of one list written over another: nothing, a store, adjacent runs; values in an array of blanks.
+use mathlib.Core.Path.{_≡_, refl, sym, ap, _∙_}
 use mathlib.Core.List.{List, [], _∷_, _++_, append-assoc, append-nil}
 use Prim.Native.Nat.{ℕ, suc, _+_, _≤_, _<_}
-use native.Mathlib.Nat.{add-zero}
+use native.Mathlib.Nat.{add-zero, zero-add}
 use native.Mathlib.Omega.{arith}
-use lib.ListN.{length, take, drop, set, length-append, length-take, length-drop, take-append-drop}
+use lib.ListN.{length, take, drop, set, replicate, length-append, length-take, length-drop, length-replicate, take-append-drop}
 use lib.Seq.{take-at, drop-at, take-suc-set, drop-set-lt, drop-drop}
-use Rattle.lists.specs.Over.{over}
+use Rattle.lists.specs.Over.{over, pad}
 
 module _ {A : Type 0} where
   -- With nothing over it a list is itself
@@ -37,3 +37,18 @@ module _ {A : Type 0} where
       ∙ drop-drop (length zs) (i + length ys) xs
       ∙ ap (λ (n : ℕ). drop n xs) n in
       rw (t, d, append-assoc (take i xs) ys zs)
+
+  -- ---- an array that begins with some values
+
+  -- The blanks follow the values
+  pub pad-is : (n : ℕ) (blank : A) (xs : List A) → pad n blank xs ≡ xs ++ drop (length xs) (replicate n blank)
+  unfolding pad
+  pad-is n blank xs = rw zero-add
+
+  -- The values are written over blanks
+  pub pad-over : (n : ℕ) (blank : A) (xs : List A) → pad n blank xs ≡ over (replicate n blank) 0 xs
+  unfolding pad
+  pad-over n blank xs = refl
+
+  pub length-pad : (n : ℕ) (blank : A) (xs : List A) → length xs ≤ n → length (pad n blank xs) ≡ n
+  length-pad n blank xs h = ap length (pad-is n blank xs) ∙ simp (length-append, length-drop, length-replicate) (omega arith)

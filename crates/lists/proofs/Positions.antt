@@ -11,7 +11,8 @@ use native.Mathlib.Decide.{decLt}
 use native.Mathlib.Omega.{arith}
 use lib.ListN.{length, take, drop, getD, set, length-take, drop-of-length-le}
 use lib.Seq.{drop-cons, getD-take, length-take-le, getD-set-same, getD-set-other}
-use Rattle.lists.specs.Tests.{every, Tells}
+use Rattle.lists.specs.Tests.{every}
+use Rattle.lists.specs.internal.Tells.{Tells}
 use Rattle.lists.proofs.Tests.{and-left, and-right}
 
 -- ---- members
@@ -98,11 +99,6 @@ below-some P test (suc n) = go (below-some P test n) (test n)
     go (yes w) at = let h : w .0 < n = w .1 in yes (w .0, omega arith, w .2)
     go (no out) (yes at) = yes (n, omega arith, at)
     go (no out) (no not) = no (none out not)
-
-pub both-or-not : (A B : Type 0) → Dec A → Dec B → Dec (A × B)
-both-or-not A B (yes a) (yes b) = yes (a, b)
-both-or-not A B (yes a) (no n) = no (λ w. n (w .1))
-both-or-not A B (no n) b = no (λ w. n (w .0))
 
 -- ---- a test that tells
 

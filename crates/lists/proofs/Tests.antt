@@ -1,8 +1,8 @@
--- What a test that holds tells: of a conjunction, of every element of a list, of an array that is partly in use.
+-- What a test that holds tells: of a conjunction, of every element of a list, of an array that is partly in use, of two lists compared.
 -- For any elements, any number of them and any test. The lengths of arrays are the types', so a law that needs one asks it.
 use mathlib.Core.Path.{_≡_, refl, sym, ap, ap₂, subst, _∙_}
 use mathlib.Core.Logic.{_⊎_, inl, inr, _↔_}
-use mathlib.Core.Bool.{Bool, true, false, _&&_}
+use mathlib.Core.Bool.{Bool, true, false, _&&_, false≢true}
 use mathlib.Core.List.{List, [], _∷_, _++_, List·Memᴰ, List·Memᴰ·head, List·Memᴰ·tail}
 use Prim.Native.Nat.{ℕ, zero, suc, _+_, _*_, _-_, _%_, _^_, _≤_, _<_}
 use native.Mathlib.Nat.{one-mul, mod-eq-of-lt, le-of-suc-le-suc, not-suc-le-zero}
@@ -13,7 +13,7 @@ use lib.Dec.{ltb, leb}
 use lib.ListN.{length, take, drop, getD, set, replicate, length-drop, take-append-drop}
 use lib.Seq.{take-suc-set, drop-set-lt, drop-drop}
 use borrow.Author.Tests.{leb-true, ltb-true, ltb-false}
-use Rattle.lists.specs.Tests.{every, inUse, between}
+use Rattle.lists.specs.Tests.{every, inUse, between, sameLists}
 
 -- ---- conjunctions
 
@@ -186,3 +186,20 @@ every-both s t (x ∷ xs) p q =
     let here : s x && t x ≡ true = and-both (s x) (t x) (and-left (s x) (every s xs) p) (and-left (t x) (every t xs) q) in
     and-both (s x && t x) (every (λ y. s y && t y) xs) here
     (every-both s t xs (and-right (s x) (every s xs) p) (and-right (t x) (every t xs) q))
+
+-- ---- two lists compared
+
+-- Lists that the test finds to be the same are equal
+pub sameLists-true : {A : Type 0} (same : A → A → Bool) → ((x y : A) → same x y ≡ true → x ≡ y) → (xs ys : List A) → sameLists same xs ys ≡ true → xs ≡ ys
+unfolding sameLists
+sameLists-true same exact [] [] e = refl
+sameLists-true same exact [] (y ∷ ys) e = absurd (false≢true e)
+sameLists-true same exact (x ∷ xs) [] e = absurd (false≢true e)
+sameLists-true same exact (x ∷ xs) (y ∷ ys) e =
+    ap₂ _∷_ (exact x y (and-left (same x y) (sameLists same xs ys) e)) (sameLists-true same exact xs ys (and-right (same x y) (sameLists same xs ys) e))
+
+-- and a list is the same as itself
+pub sameLists-self : {A : Type 0} (same : A → A → Bool) → ((x : A) → same x x ≡ true) → (xs : List A) → sameLists same xs xs ≡ true
+unfolding sameLists
+sameLists-self same self [] = refl
+sameLists-self same self (x ∷ xs) = and-both (same x x) (sameLists same xs xs) (self x) (sameLists-self same self xs)

@@ -1,3 +1,6 @@
--- Tests on numbers and lists, and one list written over another.
+-- Tests on numbers and lists, the numbers of a range, and one list written over another.
 pub mod Tests
+pub mod Numbers
 pub mod Over
+-- What contracts of other crates' functions cite: what a test's result tells.
+pub mod internal

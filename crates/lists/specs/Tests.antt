@@ -1,6 +1,5 @@
 -- Tests on numbers and lists that the rules of a record and of a file are made of.
-use mathlib.Core.Path.{_≡_}
-use mathlib.Core.Bool.{Bool, true, _&&_}
+use mathlib.Core.Bool.{Bool, true, false, _&&_}
 use mathlib.Core.List.{List, [], _∷_}
 use Prim.Native.Nat.{ℕ}
 use lib.Dec.{eqb, leb}
@@ -23,6 +22,9 @@ inUse n good blank xs = every good (take n xs) && every blank (drop n xs)
 abbrev pub isZero : ℕ → Bool
 isZero n = eqb n 0
 
--- A test's result tells whether P holds
-abbrev pub Tells : Bool → Type 0 → Type 0
-Tells b P = (b ≡ true → P) × (P → b ≡ true)
+-- Whether two lists are the same position by position, where `same` tells whether two elements are
+unfoldable pub sameLists : {A : Type 0} → (A → A → Bool) → List A → List A → Bool
+sameLists same [] [] = true
+sameLists same [] (y ∷ ys) = false
+sameLists same (x ∷ xs) [] = false
+sameLists same (x ∷ xs) (y ∷ ys) = same x y && sameLists same xs ys

@@ -12,7 +12,7 @@ use Rattle.theory.proofs.Checking.{maps-to-exact}
 use Rattle.query.specs.declared.Cell.{Cell}
 use Rattle.query.specs.View.{entryOf, entriesOf, imagesOf}
 use Rattle.query.specs.Rule.{noCell}
-use Rattle.lists.specs.Tests.{Tells}
+use Rattle.lists.specs.internal.Tells.{Tells}
 use Rattle.lists.proofs.Positions.{tells-same}
 
 pub images-same : (images : List Cell) → imageAt (entriesOf images) ≡ imagesOf images

@@ -17,7 +17,7 @@ use Rattle.query.specs.Rule.{noCell}
 use Rattle.query.proofs.Good.{good-query}
 use Rattle.query.proofs.Codes.{code-below}
 use Rattle.consistency.specs.internal.Solution.{Solution}
-use Rattle.lists.specs.Tests.{Tells}
+use Rattle.lists.specs.internal.Tells.{Tells}
 use Rattle.candidates.specs.internal.Candidates.{IsDomain, IsTable}
 use Rattle.mapping.specs.internal.Mapped.{Storable, noMapping, Finds, Checks}
 use Rattle.mapping.specs.internal.Lines.{cellAt, entryAt, entryIn, Carried, Lands, RestBlank, Assigned}

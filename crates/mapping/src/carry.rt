@@ -6,7 +6,7 @@ ghost use mathlib.Core.Path.{_≡_};
 ghost use Prim.Native.Nat.{ℕ, _+_, _≤_, _<_};
 ghost use Rattle.theory.specs.Query.{constant};
 ghost use Rattle.theory.specs.Answer.{valueOf};
-ghost use Rattle.lists.specs.Tests.{Tells};
+ghost use Rattle.lists.specs.internal.Tells.{Tells};
 ghost use Rattle.query.specs.View.{entryOf, imagesOf};
 ghost use Rattle.mapping.specs.internal.Lines.{Carried, Lands, Stands, RestBlank};
 

@@ -1,7 +1,7 @@
 -- A mapping as words, written and read. Assumes nothing.
 use mathlib.Core.Path.{_≡_, refl, sym, ap, _∙_}
 use mathlib.Core.Bool.{Bool, true, false}
-use mathlib.Core.List.{List, [], _∷_, _++_, append-nil}
+use mathlib.Core.List.{List, [], _∷_, _++_, append-nil, flatMap}
 use Prim.Native.Nat.{ℕ, zero, suc, _+_, _*_, _≤_, _<_}
 use native.Mathlib.Numerals.{add-one}
 use native.Mathlib.Omega.{arith}
@@ -12,11 +12,12 @@ use Rattle.query.specs.declared.Entry.{Entry}
 use Rattle.query.specs.declared.Entry.the-variants.{Constant, Variable}
 use Rattle.query.specs.declared.Cell.{Cell}
 use Rattle.query.specs.Rule.{noCell}
-use Rattle.lists.specs.Over.{over}
-use Rattle.format.specs.Format.{Reading, none, got, gotIf, mapReading, getTimes, putAll, pad}
+use Rattle.lists.specs.Over.{over, pad}
+use Rattle.format.specs.Format.{Reading, none, got, gotIf, mapReading, getTimes}
 use Rattle.format.specs.Parts.{entryFrom}
-use Rattle.format.proofs.Formats.{not-got, gotIf-true, mapReading-got, andThen-got}
-use Rattle.format.proofs.Lengths.{length-putAll}
+use Rattle.lists.proofs.Over.{pad-is}
+use Rattle.format.proofs.Formats.{not-got, gotIf-true, mapReading-got, thenRead-got}
+use Rattle.format.proofs.Lengths.{length-flatMap}
 use Rattle.encoder.proofs.Stores.{Writing, writing-starts, writing-room, writing-turns, writing-ends}
 use Rattle.format.proofs.Filling.{Filling, filling-starts, filling-turns, filling-fails, filling-ends}
 use Rattle.mapping_words.specs.declared.ImageRead.{ImageRead}
@@ -40,7 +41,7 @@ Writing-on before images words i = Writing cellWords before 0 images words (2 * 
 
 pub mapped-starts : (before : List ℕ) (images : List Cell) → length images ≡ 96 → 192 ≤ length before → Writing-on before images before 0
 mapped-starts before images l h =
-    let e : length (putAll cellWords images) ≡ 2 * length images = length-putAll cellWords 2 (λ c. entry-long (c .entry)) images in
+    let e : length (flatMap cellWords images) ≡ 2 * length images = length-flatMap cellWords 2 (λ c. entry-long (c .entry)) images in
     writing-starts cellWords before 0 images (omega arith)
 
 module _ {before : List ℕ} {images : List Cell} {words : List ℕ} {i : ℕ} (w : Writing-on before images words i) (l : length images ≡ 96) where
@@ -104,16 +105,15 @@ times-long : {A : Type 0} (get : List ℕ → Reading A) (n : ℕ) (s : List ℕ
 unfolding getTimes
 times-long get zero s xs rest e = let p : [] ≡ xs = cc in ap length (sym p)
 times-long get (suc n) s xs rest e =
-    let (x, r, e₀, e₁) = andThen-got (get s) (λ x r. mapReading (λ ys. x ∷ ys) (getTimes get n r)) xs rest e in
+    let (x, r, e₀, e₁) = thenRead-got (get s) (λ x r. mapReading (λ ys. x ∷ ys) (getTimes get n r)) xs rest e in
     let (ys, e₂, e₃) = mapReading-got (λ ys. x ∷ ys) (getTimes get n r) xs rest e₁ in
     ap length (sym e₃) ∙ ap suc (times-long get n r ys rest e₂)
 
 -- A full array has no padding
 full : {A : Type 0} (n : ℕ) (blank : A) (xs : List A) → length xs ≡ n → pad n blank xs ≡ xs
-unfolding pad
 full n blank xs l =
     let d : drop (length xs) (replicate n blank) ≡ [] = drop-of-length-le (replicate n blank) {i = length xs} (omega (arith, length-replicate n blank)) in
-    ap (λ (t : List _). xs ++ t) d ∙ append-nil xs
+    pad-is n blank xs ∙ ap (λ (t : List _). xs ++ t) d ∙ append-nil xs
 
 unpadded : {A : Type 0} (get : List ℕ → Reading A) (n : ℕ) (blank : A) (s : List ℕ) → mapReading (pad n blank) (getTimes get n s) ≡ getTimes get n s
 unfolding mapReading
@@ -135,7 +135,7 @@ images-long : (n : ℕ) (s : List ℕ) (xs : List Cell) (rest : List ℕ) → ge
 unfolding getTimes
 images-long zero s xs rest e = let p : s ≡ rest = cc in let l : length s ≡ length rest = ap length p in omega arith
 images-long (suc n) s xs rest e =
-    let (x, r, e₀, e₁) = andThen-got (getImage s) (λ x r. mapReading (λ ys. x ∷ ys) (getTimes getImage n r)) xs rest e in
+    let (x, r, e₀, e₁) = thenRead-got (getImage s) (λ x r. mapReading (λ ys. x ∷ ys) (getTimes getImage n r)) xs rest e in
     let (ys, e₂, e₃) = mapReading-got (λ ys. x ∷ ys) (getTimes getImage n r) xs rest e₁ in
     omega (arith, image-long s x r e₀, images-long n r ys rest e₂)
 

@@ -8,7 +8,7 @@ use lib.ListN.{length, drop, set, replicate, drop-of-length-le}
 use lib.Seq.{drop-cons}
 use lib.Dec.{leb, leb·zero}
 use Rattle.lists.specs.Tests.{between}
-use Rattle.format.specs.Format.{Reading, none, got, gotIf, andThen, mapReading, Format, getByte, byte, sequence, padded}
+use Rattle.format.specs.Format.{Reading, none, got, gotIf, thenRead, mapReading, Format, getByte, byte, sequence, padded}
 use Rattle.refusals.specs.Refusals.{gives, refused}
 use Rattle.format.specs.File.{complete}
 use Rattle.format.proofs.Filling.{Filling, filling-starts, filling-turns, filling-fails, filling-ends}
@@ -42,11 +42,11 @@ byte-none (got b rest) h = let z : _≡_ {A = ℕ} 0 1 = cc in absurd (omega ari
 
 module _ {A B : Type 0} (f : Format A) (g : A → Format B) (bytes : List ℕ) where
   pub sequence-none : f .get bytes ≡ none → sequence f g .get bytes ≡ none
-  unfolding sequence andThen
+  unfolding sequence thenRead
   sequence-none e = rw e
 
   pub sequence-got : (a : A) (rest : List ℕ) → f .get bytes ≡ got a rest → sequence f g .get bytes ≡ mapReading (λ b. (a, b)) (g a .get rest)
-  unfolding sequence andThen
+  unfolding sequence thenRead
   sequence-got a rest e = rw e
 
 -- ---- a part that is to hold one value and no more

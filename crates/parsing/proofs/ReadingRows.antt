@@ -235,10 +235,6 @@ next-row-fits r size h few = search needs
 pub next-entry-fits : (i width : ℕ) → i < width → width ≤ 8 → Fits w64 (i + 1)
 next-entry-fits i width h narrow = search needs
 
--- one more is read, so fewer are left
-pub fewer-left : (i width : ℕ) → i < width → width - (i + 1) < width - i
-fewer-left i width h = omega arith
-
 -- no more entries of a row are read than it can have
 pub short : {schema part : List ℕ} {at r width : ℕ} {before cells : List Cell} {i : ℕ} → InRow schema part at r width before cells i → i ≤ 8
 short g = omega (arith, g .few, g .small)

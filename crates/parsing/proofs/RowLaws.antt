@@ -1,6 +1,6 @@
 -- Rows: what the reader's answers say of the format's reading, how far a reading goes, and rows kept in flat arrays.
 use mathlib.Core.Path.{_≡_, refl, sym, ap, _∙_, subst}
-use mathlib.Core.Bool.{Bool, true, false, _&&_}
+use mathlib.Core.Bool.{Bool, true, false, _&&_, true≢false}
 use mathlib.Core.List.{List, [], _∷_, _++_, append-assoc}
 use Prim.Native.Nat.{ℕ, zero, suc, _+_, _*_, _-_, _≤_, _<_}
 use native.Mathlib.Nat.{zero-add}
@@ -12,31 +12,28 @@ use lib.Seq.{drop-drop, take-at, drop-at, length-take-le, set-append-left}
 use borrow.Author.Tests.{le-ltb, lt-ltb, leb-true}
 use Rattle.query.specs.declared.Cell.{Cell}
 use Rattle.query.specs.Rule.{noCell}
-use Rattle.lists.specs.Over.{over}
+use Rattle.lists.specs.Over.{over, pad}
 use Rattle.format.specs.Bytes.{number}
-use Rattle.format.specs.Format.{Reading, none, got, mapReading, getTimes, getByte, byte, sequence, pad, padded}
+use Rattle.format.specs.Format.{Reading, none, got, mapReading, getTimes, getByte, byte, sequence, padded}
 use Rattle.format.specs.Parts.{entry, isEntry, entryFrom, entries, row, chunk}
 use Rattle.lists.proofs.Tests.{and-iff}
-use Rattle.format.proofs.Arrays.{length-pad}
+use Rattle.lists.proofs.Over.{length-pad}
 use Rattle.lists.proofs.Loops.{replicate-drop}
 use Rattle.format.proofs.Parts.{Narrow, narrow-at}
-use Rattle.format.proofs.Formats.{not-got, gotIf-true, andThen-got, mapReading-got}
+use Rattle.format.proofs.Formats.{not-got, gotIf-true, thenRead-got, mapReading-got}
 use Rattle.parsing.specs.declared.CellsRead.{CellsRead}
 use Rattle.parsing.specs.internal.Read.{cellsRead}
 use Rattle.parsing.proofs.Positions.{byte-past, byte-bad, byte-good}
 use Rattle.parsing.proofs.Counted.{sequence-none, sequence-got}
 
-true-false : true ≡ false → ⊥
-true-false e = let z : _≡_ {A = ℕ} 0 1 = cc in omega arith
-
 -- ---- the answers of the readers
 
 pub cells-bad : (o : Reading (List Cell)) (r : CellsRead) → r ≡ cellsRead o → r .good ≡ false → o ≡ none
 cells-bad none r e g = refl
-cells-bad (got cs rest) r e g = absurd (true-false (sym (ap (λ (r : CellsRead). r .good) e) ∙ g))
+cells-bad (got cs rest) r e g = absurd (true≢false (sym (ap (λ (r : CellsRead). r .good) e) ∙ g))
 
 pub cells-good : (o : Reading (List Cell)) (r : CellsRead) → r ≡ cellsRead o → r .good ≡ true → (rest : List ℕ) × (o ≡ got (r .cells) rest)
-cells-good none r e g = absurd (true-false (sym g ∙ ap (λ (r : CellsRead). r .good) e))
+cells-good none r e g = absurd (true≢false (sym g ∙ ap (λ (r : CellsRead). r .good) e))
 cells-good (got cs rest) r e g = (rest, ap (λ (r : CellsRead). got (r .cells) rest) (sym e))
 
 -- ---- one row
@@ -91,7 +88,7 @@ times-bounds zero bytes cells rest e =
     let b : bytes ≡ rest = cc in
     subst (λ (cs : List Cell). Ends 0 bytes cs rest) a (refl, b, omega arith)
 times-bounds (suc n) bytes cells rest e =
-    let (c, r, ec, e₁) = andThen-got (entry .get bytes) (λ x rest. mapReading (λ xs. x ∷ xs) (getTimes (entry .get) n rest)) cells rest e in
+    let (c, r, ec, e₁) = thenRead-got (entry .get bytes) (λ x rest. mapReading (λ xs. x ∷ xs) (getTimes (entry .get) n rest)) cells rest e in
     let (cs, es, ep) = mapReading-got (λ cs. c ∷ cs) (getTimes (entry .get) n r) cells rest e₁ in
     let (er, l) = entry-bounds bytes c r ec in
     let (lc, ed, le) = times-bounds n r cs rest es in
@@ -121,7 +118,7 @@ pub row-bounds : (schema s : List ℕ) (at : ℕ) (r : ℕ × List Cell) (rest :
 unfolding row sequence byte
 row-bounds schema s at r rest narrow h e =
     let (b, r₁, eb, e₁) =
-    andThen-got (getByte (λ r. ltb r (length schema)) (drop at s)) (λ a rest. mapReading (λ b. (a, b)) (entries (getD schema a 0) .get rest)) r rest e in
+    thenRead-got (getByte (λ r. ltb r (length schema)) (drop at s)) (λ a rest. mapReading (λ b. (a, b)) (entries (getD schema a 0) .get rest)) r rest e in
     let (cs, es, ep) = mapReading-got (λ cs. (b, cs)) (entries (getD schema b 0) .get r₁) r rest e₁ in
     let (d₁, l₁) = byte-bounds (λ r. ltb r (length schema)) (drop at s) b r₁ eb in
     let (l, d, k) = entries-bounds (getD schema b 0) r₁ cs rest (narrow-at schema b narrow) es in

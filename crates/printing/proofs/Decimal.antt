@@ -8,7 +8,7 @@ use native.Mathlib.Omega.{arith}
 use lib.Dec.{ltb}
 use lib.ListN.{length, getD, length-append, List·getD-append}
 use borrow.Author.Tests.{lt-ltb, le-ltb, ltb-true, ltb-false}
-use Rattle.printing.specs.Decimal.{digits, decimal, valueAfter}
+use Rattle.printing.specs.Decimal.{digits, decimal}
 
 -- ---- how the digits end
 
@@ -50,6 +50,11 @@ by-digits P one more n = go (suc n) n (omega arith)
         pick rest false e = let l : 10 ≤ n = ltb-false n 10 e in more n l (rest (omega arith))
 
 -- ---- what the digits mean
+
+-- The number that some digits stand for, after digits that stand for another
+unfoldable pub valueAfter : ℕ → List ℕ → ℕ
+valueAfter before [] = before
+valueAfter before (digit ∷ rest) = valueAfter (10 * before + (digit - 48)) rest
 
 value-append : (a : ℕ) (s t : List ℕ) → valueAfter a (s ++ t) ≡ valueAfter (valueAfter a s) t
 unfolding valueAfter

@@ -8,7 +8,7 @@ use native.Mathlib.Omega.{arith}
 use lib.ListN.{length, set, length-append}
 use Rattle.lists.specs.Over.{over}
 use Rattle.lists.proofs.Over.{over-nil, over-length, over-set, over-over}
-use Rattle.printing.specs.internal.Writing.{Fits, Written}
+use Rattle.printing.specs.internal.Writing.{Fits, WrittenAt}
 
 -- ---- what is written so far
 
@@ -17,7 +17,7 @@ pub record Progress (given : List ℕ) (first : ℕ) (text rest buffer : List �
   pub done : List ℕ
   pub parts : done ++ rest ≡ text
   pub fits : Fits given first text
-  pub written : Written given first done buffer at
+  pub written : WrittenAt given first done buffer at
 
 module _ {given : List ℕ} {first : ℕ} {text : List ℕ} where
   pub started : Fits given first text → Progress given first text text given first
@@ -48,7 +48,7 @@ module _ {given : List ℕ} {first : ℕ} {text : List ℕ} where
 
   -- when the next part is written, what comes after it is left
   pub wrote : {rest buffer buffer′ : List ℕ} {at at′ : ℕ} {s : List ℕ} → Progress given first text rest buffer at → (t : List ℕ) → rest ≡ s ++ t
-      → Written buffer at s buffer′ at′
+      → WrittenAt buffer at s buffer′ at′
       → Progress given first text t buffer′ at′
   wrote {rest} {buffer} {buffer′} {at} {at′} {s} p t e w =
       let l : length (p .done) + length rest ≡ length text = sym (length-append (p .done) rest) ∙ ap (λ (l : List ℕ). length l) (p .parts) in
@@ -70,8 +70,8 @@ module _ {given : List ℕ} {first : ℕ} {text : List ℕ} where
       }
 
   -- when nothing is left, all is written
-  pub finished : {buffer : List ℕ} {at : ℕ} → Progress given first text [] buffer at → Written given first text buffer at
-  finished {buffer} {at} p = subst (λ (d : List ℕ). Written given first d buffer at) (sym (append-nil (p .done)) ∙ p .parts) (p .written)
+  pub finished : {buffer : List ℕ} {at : ℕ} → Progress given first text [] buffer at → WrittenAt given first text buffer at
+  finished {buffer} {at} p = subst (λ (d : List ℕ). WrittenAt given first d buffer at) (sym (append-nil (p .done)) ∙ p .parts) (p .written)
 
   -- what is left may be written in another way
   pub left-as : {rest rest′ buffer : List ℕ} {at : ℕ} → Progress given first text rest buffer at → rest ≡ rest′ → Progress given first text rest′ buffer at
@@ -87,10 +87,10 @@ module _ {given : List ℕ} {first : ℕ} {text : List ℕ} where
   pub rest-fits : {rest buffer : List ℕ} {at : ℕ} → Progress given first text rest buffer at → Fits buffer at rest
   rest-fits {rest} p = part-fits p rest [] (sym (append-nil rest))
 
-  pub wrote-rest : {rest buffer buffer′ : List ℕ} {at at′ : ℕ} → Progress given first text rest buffer at → Written buffer at rest buffer′ at′
-      → Written given first text buffer′ at′
+  pub wrote-rest : {rest buffer buffer′ : List ℕ} {at at′ : ℕ} → Progress given first text rest buffer at → WrittenAt buffer at rest buffer′ at′
+      → WrittenAt given first text buffer′ at′
   wrote-rest {rest} p w = finished (wrote p [] (sym (append-nil rest)) w)
 
 -- one byte
-pub wrote-byte : (d : List ℕ) (i b : ℕ) → i < length d → Written d i (b ∷ []) (set d i b) (i + 1)
+pub wrote-byte : (d : List ℕ) (i b : ℕ) → i < length d → WrittenAt d i (b ∷ []) (set d i b) (i + 1)
 wrote-byte d i b h = record { buffer = sym (over-nil (set d i b) (suc i)) ∙ over-set d i b [] h; position = refl }

@@ -3,12 +3,13 @@ use mathlib.Core.Path.{refl}
 use Rattle.theory.specs.Query.{rowEntries, variablesOf, member}
 use Rattle.theory.specs.Determined.{subset}
 use Rattle.lists.specs.Tests.{every}
+use Rattle.lists.specs.Over.{pad}
 use Rattle.query.specs.View.{rowsOf, columnsFrom, maskOf}
 use Rattle.query.specs.Rule.{blankQuery, goodRelations, goodSet, goodDependency, goodDependencies, goodRows, goodQuery, headSafe}
 use Rattle.query.specs.Examples.{cellsOf, Views, RuleExamples}
 
 pub views : Views
-unfolding rowsOf columnsFrom maskOf cellsOf
+unfolding rowsOf columnsFrom maskOf cellsOf pad
 views =
     record {
       entries = refl;
@@ -22,5 +23,6 @@ views =
     }
 
 pub rule : RuleExamples
-unfolding every rowEntries variablesOf member subset rowsOf cellsOf blankQuery goodRelations goodSet goodDependency goodDependencies goodRows goodQuery headSafe
+unfolding every rowEntries variablesOf member subset rowsOf cellsOf pad blankQuery goodRelations goodSet goodDependency goodDependencies
+    goodRows goodQuery headSafe
 rule = record { pass = refl; fail = refl }

@@ -14,13 +14,12 @@ use Rattle.lists.proofs.Tests.{used-blank, padded}
 use Rattle.query.specs.declared.Entry.{Entry}
 use Rattle.query.specs.declared.Entry.the-variants.{Constant, Variable}
 use Rattle.query.specs.declared.Cell.{Cell}
-use Rattle.query.specs.declared.Query.{Query}
 use Rattle.query.specs.View.{entryOf, entriesOf, rowsOf}
 use Rattle.query.specs.Rule.{goodCell, blankCell, goodRows, headInUse, noCell}
 use Rattle.query.specs.Meaning.{StoredUnique}
 use Rattle.query.proofs.Good.{good-query}
 use Rattle.query.proofs.Stored.{row-parts, rows-first, rows-rest}
-use Rattle.query.proofs.Shape.{blank-cell, head-length, row-count, head-padded, relations-padded, cells-padded}
+use Rattle.query.proofs.Shape.{shaped-sized, blank-cell, head-length, row-count, head-padded, relations-padded, cells-padded}
 
 -- ---- 1. entries
 
@@ -108,7 +107,9 @@ module _ (schema : List ℕ) (narrow : (i : ℕ) → getD schema i 0 ≤ 8) wher
 
 -- A good query is determined by the query that it stands for
 pub stored-unique : StoredUnique
-stored-unique schema narrow a b long-a long-b good-a good-b e =
+stored-unique schema narrow a b shaped-a shaped-b good-a good-b e =
+    let long-a = shaped-sized a shaped-a in
+    let long-b = shaped-sized b shaped-b in
     let g = good-query schema a good-a in
     let h = good-query schema b good-b in
     let arity : a .arity ≡ b .arity =

@@ -6,6 +6,7 @@ use mathlib.Core.List.{List, [], _∷_, _++_}
 use Prim.Native.Nat.{ℕ, zero, suc, _+_, _*_, _-_, _≤_, _<_}
 use native.Mathlib.Nat.{le-of-suc-le-suc, not-suc-le-zero}
 use native.Mathlib.Omega.{arith}
+use lib.Dec.{eqb}
 use lib.ListN.{length, take, drop, getD, replicate, length-map, List·getD-map}
 use lib.Seq.{drop-drop, length-take-le}
 use borrow.Author.Tests.{eqb-true}
@@ -18,10 +19,31 @@ use Rattle.query.specs.declared.Dependency.{Dependency}
 use Rattle.query.specs.declared.Place.{Place}
 use Rattle.query.specs.View.{entryOf, entriesOf, rowsOf, queryOf}
 use Rattle.lists.specs.Tests.{every, isZero}
-use Rattle.query.specs.Rule.{goodCell, blankEntry, blankCell, blankDependency, headInUse, goodQuery, blankQuery, noCell, noDependency, noQuery}
+use Rattle.query.specs.Rule.{goodCell, blankEntry, blankCell, blankDependency, headInUse, goodQuery, shapedQuery, blankQuery, noCell}
+use Rattle.query.specs.Rule.{noDependency, noQuery}
 use Rattle.lists.proofs.Tests.{and-left, and-right, every-same, used-blank, padded}
 use Rattle.lists.proofs.Loops.{stretch-getD}
 use Rattle.query.proofs.Good.{good-query}
+
+-- ---- the lengths of a query's arrays
+
+-- What the types say of a query's arrays
+pub record Sized (q : Query) : Type 0 where
+  pub head : length (q .head) ≡ 8
+  pub relations : length (q .relations) ≡ 12
+  pub cells : length (q .cells) ≡ 96
+
+pub shaped-sized : (q : Query) → shapedQuery q ≡ true → Sized q
+shaped-sized q e =
+    let a : Bool = eqb (length (q .head)) 8 in
+    let b : Bool = eqb (length (q .relations)) 12 in
+    let c : Bool = eqb (length (q .cells)) 96 in
+    let e2 : a && b ≡ true = and-left (a && b) c e in
+    record {
+      head = eqb-true (length (q .head)) 8 (and-left a b e2);
+      relations = eqb-true (length (q .relations)) 12 (and-right a b e2);
+      cells = eqb-true (length (q .cells)) 96 (and-right (a && b) c e);
+    }
 
 -- ---- 1. positions
 

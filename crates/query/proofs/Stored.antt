@@ -4,7 +4,7 @@
 use mathlib.Core.Path.{_≡_, refl, sym, ap, subst, _∙_}
 use mathlib.Core.Logic.{⊎-elim}
 use mathlib.Core.Bool.{Bool, true, false, cond}
-use mathlib.Core.List.{List, [], _∷_, _++_, map, List·Memᴰ·head, List·Memᴰ·tail, List·Memᴰ·append-cases, List·Memᴰ·cases-cons, List·Memᴰ·not-nil, Memᴰ·cast}
+use mathlib.Core.List.{List, [], _∷_, _++_, map, List·Memᴰ·head, List·Memᴰ·tail, List·Memᴰ·append-cases, List·Memᴰ·cases-cons, List·Memᴰ·not-nil}
 use Prim.Native.Nat.{ℕ, zero, suc, _+_, _*_, _/_, _%_, _^_, _≤_, _<_}
 use native.Mathlib.Nat.{le-of-suc-le-suc, not-suc-le-zero, two-pow-succ}
 use native.Mathlib.Omega.{arith}
@@ -13,9 +13,9 @@ use lib.ListN.{length, take, drop, getD, length-take, length-drop, length-map}
 use lib.Seq.{getD-take, take-add, take-take, drop-drop, length-take-le}
 use borrow.Author.Tests.{leb-true, ltb-true, eqb-true}
 use Rattle.theory.specs.Query as theory
-use Rattle.theory.specs.Query.{member, variablesOf, rowEntries, WellFormed, FitsSchema, _∈_}
+use Rattle.theory.specs.Query.{variablesOf, rowEntries, WellFormed, FitsSchema, _∈_}
 use Rattle.theory.specs.Database as database
-use Rattle.theory.specs.Determined.{subset, FitsColumns}
+use Rattle.theory.specs.Determined.{FitsColumns}
 use Rattle.theory.specs.Containment.{ConstantsBelow}
 use Rattle.query.specs.declared.Entry.{Entry}
 use Rattle.query.specs.declared.Entry.the-variants.{Constant, Variable}
@@ -25,16 +25,11 @@ use Rattle.query.specs.declared.Dependency.{Dependency}
 use Rattle.query.specs.View.{entryOf, entriesOf, rowsOf, queryOf, columnsFrom, dependencyOf}
 use Rattle.lists.specs.Tests.{every, inUse}
 use Rattle.query.specs.Rule.{goodDependency, goodEntry, goodCell, blankEntry, blankCell, goodRow, goodRows, headInUse, goodQuery, headSafe}
-use Rattle.theory.proofs.Lists.{member-mem}
+use Rattle.theory.proofs.Determined.{subset-true}
 use Rattle.lists.proofs.Tests.{and-left, and-right, and-both, every-append, used-whole, every-take, used-all, used-good}
 use Rattle.query.proofs.Good.{good-query, good-dependency}
 
 -- ---- 1. members of lists
-
-pub subset-in : (ms ns : List ℕ) {m : ℕ} → subset ms ns ≡ true → m ∈ ms → m ∈ ns
-unfolding subset
-subset-in (k ∷ ms) ns e (List·Memᴰ·head p) = Memᴰ·cast p (member-mem k ns (and-left (member k ns) (subset ms ns) e))
-subset-in (k ∷ ms) ns e (List·Memᴰ·tail at) = subset-in ms ns (and-right (member k ns) (subset ms ns) e) at
 
 -- A variable of some entries is one of the entries
 pub variable-in : (es : List theory.Entry) {v : ℕ} → v ∈ variablesOf es → theory.variable v ∈ es
@@ -163,13 +158,13 @@ module _ (schema : List ℕ) (narrow : (i : ℕ) → getD schema i 0 ≤ 8) (q :
   well-formed long safe =
       record {
         rows-fit = λ r at. rows-fit schema narrow (take (q .size) (q .relations)) (q .cells) (rw length-take (omega arith)) (good-query schema q good .rows) at;
-        head-safe = λ v at. subset-in (variablesOf (queryOf schema q .head)) (variablesOf (rowEntries (queryOf schema q .rows))) safe at;
+        head-safe = λ v at. subset-true (variablesOf (queryOf schema q .head)) (variablesOf (rowEntries (queryOf schema q .rows))) safe v at;
       }
 
 -- ---- 5. dependencies
 
 -- A mask below 2 ^ k has no columns past k
-no-columns : (start n : ℕ) → columnsFrom start n 0 ≡ []
+pub no-columns : (start n : ℕ) → columnsFrom start n 0 ≡ []
 unfolding columnsFrom
 no-columns start zero = refl
 no-columns start (suc n) = no-columns (suc start) n

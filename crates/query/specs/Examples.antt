@@ -2,10 +2,11 @@
 use mathlib.Core.Path.{_≡_}
 use mathlib.Core.Bool.{Bool, true, false, not}
 use mathlib.Core.List.{List, [], _∷_, _++_, map}
-use Prim.Native.Nat.{ℕ, _-_}
+use Prim.Native.Nat.{ℕ}
 use lib.ListN.{length, replicate}
 use Rattle.theory.specs.Query as theory
 use Rattle.lists.specs.Tests.{every}
+use Rattle.lists.specs.Over.{pad}
 use Rattle.query.specs.declared.Entry.{Entry}
 use Rattle.query.specs.declared.Entry.the-variants.{Constant, Variable}
 use Rattle.query.specs.declared.Cell.{Cell}
@@ -17,10 +18,6 @@ use Rattle.query.specs.Rule.{headSafe, goodPlace, noCell, noDependency, 
 
 -- ---- values for the examples
 
--- A list with a blank value after it, n in all
-abbrev pub upTo : {A : Type 0} → ℕ → A → List A → List A
-upTo n blank xs = xs ++ replicate (n - length xs) blank
-
 -- The cell of an entry
 abbrev pub cell : Entry → Cell
 cell e = record { entry = e }
@@ -28,7 +25,7 @@ cell e = record { entry = e }
 -- The cells of some rows, 8 a row
 unfoldable pub cellsOf : List (List Entry) → List Cell
 cellsOf [] = []
-cellsOf (es ∷ rows) = upTo 8 noCell (map cell es) ++ cellsOf rows
+cellsOf (es ∷ rows) = pad 8 noCell (map cell es) ++ cellsOf rows
 
 -- The stored query with this head and rows of these relations and entries
 abbrev pub stored : List Entry → List ℕ → List (List Entry) → Query
@@ -36,9 +33,9 @@ stored head relations rows =
     record {
       arity = length head;
       size = length relations;
-      head = upTo 8 noCell (map cell head);
-      relations = upTo 12 0 relations;
-      cells = upTo 96 noCell (cellsOf rows);
+      head = pad 8 noCell (map cell head);
+      relations = pad 12 0 relations;
+      cells = pad 96 noCell (cellsOf rows);
     }
 
 -- Relation 0 has 2 columns, relation 1 has 8
@@ -85,10 +82,10 @@ pub record Views : Type 0 where
 -- ---- the rule
 
 -- What passes
-abbrev pub passing : List Bool
-passing =
+abbrev pub goodCases : List Bool
+goodCases =
     -- one relation of 1 column; 8 of 8
-    goodRelations 1 (upTo 8 0 (1 ∷ [])) ∷ goodRelations 8 (replicate 8 8)
+    goodRelations 1 (pad 8 0 (1 ∷ [])) ∷ goodRelations 8 (replicate 8 8)
     -- all columns of a relation as a set, of 2 and of 8
     ∷ goodSet schema 0 3 ∷ goodSet schema 1 255
     -- the last column as the right one
@@ -108,18 +105,18 @@ passing =
     ∷ goodPlace schema (record { filled = true; query = asked (Variable 1 ∷ []) }) ∷ goodPlace schema noPlace ∷ []
 
 -- What does not
-abbrev pub failing : List Bool
-failing =
+abbrev pub badCases : List Bool
+badCases =
     -- no relation; 9; one of 0 columns; one of 9; a width that is not in use
-    goodRelations 0 (replicate 8 0) ∷ goodRelations 9 (replicate 9 8) ∷ goodRelations 2 (upTo 8 0 (1 ∷ 0 ∷ [])) ∷ goodRelations 1 (upTo 8 0 (9 ∷ []))
-    ∷ goodRelations 1 (upTo 8 0 (1 ∷ 1 ∷ []))
+    goodRelations 0 (replicate 8 0) ∷ goodRelations 9 (replicate 9 8) ∷ goodRelations 2 (pad 8 0 (1 ∷ 0 ∷ [])) ∷ goodRelations 1 (pad 8 0 (9 ∷ []))
+    ∷ goodRelations 1 (pad 8 0 (1 ∷ 1 ∷ []))
     -- no column as a set; a third column of 2; an unknown relation
     ∷ goodSet schema 0 0 ∷ goodSet schema 0 4 ∷ goodSet schema 2 0 ∷ goodSet schema 2 1
     -- a right column past the last; no left column
     ∷ goodDependency schema (depends 3 2) ∷ goodDependency schema (depends 0 1)
     -- 33 dependencies; one that is not in use; a bad one
-    ∷ goodDependencies schema 33 (replicate 33 (depends 3 1)) ∷ goodDependencies schema 0 (upTo 32 noDependency (depends 0 1 ∷ []))
-    ∷ goodDependencies schema 1 (upTo 32 noDependency (depends 3 2 ∷ []))
+    ∷ goodDependencies schema 33 (replicate 33 (depends 3 1)) ∷ goodDependencies schema 0 (pad 32 noDependency (depends 0 1 ∷ []))
+    ∷ goodDependencies schema 1 (pad 32 noDependency (depends 3 2 ∷ []))
     -- a constant and a variable past the last
     ∷ goodCell (cell (Constant 2147483648)) ∷ goodCell (cell (Variable 96))
     -- another constant, or variable 0, where nothing is in use
@@ -137,9 +134,9 @@ failing =
     ∷ goodQuery schema (stored [] (2 ∷ []) ([] ∷ [])) ∷ goodQuery schema (stored [] (0 ∷ []) (replicate 3 (Variable 1) ∷ []))
     ∷ goodQuery schema (stored [] (0 ∷ 0 ∷ []) (pair ∷ replicate 2 (Variable 96) ∷ [])) ∷ goodQuery schema (asked (Variable 96 ∷ []))
     -- never with a head entry; a head entry past the head's length; a relation and a cell past the last row
-    ∷ goodQuery schema (record { arity = 1; size = 0; head = upTo 8 noCell (cell (Constant 1) ∷ []); relations = replicate 12 0; cells = replicate 96 noCell })
-    ∷ goodQuery schema (record { arity = 0; size = 1; head = upTo 8 noCell (cell (Constant 1) ∷ []); relations = replicate 12 0; cells = replicate 96 noCell })
-    ∷ goodQuery schema (record { arity = 0; size = 0; head = replicate 8 noCell; relations = upTo 12 0 (1 ∷ []); cells = replicate 96 noCell })
+    ∷ goodQuery schema (record { arity = 1; size = 0; head = pad 8 noCell (cell (Constant 1) ∷ []); relations = replicate 12 0; cells = replicate 96 noCell })
+    ∷ goodQuery schema (record { arity = 0; size = 1; head = pad 8 noCell (cell (Constant 1) ∷ []); relations = replicate 12 0; cells = replicate 96 noCell })
+    ∷ goodQuery schema (record { arity = 0; size = 0; head = replicate 8 noCell; relations = pad 12 0 (1 ∷ []); cells = replicate 96 noCell })
     ∷ goodQuery schema (stored [] (0 ∷ []) (pair ∷ pair ∷ []))
     -- a head variable that stands in no row
     ∷ headSafe schema (asked (Variable 2 ∷ []))
@@ -150,5 +147,5 @@ failing =
 
 -- All of them
 pub record RuleExamples : Type 0 where
-  pub pass : every (λ b. b) passing ≡ true
-  pub fail : every not failing ≡ true
+  pub pass : every (λ b. b) goodCases ≡ true
+  pub fail : every not badCases ≡ true

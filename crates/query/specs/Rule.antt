@@ -1,5 +1,5 @@
 -- The rule of relations, dependencies, queries and places as tests on the fields: what refusals 3, 4, 5 and 6 judge, and 14 of a place.
--- The lengths of the arrays are the types'.
+-- The lengths of the arrays are the types': `shapedQuery` says them of a query.
 use mathlib.Core.Bool.{Bool, true, false, cond, not, _&&_}
 use mathlib.Core.List.{List, [], _∷_}
 use Prim.Native.Nat.{ℕ, _*_, _^_}
@@ -89,6 +89,10 @@ unfoldable pub headSafe : List ℕ → Query → Bool
 headSafe schema q =
     determined.subset (theory.variablesOf (queryOf schema q .head)) (theory.variablesOf (theory.rowEntries (queryOf schema q .rows)))
 
+-- The arrays of a query are as long as its type says: 8 head cells, 12 relations and 96 cells
+abbrev pub shapedQuery : Query → Bool
+shapedQuery q = eqb (length (q .head)) 8 && eqb (length (q .relations)) 12 && eqb (length (q .cells)) 96
+
 -- ---- places
 
 -- A filled place holds a good query with a safe head, a vacant one holds nothing
@@ -105,13 +109,13 @@ noCell = record { entry = Constant 0 }
 abbrev pub noDependency : Dependency
 noDependency = record { relation = 0; left = 0; right = 0 }
 
--- The query of a vacant place
-abbrev pub noQuery : Query
-noQuery = record { arity = 0; size = 0; head = replicate 8 noCell; relations = replicate 12 0; cells = replicate 96 noCell }
-
 -- The never query with a head of n entries
 abbrev pub neverQuery : ℕ → Query
 neverQuery n = record { arity = n; size = 0; head = replicate 8 noCell; relations = replicate 12 0; cells = replicate 96 noCell }
+
+-- The query of a vacant place
+abbrev pub noQuery : Query
+noQuery = neverQuery 0
 
 -- A vacant place
 abbrev pub noPlace : Place

@@ -12,7 +12,7 @@ use Rattle.record.specs.declared.Outcome.{Outcome}
 use Rattle.record.specs.Rule.{goodRecord}
 use Rattle.format.specs.File.{readFile, outcomeOf, fileOf}
 use Rattle.format.proofs.RoundTrip.{sound-record, file-written-back}
-use Rattle.format.proofs.Arrays.{bytes-known}
+use Rattle.format.proofs.Bytes.{bytes-known}
 use Rattle.format.proofs.Results.{outcome-done, outcome-refused}
 use Rattle.writer.specs.declared.Written.the-variants as written
 use Rattle.writer.specs.Write.{written, afterWriting}

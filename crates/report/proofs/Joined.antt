@@ -1,48 +1,21 @@
 -- Lines of places one after the other: what is written of the first places, then of the next, is written of both. Assumes nothing.
 use mathlib.Core.Path.{_≡_, sym, ap, _∙_, subst}
-use mathlib.Core.Bool.{Bool, true, false, cond}
+use mathlib.Core.Bool.{true, false}
 use mathlib.Core.List.{List, [], _∷_, _++_, append-assoc, append-nil}
-use Prim.Native.Nat.{ℕ, zero, suc, _+_, _*_, _≤_, _<_}
+use Prim.Native.Nat.{ℕ, _+_, _*_, _≤_, _<_}
 use native.Mathlib.Nat.{add-zero}
 use native.Mathlib.Omega.{arith}
 use lib.ListN.{length, length-append}
 use Rattle.record.specs.declared.Record.{Record}
 use Rattle.record.specs.Calls.{isFilled}
-use Rattle.text.specs.Text.{passing}
+use Rattle.lists.specs.Numbers.{numbersWhere}
 use Rattle.text.specs.internal.Listable.{placeRoom}
 use Rattle.lists.specs.Over.{over}
-use Rattle.printing.specs.internal.Writing.{Written}
+use Rattle.printing.specs.internal.Writing.{WrittenAt}
+use Rattle.lists.proofs.Numbers.{where-append, where-one, where-not}
 use Rattle.lists.proofs.Over.{over-nil, over-length, over-over}
 use Rattle.report.specs.Report.{AllLines, nil, cons}
 use Rattle.report.specs.internal.Places.{LinesWritten, PartWritten}
-
--- ---- places
-
-passing-append : (test : ℕ → Bool) (start m n : ℕ) → passing test start (m + n) ≡ passing test start m ++ passing test (start + m) n
-unfolding passing
-passing-append test start zero n =
-    let e : 0 + n ≡ n = omega arith in
-    let f : start ≡ start + 0 = omega arith in
-    ap (λ (k : ℕ). passing test start k) e ∙ ap (λ (k : ℕ). passing test k n) f
-passing-append test start (suc m) n =
-    let e : suc m + n ≡ suc (m + n) = omega arith in
-    let f : suc start + m ≡ start + suc m = omega arith in
-    ap (λ (k : ℕ). passing test start k) e
-    ∙ go (test start) (passing-append test (suc start) m n ∙ ap (λ (k : ℕ). passing test (suc start) m ++ passing test k n) f)
-  where
-    go : (t : Bool) → passing test (suc start) (m + n) ≡ passing test (suc start) m ++ passing test (start + suc m) n
-        → cond t (start ∷ passing test (suc start) (m + n)) (passing test (suc start) (m + n))
-        ≡ cond t (start ∷ passing test (suc start) m) (passing test (suc start) m) ++ passing test (start + suc m) n
-    go true e = ap (λ (ps : List ℕ). start ∷ ps) e
-    go false e = e
-
-passing-filled : (test : ℕ → Bool) (place : ℕ) → test place ≡ true → passing test place 1 ≡ place ∷ []
-unfolding passing
-passing-filled test place e = rw e
-
-passing-vacant : (test : ℕ → Bool) (place : ℕ) → test place ≡ false → passing test place 1 ≡ []
-unfolding passing
-passing-vacant test place e = rw e
 
 -- ---- lines
 
@@ -53,8 +26,8 @@ lines-append {r} {ps} {qs} {s} {t} (cons {place} {places} {lines} {rest} l a) b 
 
 -- ---- what is written
 
-written-join : (d : List ℕ) (i : ℕ) (s : List ℕ) (d′ : List ℕ) (k : ℕ) (t e : List ℕ) (n : ℕ) → Written d i s d′ k → Written d′ k t e n
-    → i + length s + length t ≤ length d → Written d i (s ++ t) e n
+written-join : (d : List ℕ) (i : ℕ) (s : List ℕ) (d′ : List ℕ) (k : ℕ) (t e : List ℕ) (n : ℕ) → WrittenAt d i s d′ k → WrittenAt d′ k t e n
+    → i + length s + length t ≤ length d → WrittenAt d i (s ++ t) e n
 written-join d i s d′ k t e n w v h =
     record {
       buffer =
@@ -62,12 +35,12 @@ written-join d i s d′ k t e n w v h =
       position = let l : length (s ++ t) ≡ length s + length t = length-append s t in omega (arith, v .position, w .position);
     }
 
-written-nothing : (d : List ℕ) (i : ℕ) → Written d i [] d i
+written-nothing : (d : List ℕ) (i : ℕ) → WrittenAt d i [] d i
 written-nothing d i = record { buffer = sym (over-nil d i); position = sym (add-zero i) }
 
 -- No place is written at the start
 pub part-started : (r : Record) (start : ℕ) (d : List ℕ) (i : ℕ) → PartWritten r start 0 d i d i
-unfolding passing
+unfolding numbersWhere
 part-started r start d i = record { text = []; lines = nil; short = omega arith; written = written-nothing d i }
 
 -- The lines of a filled place, and none of a vacant one
@@ -77,7 +50,7 @@ part-filled r place d i e n filled w =
     record {
       text = w .text;
       lines =
-          subst (λ (ps : List ℕ). AllLines r ps (w .text)) (sym (passing-filled (isFilled r) place filled))
+          subst (λ (ps : List ℕ). AllLines r ps (w .text)) (sym (where-one (isFilled r) place filled))
           (subst (λ (text : List ℕ). AllLines r (place ∷ []) text) (append-nil (w .text)) (cons (w .lines) nil));
       short = omega (arith, w .short);
       written = w .written;
@@ -87,7 +60,7 @@ pub part-vacant : (r : Record) (place : ℕ) (d : List ℕ) (i : ℕ) → isFill
 part-vacant r place d i vacant =
     record {
       text = [];
-      lines = subst (λ (ps : List ℕ). AllLines r ps []) (sym (passing-vacant (isFilled r) place vacant)) nil;
+      lines = subst (λ (ps : List ℕ). AllLines r ps []) (sym (where-not (isFilled r) place vacant)) nil;
       short = omega arith;
       written = written-nothing d i;
     }
@@ -105,8 +78,8 @@ module _ (r : Record) (k : ℕ) (d e : List ℕ) (n : ℕ) (w : PartWritten r 0 
   pub part-more : k < 8 → (e′ : List ℕ) (n′ : ℕ) → PartWritten r k 1 e n e′ n′ → PartWritten r 0 (k + 1) d 0 e′ n′
   part-more h e′ n′ v =
       let z : 0 + k ≡ k = omega arith in
-      let both : passing (isFilled r) 0 (k + 1) ≡ passing (isFilled r) 0 k ++ passing (isFilled r) k 1 =
-      passing-append (isFilled r) 0 k 1 ∙ ap (λ (i : ℕ). passing (isFilled r) 0 k ++ passing (isFilled r) i 1) z in
+      let both : numbersWhere (isFilled r) 0 (k + 1) ≡ numbersWhere (isFilled r) 0 k ++ numbersWhere (isFilled r) k 1 =
+      where-append (isFilled r) 0 k 1 ∙ ap (λ (i : ℕ). numbersWhere (isFilled r) 0 k ++ numbersWhere (isFilled r) i 1) z in
       let l : length (w .text ++ v .text) ≡ length (w .text) + length (v .text) = length-append (w .text) (v .text) in
       record {
         text = w .text ++ v .text;

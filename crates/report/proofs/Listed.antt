@@ -23,7 +23,7 @@ use Rattle.reduction.specs.declared.Reduced.{Reduced}
 use Rattle.reduction.specs.Reduced.{reductionRefusal, ReducesTo, IsReduced}
 use Rattle.text.specs.Text.{placeText}
 use Rattle.text.specs.internal.Listable.{placeRoom, Listable}
-use Rattle.printing.specs.internal.Writing.{Written}
+use Rattle.printing.specs.internal.Writing.{WrittenAt}
 use Rattle.text.proofs.Bound.{place-short}
 use Rattle.theory.specs.Query as theory
 use Rattle.report.specs.internal.Places.{LinesWritten, aloneIn, otherPlace}
@@ -115,7 +115,7 @@ module _ (r : Record) (place : ℕ) (low : place < 8) (good : goodRecord r ≡ t
   -- What is written are the lines of the place
   pub lines-written : length (source .relations) ≡ 12 → length (result .relations) ≡ 12 → o .count < 256
       → (before : List ℕ) (at : ℕ) (after : List ℕ) (next : ℕ)
-      → Written before at (placeText place (queryOf (schemaOf r) source) (queryOf (schemaOf r) result) (o .count) (imagesOf (o .images))) after next
+      → WrittenAt before at (placeText place (queryOf (schemaOf r) source) (queryOf (schemaOf r) result) (o .count) (imagesOf (o .images))) after next
       → LinesWritten r place before at after next
   lines-written source-long result-long small before at after next w =
       record {

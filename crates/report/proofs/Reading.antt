@@ -12,11 +12,11 @@ use Rattle.record.specs.Rule.{goodRecord}
 use Rattle.refusals.specs.Refusals.{Reply}
 use Rattle.format.specs.File.{readFile, outcomeOf}
 use Rattle.format.proofs.RoundTrip.{file-written-back}
-use Rattle.format.proofs.Arrays.{bytes-known}
+use Rattle.format.proofs.Bytes.{bytes-known}
 use Rattle.format.proofs.Results.{outcome-done, outcome-refused}
 use Rattle.text.specs.Text.{refusedText}
 use Rattle.lists.specs.Over.{over}
-use Rattle.printing.specs.internal.Writing.{Written}
+use Rattle.printing.specs.internal.Writing.{WrittenAt}
 use Rattle.report.specs.Report.{ListingOf, IsReport}
 use Rattle.report.specs.internal.Places.{ListingWritten}
 
@@ -41,7 +41,7 @@ module _ (file : List ℕ) (o : Outcome) (e : o ≡ outcomeOf (readFile file)) w
       }
 
   -- The line of a refused file is one
-  pub read-refused : (n : ℕ) → o .answer ≡ Refused n → (before after : List ℕ) (end : ℕ) → Written before 0 (refusedText n) after end
+  pub read-refused : (n : ℕ) → o .answer ≡ Refused n → (before after : List ℕ) (end : ℕ) → WrittenAt before 0 (refusedText n) after end
       → IsReport file before after end
   read-refused n a before after end w =
       record {

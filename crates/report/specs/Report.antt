@@ -11,7 +11,8 @@ use Rattle.record.specs.Calls.{isFilled, queryAt}
 use Rattle.refusals.specs.Refusals.{Reply, gives, refused}
 use Rattle.format.specs.File.{readFile}
 use Rattle.reduction.specs.Reduced.{ReducesTo}
-use Rattle.text.specs.Text.{passing, placeText, refusedText}
+use Rattle.lists.specs.Numbers.{numbersWhere}
+use Rattle.text.specs.Text.{placeText, refusedText}
 use Rattle.theory.specs.Query as theory
 
 -- The lines of a place: its number, its query, a reduction of it under the record's dependencies, the count and the mapping
@@ -29,7 +30,7 @@ pub data AllLines (r : Record) : List ℕ → List ℕ → Type 0 where
 
 -- The filled places of a record, ascending
 abbrev pub filledPlaces : Record → List ℕ
-filledPlaces r = passing (isFilled r) 0 8
+filledPlaces r = numbersWhere (isFilled r) 0 8
 
 -- The listing of what a file holds: the lines of each filled place, or `refused n`
 abbrev pub ListingOf : Reply Record → List ℕ → Type 0

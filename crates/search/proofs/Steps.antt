@@ -8,7 +8,7 @@ use native.Mathlib.Decide.{decLt, ℕ-discrete}
 use lib.ListN.{getD}
 use lib.Bits.{bitOr}
 use Rattle.consistency.specs.internal.Solution.{Bit, together, Solution}
-use Rattle.consistency.specs.internal.Consistent.{NoBit, Agrees, Refuted, Left}
+use Rattle.consistency.specs.internal.Consistent.{NoBit, HasChosen, Refuted, Left}
 use Rattle.consistency.proofs.Masks.{bit-or-left, bit-or-right}
 use Rattle.consistency.proofs.Steps.{apart, agrees-part}
 use Rattle.search.specs.internal.Invariant.{IsCandidate, Excluded}
@@ -17,9 +17,9 @@ use Rattle.search.specs.internal.Invariant.{IsCandidate, Excluded}
 
 module _ (rows : ℕ) (domain table : List ℕ) (placed blame : ℕ) (chosen : List ℕ) (row left c d : ℕ) (is : IsCandidate left c d)
     (bits : Left rows domain table placed blame chosen row left)
-    (from : (f : ℕ → ℕ) → Solution rows domain table f → Agrees placed blame chosen f → c ≤ f row) where
+    (from : (f : ℕ → ℕ) → Solution rows domain table f → HasChosen placed blame chosen f → c ≤ f row) where
   -- no candidate is left out before d
-  pub reaches : (f : ℕ → ℕ) → Solution rows domain table f → Agrees placed blame chosen f → d ≤ f row
+  pub reaches : (f : ℕ → ℕ) → Solution rows domain table f → HasChosen placed blame chosen f → d ≤ f row
   reaches f sol ag = go (decLt (f row) d)
     where
       go : Dec (f row < d) → d ≤ f row
@@ -33,11 +33,11 @@ module _ (rows : ℕ) (domain table : List ℕ) (placed blame : ℕ) (chosen : L
       let near : f row < 12 = sol .below row h in
       omega arith
 
-  module _ (m : ℕ) (excluded : (f : ℕ → ℕ) → Solution rows domain table f → Agrees placed m chosen f → f row ≡ d → ⊥) where
+  module _ (m : ℕ) (excluded : (f : ℕ → ℕ) → Solution rows domain table f → HasChosen placed m chosen f → f row ≡ d → ⊥) where
     pub left-next : Left rows domain table placed (bitOr blame m) chosen row left
     left-next f sol ag = bits f sol (agrees-part placed blame (bitOr blame m) chosen f (λ q b. bit-or-left blame m q b) ag)
 
-    pub from-next : (f : ℕ → ℕ) → Solution rows domain table f → Agrees placed (bitOr blame m) chosen f → d + 1 ≤ f row
+    pub from-next : (f : ℕ → ℕ) → Solution rows domain table f → HasChosen placed (bitOr blame m) chosen f → d + 1 ≤ f row
     from-next f sol ag = go (ℕ-discrete (f row) d)
       where
         far : d ≤ f row

@@ -15,10 +15,10 @@ ghost use Prim.Native.Nat.{ℕ, _<_, _≤_};
 ghost use lib.ListN.{getD};
 ghost use Rattle.consistency.specs.internal.Solution.{Solution};
 ghost use Rattle.consistency.specs.internal.Consistent.{Below};
-ghost use Rattle.search.specs.internal.Invariant.{IsEarlier, IsNext, IsCandidate, RowFits, Tested, Attempted, Placeable, Tryable};
+ghost use Rattle.search.specs.internal.Invariant.{IsEarlier, IsNext, IsCandidate, RowFits, TestSays, Attempted, Placeable, Tryable};
 
 // Whether there is a solution, and one. Without one, chosen means nothing.
-pub struct Outcome {
+pub struct Solved {
     pub found: bool,
     pub chosen: [u8; 13],
 }
@@ -103,7 +103,7 @@ fn test_row(
     r: usize,
 ) -> Clash
     requires { ⌜ (rows ≤ 13) × (r < rows) × Below chosen ⌝ }
-    ensures { λ c. ⌜ Tested rows (now (domain .entry)) (now (table .entry)) chosen (RowFits rows (now (domain .entry)) (now (table .entry)) chosen r) c ⌝ }
+    ensures { λ c. ⌜ TestSays rows (now (domain .entry)) (now (table .entry)) chosen (RowFits rows (now (domain .entry)) (now (table .entry)) chosen r) c ⌝ }
 {
     let d = chosen[r] as usize;
     if (domain[r] >> d) % 2 == 0 {
@@ -120,7 +120,7 @@ fn test_row(
 // Whether the choices are a solution.
 fn test_choices(domain: &[u16; 13], table: &[u16; 2028], rows: usize, chosen: [u8; 13]) -> Clash
     requires { ⌜ (rows ≤ 13) × Below chosen ⌝ }
-    ensures { λ c. ⌜ Tested rows (now (domain .entry)) (now (table .entry)) chosen (Solution rows (now (domain .entry)) (now (table .entry)) (λ q. getD chosen q 0)) c ⌝ }
+    ensures { λ c. ⌜ TestSays rows (now (domain .entry)) (now (table .entry)) chosen (Solution rows (now (domain .entry)) (now (table .entry)) (λ q. getD chosen q 0)) c ⌝ }
 {
     for r in 0..rows {
         let at = test_row(domain, table, rows, chosen, r);
@@ -215,7 +215,7 @@ fn try_candidate(
 }
 
 // A solution, where there is one; found says whether. Candidates from 12 on are passed over.
-pub fn solve(domain: &[u16; 13], table: &[u16; 2028], rows: usize) -> Outcome
+pub fn solve(domain: &[u16; 13], table: &[u16; 2028], rows: usize) -> Solved
     requires { ⌜ rows ≤ 13 ⌝ }
     ensures found { λ o. ⌜ (o .found ≡ true → Solution rows (now (domain .entry)) (now (table .entry)) (λ r. getD (o .chosen) r 0)) ⌝ }
     ensures none { λ o. ⌜ (o .found ≡ false → (f : ℕ → ℕ) → Solution rows (now (domain .entry)) (now (table .entry)) f → ⊥) ⌝ }
@@ -224,7 +224,7 @@ pub fn solve(domain: &[u16; 13], table: &[u16; 2028], rows: usize) -> Outcome
     let state = settled(&links, table, rows, start(domain));
     let last = place_row(domain, table, &links, rows, state, 14 * rows + 1);
     let chosen = last.chosen;
-    Outcome {
+    Solved {
         found: last.found,
         chosen,
     }

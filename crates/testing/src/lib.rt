@@ -1,8 +1,8 @@
 // The first of some dependencies that rows break, with its first pair of rows: one walk over the rows for each dependency, which skips to a row that
 // may be the first of a pair.
 use query::Dependency;
-use words::Pair;
 use words::Partner;
+use words::RowPair;
 use words::Violation;
 ghost use Prim.Native.Nat.{ℕ};
 ghost use mathlib.Core.Path.{_≡_};
@@ -11,7 +11,7 @@ ghost use Prim.Native.Nat.{_≤_, _<_};
 ghost use mathlib.Core.List.{map};
 ghost use lib.ListN.{take, getD};
 ghost use Rattle.query.specs.View.{dependencyOf};
-ghost use Rattle.words.specs.Words.{spellsRows, rowsOf};
+ghost use Rattle.words.specs.Words.{spellsRows, databaseOf};
 ghost use Rattle.words.specs.Testing.{firstPairFrom, firstBrokenFrom};
 ghost use Rattle.words.specs.Broken.{violationOf};
 ghost use Rattle.words.specs.internal.Found.{pairOf, Testable};
@@ -27,11 +27,11 @@ fn first_pair(
     links: &mut [u32],
     offsets: &mut [usize],
     numbers: &mut [usize],
-) -> Pair
+) -> RowPair
     requires { ⌜ Testable (now schema) d ⌝ }
     requires { ⌜ spellsRows (now schema) (now words) ≡ true ⌝ }
     requires { ⌜ Room (now heads) (now links) (now offsets) (now numbers) ⌝ }
-    ensures { λ r. ⌜ r ≡ pairOf (firstPairFrom (dependencyOf d) 0 (rowsOf (now (schema .entry)) (now (words .entry)))) ⌝ }
+    ensures { λ r. ⌜ r ≡ pairOf (firstPairFrom (dependencyOf d) 0 (databaseOf (now (schema .entry)) (now (words .entry)))) ⌝ }
     ensures { λ _. ⌜ Room (now (heads .exit)) (now (links .exit)) (now (offsets .exit)) (now (numbers .exit)) ⌝ }
 {
     let relation = d.relation as u32;
@@ -43,19 +43,19 @@ fn first_pair(
         let first = at + p.at;
         let n = i + p.number;
         if first == words.len() {
-            return Pair::Absent;
+            return RowPair::Absent;
         }
         let after = words::next(schema, words, first);
         if words[first] == relation {
             let second = words::first_partner(schema, words, d, first, after, n + 1);
             if let Partner::At(j) = second {
-                return Pair::At(n, j);
+                return RowPair::At(n, j);
             }
         }
         at = after;
         i = n + 1;
     }
-    Pair::Absent
+    RowPair::Absent
 }
 
 // The first of the held dependencies that the rows break, with its first pair of rows.
@@ -73,13 +73,13 @@ fn violation_in(
     requires { ⌜ ((k : ℕ) → k < held → Testable (now schema) (getD dependencies k noDependency)) ⌝ }
     requires { ⌜ spellsRows (now schema) (now words) ≡ true ⌝ }
     requires { ⌜ Room (now heads) (now links) (now offsets) (now numbers) ⌝ }
-    ensures { λ r. ⌜ r ≡ violationOf (firstBrokenFrom 0 (map dependencyOf (take held dependencies)) (rowsOf (now (schema .entry)) (now (words .entry)))) ⌝ }
+    ensures { λ r. ⌜ r ≡ violationOf (firstBrokenFrom 0 (map dependencyOf (take held dependencies)) (databaseOf (now (schema .entry)) (now (words .entry)))) ⌝ }
 {
     let mut k: usize = 0;
     while k < held {
         let d = dependencies[k];
         let found = first_pair(schema, words, d, heads, links, offsets, numbers);
-        if let Pair::At(i, j) = found {
+        if let RowPair::At(i, j) = found {
             return Violation::At(k, i, j);
         }
         k += 1;
@@ -97,7 +97,7 @@ fn violation_few(
     requires { ⌜ held ≤ 32 ⌝ }
     requires { ⌜ ((k : ℕ) → k < held → Testable (now schema) (getD dependencies k noDependency)) ⌝ }
     requires { ⌜ spellsRows (now schema) (now words) ≡ true ⌝ }
-    ensures { λ r. ⌜ r ≡ violationOf (firstBrokenFrom 0 (map dependencyOf (take held dependencies)) (rowsOf (now (schema .entry)) (now (words .entry)))) ⌝ }
+    ensures { λ r. ⌜ r ≡ violationOf (firstBrokenFrom 0 (map dependencyOf (take held dependencies)) (databaseOf (now (schema .entry)) (now (words .entry)))) ⌝ }
 {
     let mut heads = [0u32; 251];
     let mut links = [0u32; 256];
@@ -126,7 +126,7 @@ fn violation_some(
     requires { ⌜ held ≤ 32 ⌝ }
     requires { ⌜ ((k : ℕ) → k < held → Testable (now schema) (getD dependencies k noDependency)) ⌝ }
     requires { ⌜ spellsRows (now schema) (now words) ≡ true ⌝ }
-    ensures { λ r. ⌜ r ≡ violationOf (firstBrokenFrom 0 (map dependencyOf (take held dependencies)) (rowsOf (now (schema .entry)) (now (words .entry)))) ⌝ }
+    ensures { λ r. ⌜ r ≡ violationOf (firstBrokenFrom 0 (map dependencyOf (take held dependencies)) (databaseOf (now (schema .entry)) (now (words .entry)))) ⌝ }
 {
     let mut heads = [0u32; 4093];
     let mut links = [0u32; 4096];
@@ -158,7 +158,7 @@ fn violation_many(
     requires { ⌜ held ≤ 32 ⌝ }
     requires { ⌜ ((k : ℕ) → k < held → Testable (now schema) (getD dependencies k noDependency)) ⌝ }
     requires { ⌜ spellsRows (now schema) (now words) ≡ true ⌝ }
-    ensures { λ r. ⌜ r ≡ violationOf (firstBrokenFrom 0 (map dependencyOf (take held dependencies)) (rowsOf (now (schema .entry)) (now (words .entry)))) ⌝ }
+    ensures { λ r. ⌜ r ≡ violationOf (firstBrokenFrom 0 (map dependencyOf (take held dependencies)) (databaseOf (now (schema .entry)) (now (words .entry)))) ⌝ }
 {
     let mut heads = [0u32; 65521];
     let mut links = [0u32; 131072];
@@ -190,7 +190,7 @@ pub fn first_violation(
     requires { ⌜ held ≤ 32 ⌝ }
     requires { ⌜ ((k : ℕ) → k < held → Testable (now schema) (getD dependencies k noDependency)) ⌝ }
     requires { ⌜ spellsRows (now schema) (now words) ≡ true ⌝ }
-    ensures { λ r. ⌜ r ≡ violationOf (firstBrokenFrom 0 (map dependencyOf (take held dependencies)) (rowsOf (now (schema .entry)) (now (words .entry)))) ⌝ }
+    ensures { λ r. ⌜ r ≡ violationOf (firstBrokenFrom 0 (map dependencyOf (take held dependencies)) (databaseOf (now (schema .entry)) (now (words .entry)))) ⌝ }
 {
     if words.len() <= 1024 {
         return violation_few(schema, words, dependencies, held);

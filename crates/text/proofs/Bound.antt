@@ -25,7 +25,8 @@ use Rattle.printing.specs.Decimal.{field}
 use Rattle.printing.proofs.Decimal.{decimal-length}
 use Rattle.text.specs.Text.{entryText, entriesText, newline, placeWord, rowsWord, keptWord, replacedWord, placeLine, neverLine, headLine}
 use Rattle.text.specs.Text.{rowWord, rowLine, rowsText}
-use Rattle.text.specs.Text.{nextWord, equals, imageText, imagesText, mapLine, passing, leastAbove, occurring, placeText}
+use Rattle.lists.specs.Numbers.{numbersWhere}
+use Rattle.text.specs.Text.{nextWord, equals, imageText, imagesText, mapLine, leastAbove, occurring, placeText}
 use Rattle.text.specs.internal.Listable.{placeRoom}
 use Rattle.text.proofs.Occurring.{variables-bound}
 
@@ -100,16 +101,16 @@ module _ (schema : List ℕ) (few : length schema ≤ 8) (narrow : (i : ℕ) →
       (omega (arith, length-take w cells, narrow r))
 
 images-short : (image : ℕ → theory.Entry) (test : ℕ → Bool) (start n : ℕ) → start + n ≤ 96 → ((v : ℕ) → length (entryText (image v)) ≤ 10)
-    → length (imagesText image (passing test start n)) ≤ 15 * n
-unfolding imagesText passing flatMap imageText
+    → length (imagesText image (numbersWhere test start n)) ≤ 15 * n
+unfolding imagesText numbersWhere flatMap imageText
 images-short image test start zero h short = omega arith
 images-short image test start (suc n) h short = go (test start) (images-short image test (suc start) n (omega arith) short)
   where
     a : length (field nextWord start) ≤ 4
     a = field-length nextWord start 1 (omega arith)
 
-    go : (t : Bool) → length (imagesText image (passing test (suc start) n)) ≤ 15 * n
-        → length (imagesText image (cond t (start ∷ passing test (suc start) n) (passing test (suc start) n))) ≤ 15 * suc n
+    go : (t : Bool) → length (imagesText image (numbersWhere test (suc start) n)) ≤ 15 * n
+        → length (imagesText image (cond t (start ∷ numbersWhere test (suc start) n) (numbersWhere test (suc start) n))) ≤ 15 * suc n
     go true rest = rw (length-append (field nextWord start ++ (equals ++ entryText (image start))), length-append (field nextWord start))
         (omega (arith, a, short start))
     go false rest = omega arith
@@ -141,9 +142,9 @@ module _ (relations : ℕ) (widths : List ℕ) (known : goodRelations relations 
       let vs : List ℕ = theory.variables (queryOf schema q) in
       let test : ℕ → Bool = λ v. theory.member v vs in
       let b : leastAbove vs ≤ 96 = variables-bound (queryOf schema q) (variables-below schema (width-le relations widths known) q good) in
-      let l : length (imagesText (imagesOf images) (passing test 0 (leastAbove vs))) ≤ 15 * leastAbove vs =
+      let l : length (imagesText (imagesOf images) (numbersWhere test 0 (leastAbove vs))) ≤ 15 * leastAbove vs =
       images-short (imagesOf images) test 0 (leastAbove vs) (omega arith) (image-short images images-good) in
-      rw (length-append (imagesText (imagesOf images) (passing test 0 (leastAbove vs)))) (omega arith)
+      rw (length-append (imagesText (imagesOf images) (numbersWhere test 0 (leastAbove vs)))) (omega arith)
 
   module _ (place : ℕ) (source result : Query) (count : ℕ) (images : List Cell) where
     abbrev rows : ℕ

@@ -4,7 +4,8 @@ use mathlib.Core.List.{[], _∷_, _++_, flatMap}
 use Prim.Native.Nat.{ℕ, zero, suc}
 use Rattle.theory.specs.Query as theory
 use Rattle.theory.specs.Query.{constant, variable, variablesOf, rowEntries, member}
-use Rattle.text.specs.Text.{entryText, entriesText, placeLine, neverLine, headLine, rowLine, rowsText, imageText, imagesText, mapLine, passing}
+use Rattle.lists.specs.Numbers.{numbersWhere}
+use Rattle.text.specs.Text.{entryText, entriesText, placeLine, neverLine, headLine, rowLine, rowsText, imageText, imagesText, mapLine}
 use Rattle.text.specs.Text.{leastAbove, occurring, placeText, refusedText}
 use Rattle.printing.specs.Decimal.{digits, decimal}
 
@@ -42,7 +43,7 @@ example : placeText 0 source result 1 image
     ++ (114 ∷ 111 ∷ 119 ∷ 32 ∷ 48 ∷ 32 ∷ 118 ∷ 48 ∷ 32 ∷ 55 ∷ 32 ∷ 118 ∷ 50 ∷ 10 ∷ [])
     ++ (109 ∷ 97 ∷ 112 ∷ 32 ∷ 118 ∷ 48 ∷ 61 ∷ 118 ∷ 48 ∷ 32 ∷ 118 ∷ 49 ∷ 61 ∷ 55 ∷ 32 ∷ 118 ∷ 50 ∷ 61 ∷ 118 ∷ 50 ∷ 32 ∷ 118 ∷ 51 ∷ 61 ∷ 118 ∷ 50 ∷ 10 ∷ [])
 unfolding digits decimal entryText entriesText placeLine neverLine headLine rowLine rowsText imageText imagesText mapLine
-    passing leastAbove occurring placeText refusedText variablesOf rowEntries member flatMap
+    numbersWhere leastAbove occurring placeText refusedText variablesOf rowEntries member flatMap
 example = refl
 
 -- `place 3 rows 2 never replaced 0`
@@ -50,7 +51,7 @@ never : placeText 3 source (theory.never 1) 0 image
     ≡ 112 ∷ 108 ∷ 97 ∷ 99 ∷ 101 ∷ 32 ∷ 51 ∷ 32 ∷ 114 ∷ 111 ∷ 119 ∷ 115 ∷ 32 ∷ 50 ∷ 32 ∷ 110 ∷ 101 ∷ 118 ∷ 101 ∷ 114 ∷ 32 ∷ 114 ∷ 101 ∷ 112 ∷ 108 ∷ 97 ∷ 99
     ∷ 101 ∷ 100 ∷ 32 ∷ 48 ∷ 10 ∷ []
 unfolding digits decimal entryText entriesText placeLine neverLine headLine rowLine rowsText imageText imagesText mapLine
-    passing leastAbove occurring placeText refusedText variablesOf rowEntries member flatMap
+    numbersWhere leastAbove occurring placeText refusedText variablesOf rowEntries member flatMap
 never = refl
 
 -- An empty head: `head`

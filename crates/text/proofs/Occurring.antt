@@ -1,44 +1,18 @@
 -- The variables that occur in a query, by the numbers that pass a test: those that stand in a row, where the head has no others. Assumes nothing.
 use mathlib.Core.Path.{_≡_, refl, sym, ap, _∙_}
 use mathlib.Core.Logic.{⊎-elim}
-use mathlib.Core.Bool.{Bool, false}
+use mathlib.Core.Bool.{Bool}
 use mathlib.Core.List.{List, [], _∷_, _++_, List·Memᴰ·head, List·Memᴰ·tail, List·Memᴰ·append-cases, Memᴰ·append-right}
-use Prim.Native.Nat.{ℕ, zero, suc, _+_, _-_, _≤_, _<_}
-use native.Mathlib.Nat.{zero-add}
+use Prim.Native.Nat.{ℕ, _+_, _-_, _≤_, _<_}
 use native.Mathlib.Omega.{arith}
 use Rattle.theory.specs.Query as theory
 use Rattle.theory.specs.Query.{member, variablesOf, rowEntries, _∈_}
 use Rattle.theory.proofs.Lists.{mem-dec, mem-member, not-mem-member}
 use Rattle.theory.proofs.Entries.{variablesOf-mem, mem-variablesOf}
-use Rattle.text.specs.Text.{passing, leastAbove, occurring}
+use Rattle.lists.specs.Numbers.{numbersWhere}
+use Rattle.lists.proofs.Numbers.{where-same, where-more}
+use Rattle.text.specs.Text.{leastAbove, occurring}
 use Rattle.text.specs.internal.Listable.{variablesInRows}
-
--- ---- numbers that pass a test
-
--- Tests that agree pass the same numbers
-passing-same : (test other : ℕ → Bool) (start n : ℕ) → ((v : ℕ) → test v ≡ other v) → passing test start n ≡ passing other start n
-unfolding passing
-passing-same test other start zero same = refl
-passing-same test other start (suc n) same =
-    let e : test start ≡ other start = same start in
-    let rest : passing test (suc start) n ≡ passing other (suc start) n = passing-same test other (suc start) n same in
-    rw (e, rest)
-
-none-pass : (test : ℕ → Bool) (start n : ℕ) → ((v : ℕ) → start ≤ v → test v ≡ false) → passing test start n ≡ []
-unfolding passing
-none-pass test start zero none = refl
-none-pass test start (suc n) none =
-    let e : test start ≡ false = none start (omega arith) in
-    rw e (none-pass test (suc start) n (λ v h. none v (omega arith)))
-
--- Further numbers that do not pass change nothing
-passing-more : (test : ℕ → Bool) (start n m : ℕ) → ((v : ℕ) → start + n ≤ v → test v ≡ false) → passing test start (n + m) ≡ passing test start n
-unfolding passing
-passing-more test start zero m none = rw zero-add (none-pass test start m (λ v h. none v (omega arith)))
-passing-more test start (suc n) m none =
-    let e : suc n + m ≡ suc (n + m) = omega arith in
-    let rest : passing test (suc start) (n + m) ≡ passing test (suc start) n = passing-more test (suc start) n m (λ v h. none v (omega arith)) in
-    rw (e, rest)
 
 -- ---- the least number above a list
 
@@ -77,10 +51,10 @@ module _ (q : theory.Query) (below : (v : ℕ) → v ∈ theory.variables q → 
       let vs : List ℕ = theory.variables q in
       let test : ℕ → Bool = λ v. member v vs in
       let e : leastAbove vs + (96 - leastAbove vs) ≡ 96 = omega (arith, variables-bound) in
-      passing-same (λ v. member v (variablesOf (rowEntries (q .rows)))) test 0 96
+      where-same (λ v. member v (variablesOf (rowEntries (q .rows)))) test 0 96
       (λ v. member-same v (variablesOf (rowEntries (q .rows))) vs (from-rows v) (to-rows v))
-      ∙ ap (passing test 0) (sym e)
-      ∙ passing-more test 0 (leastAbove vs) (96 - leastAbove vs) (λ v h. not-mem-member v vs (λ at. let l : v < leastAbove vs = above-all vs at in omega arith))
+      ∙ ap (numbersWhere test 0) (sym e)
+      ∙ where-more test 0 (leastAbove vs) (96 - leastAbove vs) (λ v h. not-mem-member v vs (λ at. let l : v < leastAbove vs = above-all vs at in omega arith))
     where
       from-rows : (v : ℕ) → v ∈ variablesOf (rowEntries (q .rows)) → v ∈ theory.variables q
       from-rows v at = mem-variablesOf v (q .head ++ rowEntries (q .rows)) (Memᴰ·append-right (q .head) (variablesOf-mem v (rowEntries (q .rows)) at))

@@ -11,7 +11,8 @@ use Rattle.query.specs.declared.Cell.{Cell}
 use Rattle.query.specs.View.{entryOf, entriesOf, rowsOf}
 use Rattle.query.specs.Rule.{noCell}
 use Rattle.theory.specs.Query as theory
-use Rattle.text.specs.Text.{space, entryText, entriesText, rowLine, rowsText, imageText, imagesText, passing}
+use Rattle.lists.specs.Numbers.{numbersWhere}
+use Rattle.text.specs.Text.{space, entryText, entriesText, rowLine, rowsText, imageText, imagesText}
 use Rattle.text.specs.internal.Listable.{rowOfCells}
 
 -- ---- entries
@@ -63,15 +64,15 @@ module _ (image : ℕ → theory.Entry) (test : ℕ → Bool) (v : ℕ) (h : v <
   left : 96 - v ≡ suc (96 - (v + 1))
   left = omega arith
 
-  pub images-passed : test v ≡ true → imagesText image (passing test v (96 - v)) ≡ imageText v (image v) ++ imagesText image
-      (passing test (v + 1) (96 - (v + 1)))
-  unfolding imagesText passing flatMap
+  pub images-passed : test v ≡ true → imagesText image (numbersWhere test v (96 - v)) ≡ imageText v (image v) ++ imagesText image
+      (numbersWhere test (v + 1) (96 - (v + 1)))
+  unfolding imagesText numbersWhere flatMap
   images-passed t = rw (left, t, add-one v)
 
-  pub images-skipped : test v ≡ false → imagesText image (passing test v (96 - v)) ≡ imagesText image (passing test (v + 1) (96 - (v + 1)))
-  unfolding imagesText passing flatMap
+  pub images-skipped : test v ≡ false → imagesText image (numbersWhere test v (96 - v)) ≡ imagesText image (numbersWhere test (v + 1) (96 - (v + 1)))
+  unfolding imagesText numbersWhere flatMap
   images-skipped t = rw (left, t, add-one v)
 
-pub images-end : (image : ℕ → theory.Entry) (test : ℕ → Bool) (v : ℕ) → 96 ≤ v → imagesText image (passing test v (96 - v)) ≡ []
-unfolding imagesText passing flatMap
+pub images-end : (image : ℕ → theory.Entry) (test : ℕ → Bool) (v : ℕ) → 96 ≤ v → imagesText image (numbersWhere test v (96 - v)) ≡ []
+unfolding imagesText numbersWhere flatMap
 images-end image test v h = let z : 96 - v ≡ 0 = omega arith in rw z

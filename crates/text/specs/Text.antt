@@ -1,10 +1,11 @@
 -- The lines of a place and of a refused file, as bytes (SPECIFICATION, The listing program).
 -- First entries, then the lines, then the text of a place. For every width, row count, variable and constant: the limits are the record's.
-use mathlib.Core.Bool.{Bool, cond}
+use mathlib.Core.Bool.{cond}
 use mathlib.Core.List.{List, [], _∷_, _++_, flatMap}
-use Prim.Native.Nat.{ℕ, zero, suc, max}
+use Prim.Native.Nat.{ℕ, suc, max}
 use lib.Dec.{eqb}
 use lib.ListN.{length}
+use Rattle.lists.specs.Numbers.{numbersWhere}
 use Rattle.printing.specs.Decimal.{decimal, field}
 use Rattle.theory.specs.Query as theory
 
@@ -110,11 +111,6 @@ mapLine image variables = mapWord ++ (imagesText image variables ++ newline)
 
 -- ---- the variables that occur
 
--- Those of so many numbers from a start on that pass a test, ascending
-unfoldable pub passing : (ℕ → Bool) → ℕ → ℕ → List ℕ
-passing test start zero = []
-passing test start (suc n) = cond (test start) (start ∷ passing test (suc start) n) (passing test (suc start) n)
-
 -- The least number above each of a list
 unfoldable pub leastAbove : List ℕ → ℕ
 leastAbove [] = 0
@@ -122,7 +118,7 @@ leastAbove (n ∷ ns) = max (suc n) (leastAbove ns)
 
 -- The variables that occur in a query, ascending, each once
 unfoldable pub occurring : theory.Query → List ℕ
-occurring q = passing (λ v. theory.member v (theory.variables q)) 0 (leastAbove (theory.variables q))
+occurring q = numbersWhere (λ v. theory.member v (theory.variables q)) 0 (leastAbove (theory.variables q))
 
 -- ---- the text of a place and of a refused file
 

@@ -13,14 +13,14 @@ ghost use mathlib.Core.List.{[], _∷_, _++_};
 ghost use lib.ListN.{length, take, drop};
 ghost use Rattle.query.specs.View.{entryOf, entriesOf, queryOf, imagesOf};
 ghost use Rattle.query.specs.Rule.{goodRelations, goodQuery};
-ghost use Rattle.printing.specs.internal.Writing.{Fits, Written};
+ghost use Rattle.printing.specs.internal.Writing.{Fits, WrittenAt};
 ghost use Rattle.text.specs.Text.{entryText, entriesText, placeLine, neverLine, headLine, rowLine, rowsText, imageText, imagesText, mapLine, placeText, refusedText};
 ghost use Rattle.text.specs.internal.Listable.{rowOfCells, variablesInRows, Listable};
 
 // Writes an entry.
 fn put_entry(buffer: &mut [u8], at: usize, entry: Entry) -> usize
     requires { ⌜ Fits (now buffer) at (entryText (entryOf entry)) ⌝ }
-    ensures { λ r. ⌜ Written (now (buffer .entry)) at (entryText (entryOf entry)) (now (buffer .exit)) r ⌝ }
+    ensures { λ r. ⌜ WrittenAt (now (buffer .entry)) at (entryText (entryOf entry)) (now (buffer .exit)) r ⌝ }
 {
     match entry {
         Entry::Constant(n) => put_number(buffer, at, n as usize),
@@ -31,7 +31,7 @@ fn put_entry(buffer: &mut [u8], at: usize, entry: Entry) -> usize
 // Writes a byte and an entry right after it.
 fn put_entry_after(buffer: &mut [u8], at: usize, byte: u8, entry: Entry) -> usize
     requires { ⌜ Fits (now buffer) at ((byte ∷ []) ++ entryText (entryOf entry)) ⌝ }
-    ensures { λ r. ⌜ Written (now (buffer .entry)) at ((byte ∷ []) ++ entryText (entryOf entry)) (now (buffer .exit)) r ⌝ }
+    ensures { λ r. ⌜ WrittenAt (now (buffer .entry)) at ((byte ∷ []) ++ entryText (entryOf entry)) (now (buffer .exit)) r ⌝ }
 {
     let next = put_byte(buffer, at, byte);
     put_entry(buffer, next, entry)
@@ -40,7 +40,7 @@ fn put_entry_after(buffer: &mut [u8], at: usize, byte: u8, entry: Entry) -> usiz
 // Writes the first n of some entries, each after a space.
 fn put_entries(buffer: &mut [u8], at: usize, cells: [Cell; 8], n: usize) -> usize
     requires { ⌜ Fits (now buffer) at (entriesText (entriesOf (take n cells))) × (n ≤ 8) ⌝ }
-    ensures { λ r. ⌜ Written (now (buffer .entry)) at (entriesText (entriesOf (take n cells))) (now (buffer .exit)) r ⌝ }
+    ensures { λ r. ⌜ WrittenAt (now (buffer .entry)) at (entriesText (entriesOf (take n cells))) (now (buffer .exit)) r ⌝ }
 {
     let mut next = at;
     for i in 0..n {
@@ -76,7 +76,7 @@ fn put_place_line(
     count: usize,
 ) -> usize
     requires { ⌜ Fits (now buffer) at (placeLine place rows kept count) ⌝ }
-    ensures { λ r. ⌜ Written (now (buffer .entry)) at (placeLine place rows kept count) (now (buffer .exit)) r ⌝ }
+    ensures { λ r. ⌜ WrittenAt (now (buffer .entry)) at (placeLine place rows kept count) (now (buffer .exit)) r ⌝ }
 {
     let next = put_field(buffer, at, b"place ", place);
     let next = put_field(buffer, next, b" rows ", rows);
@@ -88,7 +88,7 @@ fn put_place_line(
 // Writes the line of a place whose result is never.
 fn put_never_line(buffer: &mut [u8], at: usize, place: usize, rows: usize, count: usize) -> usize
     requires { ⌜ Fits (now buffer) at (neverLine place rows count) ⌝ }
-    ensures { λ r. ⌜ Written (now (buffer .entry)) at (neverLine place rows count) (now (buffer .exit)) r ⌝ }
+    ensures { λ r. ⌜ WrittenAt (now (buffer .entry)) at (neverLine place rows count) (now (buffer .exit)) r ⌝ }
 {
     let next = put_field(buffer, at, b"place ", place);
     let next = put_field(buffer, next, b" rows ", rows);
@@ -100,7 +100,7 @@ fn put_never_line(buffer: &mut [u8], at: usize, place: usize, rows: usize, count
 // Writes the line of a head, whose first n cells are in use.
 fn put_head_line(buffer: &mut [u8], at: usize, cells: [Cell; 8], n: usize) -> usize
     requires { ⌜ Fits (now buffer) at (headLine (entriesOf (take n cells))) × (n ≤ 8) ⌝ }
-    ensures { λ r. ⌜ Written (now (buffer .entry)) at (headLine (entriesOf (take n cells))) (now (buffer .exit)) r ⌝ }
+    ensures { λ r. ⌜ WrittenAt (now (buffer .entry)) at (headLine (entriesOf (take n cells))) (now (buffer .exit)) r ⌝ }
 {
     let next = put_bytes(buffer, at, b"head");
     let next = put_entries(buffer, next, cells, n);
@@ -110,7 +110,7 @@ fn put_head_line(buffer: &mut [u8], at: usize, cells: [Cell; 8], n: usize) -> us
 // Writes the line of a row, whose first n cells are in use.
 fn put_row_line(buffer: &mut [u8], at: usize, relation: usize, cells: [Cell; 8], n: usize) -> usize
     requires { ⌜ Fits (now buffer) at (rowLine (rowOfCells relation (take n cells))) × (n ≤ 8) ⌝ }
-    ensures { λ r. ⌜ Written (now (buffer .entry)) at (rowLine (rowOfCells relation (take n cells))) (now (buffer .exit)) r ⌝ }
+    ensures { λ r. ⌜ WrittenAt (now (buffer .entry)) at (rowLine (rowOfCells relation (take n cells))) (now (buffer .exit)) r ⌝ }
 {
     let next = put_field(buffer, at, b"row ", relation);
     let next = put_entries(buffer, next, cells, n);
@@ -120,7 +120,7 @@ fn put_row_line(buffer: &mut [u8], at: usize, relation: usize, cells: [Cell; 8],
 // Writes a line for each row of a query.
 fn put_rows(buffer: &mut [u8], at: usize, relations: u8, widths: [u8; 8], query: Query) -> usize
     requires { ⌜ Fits (now buffer) at (rowsText (queryOf (take relations widths) query .rows)) × (goodRelations relations widths ≡ true) × (goodQuery (take relations widths) query ≡ true) ⌝ }
-    ensures { λ r. ⌜ Written (now (buffer .entry)) at (rowsText (queryOf (take relations widths) query .rows)) (now (buffer .exit)) r ⌝ }
+    ensures { λ r. ⌜ WrittenAt (now (buffer .entry)) at (rowsText (queryOf (take relations widths) query .rows)) (now (buffer .exit)) r ⌝ }
 {
     let size = query.size as usize;
     let named = query.relations;
@@ -138,7 +138,7 @@ fn put_rows(buffer: &mut [u8], at: usize, relations: u8, widths: [u8; 8], query:
 // Writes a variable and its image.
 fn put_image(buffer: &mut [u8], at: usize, v: usize, image: Entry) -> usize
     requires { ⌜ Fits (now buffer) at (imageText v (entryOf image)) ⌝ }
-    ensures { λ r. ⌜ Written (now (buffer .entry)) at (imageText v (entryOf image)) (now (buffer .exit)) r ⌝ }
+    ensures { λ r. ⌜ WrittenAt (now (buffer .entry)) at (imageText v (entryOf image)) (now (buffer .exit)) r ⌝ }
 {
     let next = put_field(buffer, at, b" v", v);
     put_entry_after(buffer, next, b'=', image)
@@ -154,7 +154,7 @@ fn put_images(
     images: [Cell; 96],
 ) -> usize
     requires { ⌜ Fits (now buffer) at (imagesText (imagesOf images) (variablesInRows (queryOf (take relations widths) query))) × (goodRelations relations widths ≡ true) × (query .size ≤ 12) ⌝ }
-    ensures { λ r. ⌜ Written (now (buffer .entry)) at (imagesText (imagesOf images) (variablesInRows (queryOf (take relations widths) query))) (now (buffer .exit)) r ⌝ }
+    ensures { λ r. ⌜ WrittenAt (now (buffer .entry)) at (imagesText (imagesOf images) (variablesInRows (queryOf (take relations widths) query))) (now (buffer .exit)) r ⌝ }
 {
     let size = query.size as usize;
     let named = query.relations;
@@ -180,7 +180,7 @@ fn put_map_line(
     images: [Cell; 96],
 ) -> usize
     requires { ⌜ Fits (now buffer) at (mapLine (imagesOf images) (variablesInRows (queryOf (take relations widths) query))) × (goodRelations relations widths ≡ true) × (query .size ≤ 12) ⌝ }
-    ensures { λ r. ⌜ Written (now (buffer .entry)) at (mapLine (imagesOf images) (variablesInRows (queryOf (take relations widths) query))) (now (buffer .exit)) r ⌝ }
+    ensures { λ r. ⌜ WrittenAt (now (buffer .entry)) at (mapLine (imagesOf images) (variablesInRows (queryOf (take relations widths) query))) (now (buffer .exit)) r ⌝ }
 {
     let next = put_bytes(buffer, at, b"map");
     let next = put_images(buffer, next, relations, widths, query, images);
@@ -200,7 +200,7 @@ pub fn write_place(
     images: [Cell; 96],
 ) -> usize
     requires { ⌜ Listable (now buffer) at place relations widths source result images ⌝ }
-    ensures { λ r. ⌜ Written (now (buffer .entry)) at (placeText place (queryOf (take relations widths) source) (queryOf (take relations widths) result) count (imagesOf images)) (now (buffer .exit)) r ⌝ }
+    ensures { λ r. ⌜ WrittenAt (now (buffer .entry)) at (placeText place (queryOf (take relations widths) source) (queryOf (take relations widths) result) count (imagesOf images)) (now (buffer .exit)) r ⌝ }
 {
     let rows = source.size as usize;
     let kept = result.size as usize;
@@ -218,7 +218,7 @@ pub fn write_place(
 // Writes the line of a refused file.
 pub fn write_refused(buffer: &mut [u8], at: usize, n: u8) -> usize
     requires { ⌜ at + 12 ≤ length (now buffer) ⌝ }
-    ensures { λ r. ⌜ Written (now (buffer .entry)) at (refusedText n) (now (buffer .exit)) r ⌝ }
+    ensures { λ r. ⌜ WrittenAt (now (buffer .entry)) at (refusedText n) (now (buffer .exit)) r ⌝ }
 {
     let end = put_field(buffer, at, b"refused ", n as usize);
     put_byte(buffer, end, b'\n')

@@ -1,6 +1,6 @@
 -- The test of given images says yes exactly to the mappings: each of its four parts is one of a mapping's.
 -- Assumes nothing.
-use mathlib.Core.Path.{_≡_, refl, sym, _∙_, ap, ap₂}
+use mathlib.Core.Path.{_≡_, refl, sym, _∙_, ap}
 use mathlib.Core.Logic.{_≢_}
 use mathlib.Core.Bool.{Bool, true, false, cond, _&&_, false≢true}
 use mathlib.Core.List.{List, [], _∷_, map, cons≢nil, List·Memᴰ·head, List·Memᴰ·tail, List·Memᴰ·not-nil, Memᴰ·cast}
@@ -11,42 +11,38 @@ use lib.Dec.{eqb}
 use lib.ListN.{getD}
 use Rattle.theory.specs.Query.{Entry, constant, Row, sameEntry, mapRow, variables, member, _∈_}
 use Rattle.theory.specs.Answer.{valueOf}
-use Rattle.theory.specs.Checking.{imageAt, sameEntries, standsIn, rowsCarried, restZero, nonempty, mapsTo, MapsToExact}
-use Rattle.lists.proofs.Tests.{and-left, and-right, and-both}
+use Rattle.theory.specs.Checking.{imageAt, sameRow, standsIn, rowsCarried, restZero, nonempty, mapsTo, MapsToExact}
+use Rattle.lists.specs.Tests.{sameLists}
+use Rattle.lists.proofs.Tests.{and-left, and-right, and-both, sameLists-true, sameLists-self}
 use Rattle.theory.proofs.Lists.{bool-cases, mem-cases, member-not-mem, not-mem-member}
 use Rattle.theory.proofs.Entries.{sameEntry-eq, sameEntry-refl, eq-sameEntry}
 
 -- ---- entries and rows
 
-same-equal : (ds es : List Entry) → sameEntries ds es ≡ true → ds ≡ es
-unfolding sameEntries
-same-equal [] [] e = refl
-same-equal [] (x ∷ es) e = absurd (false≢true e)
-same-equal (x ∷ ds) [] e = absurd (false≢true e)
-same-equal (d ∷ ds) (e ∷ es) t =
-    ap₂ _∷_ (sameEntry-eq d e (and-left (sameEntry d e) (sameEntries ds es) t)) (same-equal ds es (and-right (sameEntry d e) (sameEntries ds es) t))
+-- Rows that the test finds to be the same are equal
+pub sameRow-eq : (r s : Row Entry) → sameRow r s ≡ true → r ≡ s
+unfolding sameRow
+sameRow-eq r s e =
+    let a : Bool = eqb (r .relation) (s .relation) in
+    let b : Bool = sameLists sameEntry (r .values) (s .values) in
+    let relation : r .relation ≡ s .relation = eqb-true (r .relation) (s .relation) (and-left a b e) in
+    let values : r .values ≡ s .values = sameLists-true sameEntry sameEntry-eq (r .values) (s .values) (and-right a b e) in
+    λ i. record { relation = relation i; values = values i }
 
-same-self : (es : List Entry) → sameEntries es es ≡ true
-unfolding sameEntries
-same-self [] = refl
-same-self (e ∷ es) = and-both (sameEntry e e) (sameEntries es es) (sameEntry-refl e) (same-self es)
-
-equal-same : (ds es : List Entry) → ds ≡ es → sameEntries ds es ≡ true
-equal-same ds es e = ap (sameEntries ds) (sym e) ∙ same-self ds
+sameRow-self : (r : Row Entry) → sameRow r r ≡ true
+unfolding sameRow
+sameRow-self r =
+    and-both (eqb (r .relation) (r .relation)) (sameLists sameEntry (r .values) (r .values)) (eq-eqb (r .relation) (r .relation) refl)
+    (sameLists-self sameEntry sameEntry-refl (r .values))
 
 -- A row that the test finds stands there
 stands-in : (r : Row Entry) (rows : List (Row Entry)) → standsIn r rows ≡ true → r ∈ rows
 unfolding standsIn
 stands-in r [] e = absurd (false≢true e)
 stands-in r (s ∷ rows) e =
-    let a : Bool = eqb (r .relation) (s .relation) in
-    let b : Bool = sameEntries (r .values) (s .values) in
     bool-cases
-    (a && b)
-    (λ p.
-    let relation : r .relation ≡ s .relation = eqb-true (r .relation) (s .relation) (and-left a b p) in
-    let values : r .values ≡ s .values = same-equal (r .values) (s .values) (and-right a b p) in
-    List·Memᴰ·head (λ i. record { relation = relation i; values = values i }))
+    (sameRow r s)
+    (λ p. List·Memᴰ·head (sameRow-eq r s p))
     (λ p. List·Memᴰ·tail (stands-in r rows (sym (ap (λ t. cond t true (standsIn r rows)) p) ∙ e)))
 
 -- and one that stands there is found
@@ -54,21 +50,12 @@ in-stands : (r : Row Entry) (rows : List (Row Entry)) → r ∈ rows → standsI
 unfolding standsIn
 in-stands r [] at = absurd (List·Memᴰ·not-nil at)
 in-stands r (s ∷ rows) at =
-    let a : Bool = eqb (r .relation) (s .relation) in
-    let b : Bool = sameEntries (r .values) (s .values) in
     bool-cases
-    (a && b)
+    (sameRow r s)
     (λ p. ap (λ t. cond t true (standsIn r rows)) p)
     (λ p.
     ap (λ t. cond t true (standsIn r rows)) p
-    ∙ mem-cases
-    at
-    (λ here.
-    absurd
-    (false≢true
-    (sym p
-    ∙ and-both a b (eq-eqb (r .relation) (s .relation) (ap (λ row. row .relation) here)) (equal-same (r .values) (s .values) (ap (λ row. row .values) here)))))
-    (λ later. in-stands r rows later))
+    ∙ mem-cases at (λ here. absurd (false≢true (sym p ∙ ap (sameRow r) (sym here) ∙ sameRow-self r))) (λ later. in-stands r rows later))
 
 -- ---- the parts of a mapping
 
@@ -141,7 +128,7 @@ unfolding mapsTo
 maps-to-exact S T images =
     let f : ℕ → Entry = imageAt images in
     let a : Bool = nonempty (S .rows) in
-    let b : Bool = sameEntries (map (valueOf constant f) (S .head)) (T .head) in
+    let b : Bool = sameLists sameEntry (map (valueOf constant f) (S .head)) (T .head) in
     let c : Bool = rowsCarried f (S .rows) (T .rows) in
     let d : Bool = restZero (variables S) 0 images in (
       (λ e.
@@ -151,7 +138,7 @@ maps-to-exact S T images =
             carries =
                 record {
                   not-never = nonempty-some (S .rows) (and-left a b e2);
-                  to-head = same-equal (map (valueOf constant f) (S .head)) (T .head) (and-right a b e2);
+                  to-head = sameLists-true sameEntry sameEntry-eq (map (valueOf constant f) (S .head)) (T .head) (and-right a b e2);
                   to-rows = rows-carried f (S .rows) (T .rows) (and-right (a && b) c e3);
                 };
             elsewhere = λ v out.
@@ -161,7 +148,9 @@ maps-to-exact S T images =
       (λ m.
           and-both (a && b && c) d
           (and-both (a && b) c
-          (and-both a b (some-nonempty (S .rows) (m .carries .not-never)) (equal-same (map (valueOf constant f) (S .head)) (T .head) (m .carries .to-head)))
+          (and-both a b (some-nonempty (S .rows) (m .carries .not-never))
+          (ap (sameLists sameEntry (map (valueOf constant f) (S .head))) (sym (m .carries .to-head))
+          ∙ sameLists-self sameEntry sameEntry-refl (map (valueOf constant f) (S .head))))
           (carried-rows f (S .rows) (T .rows) (m .carries .to-rows)))
           (zero-rest (variables S) 0 images
           (λ v out. let same : 0 + v ≡ v = omega arith in m .elsewhere v (λ at. out (Memᴰ·cast same at))))),

@@ -13,13 +13,15 @@ use Prim.Native.Nat.{ℕ, zero, suc, _+_, _≤_, _<_}
 use native.Mathlib.Omega.{arith}
 use lib.Dec.{eqb}
 use lib.ListN.{length, getD, replicate, length-replicate, getD-replicate, List·getD-eq-default}
-use native.Mathlib.Decide.{decLt, ℕ-discrete}
+use native.Mathlib.Decide.{decLt}
 use borrow.Author.Tests.{eqb-true, eq-eqb, not-true}
+use Rattle.lists.specs.Numbers.{numbersWhere}
 use Rattle.theory.specs.Query.{Row, column, member, _∈_}
 use Rattle.theory.specs.Database.{Database, Dependency, Agree, Obeys, Sound}
 use Rattle.theory.specs.Chase.{firstPassing}
-use Rattle.theory.specs.Determined.{Determines, FitsColumns, Ascending, subset, adds, growOn, growFor, closure, columnsIn, determined}
+use Rattle.theory.specs.Determined.{Determines, FitsColumns, Ascending, subset, adds, growOn, growFor, closure, determined}
 use Rattle.lists.proofs.Tests.{and-left, and-right, and-both}
+use Rattle.lists.proofs.Numbers.{where-from, where-of}
 use Rattle.theory.proofs.Lists.{mem-cases, member-mem, mem-member, member-not-mem}
 use Rattle.theory.proofs.Members.{_⊆_}
 use Rattle.theory.proofs.Step.{firstPassing-found, firstPassing-nothing}
@@ -342,37 +344,15 @@ closure-complete widths ds fits relation held left c less determines =
 
 -- ---- 5. the determined columns
 
--- `columnsIn` has the numbers of the list in its range
-columnsIn-from : (known : List ℕ) (start n c : ℕ) → c ∈ columnsIn known start n → (start ≤ c) × (c < start + n) × (c ∈ known)
-unfolding columnsIn
-columnsIn-from known start (suc n) c at = go (member start known) refl (columnsIn-from known (suc start) n c) at
+-- The numbers of a range that pass a test ascend
+where-ascending : (test : ℕ → Bool) (start n : ℕ) → Ascending (numbersWhere test start n)
+unfolding numbersWhere
+where-ascending test start zero = tt
+where-ascending test start (suc n) = go (test start) (where-ascending test (suc start) n)
   where
-    go : (b : Bool) → member start known ≡ b → (c ∈ columnsIn known (suc start) n → (suc start ≤ c) × (c < suc start + n) × (c ∈ known))
-        → c ∈ cond b (start ∷ columnsIn known (suc start) n) (columnsIn known (suc start) n) → (start ≤ c) × (c < start + suc n) × (c ∈ known)
-    go true e rest (List·Memᴰ·head same) = (omega arith, omega arith, Memᴰ·cast same (member-mem start known e))
-    go true e rest (List·Memᴰ·tail at) = let r = rest at in (omega arith, omega arith, r .2)
-    go false e rest at = let r = rest at in (omega arith, omega arith, r .2)
-
-columnsIn-of : (known : List ℕ) (start n c : ℕ) → start ≤ c → c < start + n → c ∈ known → c ∈ columnsIn known start n
-unfolding columnsIn
-columnsIn-of known start zero c low high at = absurd (omega arith)
-columnsIn-of known start (suc n) c low high at = go (member start known) refl (ℕ-discrete c start) (columnsIn-of known (suc start) n c)
-  where
-    go : (b : Bool) → member start known ≡ b → Dec (c ≡ start) → (suc start ≤ c → c < suc start + n → c ∈ known → c ∈ columnsIn known (suc start) n)
-        → c ∈ cond b (start ∷ columnsIn known (suc start) n) (columnsIn known (suc start) n)
-    go true e (yes same) rest = List·Memᴰ·head same
-    go true e (no other) rest = List·Memᴰ·tail (rest (omega arith) (omega arith) at)
-    go false e (yes same) rest = absurd (member-not-mem start known e (Memᴰ·cast (sym same) at))
-    go false e (no other) rest = rest (omega arith) (omega arith) at
-
-columnsIn-ascending : (known : List ℕ) (start n : ℕ) → Ascending (columnsIn known start n)
-unfolding columnsIn
-columnsIn-ascending known start zero = tt
-columnsIn-ascending known start (suc n) = go (member start known) (columnsIn-ascending known (suc start) n)
-  where
-    go : (b : Bool) → Ascending (columnsIn known (suc start) n)
-        → Ascending (cond b (start ∷ columnsIn known (suc start) n) (columnsIn known (suc start) n))
-    go true rest = ((λ m at. columnsIn-from known (suc start) n m at .0), rest)
+    go : (b : Bool) → Ascending (numbersWhere test (suc start) n)
+        → Ascending (cond b (start ∷ numbersWhere test (suc start) n) (numbersWhere test (suc start) n))
+    go true rest = ((λ m at. where-from test (suc start) n m at .0), rest)
     go false rest = rest
 
 -- The determined columns are those of the relation that the left set determines
@@ -381,15 +361,17 @@ pub determined-exact : (widths : List ℕ) (ds : List Dependency) → ((d : Depe
     → (c ∈ determined ds relation width left) ↔ ((c < width) × Determines widths ds relation left c)
 unfolding determined
 determined-exact widths ds fits relation held left width same c = (
-  (λ at. let r = columnsIn-from (closure ds relation left) 0 width c at in (omega arith, closure-sound widths ds relation left c (r .2))),
-  λ p. columnsIn-of (closure ds relation left) 0 width c (omega arith) (omega arith)
-      (closure-complete widths ds fits relation held left c (omega arith) (p .1)),
+  (λ at.
+      let r = where-from (λ k. member k (closure ds relation left)) 0 width c at in
+      (omega arith, closure-sound widths ds relation left c (member-mem c (closure ds relation left) (r .2)))),
+  λ p. where-of (λ k. member k (closure ds relation left)) 0 width c (omega arith) (omega arith)
+      (mem-member c (closure ds relation left) (closure-complete widths ds fits relation held left c (omega arith) (p .1))),
 )
 
 -- each once and in ascending order, so their number is the length of the list
 pub determined-ascending : (ds : List Dependency) (relation width : ℕ) (left : List ℕ) → Ascending (determined ds relation width left)
 unfolding determined
-determined-ascending ds relation width left = columnsIn-ascending (closure ds relation left) 0 width
+determined-ascending ds relation width left = where-ascending (λ c. member c (closure ds relation left)) 0 width
 
 -- Two ascending lists with the same numbers are the same
 pub ascending-unique : (xs ys : List ℕ) → Ascending xs → Ascending ys → xs ⊆ ys → ys ⊆ xs → xs ≡ ys

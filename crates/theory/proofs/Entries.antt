@@ -5,7 +5,7 @@ use mathlib.Core.Path.{_≡_, refl, sym, _∙_, ap, fun-ext}
 use mathlib.Core.Logic.{_≢_, _⊎_, inl, inr, ⊎-elim}
 use mathlib.Core.Bool.{true, false, true≢false, false≢true}
 use mathlib.Core.List.{List, [], _∷_, _++_, map, List·Memᴰ·head, List·Memᴰ·tail, List·Memᴰ·not-nil, Memᴰ·cast, Memᴰ·map, Memᴰ·of-map}
-use mathlib.Core.List.{Memᴰ·append-left, Memᴰ·append-right}
+use mathlib.Core.List.{Memᴰ·append-left, Memᴰ·append-right, map-append}
 use Prim.Native.Nat.{ℕ, suc}
 use native.Mathlib.Omega.{arith}
 use borrow.Author.Tests.{eqb-true, eqb-false, eq-eqb}
@@ -15,7 +15,7 @@ use Rattle.theory.specs.Query.{Entry, constant, variable, Row, Query, sa
 use Rattle.theory.specs.Query.{distinct, variableCount, _∈_}
 use Rattle.theory.specs.Answer.{valueOf}
 use Rattle.theory.specs.Chase.{substitute}
-use Rattle.theory.proofs.Lists.{bool-cases, mem-cases, map-append, getD-mem, nodup-length, mem-distinct, distinct-mem, distinct-nodup}
+use Rattle.theory.proofs.Lists.{bool-cases, mem-cases, getD-mem, nodup-length, mem-distinct, distinct-mem, distinct-nodup}
 
 -- ---- entries
 

@@ -1,27 +1,30 @@
 -- Each example of the table holds, by computation, and so means what it says.
 -- Assumes nothing.
-use mathlib.Core.Path.{_≡_, refl, sym, _∙_, ap₂, subst₂}
-use mathlib.Core.Bool.{Bool, true, false, _&&_, Bool·beq, true≢false}
-use mathlib.Core.List.{List, [], _∷_}
+use mathlib.Core.Path.{_≡_, refl, sym, _∙_, subst₂}
+use mathlib.Core.Bool.{true, false, _&&_, Bool·beq}
+use mathlib.Core.List.{List}
+use mathlib.Core.Option.{bind, orElse}
 use Prim.Native.Nat.{ℕ}
 use lib.Dec.{eqb, ltb}
 use lib.ListN.{length, getD}
 use borrow.Author.Tests.{ltb-true, eqb-true}
-use Rattle.lists.specs.Tests.{every}
-use Rattle.lists.proofs.Tests.{every-member}
+use Rattle.lists.specs.Tests.{every, sameLists}
+use Rattle.lists.specs.Numbers.{numbersWhere}
+use Rattle.lists.proofs.Tests.{and-left, and-right, every-member, sameLists-true}
 use Rattle.theory.specs.Query.{Entry, Row, Query, FitsSchema, _∈_}
 use Rattle.theory.specs.Database.{Dependency}
 use Rattle.theory.specs.Query.{sameEntry, variablesOf, rowEntries, member, distinct}
-use Rattle.theory.specs.Chase.{orElse, mapFound, firstPassing, firstPair, firstFound, agree, breaks, firstBroken, survives, resolve, substitute}
+use Rattle.theory.specs.Chase.{firstPassing, firstPair, firstFound, agree, breaks, firstBroken, survives, resolve, substitute}
 use Rattle.theory.specs.Chase.{step, Chases, chaseOn, chaseFor, chase}
-use Rattle.theory.specs.Determined.{FitsColumns, subset, adds, growOn, growFor, closure, columnsIn, determined}
-use Rattle.theory.specs.Search.{lookup, andThen, assignTo, matchEntry, matchEntries, matchRow, tryRows, placeRows, placeQuery, mappable}
+use Rattle.theory.specs.Determined.{FitsColumns, subset, adds, growOn, growFor, closure, determined}
+use Rattle.theory.specs.Search.{lookup, assignTo, matchEntry, matchEntries, matchRow, tryRows, placeRows, placeQuery, mappable}
+use Rattle.theory.specs.Checking.{sameRow}
 use Rattle.theory.specs.Search.{containedOn, contained, prune, reduce}
-use Rattle.theory.specs.Examples.{Example, reduces, chasesTo, compares, determines, schema, Meaning, sameLists, sameRow, sameQuery}
+use Rattle.theory.specs.Examples.{Example, reduces, chasesTo, compares, determines, schema, Meaning, sameQuery}
 use Rattle.theory.specs.Examples.{fitsColumns, fitsSchema, overSchema, holds, examples}
-use Rattle.lists.proofs.Tests.{and-left, and-right}
 use Rattle.theory.proofs.Lists.{and-three, beq-true}
 use Rattle.theory.proofs.Entries.{sameEntry-eq}
+use Rattle.theory.proofs.Checking.{sameRow-eq}
 use Rattle.theory.proofs.Chase.{chase-chases}
 use Rattle.theory.proofs.Reduction.{reduction-same-size, reduction-minimal}
 use Rattle.theory.proofs.Determined.{determined-exact, determined-ascending}
@@ -30,30 +33,13 @@ use Rattle.theory.proofs.Reduce.{reduce-reduction}
 
 -- Every example of the table holds
 pub examples-hold : every holds examples ≡ true
-unfolding sameEntry variablesOf rowEntries member distinct orElse mapFound firstPassing firstPair firstFound agree breaks firstBroken
-    survives resolve substitute step chaseOn chaseFor chase subset adds growOn growFor closure columnsIn determined lookup andThen assignTo
+unfolding sameEntry variablesOf rowEntries member distinct orElse bind firstPassing firstPair firstFound agree breaks firstBroken
+    survives resolve substitute step chaseOn chaseFor chase subset adds growOn growFor closure numbersWhere determined lookup assignTo
     matchEntry matchEntries matchRow tryRows placeRows placeQuery mappable containedOn contained prune reduce sameLists sameRow sameQuery
     every fitsColumns fitsSchema overSchema holds
 examples-hold = refl
 
 -- ---- what they mean
-
-sameLists-true : {A : Type 0} (same : A → A → Bool) → ((x y : A) → same x y ≡ true → x ≡ y) → (xs ys : List A) → sameLists same xs ys ≡ true → xs ≡ ys
-unfolding sameLists
-sameLists-true same exact [] [] e = refl
-sameLists-true same exact [] (y ∷ ys) e = absurd (true≢false (sym e))
-sameLists-true same exact (x ∷ xs) [] e = absurd (true≢false (sym e))
-sameLists-true same exact (x ∷ xs) (y ∷ ys) e =
-    ap₂ _∷_ (exact x y (and-left (same x y) (sameLists same xs ys) e)) (sameLists-true same exact xs ys (and-right (same x y) (sameLists same xs ys) e))
-
-sameRow-true : (r s : Row Entry) → sameRow r s ≡ true → r ≡ s
-unfolding sameRow
-sameRow-true r s e =
-    let one = eqb (r .relation) (s .relation) in
-    let all = sameLists sameEntry (r .values) (s .values) in
-    let relation : r .relation ≡ s .relation = eqb-true (r .relation) (s .relation) (and-left one all e) in
-    let values : r .values ≡ s .values = sameLists-true sameEntry sameEntry-eq (r .values) (s .values) (and-right one all e) in
-    λ i. record { relation = relation i; values = values i }
 
 sameQuery-true : (p q : Query) → sameQuery p q ≡ true → p ≡ q
 unfolding sameQuery
@@ -61,7 +47,7 @@ sameQuery-true p q e =
     let heads = sameLists sameEntry (p .head) (q .head) in
     let bodies = sameLists sameRow (p .rows) (q .rows) in
     let head : p .head ≡ q .head = sameLists-true sameEntry sameEntry-eq (p .head) (q .head) (and-left heads bodies e) in
-    let rows : p .rows ≡ q .rows = sameLists-true sameRow sameRow-true (p .rows) (q .rows) (and-right heads bodies e) in
+    let rows : p .rows ≡ q .rows = sameLists-true sameRow sameRow-eq (p .rows) (q .rows) (and-right heads bodies e) in
     λ i. record { head = head i; rows = rows i }
 
 fitsColumns-true : (widths : List ℕ) (d : Dependency) → fitsColumns widths d ≡ true → FitsColumns widths d

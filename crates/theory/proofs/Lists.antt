@@ -6,7 +6,7 @@ use mathlib.Core.Path.{_≡_, refl, sym, _∙_, ap, ap₂}
 use mathlib.Core.Logic.{_≢_, _⊎_, inl, inr, ⊎-elim}
 use mathlib.Core.Bool.{Bool, true, false, _&&_, Bool·beq, true≢false, false≢true}
 use mathlib.Core.Option.{Option, none, some}
-use mathlib.Core.List.{List, [], _∷_, _++_, map, cons≢nil, cons-ne-nil, List·Memᴰ·head, List·Memᴰ·tail, List·Memᴰ·not-nil, List·Memᴰ·cases-cons}
+use mathlib.Core.List.{List, [], _∷_, map, cons≢nil, cons-ne-nil, List·Memᴰ·head, List·Memᴰ·tail, List·Memᴰ·not-nil, List·Memᴰ·cases-cons}
 use mathlib.Core.List.{Memᴰ·cast}
 use Prim.Native.Nat.{ℕ, zero, suc, _≤_, zero-le}
 use native.Mathlib.Omega.{arith}
@@ -57,9 +57,6 @@ map-agree f g [] same = refl
 map-agree f g (x ∷ xs) same = ap₂ _∷_ (same x (List·Memᴰ·head refl)) (map-agree f g xs (λ y at. same y (List·Memᴰ·tail at)))
 
 -- The map of two lists joined
-pub map-append : {A B : Type 0} (f : A → B) (xs ys : List A) → map f (xs ++ ys) ≡ map f xs ++ map f ys
-map-append f [] ys = refl
-map-append f (x ∷ xs) ys = ap (λ l. f x ∷ l) (map-append f xs ys)
 
 -- A map that keeps a list keeps each of its elements
 pub map-fixes : {A : Type 0} (f : A → A) (xs : List A) → map f xs ≡ xs → (x : A) → x ∈ xs → f x ≡ x

@@ -8,7 +8,7 @@ use mathlib.Core.Path.{_≡_, refl, sym, _∙_, ap}
 use mathlib.Core.Logic.{_↔_, _⊎_, inl, inr}
 use mathlib.Core.Bool.{Bool, true, false, cond, true≢false}
 use mathlib.Core.List.{List, [], _∷_, map, List·Memᴰ·head, List·Memᴰ·tail, Memᴰ·cast, List·Memᴰ·not-nil, cons≢nil}
-use mathlib.Core.Option.{Option, none, some, Option·none-ne-some, Option·some-ne-none, Option·some-injective}
+use mathlib.Core.Option.{Option, none, some, Option·none-ne-some, Option·some-ne-none, Option·some-injective, bind, bind-eq-some-iff, orElse}
 use Prim.Native.Nat.{ℕ, _+_, _≤_, _<_}
 use native.Mathlib.Omega.{arith}
 use lib.Dec.{eqb}
@@ -16,10 +16,10 @@ use borrow.Author.Tests.{eqb-true, eqb-false, eq-eqb}
 use Rattle.theory.specs.Query.{Entry, constant, variable, Row, Query, mapRow, sameEntry, FitsSchema, _∈_}
 use Rattle.theory.specs.Answer.{valueOf, Carries, Mapping}
 use Rattle.theory.specs.Database.{Database, Dependency}
-use Rattle.theory.specs.Chase.{orElse, chase}
+use Rattle.theory.specs.Chase.{chase}
 use Rattle.theory.specs.Containment.{Contained, Counterexample, frozenRows, frozenHead, ConstantsBelow}
-use Rattle.theory.specs.Search.{Partial, lookup, andThen, assignTo, matchEntry, matchEntries, matchRow, tryRows, placeRows, placeQuery}
-use Rattle.theory.specs.Search.{assignment, found, mappable, containedOn, contained}
+use Rattle.theory.specs.Search.{Partial, lookup, assignTo, matchEntry, matchEntries, matchRow, tryRows, placeRows, placeQuery}
+use Rattle.theory.specs.Search.{assignment, isSome, mappable, containedOn, contained}
 use Rattle.theory.proofs.Entries.{sameEntry-eq, sameEntry-ne}
 use Rattle.theory.proofs.Carry.{mapping-of}
 use Rattle.theory.proofs.Containment.{contained-iff, counterexample}
@@ -74,8 +74,8 @@ Exact h bs P (some after) = Fits h after ↔ (Fits h bs × P)
 
 -- Two matches one after the other ask both
 exact-both : (h : ℕ → Entry) (bs : Partial) (P Q : Type 0) (first : Option Partial) (next : Partial → Option Partial)
-    → Exact h bs P first → ((after : Partial) → Exact h after Q (next after)) → Exact h bs (P × Q) (andThen first next)
-unfolding andThen
+    → Exact h bs P first → ((after : Partial) → Exact h after Q (next after)) → Exact h bs (P × Q) (bind first next)
+unfolding bind
 exact-both h bs P Q none next p q = λ fits both. p fits (both .0)
 exact-both h bs P Q (some after) next p q = go (next after) (q after)
   where
@@ -124,7 +124,7 @@ matchEntries-exact h [] [] bs = ((λ fits. (fits, refl)), λ start. start .0)
 matchEntries-exact h [] (e ∷ es) bs = λ fits same. cons≢nil (sym same)
 matchEntries-exact h (d ∷ ds) [] bs = λ fits same. cons≢nil same
 matchEntries-exact h (d ∷ ds) (e ∷ es) bs =
-    exact-same h bs _ _ (andThen (matchEntry d e bs) (matchEntries ds es)) (cons-same (valueOf constant h d) e (map (valueOf constant h) ds) es)
+    exact-same h bs _ _ (bind (matchEntry d e bs) (matchEntries ds es)) (cons-same (valueOf constant h d) e (map (valueOf constant h) ds) es)
     (exact-both h bs (valueOf constant h d ≡ e) (map (valueOf constant h) ds ≡ es) (matchEntry d e bs) (matchEntries ds es)
     (matchEntry-exact h d e bs) (λ after. matchEntries-exact h ds es after))
 
@@ -148,7 +148,7 @@ matchRow-exact h r s bs = go (eqb (r .relation) (s .relation)) refl
 abbrev Placed : (ℕ → Entry) → List (Row Entry) → List (Row Entry) → Type 0
 Placed h rs candidates = (r : Row Entry) → r ∈ rs → mapRow (valueOf constant h) r ∈ candidates
 
--- What `orElse` and `andThen` give comes from one of their parts, and they fail only if those do
+-- What `orElse` gives comes from one of its parts, and it fails only if both do
 orElse-found : {A : Type 0} (o later : Option A) (x : A) → orElse o later ≡ some x → (o ≡ some x) ⊎ (later ≡ some x)
 unfolding orElse
 orElse-found none later x e = inr e
@@ -159,26 +159,21 @@ unfolding orElse
 orElse-nothing none later e = (refl, e)
 orElse-nothing (some y) later e = absurd (Option·some-ne-none y e)
 
-andThen-found : {A B : Type 0} (o : Option A) (f : A → Option B) (y : B) → andThen o f ≡ some y → (x : A) × (o ≡ some x) × (f x ≡ some y)
-unfolding andThen
-andThen-found none f y e = absurd (Option·none-ne-some y e)
-andThen-found (some x) f y e = (x, refl, e)
-
 -- The rest of a search that follows an exact match: sound, and failing only where nothing fits
 module _ (h : ℕ → Entry) (bs : Partial) (P : Type 0) (first : Option Partial) (exact : Exact h bs P first) (Q : Type 0) (next : Partial → Option Partial) where
   then-sound : ((mid after : Partial) → next mid ≡ some after → Fits h after → Fits h mid × Q)
-      → (after : Partial) → andThen first next ≡ some after → Fits h after → Fits h bs × P × Q
+      → (after : Partial) → bind first next ≡ some after → Fits h after → Fits h bs × P × Q
   then-sound sound after e fits =
-      let t = andThen-found first next after e in
+      let t = bind-eq-some-iff first next .0 e in
       let mid = sound (t .0) after (t .2) fits in
       let start = exact-some h bs P first exact (t .0) (t .1) .0 (mid .0) in
       (start .0, start .1, mid .1)
 
-  then-complete : ((mid : Partial) → next mid ≡ none → Fits h mid → Q → ⊥) → andThen first next ≡ none → Fits h bs → P → Q → ⊥
-  unfolding andThen
+  then-complete : ((mid : Partial) → next mid ≡ none → Fits h mid → Q → ⊥) → bind first next ≡ none → Fits h bs → P → Q → ⊥
+  unfolding bind
   then-complete complete e fits p q = go first exact e
     where
-      go : (o : Option Partial) → Exact h bs P o → andThen o next ≡ none → ⊥
+      go : (o : Option Partial) → Exact h bs P o → bind o next ≡ none → ⊥
       go none exact e = exact fits p
       go (some mid) exact e = complete mid e (exact .1 (fits, p)) q
 
@@ -190,9 +185,9 @@ tryRows-sound : (h : ℕ → Entry) (Q : Type 0) (next : Partial → Option Part
 unfolding tryRows
 tryRows-sound h Q next sound r [] bs after e fits = absurd (Option·none-ne-some after e)
 tryRows-sound h Q next sound r (s ∷ ss) bs after e fits =
-    go (orElse-found (andThen (matchRow r s bs) next) (tryRows next r ss bs) after e) (λ later. tryRows-sound h Q next sound r ss bs after later fits)
+    go (orElse-found (bind (matchRow r s bs) next) (tryRows next r ss bs) after e) (λ later. tryRows-sound h Q next sound r ss bs after later fits)
   where
-    go : (andThen (matchRow r s bs) next ≡ some after) ⊎ (tryRows next r ss bs ≡ some after)
+    go : (bind (matchRow r s bs) next ≡ some after) ⊎ (tryRows next r ss bs ≡ some after)
         → (tryRows next r ss bs ≡ some after → Fits h bs × (mapRow (valueOf constant h) r ∈ ss) × Q) → Fits h bs × (mapRow (valueOf constant h) r ∈ (s ∷ ss))
         × Q
     go (inl here) rest =
@@ -207,9 +202,9 @@ tryRows-complete : (h : ℕ → Entry) (Q : Type 0) (next : Partial → Option P
 unfolding tryRows
 tryRows-complete h Q next complete r (s ∷ ss) bs e fits (List·Memᴰ·head same) q =
     then-complete h bs (mapRow (valueOf constant h) r ≡ s) (matchRow r s bs) (matchRow-exact h r s bs) Q next complete
-    (orElse-nothing (andThen (matchRow r s bs) next) (tryRows next r ss bs) e .0) fits same q
+    (orElse-nothing (bind (matchRow r s bs) next) (tryRows next r ss bs) e .0) fits same q
 tryRows-complete h Q next complete r (s ∷ ss) bs e fits (List·Memᴰ·tail at) q =
-    tryRows-complete h Q next complete r ss bs (orElse-nothing (andThen (matchRow r s bs) next) (tryRows next r ss bs) e .1) fits at q
+    tryRows-complete h Q next complete r ss bs (orElse-nothing (bind (matchRow r s bs) next) (tryRows next r ss bs) e .1) fits at q
 
 placeRows-sound : (h : ℕ → Entry) (rs candidates : List (Row Entry)) (bs after : Partial) → placeRows rs candidates bs ≡ some after → Fits h after
     → Fits h bs × Placed h rs candidates
@@ -253,23 +248,23 @@ module _ (head : List Entry) (r : Row Entry) (rs : List (Row Entry)) (T : Query)
       (Placed h (r ∷ rs) (T .rows)) (placeRows (r ∷ rs) (T .rows)) (placeRows-complete h (r ∷ rs) (T .rows)) e (fits-empty h) (c .to-head) (c .to-rows)
 
   -- What is found is a mapping, and where there is a mapping something is found
-  placed-mapping : found (placeQuery head (r ∷ rs) T) ≡ true → Mapping (record { head = head; rows = r ∷ rs }) T
+  placed-mapping : isSome (placeQuery head (r ∷ rs) T) ≡ true → Mapping (record { head = head; rows = r ∷ rs }) T
   placed-mapping e = go (placeQuery head (r ∷ rs) T) refl e
     where
-      go : (o : Option Partial) → placeQuery head (r ∷ rs) T ≡ o → found o ≡ true → Mapping (record { head = head; rows = r ∷ rs }) T
+      go : (o : Option Partial) → placeQuery head (r ∷ rs) T ≡ o → isSome o ≡ true → Mapping (record { head = head; rows = r ∷ rs }) T
       go none is e = absurd (true≢false (sym e))
       go (some after) is e = mapping-of (record { head = head; rows = r ∷ rs }) T (assignment after) (placeQuery-sound after is)
 
-  mapping-placed : Mapping (record { head = head; rows = r ∷ rs }) T → found (placeQuery head (r ∷ rs) T) ≡ true
+  mapping-placed : Mapping (record { head = head; rows = r ∷ rs }) T → isSome (placeQuery head (r ∷ rs) T) ≡ true
   mapping-placed m = go (placeQuery head (r ∷ rs) T) refl
     where
-      go : (o : Option Partial) → placeQuery head (r ∷ rs) T ≡ o → found o ≡ true
+      go : (o : Option Partial) → placeQuery head (r ∷ rs) T ≡ o → isSome o ≡ true
       go none is = absurd (placeQuery-complete is (m .0) (m .1 .carries))
       go (some after) is = refl
 
 -- `mappable` passes exactly where there is a mapping
 placed-exact : (head : List Entry) (rows : List (Row Entry)) (T : Query)
-    → (found (placeQuery head rows T) ≡ true) ↔ Mapping (record { head = head; rows = rows }) T
+    → (isSome (placeQuery head rows T) ≡ true) ↔ Mapping (record { head = head; rows = rows }) T
 unfolding placeQuery
 placed-exact head [] T = ((λ e. absurd (true≢false (sym e))), λ m. absurd (m .1 .carries .not-never refl))
 placed-exact head (r ∷ rs) T = (placed-mapping head r rs T, mapping-placed head r rs T)

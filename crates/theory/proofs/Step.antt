@@ -4,7 +4,7 @@
 use mathlib.Core.Path.{_≡_, refl, sym, _∙_, ap}
 use mathlib.Core.Logic.{_≢_, _⊎_, inl, inr, ⊎-elim}
 use mathlib.Core.Bool.{Bool, true, false, not, _&&_, true≢false}
-use mathlib.Core.Option.{Option, none, some, Option·none-ne-some, Option·some-injective}
+use mathlib.Core.Option.{Option, none, some, Option·none-ne-some, Option·some-injective, map-eq-none-iff, map-eq-some-iff, orElse, Option·map}
 use mathlib.Core.List.{List, [], _∷_, List·Memᴰ·head, List·Memᴰ·tail, List·Memᴰ·not-nil, Memᴰ·cast}
 use Prim.Native.Nat.{ℕ}
 use native.Mathlib.Omega.{arith}
@@ -12,7 +12,7 @@ use borrow.Author.Tests.{eqb-true, eq-eqb, not-true}
 use lib.Dec.{eqb}
 use Rattle.theory.specs.Query.{Entry, constant, variable, Row, Query, sameEntry, column, rowEntries, _∈_}
 use Rattle.theory.specs.Database.{Dependency, Agree}
-use Rattle.theory.specs.Chase.{orElse, mapFound, firstPassing, firstPair, firstFound, agree, breaks, firstBroken, Resolution, clash, replace}
+use Rattle.theory.specs.Chase.{firstPassing, firstPair, firstFound, agree, breaks, firstBroken, Resolution, clash, replace}
 use Rattle.theory.specs.Chase.{survives, resolve, inHead, resolvePair, step}
 use Rattle.theory.specs.OrderTheorems.{Broken}
 use Rattle.lists.proofs.Tests.{and-left, and-right}
@@ -39,12 +39,12 @@ firstPair-nil test = refl
 
 pub firstPair-some : {A : Type 0} (test : A → A → Bool) (x y : A) (xs : List A)
     → firstPassing (test x) xs ≡ some y → firstPair test (x ∷ xs) ≡ some (x, y)
-unfolding firstPair mapFound orElse
+unfolding firstPair orElse
 firstPair-some test x y xs e = rw e
 
 pub firstPair-none : {A : Type 0} (test : A → A → Bool) (x : A) (xs : List A)
     → firstPassing (test x) xs ≡ none → firstPair test (x ∷ xs) ≡ firstPair test xs
-unfolding firstPair mapFound orElse
+unfolding firstPair orElse
 firstPair-none test x xs e = rw e
 
 pub firstFound-nil : {D A : Type 0} (find : D → Option A) → firstFound find [] ≡ none
@@ -53,29 +53,25 @@ firstFound-nil find = refl
 
 pub firstFound-some : {D A : Type 0} (find : D → Option A) (d : D) (x : A) (ds : List D)
     → find d ≡ some x → firstFound find (d ∷ ds) ≡ some (d, x)
-unfolding firstFound mapFound orElse
+unfolding firstFound orElse
 firstFound-some find d x ds e = rw e
 
 pub firstFound-none : {D A : Type 0} (find : D → Option A) (d : D) (ds : List D)
     → find d ≡ none → firstFound find (d ∷ ds) ≡ firstFound find ds
-unfolding firstFound mapFound orElse
+unfolding firstFound orElse
 firstFound-none find d ds e = rw e
 
 -- A loop inside a loop: what the inner search finds comes before what is left of the outer one
-pub found-first : {A B : Type 0} (f : A → B) (x : A) (later : Option B) → orElse (mapFound f (some x)) later ≡ some (f x)
-unfolding mapFound orElse
-found-first f x later = refl
-
 -- The search of `firstBroken` under way, for three nested loops by what is left of each.
 -- For dependency d the pairs of the rows rs are left; then come the dependencies ds with all rows
 unfoldable pub brokenFor : Dependency → List (Row Entry) → List Dependency → List (Row Entry) → Option (Dependency × (Row Entry × Row Entry))
-brokenFor d rs ds rows = orElse (mapFound (λ p. (d, p)) (firstPair (breaks d) rs)) (firstBroken ds rows)
+brokenFor d rs ds rows = orElse (Option·map (λ p. (d, p)) (firstPair (breaks d) rs)) (firstBroken ds rows)
 
 -- For dependency d the pairs of row r with the rows ss are left, and those of the rows rs; then come the dependencies ds with all rows
 unfoldable pub brokenWith : Dependency → Row Entry → List (Row Entry) → List (Row Entry) → List Dependency → List (Row Entry)
     → Option (Dependency × (Row Entry × Row Entry))
 brokenWith d r ss rs ds rows =
-    orElse (mapFound (λ p. (d, p)) (orElse (mapFound (λ s. (r, s)) (firstPassing (breaks d r) ss)) (firstPair (breaks d) rs))) (firstBroken ds rows)
+    orElse (Option·map (λ p. (d, p)) (orElse (Option·map (λ s. (r, s)) (firstPassing (breaks d r) ss)) (firstPair (breaks d) rs))) (firstBroken ds rows)
 
 pub firstBroken-nil : (rows : List (Row Entry)) → firstBroken [] rows ≡ none
 unfolding firstBroken firstFound
@@ -86,7 +82,7 @@ unfolding firstBroken firstFound brokenFor
 firstBroken-cons d ds rows = refl
 
 pub brokenFor-nil : (d : Dependency) (ds : List Dependency) (rows : List (Row Entry)) → brokenFor d [] ds rows ≡ firstBroken ds rows
-unfolding brokenFor firstPair mapFound orElse
+unfolding brokenFor firstPair orElse
 brokenFor-nil d ds rows = refl
 
 pub brokenFor-cons : (d : Dependency) (r : Row Entry) (rs : List (Row Entry)) (ds : List Dependency) (rows : List (Row Entry))
@@ -96,12 +92,12 @@ brokenFor-cons d r rs ds rows = refl
 
 pub brokenWith-nil : (d : Dependency) (r : Row Entry) (rs : List (Row Entry)) (ds : List Dependency) (rows : List (Row Entry))
     → brokenWith d r [] rs ds rows ≡ brokenFor d rs ds rows
-unfolding brokenFor brokenWith firstPassing mapFound orElse
+unfolding brokenFor brokenWith firstPassing orElse
 brokenWith-nil d r rs ds rows = refl
 
 pub brokenWith-true : (d : Dependency) (r s : Row Entry) (ss rs : List (Row Entry)) (ds : List Dependency) (rows : List (Row Entry))
     → breaks d r s ≡ true → brokenWith d r (s ∷ ss) rs ds rows ≡ some (d, (r, s))
-unfolding brokenWith firstPassing mapFound orElse
+unfolding brokenWith firstPassing orElse
 brokenWith-true d r s ss rs ds rows e = rw e
 
 pub brokenWith-false : (d : Dependency) (r s : Row Entry) (ss rs : List (Row Entry)) (ds : List Dependency) (rows : List (Row Entry))
@@ -176,16 +172,6 @@ firstFound-nothing find (c ∷ ds) e d at =
     (find c)
     (λ x f. absurd (Option·none-ne-some (c, x) (sym e ∙ firstFound-some find c x ds f)))
     (λ f. mem-cases at (λ here. rw here f) (λ later. firstFound-nothing find ds (sym (firstFound-none find c ds f) ∙ e) d later))
-
-pub mapFound-found : {A B : Type 0} (f : A → B) (y : B) (o : Option A) → mapFound f o ≡ some y → (x : A) × (o ≡ some x) × (f x ≡ y)
-unfolding mapFound
-mapFound-found f y none e = absurd (Option·none-ne-some y e)
-mapFound-found f y (some x) e = (x, refl, Option·some-injective _ _ e)
-
-pub mapFound-nothing : {A B : Type 0} (f : A → B) (o : Option A) → mapFound f o ≡ none → o ≡ none
-unfolding mapFound
-mapFound-nothing f none e = refl
-mapFound-nothing f (some x) e = absurd (Option·none-ne-some (f x) (sym e))
 
 -- ---- a broken dependency
 
@@ -291,7 +277,7 @@ firstBroken-nothing ds rows e d held r s at at' relation relation' same =
 
 -- No rows, nothing broken
 pub firstBroken-empty : (ds : List Dependency) → firstBroken ds [] ≡ none
-unfolding firstBroken firstFound firstPair mapFound orElse
+unfolding firstBroken firstFound firstPair orElse
 firstBroken-empty [] = refl
 firstBroken-empty (d ∷ ds) = firstBroken-empty ds
 
@@ -374,18 +360,18 @@ resolve-replace shown (variable v) (variable w) u e is =
     (λ p. let is' = rw p at is in inl (ap variable (replace-number is'), replace-entry is'))
 
 pub step-rests : (ds : List Dependency) (q : Query) → firstBroken ds (q .rows) ≡ none → step ds q ≡ none
-unfolding step mapFound
+unfolding step
 step-rests ds q e = rw e
 
 -- A step is made by what is found
 pub step-found : (ds : List Dependency) (q : Query) (o : Resolution) → step ds q ≡ some o
     → (found : Dependency × (Row Entry × Row Entry)) × (firstBroken ds (q .rows) ≡ some found) × (resolvePair q found ≡ o)
 unfolding step
-step-found ds q o e = mapFound-found (resolvePair q) o (firstBroken ds (q .rows)) e
+step-found ds q o e = map-eq-some-iff (resolvePair q) (firstBroken ds (q .rows)) .0 e
 
 pub step-nothing : (ds : List Dependency) (q : Query) → step ds q ≡ none → firstBroken ds (q .rows) ≡ none
 unfolding step
-step-nothing ds q e = mapFound-nothing (resolvePair q) (firstBroken ds (q .rows)) e
+step-nothing ds q e = map-eq-none-iff (resolvePair q) (firstBroken ds (q .rows)) .0 e
 
 -- The chase rests on a query without rows
 pub step-never : (ds : List Dependency) (q : Query) → q .rows ≡ [] → step ds q ≡ none

@@ -3,7 +3,7 @@
 use mathlib.Core.Path.{_≡_}
 use mathlib.Core.Bool.{Bool, true, false, cond, not, _&&_}
 use mathlib.Core.List.{List, [], _∷_}
-use mathlib.Core.Option.{Option, none, some}
+use mathlib.Core.Option.{Option, none, some, orElse, Option·map}
 use Prim.Native.Nat.{ℕ, zero, suc}
 use lib.Dec.{eqb, ltb}
 use lib.ListN.{length}
@@ -11,16 +11,6 @@ use Rattle.theory.specs.Query.{Entry, constant, variable, Row, Query, ne
 use Rattle.theory.specs.Database.{Dependency}
 
 -- ---- the order of search
-
--- The first that is there, of what was found and what a later search finds
-unfoldable pub orElse : {A : Type 0} → Option A → Option A → Option A
-orElse (some x) later = some x
-orElse none later = later
-
--- What is found, changed by a function
-unfoldable pub mapFound : {A B : Type 0} → (A → B) → Option A → Option B
-mapFound f none = none
-mapFound f (some x) = some (f x)
 
 -- The first element that passes a test
 unfoldable pub firstPassing : {A : Type 0} → (A → Bool) → List A → Option A
@@ -30,12 +20,12 @@ firstPassing test (x ∷ xs) = cond (test x) (some x) (firstPassing test xs)
 -- The first pair (x, y) that passes a test, x standing before y: by the position of x, then by that of y
 unfoldable pub firstPair : {A : Type 0} → (A → A → Bool) → List A → Option (A × A)
 firstPair test [] = none
-firstPair test (x ∷ xs) = orElse (mapFound (λ y. (x, y)) (firstPassing (test x) xs)) (firstPair test xs)
+firstPair test (x ∷ xs) = orElse (Option·map (λ y. (x, y)) (firstPassing (test x) xs)) (firstPair test xs)
 
 -- The first d for which something is found, with what is found for it
 unfoldable pub firstFound : {D A : Type 0} → (D → Option A) → List D → Option (D × A)
 firstFound find [] = none
-firstFound find (d ∷ ds) = orElse (mapFound (λ x. (d, x)) (find d)) (firstFound find ds)
+firstFound find (d ∷ ds) = orElse (Option·map (λ x. (d, x)) (find d)) (firstFound find ds)
 
 -- Whether two rows have the same entry in each of the given columns
 unfoldable pub agree : List ℕ → Row Entry → Row Entry → Bool
@@ -86,7 +76,7 @@ resolvePair q found =
 
 -- The step that the chase makes on a query, or none where it rests
 unfoldable pub step : List Dependency → Query → Option Resolution
-step ds q = mapFound (resolvePair q) (firstBroken ds (q .rows))
+step ds q = Option·map (resolvePair q) (firstBroken ds (q .rows))
 
 -- ---- the whole chase
 

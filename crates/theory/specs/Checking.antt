@@ -6,6 +6,7 @@ use mathlib.Core.List.{List, [], _∷_, map}
 use Prim.Native.Nat.{ℕ, suc}
 use lib.Dec.{eqb}
 use lib.ListN.{getD}
+use Rattle.lists.specs.Tests.{sameLists}
 use Rattle.theory.specs.Query.{Entry, constant, Row, Query, sameEntry, mapRow, variables, member}
 use Rattle.theory.specs.Answer.{valueOf, IsMapping}
 
@@ -13,17 +14,14 @@ use Rattle.theory.specs.Answer.{valueOf, IsMapping}
 abbrev pub imageAt : List Entry → ℕ → Entry
 imageAt images v = getD images v (constant 0)
 
--- Whether two lists have the same entries, position by position
-unfoldable pub sameEntries : List Entry → List Entry → Bool
-sameEntries [] [] = true
-sameEntries [] (e ∷ es) = false
-sameEntries (d ∷ ds) [] = false
-sameEntries (d ∷ ds) (e ∷ es) = sameEntry d e && sameEntries ds es
+-- Whether two rows have the same relation and entries
+unfoldable pub sameRow : Row Entry → Row Entry → Bool
+sameRow r s = eqb (r .relation) (s .relation) && sameLists sameEntry (r .values) (s .values)
 
 -- Whether a row stands among some rows
 unfoldable pub standsIn : Row Entry → List (Row Entry) → Bool
 standsIn r [] = false
-standsIn r (s ∷ rows) = cond (eqb (r .relation) (s .relation) && sameEntries (r .values) (s .values)) true (standsIn r rows)
+standsIn r (s ∷ rows) = cond (sameRow r s) true (standsIn r rows)
 
 -- Whether f carries each of some rows to one of the others in the same relation
 unfoldable pub rowsCarried : (ℕ → Entry) → List (Row Entry) → List (Row Entry) → Bool
@@ -43,7 +41,7 @@ nonempty (x ∷ xs) = true
 -- Whether the images are a mapping from S to T: S is not never, its head goes to T's head, each of its rows to a row of T, and what is not in S has constant 0
 unfoldable pub mapsTo : Query → Query → List Entry → Bool
 mapsTo S T images =
-    nonempty (S .rows) && sameEntries (map (valueOf constant (imageAt images)) (S .head)) (T .head) && rowsCarried (imageAt images) (S .rows) (T .rows)
+    nonempty (S .rows) && sameLists sameEntry (map (valueOf constant (imageAt images)) (S .head)) (T .head) && rowsCarried (imageAt images) (S .rows) (T .rows)
     && restZero (variables S) 0 images
 
 -- The test says yes exactly to the mappings

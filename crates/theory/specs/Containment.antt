@@ -51,7 +51,8 @@ pub record CounterexampleOver (C : Database → Type 0) (p q : Query) (D : Datab
   pub answer : Answer D p t
   pub no-answer : Answer D q t → ⊥
 
--- What a chase is for: `chased` has the answers of p on each database of the class, and, unless it is never, is one of them, read as a database that keeps its entries apart
+-- What a chase is for: `chased` has the answers of p on each database of the class, and, unless it is never, is one of them, read as
+-- a database that keeps its entries apart
 pub record StandsFor (C : Database → Type 0) (base : ℕ) (p chased : Query) : Type 0 where
   pub answers : (D : Database) → C D → (t : List ℕ) → Answer D p t ↔ Answer D chased t
   pub frozen : chased .rows ≢ [] → C (frozenRows base chased)

@@ -4,7 +4,8 @@ use mathlib.Core.List.{List}
 use Prim.Native.Nat.{ℕ}
 use Rattle.theory.specs.Query.{Row, column, FitsSchema, _∈_}
 
--- A database is a finite set of rows of whole numbers. It is given as a list, and only which rows stand in it counts: no definition reads their order or repeats
+-- A database is a finite set of rows of whole numbers. It is given as a list, and only which rows stand in it counts:
+-- no definition reads their order or repeats
 abbrev pub Database : Type 0
 Database = List (Row ℕ)
 

@@ -1,11 +1,12 @@
 -- The columns that a set of columns determines: what it means over all databases, and the closure that computes it.
 use mathlib.Core.Path.{_≡_}
-use mathlib.Core.Bool.{Bool, true, cond, not, _&&_}
+use mathlib.Core.Bool.{Bool, true, not, _&&_}
 use mathlib.Core.List.{List, [], _∷_}
 use mathlib.Core.Option.{Option, none, some}
 use Prim.Native.Nat.{ℕ, zero, suc, _<_}
 use lib.Dec.{eqb}
 use lib.ListN.{length, getD}
+use Rattle.lists.specs.Numbers.{numbersWhere}
 use Rattle.theory.specs.Query.{Row, column, member, _∈_}
 use Rattle.theory.specs.Database.{Database, Dependency, Agree, Obeys, Sound}
 use Rattle.theory.specs.Chase.{firstPassing}
@@ -50,11 +51,6 @@ growFor (suc n) ds relation known = growOn (growFor n ds relation) known (firstP
 unfoldable pub closure : List Dependency → ℕ → List ℕ → List ℕ
 closure ds relation left = growFor (length ds) ds relation left
 
--- Of the n columns from `start` on, those in the list, ascending
-unfoldable pub columnsIn : List ℕ → ℕ → ℕ → List ℕ
-columnsIn known start zero = []
-columnsIn known start (suc n) = cond (member start known) (start ∷ columnsIn known (suc start) n) (columnsIn known (suc start) n)
-
 -- The columns of a relation of the given width that the left set determines, ascending
 unfoldable pub determined : List Dependency → ℕ → ℕ → List ℕ → List ℕ
-determined ds relation width left = columnsIn (closure ds relation left) 0 width
+determined ds relation width left = numbersWhere (λ c. member c (closure ds relation left)) 0 width

@@ -1,4 +1,5 @@
--- The reference examples P1 to P11 of SPECIFICATION, Examples, worked examples of the literature on tableaux and the chase, and some that single out a rule: one table.
+-- The reference examples P1 to P11 of SPECIFICATION, Examples, worked examples of the literature on tableaux and the chase, and some that
+-- single out a rule: one table.
 -- First what an example says (`Meaning`), then how it is computed (`holds`), then the table, and last the one statement that covers it.
 use mathlib.Core.Path.{_≡_}
 use mathlib.Core.Logic.{_↔_}
@@ -7,7 +8,7 @@ use mathlib.Core.List.{List, [], _∷_, _++_}
 use Prim.Native.Nat.{ℕ, _≤_, _<_}
 use lib.Dec.{eqb, ltb}
 use lib.ListN.{length, getD}
-use Rattle.lists.specs.Tests.{every}
+use Rattle.lists.specs.Tests.{every, sameLists}
 use Rattle.theory.specs.Query.{Entry, constant, variable, Row, Query, sameEntry, _∈_}
 use Rattle.theory.specs.Database.{Database, Dependency}
 use Rattle.theory.specs.Chase.{Chases, chase}
@@ -15,6 +16,7 @@ use Rattle.theory.specs.Containment.{Contained, Counterexample}
 use Rattle.theory.specs.Reduction.{Reduction, Rival}
 use Rattle.theory.specs.Determined.{Determines, Ascending, determined}
 use Rattle.theory.specs.Search.{contained, reduce}
+use Rattle.theory.specs.Checking.{sameRow}
 
 -- An example: what a call with these arguments gives
 pub data Example : Type 0 where
@@ -33,8 +35,8 @@ pub data Example : Type 0 where
 abbrev pub schema : List ℕ
 schema = 2 ∷ 3 ∷ 2 ∷ []
 
--- A query reduces to one with this head and so many rows, after so many replacements: it has a result, each result is so, no query with the same answers has fewer rows,
--- and the chase makes so many replacements
+-- A query reduces to one with this head and so many rows, after so many replacements: it has a result, each result is so, no query with the same answers has
+-- fewer rows, and the chase makes so many replacements
 pub record Reduces (ds : List Dependency) (q : Query) (head : List Entry) (rows count : ℕ) : Type 0 where
   pub result : (T : Query) × Reduction ds q T
   pub each : (T : Query) → Reduction ds q T → (T .head ≡ head) × (length (T .rows) ≡ rows)
@@ -57,17 +59,6 @@ Meaning (compares ds p q false) = (D : Database) × (t : List ℕ) × Counterexa
 Meaning (determines ds relation left columns) = Counts ds relation left columns
 
 -- ---- how it is computed
-
--- Whether two lists are the same position by position, where `same` tells whether two elements are
-unfoldable pub sameLists : {A : Type 0} → (A → A → Bool) → List A → List A → Bool
-sameLists same [] [] = true
-sameLists same [] (y ∷ ys) = false
-sameLists same (x ∷ xs) [] = false
-sameLists same (x ∷ xs) (y ∷ ys) = same x y && sameLists same xs ys
-
--- Whether two rows have the same relation and entries
-unfoldable pub sameRow : Row Entry → Row Entry → Bool
-sameRow r s = eqb (r .relation) (s .relation) && sameLists sameEntry (r .values) (s .values)
 
 -- Whether two queries have the same head and the same rows in the same order
 unfoldable pub sameQuery : Query → Query → Bool
@@ -204,7 +195,8 @@ further =
     ∷ compares [] (query (v 0 ∷ []) (R (v 0) (v 1) ∷ R (v 0) (v 2) ∷ B (v 1) (v 2) ∷ [])) (query (v 0 ∷ []) (R (v 0) (v 1) ∷ B (v 1) (v 1) ∷ [])) false
     ∷ compares R·a→b (query [] (R (v 0) (k 3) ∷ R (v 0) (k 4) ∷ [])) (query [] []) true
     ∷ compares [] (query [] (R (v 0) (v 0) ∷ [])) (query [] []) false
-    ∷ reduces (record { relation = 1; left = 0 ∷ 1 ∷ []; right = 2 } ∷ []) (query (v 2 ∷ v 4 ∷ []) (S (v 0) (v 1) (v 2) ∷ S (v 0) (v 3) (v 4) ∷ [])) (v 2 ∷ v 4 ∷ []) 2 0
+    ∷ reduces (record { relation = 1; left = 0 ∷ 1 ∷ []; right = 2 } ∷ []) (query (v 2 ∷ v 4 ∷ []) (S (v 0) (v 1) (v 2) ∷ S (v 0) (v 3) (v 4) ∷ []))
+    (v 2 ∷ v 4 ∷ []) 2 0
     ∷ reduces R·a→b (query (v 0 ∷ []) (R (v 0) (k 3) ∷ R (v 0) (k 3) ∷ [])) (v 0 ∷ []) 1 0
     ∷ reduces R·a→b (query (v 0 ∷ []) (R (v 0) (v 1) ∷ B (v 0) (v 2) ∷ [])) (v 0 ∷ []) 2 0
     ∷ determines (from 1 1 2 ∷ from 1 0 1 ∷ []) 1 (0 ∷ []) 3
@@ -214,8 +206,10 @@ further =
 -- of two in the head the lower
 abbrev pub survivors : List Example
 survivors =
-    chasesTo R·a→b (query (v 0 ∷ []) (R (v 0) (v 5) ∷ R (v 0) (v 3) ∷ B (v 5) (v 3) ∷ [])) (query (v 0 ∷ []) (R (v 0) (v 3) ∷ R (v 0) (v 3) ∷ B (v 3) (v 3) ∷ [])) 1
-    ∷ chasesTo R·a→b (query (v 0 ∷ []) (R (v 0) (v 3) ∷ R (v 0) (v 5) ∷ B (v 5) (v 3) ∷ [])) (query (v 0 ∷ []) (R (v 0) (v 3) ∷ R (v 0) (v 3) ∷ B (v 3) (v 3) ∷ [])) 1
+    chasesTo R·a→b (query (v 0 ∷ []) (R (v 0) (v 5) ∷ R (v 0) (v 3) ∷ B (v 5) (v 3) ∷ []))
+    (query (v 0 ∷ []) (R (v 0) (v 3) ∷ R (v 0) (v 3) ∷ B (v 3) (v 3) ∷ [])) 1
+    ∷ chasesTo R·a→b (query (v 0 ∷ []) (R (v 0) (v 3) ∷ R (v 0) (v 5) ∷ B (v 5) (v 3) ∷ []))
+    (query (v 0 ∷ []) (R (v 0) (v 3) ∷ R (v 0) (v 3) ∷ B (v 3) (v 3) ∷ [])) 1
     ∷ reduces (from 1 0 1 ∷ []) (query (v 7 ∷ v 8 ∷ v 9 ∷ []) (S (v 7) (v 2) (v 9) ∷ S (v 7) (v 8) (v 1) ∷ [])) (v 7 ∷ v 8 ∷ v 9 ∷ []) 1 1
     ∷ reduces R·a→b (query (v 0 ∷ v 1 ∷ v 2 ∷ []) (R (v 0) (v 2) ∷ R (v 0) (v 1) ∷ [])) (v 0 ∷ v 1 ∷ v 1 ∷ []) 1 1
     ∷ []

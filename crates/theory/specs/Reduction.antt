@@ -44,7 +44,8 @@ pub record Reordered (T U : Query) : Type 0 where
   pub back : (r : Row Entry) → r ∈ U .rows → r ∈ T .rows
   pub size : length (U .rows) ≡ length (T .rows)
 
--- R is a rival of S: a query of the same head length with the same answers on every sound database that obeys the dependencies, whatever its rows, variables and constants.
+-- R is a rival of S: a query of the same head length with the same answers on every sound database that obeys the dependencies,
+-- whatever its rows, variables and constants.
 -- `width` is what SPECIFICATION, The demands, asks of rivals; no proof needs it
 pub record Rival (widths : List ℕ) (ds : List Dependency) (S R : Query) : Type 0 where
   pub width : length (R .head) ≡ length (S .head)

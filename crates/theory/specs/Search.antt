@@ -2,12 +2,12 @@
 -- It finds a mapping exactly where there is one (`ContainmentTheorems`). The engine's own search is another, with the same meaning.
 use mathlib.Core.Bool.{Bool, true, false, cond}
 use mathlib.Core.List.{List, [], _∷_, _++_}
-use mathlib.Core.Option.{Option, none, some, Option·getD}
+use mathlib.Core.Option.{Option, none, some, bind, orElse, Option·getD}
 use Prim.Native.Nat.{ℕ}
 use lib.Dec.{eqb}
 use Rattle.theory.specs.Query.{Entry, constant, variable, Row, Query, sameEntry}
 use Rattle.theory.specs.Database.{Dependency}
-use Rattle.theory.specs.Chase.{orElse, chase}
+use Rattle.theory.specs.Chase.{chase}
 
 -- A partial assignment: some variables, each with the entry it goes to
 abbrev pub Partial : Type 0
@@ -17,11 +17,6 @@ Partial = List (ℕ × Entry)
 unfoldable pub lookup : ℕ → Partial → Option Entry
 lookup v [] = none
 lookup v (b ∷ bs) = cond (eqb v (b .0)) (some (b .1)) (lookup v bs)
-
--- What follows a step, if the step succeeds
-unfoldable pub andThen : {A B : Type 0} → Option A → (A → Option B) → Option B
-andThen none f = none
-andThen (some x) f = f x
 
 -- A partial assignment under which variable v goes to e, where `chosen` is what v goes to so far
 unfoldable pub assignTo : ℕ → Entry → Partial → Option Entry → Option Partial
@@ -38,7 +33,7 @@ unfoldable pub matchEntries : List Entry → List Entry → Partial → Option P
 matchEntries [] [] bs = some bs
 matchEntries [] (e ∷ es) bs = none
 matchEntries (d ∷ ds) [] bs = none
-matchEntries (d ∷ ds) (e ∷ es) bs = andThen (matchEntry d e bs) (matchEntries ds es)
+matchEntries (d ∷ ds) (e ∷ es) bs = bind (matchEntry d e bs) (matchEntries ds es)
 
 -- The same for rows of one relation
 unfoldable pub matchRow : Row Entry → Row Entry → Partial → Option Partial
@@ -47,7 +42,7 @@ matchRow r s bs = cond (eqb (r .relation) (s .relation)) (matchEntries (r .value
 -- The first of the candidates that row r can go to so that `next`, which places the other rows, succeeds
 unfoldable pub tryRows : (Partial → Option Partial) → Row Entry → List (Row Entry) → Partial → Option Partial
 tryRows next r [] bs = none
-tryRows next r (s ∷ ss) bs = let later = tryRows next r ss bs in orElse (andThen (matchRow r s bs) next) later
+tryRows next r (s ∷ ss) bs = let later = tryRows next r ss bs in orElse (bind (matchRow r s bs) next) later
 
 -- A partial assignment under which each row goes to one of the candidates
 unfoldable pub placeRows : List (Row Entry) → List (Row Entry) → Partial → Option Partial
@@ -57,20 +52,20 @@ placeRows (r ∷ rs) candidates bs = tryRows (placeRows rs candidates) r candida
 -- A partial assignment that carries a query with some rows into T: the head first, then row by row. Never is mapped nowhere
 unfoldable pub placeQuery : List Entry → List (Row Entry) → Query → Option Partial
 placeQuery head [] T = none
-placeQuery head (r ∷ rs) T = andThen (matchEntries head (T .head) []) (placeRows (r ∷ rs) (T .rows))
+placeQuery head (r ∷ rs) T = bind (matchEntries head (T .head) []) (placeRows (r ∷ rs) (T .rows))
 
 -- The assignment that a partial one gives: constant 0 where nothing is chosen
 abbrev pub assignment : Partial → ℕ → Entry
 assignment bs v = Option·getD (lookup v bs) (constant 0)
 
--- Whether something was found
-abbrev pub found : {A : Type 0} → Option A → Bool
-found none = false
-found (some x) = true
+-- Whether there is something
+abbrev pub isSome : {A : Type 0} → Option A → Bool
+isSome none = false
+isSome (some x) = true
 
 -- Whether there is a mapping from S to T
 unfoldable pub mappable : Query → Query → Bool
-mappable S T = found (placeQuery (S .head) (S .rows) T)
+mappable S T = isSome (placeQuery (S .head) (S .rows) T)
 
 -- Whether p, once chased to `chased`, is contained in q: it is never, or q can be mapped to it
 unfoldable pub containedOn : List (Row Entry) → Query → Query → Bool

@@ -4,7 +4,7 @@ use mathlib.Core.Path.{_≡_, refl, sym, ap, _∙_, subst}
 use mathlib.Core.Logic.{_⊎_, inl, inr, ⊎-elim}
 use mathlib.Core.Bool.{Bool, true, false, not, _&&_, false≢true}
 use mathlib.Core.List.{List, [], _∷_}
-use mathlib.Core.Option.{Option, none, some}
+use mathlib.Core.Option.{Option, none, some, orElse}
 use Prim.Native.Nat.{ℕ, zero, suc, _+_, _<_}
 use native.Mathlib.Omega.{arith}
 use lib.Dec.{eqb}
@@ -13,7 +13,7 @@ use borrow.Author.Tests.{eqb-true, eq-eqb, not-true}
 use Rattle.lists.proofs.Tests.{and-left, and-right, below-or-past}
 use Rattle.theory.specs.Query.{Row, constant, column, mapRow, sameEntry}
 use Rattle.theory.specs.Database.{Database, Dependency, Agree}
-use Rattle.theory.specs.Chase.{orElse, mapFound, firstPassing, firstPair, firstFound, agree, breaks}
+use Rattle.theory.specs.Chase.{firstPassing, firstPair, firstFound, agree, breaks}
 use Rattle.words.specs.declared.Violation.the-variants as violation
 use Rattle.words.specs.Testing.{numberedFrom, breaksRows, breaksWith, firstPairFrom, firstBrokenFrom}
 use Rattle.words.specs.Broken.{violationOf}
@@ -158,7 +158,7 @@ module _ (d : Dependency) where
           f .before a b (omega arith) (omega arith) (⊎-elim (λ h. inl (omega arith)) (λ h. inr (omega (arith, h .0), omega (arith, h .1))) w)
 
   first-pair : (n : ℕ) (D : Database) (found : (ℕ × Row ℕ) × (ℕ × Row ℕ)) → firstPairFrom d n D ≡ some found → FirstPair d D n found
-  unfolding firstPair numberedFrom orElse mapFound
+  unfolding firstPair numberedFrom orElse
   first-pair n [] found e = absurd (let z : _≡_ {A = ℕ} 0 1 = cc in omega arith)
   first-pair n (t ∷ D) found e = go (firstPassing (breaksWith d t) (numberedFrom (suc n) D)) refl (first-pair (suc n) D found)
     where
@@ -172,7 +172,7 @@ module _ (d : Dependency) where
 
   -- Where no pair is found, none breaks it
   no-pair : (n : ℕ) (D : Database) → firstPairFrom d n D ≡ none → (a b : ℕ) → a < b → b < length D → breaksRows d (nthRow D a) (nthRow D b) ≡ false
-  unfolding firstPair numberedFrom orElse mapFound
+  unfolding firstPair numberedFrom orElse
   no-pair n [] e a b l m = absurd (omega arith)
   no-pair n (t ∷ D) e a b l m = go (firstPassing (breaksWith d t) (numberedFrom (suc n) D)) refl a b l m (no-pair (suc n) D)
     where
@@ -195,7 +195,7 @@ pub record FirstDependency (ds : List Dependency) (D : Database) (k : ℕ) (foun
 
 first-dependency : (k : ℕ) (ds : List Dependency) (D : Database) (found : (ℕ × Dependency) × ((ℕ × Row ℕ) × (ℕ × Row ℕ))) → firstBrokenFrom k ds D ≡ some found
     → FirstDependency ds D k found
-unfolding firstBrokenFrom firstFound numberedFrom orElse mapFound
+unfolding firstBrokenFrom firstFound numberedFrom orElse
 first-dependency k [] D found e = absurd (let z : _≡_ {A = ℕ} 0 1 = cc in omega arith)
 first-dependency k (d ∷ ds) D found e = go (firstPairFrom d 0 D) refl (first-dependency (suc k) ds D found)
   where
@@ -255,7 +255,7 @@ module _ {ds : List Dependency} {D : Database} {k i j a b : ℕ} (f : FirstBroke
 -- Where no dependency is found, no rows break one
 no-dependency : (k : ℕ) (ds : List Dependency) (D : Database) → firstBrokenFrom k ds D ≡ none → (l : ℕ) → l < length ds → firstPairFrom (nthDependency ds l) 0 D
     ≡ none
-unfolding firstBrokenFrom firstFound numberedFrom orElse mapFound
+unfolding firstBrokenFrom firstFound numberedFrom orElse
 no-dependency k [] D e l m = absurd (omega arith)
 no-dependency k (d ∷ ds) D e l m = go (firstPairFrom d 0 D) refl l m (no-dependency (suc k) ds D)
   where

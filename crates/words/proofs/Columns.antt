@@ -1,7 +1,7 @@
 -- Two rows of words, column by column: the left set of a dependency is taken from its mask bit by bit. Assumes nothing.
-use mathlib.Core.Path.{_≡_, refl, ap, _∙_}
+use mathlib.Core.Path.{_≡_, ap, _∙_}
 use mathlib.Core.Bool.{Bool, true, false, not, _&&_}
-use mathlib.Core.List.{List, [], _∷_}
+use mathlib.Core.List.{List, _∷_}
 use Prim.Native.Nat.{ℕ, zero, suc, _+_, _-_, _/_, _%_, _^_, _≤_, _<_}
 use native.Mathlib.Nat.{div-lt-iff-lt-mul, pow-suc}
 use native.Mathlib.Omega.{arith}
@@ -13,21 +13,17 @@ use Rattle.theory.specs.Query.{constant, column, mapRow, sameEntry}
 use Rattle.theory.specs.Chase.{agree, breaks}
 use Rattle.query.specs.View.{columnsFrom, columnsOf, dependencyOf}
 use Rattle.query.specs.declared.Dependency.{Dependency}
+use Rattle.query.proofs.Stored.{no-columns}
 use Rattle.words.specs.internal.Rows.{spanAt, agreeRows}
 use Rattle.words.specs.Testing.{breaksRows}
 
 -- ---- the columns of a mask
 
-columns-zero : (start n : ℕ) → columnsFrom start n 0 ≡ []
-unfolding columnsFrom
-columns-zero start zero = refl
-columns-zero start (suc n) = columns-zero (suc start) n
-
 -- a mask below 2 ^ width has no columns from `width` on
 pub columns-short : (start n width mask : ℕ) → width ≤ n → mask < 2 ^ width → columnsFrom start n mask ≡ columnsFrom start width mask
 unfolding columnsFrom
 columns-short start n zero mask h below =
-    let z : mask ≡ 0 = omega arith in ap (λ (m : ℕ). columnsFrom start n m) z ∙ columns-zero start n
+    let z : mask ≡ 0 = omega arith in ap (λ (m : ℕ). columnsFrom start n m) z ∙ no-columns start n
 columns-short start zero (suc width) mask h below = absurd (omega arith)
 columns-short start (suc n) (suc width) mask h below =
     let half : mask / 2 < 2 ^ width = div-lt-iff-lt-mul {k = 2} {x = mask} {y = 2 ^ width} (omega arith) .1 (rw (pow-suc 2 width) at below) in

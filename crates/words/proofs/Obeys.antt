@@ -2,7 +2,7 @@
 use mathlib.Core.Path.{_≡_, refl, ap, sym, subst, _∙_}
 use mathlib.Core.Bool.{Bool, true, false, false≢true}
 use mathlib.Core.List.{List, [], _∷_, List·Memᴰ·head, List·Memᴰ·tail, List·Memᴰ·not-nil}
-use mathlib.Core.Option.{Option, none, some}
+use mathlib.Core.Option.{Option, none, some, orElse, Option·map}
 use Prim.Native.Nat.{ℕ, suc}
 use native.Mathlib.Omega.{arith}
 use lib.Dec.{eqb}
@@ -10,7 +10,7 @@ use borrow.Author.Tests.{eqb-true, eq-eqb}
 use lib.ListN.{List·getD-map}
 use Rattle.theory.specs.Query.{Row, constant, column, mapRow, sameEntry, _∈_}
 use Rattle.theory.specs.Database.{Database, Dependency, Agree, ObeysOne, Obeys}
-use Rattle.theory.specs.Chase.{orElse, mapFound, firstPassing, firstPair, firstFound, agree, breaks}
+use Rattle.theory.specs.Chase.{firstPassing, firstPair, firstFound, agree, breaks}
 use Rattle.words.specs.Testing.{numberedFrom, breaksRows, breaksWith, firstPairFrom, firstBrokenFrom}
 use Rattle.lists.proofs.Tests.{and-left, and-right}
 
@@ -97,13 +97,13 @@ each-fails d r n (u ∷ D) h s m = go (λ i k. each-fails d r (suc n) D i s k) (
     go later false e (List·Memᴰ·tail k) = later (sym (rw e) ∙ h) k
 
 -- nothing is found, neither first nor later
-or-none : {A B : Type 0} (f : A → B) (o : Option A) (later : Option B) → orElse (mapFound f o) later ≡ none → (o ≡ none) × (later ≡ none)
-unfolding orElse mapFound
+or-none : {A B : Type 0} (f : A → B) (o : Option A) (later : Option B) → orElse (Option·map f o) later ≡ none → (o ≡ none) × (later ≡ none)
+unfolding orElse
 or-none f none later h = (refl, h)
 or-none f (some x) later h = absurd (let z : _≡_ {A = ℕ} 0 1 = cc in omega arith)
 
-none-or : {A B : Type 0} (f : A → B) (o : Option A) (later : Option B) → o ≡ none → later ≡ none → orElse (mapFound f o) later ≡ none
-unfolding orElse mapFound
+none-or : {A B : Type 0} (f : A → B) (o : Option A) (later : Option B) → o ≡ none → later ≡ none → orElse (Option·map f o) later ≡ none
+unfolding orElse
 none-or f none later p q = q
 none-or f (some x) later p q = absurd (let z : _≡_ {A = ℕ} 0 1 = cc in omega arith)
 

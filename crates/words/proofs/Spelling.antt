@@ -1,4 +1,4 @@
--- Words and rows: `spellsRows` is that the words spell the rows `rowsOf`, and no other rows.
+-- Words and rows: `spellsRows` is that the words spell the rows `databaseOf`, and no other rows.
 -- First how reading goes on after a row, then the two directions. Assumes nothing.
 use mathlib.Core.Path.{_≡_, refl, ap, ap₂, sym, subst, _∙_}
 use mathlib.Core.Bool.{Bool, true, false, _&&_, and-false, false≢true}
@@ -12,7 +12,7 @@ use lib.Seq.{length-take-le, take-at, drop-at, drop-cons, drop-drop}
 use Rattle.lists.proofs.Tests.{and-left, and-right}
 use Rattle.theory.specs.Query.{Row, FitsSchema}
 use Rattle.theory.specs.Database.{Database, Sound}
-use Rattle.words.specs.Words.{wordsOf, Spells, rowsFrom, spellsRowsFrom, rowsOf, spellsRows}
+use Rattle.words.specs.Words.{wordsOf, Spells, rowsFrom, spellsRowsFrom, databaseOf, spellsRows}
 use Rattle.words.specs.internal.Rows.{rowAt, Next}
 
 -- ---- after the values that are due, reading begins again
@@ -68,16 +68,16 @@ spelled schema zero (relation ∷ words) h =
 spelled schema (suc due) (word ∷ words) h = spelled schema due words h
 
 -- words that `spellsRows` passes spell the rows that are read
-pub spells-made : (schema words : List ℕ) → spellsRows schema words ≡ true → Spells schema words (rowsOf schema words)
+pub spells-made : (schema words : List ℕ) → spellsRows schema words ≡ true → Spells schema words (databaseOf schema words)
 spells-made schema words h = spelled schema 0 words h
 
 -- words that spell rows are passed by `spellsRows`, and those rows are read
-pub spells-back : (schema : List ℕ) (D : Database) → Sound schema D → (spellsRows schema (wordsOf D) ≡ true) × (rowsOf schema (wordsOf D) ≡ D)
+pub spells-back : (schema : List ℕ) (D : Database) → Sound schema D → (spellsRows schema (wordsOf D) ≡ true) × (databaseOf schema (wordsOf D) ≡ D)
 unfolding wordsOf rowsFrom spellsRowsFrom
 spells-back schema [] sound = (refl, refl)
 spells-back schema (r ∷ D) sound =
     let fits : FitsSchema schema r = sound r (List·Memᴰ·head refl) in
-    let more : (spellsRows schema (wordsOf D) ≡ true) × (rowsOf schema (wordsOf D) ≡ D) = spells-back schema D (λ s m. sound s (List·Memᴰ·tail m)) in
+    let more : (spellsRows schema (wordsOf D) ≡ true) × (databaseOf schema (wordsOf D) ≡ D) = spells-back schema D (λ s m. sound s (List·Memᴰ·tail m)) in
     let width : ℕ = getD schema (r .relation) 0 in
     let long : width ≤ length (r .values ++ wordsOf D) = omega (arith, length-append (r .values) (wordsOf D), fits .1) in
     let past : drop width (r .values ++ wordsOf D) ≡ wordsOf D = drop-at (r .values) (wordsOf D) width (fits .1) in

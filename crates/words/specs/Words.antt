@@ -1,5 +1,5 @@
 -- A database as words: each row is its relation's number and then its values, one a column.
--- `rowsOf` reads the rows, `spellsRows` judges the words (refusal 9), and `Spells` is what the two are: `proofs/Spelling` shows it.
+-- `databaseOf` reads them, `spellsRows` judges the words (refusal 9), and `Spells` is what the two are: `proofs/Spelling` shows it.
 use mathlib.Core.Path.{_≡_}
 use mathlib.Core.Bool.{Bool, true, false, _&&_}
 use mathlib.Core.List.{List, [], _∷_, _++_}
@@ -31,9 +31,9 @@ spellsRowsFrom schema (suc due) [] = false
 spellsRowsFrom schema zero (relation ∷ words) = ltb relation (length schema) && spellsRowsFrom schema (getD schema relation 0) words
 spellsRowsFrom schema (suc due) (word ∷ words) = spellsRowsFrom schema due words
 
--- The rows that words spell
-abbrev pub rowsOf : List ℕ → List ℕ → Database
-rowsOf schema words = rowsFrom schema 0 words
+-- The database that words spell
+abbrev pub databaseOf : List ℕ → List ℕ → Database
+databaseOf schema words = rowsFrom schema 0 words
 
 -- Whether words spell rows: the opposite is refusal 9, a row of unknown relation or cut short
 abbrev pub spellsRows : List ℕ → List ℕ → Bool

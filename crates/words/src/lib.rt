@@ -82,7 +82,7 @@ pub enum Partner {
 }
 
 // The positions of a pair of rows that is found.
-pub enum Pair {
+pub enum RowPair {
     At(usize, usize),
     Absent,
 }

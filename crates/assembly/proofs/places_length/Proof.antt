@@ -9,7 +9,7 @@ use Rattle.query.specs.declared.Place.{Place}
 use Rattle.query.specs.Rule.{goodPlace}
 use Rattle.format.specs.File.{join, putPlace}
 use Rattle.lists.proofs.Tests.{every-getD}
-use Rattle.format.proofs.Arrays.{pastPlace}
+use Rattle.query.proofs.Shape.{pastPlace}
 use Rattle.assembly.proofs.FirstPlaces.{parts-next, parts-end}
 use Rattle.assembly.proofs.places_length.Statement.{statement}
 use Rattle.assembly.proofs.places_length.Tie as tie

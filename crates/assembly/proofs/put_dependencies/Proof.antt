@@ -1,42 +1,38 @@
 use borrow.Author.Needs.{needs}
 use mathlib.Core.Path.{_≡_, refl, _∙_}
-use mathlib.Core.List.{List}
+use mathlib.Core.List.{List, flatMap}
 use Prim.Native.Nat.{ℕ, _+_, _*_, _-_, _≤_, _<_}
 use native.Mathlib.Nat.{add-zero}
 use native.Mathlib.Omega.{arith}
 use lib.ListN.{length, take, getD, set, length-set}
 use lib.Seq.{length-take-le, getD-take}
 use Rattle.query.specs.declared.Dependency.{Dependency}
+use Rattle.query.specs.Rule.{noDependency}
 use Rattle.lists.specs.Over.{over}
-use Rattle.format.specs.Format.{putAll}
-use Rattle.format.proofs.Lengths.{length-putAll}
+use Rattle.format.proofs.Lengths.{length-flatMap}
 use Rattle.assembly.specs.internal.Pieces.{putDependency}
 use Rattle.encoder.proofs.Stores.{Writing, writing-starts, writing-room, writing-turns, writing-ends, byte-and-run}
 use Rattle.assembly.proofs.put_dependencies.Statement.{statement}
 use Rattle.assembly.proofs.put_dependencies.Tie as tie
 
--- The dependency that an index past the end would give
-abbrev past : Dependency
-past = record { relation = 0; left = 0; right = 0 }
-
 begins : (buffer : List ℕ) (at held : ℕ) (list : List Dependency) → held ≤ length list → at + 1 + 3 * held ≤ length buffer
     → Writing putDependency buffer (at + 1) (take held list) buffer (at + 1 + 0) 0
 begins buffer at held list l h =
-    let e : length (putAll putDependency (take held list)) ≡ 3 * length (take held list) = length-putAll putDependency 3 (λ d. refl) (take held list) in
+    let e : length (flatMap putDependency (take held list)) ≡ 3 * length (take held list) = length-flatMap putDependency 3 (λ d. refl) (take held list) in
     let k : length (take held list) ≡ held = length-take-le held list l in
     rw (add-zero (at + 1)) (writing-starts putDependency buffer (at + 1) (take held list) (omega arith))
 
 module _ (before : List ℕ) (at held : ℕ) (list : List Dependency) (buffer : List ℕ) (i : ℕ) (h : i < held) (l : held ≤ length list)
     (w : Writing putDependency before (at + 1) (take held list) buffer (at + 1 + 3 * i) i) where
   room : at + 1 + 3 * i + 3 ≤ length buffer
-  room = let k : length (take held list) ≡ held = length-take-le held list l in omega (arith, writing-room w past (omega arith))
+  room = let k : length (take held list) ≡ held = length-take-le held list l in omega (arith, writing-room w noDependency (omega arith))
 
-  goes-on : (next : List ℕ) → next ≡ over buffer (at + 1 + 3 * i) (putDependency (getD list i past))
+  goes-on : (next : List ℕ) → next ≡ over buffer (at + 1 + 3 * i) (putDependency (getD list i noDependency))
       → Writing putDependency before (at + 1) (take held list) next (at + 1 + 3 * (i + 1)) (i + 1)
   goes-on next e =
       let k : length (take held list) ≡ held = length-take-le held list l in
-      let g : getD (take held list) i past ≡ getD list i past = getD-take held list i past h in
-      writing-turns w past next (at + 1 + 3 * (i + 1)) (omega arith) (rw g e) (omega arith)
+      let g : getD (take held list) i noDependency ≡ getD list i noDependency = getD-take held list i noDependency h in
+      writing-turns w noDependency next (at + 1 + 3 * (i + 1)) (omega arith) (rw g e) (omega arith)
 
 abbrev Inv-loop : tie.InvT-loop
 Inv-loop buffer₀ at held list i₀ i-end buffer i = (i ≤ held) × Writing putDependency buffer₀ (at + 1) (take held list) buffer (at + 1 + 3 * i) i
@@ -129,7 +125,7 @@ returns c =
     let start = c .before .before .before in
     let k : length (take (start .args .held) (start .args .t4)) ≡ start .args .held =
     length-take-le (start .args .held) (start .args .t4) (omega (arith, start .pre .0)) in
-    byte-and-run (start .args .buffer .now) (start .args .at) (start .args .held) (putAll putDependency (take (start .args .held) (start .args .t4)))
+    byte-and-run (start .args .buffer .now) (start .args .at) (start .args .held) (flatMap putDependency (take (start .args .held) (start .args .t4)))
     (c .before .loop .buffer) (omega (arith, start .pre .1))
     (writing-ends (c .before .loop .inv .1) (omega arith) .0)
 

@@ -1,14 +1,14 @@
 use borrow.Author.Needs.{needs}
 use mathlib.Core.Path.{_≡_, refl, _∙_}
-use mathlib.Core.List.{List, [], _∷_}
+use mathlib.Core.List.{List, [], _∷_, flatMap}
 use Prim.Native.Nat.{ℕ, _+_, _*_, _-_, _≤_, _<_}
 use native.Mathlib.Nat.{add-zero}
 use native.Mathlib.Omega.{arith}
 use lib.ListN.{length, take, getD, set, length-set}
 use lib.Seq.{sets-eq, length-take-le, getD-take}
-use Rattle.format.specs.Format.{byte, sequence, padded, putAll}
+use Rattle.format.specs.Format.{byte, sequence, padded}
 use Rattle.format.specs.Parts.{relations}
-use Rattle.format.proofs.Lengths.{length-putAll}
+use Rattle.format.proofs.Lengths.{length-flatMap}
 use Rattle.encoder.proofs.Stores.{Writing, writing-starts, writing-room, writing-turns, writing-ends, byte-and-run}
 use Rattle.assembly.proofs.put_relations.Statement.{statement}
 use Rattle.assembly.proofs.put_relations.Tie as tie
@@ -20,7 +20,7 @@ one b = b ∷ []
 begins : (buffer : List ℕ) (at count : ℕ) (widths : List ℕ) → count ≤ length widths → at + 1 + count ≤ length buffer
     → Writing one buffer (at + 1) (take count widths) buffer (at + 1 + 0) 0
 begins buffer at count widths l h =
-    let e : length (putAll one (take count widths)) ≡ 1 * length (take count widths) = length-putAll one 1 (λ b. refl) (take count widths) in
+    let e : length (flatMap one (take count widths)) ≡ 1 * length (take count widths) = length-flatMap one 1 (λ b. refl) (take count widths) in
     let k : length (take count widths) ≡ count = length-take-le count widths l in
     rw (add-zero (at + 1)) (writing-starts one buffer (at + 1) (take count widths) (omega arith))
 
@@ -112,7 +112,7 @@ returns c =
     let start = c .before .before in
     let k : length (take (start .args .count) (start .args .t4)) ≡ start .args .count =
     length-take-le (start .args .count) (start .args .t4) (omega (arith, start .pre .0)) in
-    byte-and-run (start .args .buffer .now) (start .args .at) (start .args .count) (putAll one (take (start .args .count) (start .args .t4)))
+    byte-and-run (start .args .buffer .now) (start .args .at) (start .args .count) (flatMap one (take (start .args .count) (start .args .t4)))
     (c .before .loop .buffer) (omega (arith, start .pre .1))
     (writing-ends (c .before .loop .inv .1) (omega arith) .0)
 

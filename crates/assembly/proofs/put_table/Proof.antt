@@ -13,7 +13,7 @@ use Rattle.format.specs.Bytes.{bytesOf}
 use Rattle.format.specs.File.{tableOf, putPlace}
 use Rattle.lists.proofs.Over.{over-nil, over-length, over-over}
 use Rattle.lists.proofs.Tests.{every-getD}
-use Rattle.format.proofs.Arrays.{pastPlace}
+use Rattle.query.proofs.Shape.{pastPlace}
 use Rattle.format.proofs.Numbers.{length-bytes}
 use Rattle.format.proofs.Directory.{length-table}
 use Rattle.assembly.proofs.FirstPlaces.{parts-next, parts-end}

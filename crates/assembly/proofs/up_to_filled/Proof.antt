@@ -9,7 +9,7 @@ use native.Mathlib.Omega.{arith}
 use lib.ListN.{length, take, getD}
 use lib.Seq.{take-suc, take-all, length-take-le}
 use Rattle.query.specs.declared.Place.{Place}
-use Rattle.format.proofs.Arrays.{pastPlace}
+use Rattle.query.proofs.Shape.{pastPlace}
 use Rattle.format.specs.File.{oneMoreIfAny, upToFilled}
 use Rattle.assembly.proofs.up_to_filled.Statement.{statement}
 use Rattle.assembly.proofs.up_to_filled.Tie as tie

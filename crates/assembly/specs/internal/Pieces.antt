@@ -1,12 +1,11 @@
 -- The bytes that the functions write, piece by piece.
-use mathlib.Core.List.{List, [], _∷_, _++_, map}
+use mathlib.Core.List.{List, [], _∷_, _++_, map, flatMap}
 use Prim.Native.Nat.{ℕ, _+_, _*_}
 use lib.ListN.{take}
 use Rattle.query.specs.declared.Dependency.{Dependency}
 use Rattle.record.specs.declared.Record.{Record}
 use Rattle.record.specs.View.{schemaOf}
 use Rattle.format.specs.Bytes.{bytesOf}
-use Rattle.format.specs.Format.{putAll}
 use Rattle.format.specs.Parts.{relations}
 use Rattle.format.specs.File.{tableOf, join, putPlace}
 
@@ -16,7 +15,7 @@ putDependency d = d .relation ∷ d .left ∷ d .right ∷ []
 
 -- The bytes of part 1: the count of dependencies, then 3 bytes each
 abbrev pub dependencyBytes : ℕ → List Dependency → List ℕ
-dependencyBytes held list = held ∷ putAll putDependency (take held list)
+dependencyBytes held list = held ∷ flatMap putDependency (take held list)
 
 -- The number of parts and the table: parts 0 and 1 of the given lengths, and query parts
 abbrev pub directoryBytes : ℕ → ℕ → ℕ → List (List ℕ) → List ℕ

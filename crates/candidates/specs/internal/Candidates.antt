@@ -59,7 +59,8 @@ pub record Laid (source target : List ℕ) (size count : ℕ) : Type 0 where
 abbrev pub Together : List ℕ → List ℕ → ℕ → ℕ → ℕ → ℕ → ℕ → Type 0
 Together source target size r d q e = Agrees source target (rowStart size r) (imageStart size r d) (rowStart size q) (imageStart size q e)
 
--- Row r can go to candidate d: a row of the same relation, the first of its like, with the row's constants in their places and one code for each of its variables
+-- Row r can go to candidate d: a row of the same relation, the first of its like, with the row's constants in their places and one code for each
+-- of its variables
 pub record Possible (source target named offered : List ℕ) (size r d : ℕ) : Type 0 where
   pub relation : r < size → getD named r 0 ≡ getD offered d 0
   pub first : r < size → Repeats target offered d → ⊥

@@ -17,32 +17,32 @@ abbrev pub Below : List ℕ → Type 0
 Below chosen = (q : ℕ) → getD chosen q 0 < 12
 
 -- f has what is chosen at each placed row of the mask
-abbrev pub Agrees : ℕ → ℕ → List ℕ → (ℕ → ℕ) → Type 0
-Agrees placed mask chosen f = (q : ℕ) → Bit placed q → Bit mask q → f q ≡ getD chosen q 0
+abbrev pub HasChosen : ℕ → ℕ → List ℕ → (ℕ → ℕ) → Type 0
+HasChosen placed mask chosen f = (q : ℕ) → Bit placed q → Bit mask q → f q ≡ getD chosen q 0
 
 -- no solution has what is chosen at each placed row of the mask
 abbrev pub Refuted : ℕ → List ℕ → List ℕ → ℕ → ℕ → List ℕ → Type 0
 Refuted rows domain table placed mask chosen =
-    (f : ℕ → ℕ) → Solution rows domain table f → Agrees placed mask chosen f → ⊥
+    (f : ℕ → ℕ) → Solution rows domain table f → HasChosen placed mask chosen f → ⊥
 
 -- every solution that has what is chosen at each placed row of the mask has a candidate of `left` at row q
 abbrev pub Left : ℕ → List ℕ → List ℕ → ℕ → ℕ → List ℕ → ℕ → ℕ → Type 0
 Left rows domain table placed mask chosen q left =
-    (f : ℕ → ℕ) → Solution rows domain table f → Agrees placed mask chosen f → Bit left (f q)
+    (f : ℕ → ℕ) → Solution rows domain table f → HasChosen placed mask chosen f → Bit left (f q)
 
 -- the culprits of each row account for the candidates that it has no more
-abbrev pub Sound : ℕ → List ℕ → List ℕ → State → Type 0
-Sound rows domain table s =
+abbrev pub Accounted : ℕ → List ℕ → List ℕ → State → Type 0
+Accounted rows domain table s =
     (q : ℕ) → q < rows → Left rows domain table (s .placed) (getD (s .culprits) q 0) (s .chosen) q (getD (s .current) q 0)
 
 -- t has the choices of s, and its culprits account for its candidates where those of s do
 pub record Settles (rows : ℕ) (table : List ℕ) (s t : State) : Type 0 where
   pub chosen : t .chosen ≡ s .chosen
   pub placed : t .placed ≡ s .placed
-  pub sound : (domain : List ℕ) → Sound rows domain table s → Sound rows domain table t
+  pub sound : (domain : List ℕ) → Accounted rows domain table s → Accounted rows domain table t
 
 -- t has the choices of s and candidate d for row r, and its culprits account for its candidates where those of s do
 pub record Follows (rows : ℕ) (table : List ℕ) (s t : State) (r d : ℕ) : Type 0 where
   pub chosen : t .chosen ≡ set (s .chosen) r d
   pub placed : t .placed ≡ bitOr (s .placed) (2 ^ r)
-  pub sound : (domain : List ℕ) → Sound rows domain table s → Sound rows domain table t
+  pub sound : (domain : List ℕ) → Accounted rows domain table s → Accounted rows domain table t

@@ -16,7 +16,7 @@ use Rattle.format.specs.Bytes.{Bytes}
 use Rattle.format.specs.Format.{Reading, none, got}
 use Rattle.format.specs.Parts.{query}
 use Rattle.format.specs.File.{complete, isVacant, placeWith, safeQuery, readPlace}
-use Rattle.format.proofs.Arrays.{bytes-known}
+use Rattle.format.proofs.Bytes.{bytes-known}
 use Rattle.format.proofs.Parts.{Narrow, query-lawful}
 use Rattle.format.proofs.Rules.{good-query, good-narrow}
 use Rattle.parsing.specs.declared.QueryRead.{QueryRead}

@@ -1,6 +1,6 @@
 use borrow.Author.Needs.{needs}
 use mathlib.Core.Path.{_≡_}
-use mathlib.Core.List.{List}
+use mathlib.Core.List.{List, flatMap}
 use Prim.Native.Nat.{ℕ, _+_, _*_, _-_, _≤_, _<_}
 use native.Mathlib.Nat.{add-zero}
 use native.Mathlib.Omega.{arith}
@@ -9,9 +9,9 @@ use lib.Seq.{length-take-le, getD-take}
 use Rattle.query.specs.declared.Cell.{Cell}
 use Rattle.query.specs.Rule.{noCell}
 use Rattle.lists.specs.Over.{over}
-use Rattle.format.specs.Format.{padded, putAll}
+use Rattle.format.specs.Format.{padded}
 use Rattle.format.specs.Parts.{putEntry, entry, entries}
-use Rattle.format.proofs.Lengths.{length-putAll, length-entry}
+use Rattle.format.proofs.Lengths.{length-flatMap, length-entry}
 use Rattle.encoder.proofs.Stores.{Writing, writing-starts, writing-room, writing-turns, writing-ends}
 use Rattle.encoder.proofs.put_entries.Statement.{statement}
 use Rattle.encoder.proofs.put_entries.Tie as tie
@@ -23,7 +23,7 @@ putCell c = putEntry (c .entry)
 begins : (buffer : List ℕ) (at n : ℕ) (cells : List Cell) → n ≤ length cells → at + 5 * n ≤ length buffer
     → Writing putCell buffer at (take n cells) buffer (at + 0) 0
 begins buffer at n cells l h =
-    let e : length (putAll putCell (take n cells)) ≡ 5 * length (take n cells) = length-putAll putCell 5 (λ c. length-entry (c .entry)) (take n cells) in
+    let e : length (flatMap putCell (take n cells)) ≡ 5 * length (take n cells) = length-flatMap putCell 5 (λ c. length-entry (c .entry)) (take n cells) in
     let k : length (take n cells) ≡ n = length-take-le n cells l in
     rw add-zero (writing-starts putCell buffer at (take n cells) (omega arith))
 

@@ -1,15 +1,15 @@
 use borrow.Author.Needs.{needs}
 use mathlib.Core.Path.{_≡_, sym, ap, _∙_}
 use mathlib.Core.Bool.{cond}
-use mathlib.Core.List.{List, [], _∷_, _++_}
-use Prim.Native.Nat.{ℕ, _+_, _*_, _-_, _^_, _≤_, _<_}
+use mathlib.Core.List.{List, [], _∷_, _++_, flatMap}
+use Prim.Native.Nat.{ℕ, _+_, _*_, _^_, _≤_, _<_}
 use native.Mathlib.Omega.{arith}
 use lib.Dec.{eqb}
 use lib.ListN.{length, take, set, length-append, length-set}
 use lib.Seq.{length-take-le}
 use Rattle.query.specs.declared.Query.{Query}
 use Rattle.lists.specs.Over.{over}
-use Rattle.format.specs.Format.{byte, sequence, via, padded, putAll}
+use Rattle.format.specs.Format.{byte, sequence, via, padded}
 use Rattle.format.specs.Parts.{entries, row, rows, chunk, query}
 use Rattle.lists.proofs.Over.{over-length, over-over}
 use Rattle.lists.proofs.Loops.{mapped-length}
@@ -27,7 +27,7 @@ headBytes used q = entries used .put (q .head)
 
 -- The rows' bytes
 abbrev rowBytes : List ℕ → Query → List ℕ
-rowBytes schema q = putAll (row schema .put) (take (q .size) (chunk (q .relations) (q .cells)))
+rowBytes schema q = flatMap (row schema .put) (take (q .size) (chunk (q .relations) (q .cells)))
 
 -- The buffer after the first two bytes
 abbrev opened : List ℕ → ℕ → Query → List ℕ

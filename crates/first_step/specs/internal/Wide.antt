@@ -2,7 +2,7 @@
 -- A column that a row's relation does not have holds constant 0, so the chase of these wide rows is that of the rows.
 use mathlib.Core.Bool.{Bool, true, _&&_}
 use mathlib.Core.List.{List, [], _∷_}
-use mathlib.Core.Option.{Option, none, some}
+use mathlib.Core.Option.{Option, none, some, Option·map}
 use Prim.Native.Nat.{ℕ, zero, suc, _*_, _≤_, _<_}
 use lib.ListN.{take, drop, getD}
 use Rattle.query.specs.declared.Entry.{Entry}
@@ -45,7 +45,7 @@ differing found =
 
 -- What the search should find
 abbrev pub firstDiffering : List database.Dependency → List (theory.Row theory.Entry) → Option (theory.Entry × theory.Entry)
-firstDiffering ds rows = chasing.mapFound differing (chasing.firstBroken ds rows)
+firstDiffering ds rows = Option·map differing (chasing.firstBroken ds rows)
 
 -- What the answer of the search stands for
 abbrev pub foundOf : Found → Option (theory.Entry × theory.Entry)

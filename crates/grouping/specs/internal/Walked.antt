@@ -7,7 +7,7 @@ use lib.Dec.{ltb}
 use lib.ListN.{length, drop, getD}
 use Rattle.query.specs.View.{dependencyOf}
 use Rattle.query.specs.declared.Dependency.{Dependency}
-use Rattle.words.specs.Words.{rowsOf}
+use Rattle.words.specs.Words.{databaseOf}
 use Rattle.words.specs.Testing.{firstPairFrom}
 use Rattle.words.specs.internal.Found.{From}
 use Rattle.grouping.specs.internal.Table.{Table}
@@ -18,7 +18,7 @@ use Rattle.grouping.specs.declared.Walk.{Walk}
 -- The row at `at` is the row at position n, or the words end at `at` and there are no more than n rows
 pub record Placed (schema words : List ℕ) (at n : ℕ) : Type 0 where
   pub from : From schema words at n
-  pub read : drop n (rowsOf schema words) ≡ rowsOf schema (drop at words)
+  pub read : drop n (databaseOf schema words) ≡ databaseOf schema (drop at words)
 
 -- The row at `at`, at position n, is of the dependency's relation
 pub record Member (schema words : List ℕ) (d : Dependency) (at n : ℕ) : Type 0 where
@@ -38,7 +38,7 @@ pub record Walked (schema words : List ℕ) (d : Dependency) (n : ℕ) (w : Walk
   pub room : Room heads links offsets numbers
   pub table : Table (getD schema (d .relation) 0) words d heads links offsets (w .count)
   pub members : (s : ℕ) → s < w .count → Member schema words d (getD offsets s 0) (getD numbers s 0)
-  pub groups : Groups (dependencyOf d) (rowsOf schema words) n (w .least .number) (w .count) (λ s. getD numbers s 0)
+  pub groups : Groups (dependencyOf d) (databaseOf schema words) n (w .least .number) (w .count) (λ s. getD numbers s 0)
   pub least : Placed schema words (w .least .at) (w .least .number)
 
 -- The position of the two that comes first
@@ -48,4 +48,5 @@ earlierOf p q = cond (ltb (q .number) (p .number)) q p
 -- No row before the position is the first of a broken pair
 pub record Skips (schema words : List ℕ) (d : Dependency) (p : Position) : Type 0 where
   pub from : From schema words (p .at) (p .number)
-  pub same : (n : ℕ) → firstPairFrom (dependencyOf d) n (rowsOf schema words) ≡ firstPairFrom (dependencyOf d) (n + p .number) (rowsOf schema (drop (p .at) words))
+  pub same : (n : ℕ) → firstPairFrom (dependencyOf d) n (databaseOf schema words)
+      ≡ firstPairFrom (dependencyOf d) (n + p .number) (databaseOf schema (drop (p .at) words))

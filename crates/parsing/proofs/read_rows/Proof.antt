@@ -3,6 +3,7 @@
 use borrow.Author.Needs.{needs}
 use mathlib.Core.Path.{_≡_, _∙_}
 use Prim.Native.Nat.{_+_, _*_, _-_, _≤_}
+use native.Mathlib.Numerals.{add-one-dec}
 use native.Mathlib.Omega.{arith}
 use lib.ListN.{length, take, getD}
 use Rattle.format.proofs.Rules.{good-narrow}
@@ -10,7 +11,7 @@ use Rattle.query.proofs.Relations.{relations-bounds}
 use Rattle.parsing.proofs.RowLaws.{row-past, row-unknown}
 use Rattle.parsing.proofs.ReadingRows.{schema-length, At, InRow, begins, fails, accepted, known-row, row-begins, row-goes-on, row-stops}
 use Rattle.parsing.proofs.ReadingRows.{row-ends, next-fits, entry-fits, entries-fit, relation-fits, row-inside, cell-inside, cell-fits, offset-fits}
-use Rattle.parsing.proofs.ReadingRows.{row-fits, next-row-fits, next-entry-fits, fewer-left, short}
+use Rattle.parsing.proofs.ReadingRows.{row-fits, next-row-fits, next-entry-fits, short}
 use Rattle.parsing.proofs.read_rows.Statement.{statement}
 use Rattle.parsing.proofs.read_rows.Tie as tie
 
@@ -191,7 +192,7 @@ add-i c =
     next-entry-fits (after-loop2 .loop2 .i) _ (after-loop2-test .loop2-test .taken) (after-loop2 .loop2 .inv .small)
 
 loop2-less : tie.Need-loop2-less Inv-loop2 μ-loop2 Inv-loop μ-loop
-loop2-less c = fewer-left (c .before .before .before .before .before .loop2 .i) _ (c .before .before .before .before .loop2-test .taken)
+loop2-less c = add-one-dec _ (c .before .before .before .before .before .loop2 .i) (c .before .before .before .before .loop2-test .taken)
 
 loop2-again : tie.Need-loop2-again Inv-loop2 μ-loop2 Inv-loop μ-loop
 loop2-again c =
@@ -246,7 +247,7 @@ loop-less c =
     let after-loop-test = c .before .before .before .before .before in
     let after-loop = after-loop-test .before in
     let start = after-loop .before .before in
-    fewer-left (after-loop .loop .r) (start .args .size) (after-loop-test .loop-test .taken)
+    add-one-dec (start .args .size) (after-loop .loop .r) (after-loop-test .loop-test .taken)
 
 loop-again : tie.Need-loop-again Inv-loop2 μ-loop2 Inv-loop μ-loop
 loop-again c =

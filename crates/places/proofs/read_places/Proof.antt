@@ -18,7 +18,7 @@ use Rattle.refusals.specs.Refusals.{Reply, gives, refused, _>>=_}
 use Rattle.decoder.proofs.Placed.{place-accepted, place-refused}
 use Rattle.format.specs.File.{stretch, stretches, readPlace, noneLeft, readPlaces, outcomeOf}
 use Rattle.lists.proofs.Over.{over-nil, over-set}
-use Rattle.format.proofs.Arrays.{pad-over}
+use Rattle.lists.proofs.Over.{pad-over}
 use Rattle.decoder.specs.declared.PlaceRead.{PlaceRead}
 use Rattle.decoder.specs.internal.Read.{placeRead}
 use Rattle.places.specs.internal.Read.{recordRead}

@@ -4,7 +4,7 @@ use mathlib.Core.List.{List, [], _∷_}
 use Prim.Native.Nat.{ℕ, _+_, _/_, _%_, _<_, _≤_}
 use native.Mathlib.Omega.{arith}
 use Rattle.printing.specs.Decimal.{decimal}
-use Rattle.printing.specs.internal.Writing.{Fits, Written}
+use Rattle.printing.specs.internal.Writing.{Fits, WrittenAt}
 use Rattle.printing.proofs.Decimal.{decimal-one, decimal-more}
 use Rattle.printing.proofs.Writing.{Progress, started, part-fits, rest-fits, wrote, wrote-rest, left-as}
 use borrow.Fn.Kinds.{In}
@@ -21,7 +21,7 @@ one-left : {buffer : List ℕ} {at n : ℕ} → Fits buffer at (decimal n) → n
 one-left {n = n} f h = left-as (started f) (decimal-one n h)
 
 -- when the digits before the last are written, the last is left
-last-left : {buffer buffer′ : List ℕ} {at next n : ℕ} → Fits buffer at (decimal n) → 10 ≤ n → Written buffer at (decimal (n / 10)) buffer′ next
+last-left : {buffer buffer′ : List ℕ} {at next n : ℕ} → Fits buffer at (decimal n) → 10 ≤ n → WrittenAt buffer at (decimal (n / 10)) buffer′ next
     → Progress buffer at (decimal n) ((48 + n % 10) ∷ []) buffer′ next
 last-left {n = n} f h w = wrote (started f) ((48 + n % 10) ∷ []) (decimal-more n h) w
 

@@ -10,6 +10,6 @@ pub record Fits (buffer : List ℕ) (at : ℕ) (bytes : List ℕ) : Type 0 where
   pub room : at + length bytes ≤ length buffer
 
 -- The buffer after is the one before with the bytes over it from the position on, and next is the position after them
-pub record Written (before : List ℕ) (at : ℕ) (bytes after : List ℕ) (next : ℕ) : Type 0 where
+pub record WrittenAt (before : List ℕ) (at : ℕ) (bytes after : List ℕ) (next : ℕ) : Type 0 where
   pub buffer : after ≡ over before at bytes
   pub position : next ≡ at + length bytes

@@ -17,7 +17,7 @@ use Rattle.format.specs.Format.{Reading, none, got}
 use Rattle.format.specs.Parts.{relations, dependencies}
 use Rattle.format.specs.File.{complete, stretch, stretches, readPlaces, recordWith, readParts, readAll, outcomeOf}
 use Rattle.lists.proofs.Tests.{every-take, every-drop}
-use Rattle.format.proofs.Arrays.{bytes-known}
+use Rattle.format.proofs.Bytes.{bytes-known}
 use Rattle.format.proofs.Parts.{relations-lawful}
 use Rattle.format.proofs.Rules.{good-relations}
 use Rattle.format.proofs.Results.{complete-get}

@@ -7,8 +7,8 @@ use lib.ListN.{length, getD, set, replicate}
 use Rattle.record.specs.declared.Record.{Record}
 use Rattle.query.specs.Rule.{noPlace}
 use Rattle.record.specs.Calls.{isFilled}
-use Rattle.printing.specs.internal.Writing.{Written}
-use Rattle.text.specs.Text.{passing}
+use Rattle.printing.specs.internal.Writing.{WrittenAt}
+use Rattle.lists.specs.Numbers.{numbersWhere}
 use Rattle.text.specs.internal.Listable.{placeRoom}
 use Rattle.report.specs.Report.{Lines, AllLines}
 
@@ -40,14 +40,14 @@ pub record LinesWritten (r : Record) (place : ℕ) (before : List ℕ) (at : ℕ
   pub text : List ℕ
   pub lines : Lines r place text
   pub short : length text ≤ placeRoom
-  pub written : Written before at text after next
+  pub written : WrittenAt before at text after next
 
 -- The lines of those of n places from `start` on that are filled are written from a position on
 pub record PartWritten (r : Record) (start n : ℕ) (before : List ℕ) (at : ℕ) (after : List ℕ) (next : ℕ) : Type 0 where
   pub text : List ℕ
-  pub lines : AllLines r (passing (isFilled r) start n) text
+  pub lines : AllLines r (numbersWhere (isFilled r) start n) text
   pub short : length text ≤ n * placeRoom
-  pub written : Written before at text after next
+  pub written : WrittenAt before at text after next
 
 -- The lines of a place, none where it is vacant
 abbrev pub PlaceWritten : Record → ℕ → List ℕ → ℕ → List ℕ → ℕ → Type 0

@@ -6,7 +6,7 @@ use Prim.Native.Nat.{ℕ, _*_, _<_}
 use native.Mathlib.Omega.{arith}
 use lib.ListN.{getD, length}
 use Rattle.consistency.specs.internal.Solution.{Solution}
-use Rattle.search.specs.internal.Invariant.{missing, Tested}
+use Rattle.search.specs.internal.Invariant.{missing, TestSays}
 use Rattle.search.proofs.Calls.{tryable-first, failed-full, solved-already, failed-exhausted, some-work, placeable-next, failed-jump, tryable-next}
 use borrow.Fn.Kinds.{In}
 use borrow.Fn.PlainCycle.{Measures, is, falls, and}
@@ -83,7 +83,7 @@ place-row-returns t c =
     let at6 = c .before .before .before .before .before .before in
     let s = at6 in
     solved-already (s .args .rows) (s .args .domain .now) (s .args .table .now) (s .args .t5) _ refl
-    (subst (Tested (s .args .rows) (s .args .domain .now) (s .args .table .now) (s .args .t5 .chosen)
+    (subst (TestSays (s .args .rows) (s .args .domain .now) (s .args .table .now) (s .args .t5 .chosen)
     (Solution (s .args .rows) (s .args .domain .now) (s .args .table .now) (λ q. getD
     (s .args .t5 .chosen) q 0)))
     (c .enum-told .given .1) (c .before .before .test-choices .ensures))
@@ -99,7 +99,7 @@ place-row-returns-2 t c =
     let s = at7 in
     failed-full (s .args .rows) (s .args .domain .now) (s .args .table .now) (s .args .t5) (s .args .work) _ (s .pre .1) (at6 .next-row .ensures)
     (at4 .if1 .taken) _ refl
-    (subst (Tested (s .args .rows) (s .args .domain .now) (s .args .table .now) (s .args .t5 .chosen)
+    (subst (TestSays (s .args .rows) (s .args .domain .now) (s .args .table .now) (s .args .t5 .chosen)
     (Solution (s .args .rows) (s .args .domain .now) (s .args .table .now) (λ q. getD
     (s .args .t5 .chosen) q 0)))
     (c .before .tested .given .1) (c .before .before .before .test-choices .ensures))

@@ -4,7 +4,7 @@ use mathlib.Core.Path.{subst}
 use Prim.Native.Nat.{ℕ, _-_, _<_, _≤_}
 use native.Mathlib.Omega.{arith}
 use borrow.Author.Count.{below-more}
-use Rattle.search.specs.internal.Invariant.{RowFits, Tested}
+use Rattle.search.specs.internal.Invariant.{RowFits, TestSays}
 use Rattle.search.specs.declared.Clash.{Clash}
 use Rattle.search.proofs.test_choices.Statement.{statement}
 use Rattle.search.proofs.test_choices.Tie as tie
@@ -21,7 +21,7 @@ abbrev μ-loop : tie.MeasureT-loop
 -- what the test of row r says
 abbrev TestedRow : lts.Start (test-row-reads.Asked, test-row-reads.Learnt) reads.Pre reads.Post Inv-loop μ-loop → ℕ → Clash → Type 0
 TestedRow s r =
-    Tested (s .args .rows) (s .args .domain .now) (s .args .table .now) (s .args .chosen)
+    TestSays (s .args .rows) (s .args .domain .now) (s .args .table .now) (s .args .chosen)
     (RowFits (s .args .rows) (s .args .domain .now) (s .args .table .now) (s .args .chosen) r)
 
 loop-holds : tie.Need-loop-holds Inv-loop μ-loop

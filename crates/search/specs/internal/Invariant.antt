@@ -7,7 +7,7 @@ use mathlib.Core.List.{List}
 use Prim.Native.Nat.{ℕ, zero, suc, _+_, _-_, _*_, _/_, _%_, _^_, _<_, _≤_}
 use lib.ListN.{getD}
 use Rattle.consistency.specs.internal.Solution.{Bit, together, Solution}
-use Rattle.consistency.specs.internal.Consistent.{NoBit, Below, Agrees, Refuted, Left, Sound}
+use Rattle.consistency.specs.internal.Consistent.{NoBit, Below, HasChosen, Refuted, Left, Accounted}
 use Rattle.consistency.specs.declared.State.{State}
 use Rattle.search.specs.declared.Attempt.{Attempt}
 use Rattle.search.specs.declared.Clash.{Clash}
@@ -46,9 +46,9 @@ Excluded rows domain table mask chosen =
     (f : ℕ → ℕ) → Solution rows domain table f → ((q : ℕ) → q < rows → Bit mask q → f q ≡ getD chosen q 0) → ⊥
 
 -- what a test says: the fact where it finds nothing, and else rows whose choices are in no solution
-abbrev pub Tested : ℕ → List ℕ → List ℕ → List ℕ → Type 0 → Clash → Type 0
-Tested rows domain table chosen Fact Nothing = Fact
-Tested rows domain table chosen Fact (Rows mask) = Excluded rows domain table mask chosen
+abbrev pub TestSays : ℕ → List ℕ → List ℕ → List ℕ → Type 0 → Clash → Type 0
+TestSays rows domain table chosen Fact Nothing = Fact
+TestSays rows domain table chosen Fact (Rows mask) = Excluded rows domain table mask chosen
 
 -- what an attempt says: a solution, or rows to blame
 pub record Attempted (rows : ℕ) (domain table : List ℕ) (s : State) (a : Attempt) : Type 0 where
@@ -59,7 +59,7 @@ pub record Attempted (rows : ℕ) (domain table : List ℕ) (s : State) (a : Att
 pub record Placeable (rows : ℕ) (domain table : List ℕ) (s : State) (work : ℕ) : Type 0 where
   pub rows-few : rows ≤ 13
   pub below : Below (s .chosen)
-  pub sound : Sound rows domain table s
+  pub sound : Accounted rows domain table s
   pub enough : 14 * missing (s .placed) rows < work
 
 -- a state in which the candidates of a row from c on can be tried: every solution that has what is chosen at the placed rows
@@ -67,10 +67,10 @@ pub record Placeable (rows : ℕ) (domain table : List ℕ) (s : State) (work : 
 pub record Tryable (rows : ℕ) (domain table : List ℕ) (s : State) (work row c blame : ℕ) : Type 0 where
   pub rows-few : rows ≤ 13
   pub below : Below (s .chosen)
-  pub sound : Sound rows domain table s
+  pub sound : Accounted rows domain table s
   pub row-in : row < rows
   pub free : NoBit (s .placed) row
   pub from-few : c ≤ 12
   pub enough : 14 * missing (s .placed) rows ≤ work + c
   pub left : Left rows domain table (s .placed) blame (s .chosen) row (getD (s .current) row 0)
-  pub from : (f : ℕ → ℕ) → Solution rows domain table f → Agrees (s .placed) blame (s .chosen) f → c ≤ f row
+  pub from : (f : ℕ → ℕ) → Solution rows domain table f → HasChosen (s .placed) blame (s .chosen) f → c ≤ f row

@@ -8,7 +8,7 @@ use Prim.Native.Nat.{ℕ, _≤_, _-_, _+_}
 use native.Mathlib.Omega.{arith}
 use lib.ListN.{length, drop, getD}
 use Rattle.query.specs.View.{dependencyOf}
-use Rattle.words.specs.Words.{spellsRows, rowsOf}
+use Rattle.words.specs.Words.{spellsRows, databaseOf}
 use Rattle.words.specs.Testing.{firstPairFrom}
 use Rattle.words.specs.internal.Found.{pairOf, From}
 use Rattle.words.proofs.Search.{pair-found, pair-later, pair-other, pair-end}
@@ -20,7 +20,7 @@ use Rattle.testing.proofs.first_pair.Tie as tie
 
 abbrev Inv-loop : tie.InvT-loop
 Inv-loop schema words d heads₀ links₀ offsets₀ numbers₀ relation at₀ i₀ heads links offsets numbers at i = From schema words at i
-    × (firstPairFrom (dependencyOf d) 0 (rowsOf schema words) ≡ firstPairFrom (dependencyOf d) i (rowsOf schema (drop at words)))
+    × (firstPairFrom (dependencyOf d) 0 (databaseOf schema words) ≡ firstPairFrom (dependencyOf d) i (databaseOf schema (drop at words)))
     × Room heads links offsets numbers
     × (length heads ≡ length heads₀) × (length links ≡ length links₀) × (length offsets ≡ length offsets₀) × (length numbers ≡ length numbers₀)
 

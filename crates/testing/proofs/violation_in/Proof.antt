@@ -7,11 +7,12 @@ use native.Mathlib.Omega.{arith}
 use lib.ListN.{length, take, drop, getD}
 use Rattle.theory.specs.Database as database
 use Rattle.query.specs.View.{dependencyOf}
-use Rattle.words.specs.Words.{rowsOf}
+use Rattle.words.specs.Words.{databaseOf}
 use Rattle.words.specs.Testing.{firstBrokenFrom}
 use Rattle.words.specs.Broken.{violationOf}
 use Rattle.query.specs.Rule.{noDependency}
-use Rattle.words.proofs.Search.{violation-found, violation-later, violation-end, drop-take-cons, drop-take-end}
+use Rattle.words.proofs.Search.{violation-found, violation-later, violation-end}
+use Rattle.lists.proofs.Positions.{left-cons, left-none}
 use Rattle.grouping.specs.internal.Walked.{Room}
 use borrow.Author.Needs.{needs}
 use Rattle.testing.proofs.violation_in.Statement.{statement}
@@ -19,8 +20,8 @@ use Rattle.testing.proofs.violation_in.Tie as tie
 
 abbrev Inv-loop : tie.InvT-loop
 Inv-loop schema words held heads₀ links₀ offsets₀ numbers₀ dependencies k₀ heads links offsets numbers k = (k ≤ held)
-    × (firstBrokenFrom 0 (map dependencyOf (take held dependencies)) (rowsOf schema words)
-    ≡ firstBrokenFrom k (map dependencyOf (drop k (take held dependencies))) (rowsOf schema words)) × Room heads links offsets numbers
+    × (firstBrokenFrom 0 (map dependencyOf (take held dependencies)) (databaseOf schema words)
+    ≡ firstBrokenFrom k (map dependencyOf (drop k (take held dependencies))) (databaseOf schema words)) × Room heads links offsets numbers
     × (length heads ≡ length heads₀) × (length links ≡ length links₀) × (length offsets ≡ length offsets₀) × (length numbers ≡ length numbers₀)
 
 abbrev μ-loop : tie.MeasureT-loop
@@ -70,10 +71,10 @@ returns c =
     let room : a .held ≤ length ds = omega (arith, s .pre .0) in
     let e : map dependencyOf (drop (l .k) (take (a .held) ds)) ≡ dependencyOf (getD ds (l .k) noDependency) ∷ map dependencyOf
     (drop (l .k + 1) (take (a .held) ds)) =
-    ap (map dependencyOf) (drop-take-cons ds (a .held) (l .k) noDependency (search needs) room) in
+    ap (map dependencyOf) (left-cons (a .held) (l .k) ds noDependency (search needs) room) in
     let f = c .before .found .given in
-    sym (ap violationOf (l .inv .1 ∙ ap (λ (x : List database.Dependency). firstBrokenFrom (l .k) x (rowsOf S X)) e)
-    ∙ violation-found (rowsOf S X) (dependencyOf (getD ds (l .k) noDependency)) (map dependencyOf (drop (l .k + 1) (take (a .held) ds))) (l .k)
+    sym (ap violationOf (l .inv .1 ∙ ap (λ (x : List database.Dependency). firstBrokenFrom (l .k) x (databaseOf S X)) e)
+    ∙ violation-found (databaseOf S X) (dependencyOf (getD ds (l .k) noDependency)) (map dependencyOf (drop (l .k + 1) (take (a .held) ds))) (l .k)
     (f .0 .0) (f .0 .1 .0) (sym (f .1) ∙ c .before .before .before .before .before .before .before .before .before .before .before .first-pair .ensures .0))
 
 enum-told : tie.Need-enum-told Inv-loop μ-loop
@@ -98,10 +99,10 @@ loop-again c =
     let room : a .held ≤ length ds = omega (arith, s .pre .0) in
     let e : map dependencyOf (drop (l .k) (take (a .held) ds)) ≡ dependencyOf (getD ds (l .k) noDependency) ∷ map dependencyOf
     (drop (l .k + 1) (take (a .held) ds)) =
-    ap (map dependencyOf) (drop-take-cons ds (a .held) (l .k) noDependency (search needs) room) in (
+    ap (map dependencyOf) (left-cons (a .held) (l .k) ds noDependency (search needs) room) in (
       search needs,
-      l .inv .1 ∙ ap (λ (x : List database.Dependency). firstBrokenFrom (l .k) x (rowsOf S X)) e
-          ∙ violation-later (rowsOf S X) (dependencyOf (getD ds (l .k) noDependency)) (map dependencyOf (drop (l .k + 1) (take (a .held) ds))) (l .k)
+      l .inv .1 ∙ ap (λ (x : List database.Dependency). firstBrokenFrom (l .k) x (databaseOf S X)) e
+          ∙ violation-later (databaseOf S X) (dependencyOf (getD ds (l .k) noDependency)) (map dependencyOf (drop (l .k + 1) (take (a .held) ds))) (l .k)
           (sym (c .enum-told .given .1) ∙ c .before .before .before .before .before .before .before .before .before .before .first-pair .ensures .0),
       c .before .before .before .before .before .before .before .before .before .before .first-pair .ensures .1,
       c .before .before .before .before .before .before .before .before .before .heads .given ∙ l .inv .3,
@@ -131,8 +132,8 @@ returns-2 c = let s = c .before .before .before .before .before .before .before 
     let ds = a .t3 in
     let size : length ds ≡ 32 = search needs in
     let room : a .held ≤ length ds = omega (arith, s .pre .0) in
-    sym (ap violationOf (l .inv .1 ∙ ap (λ (x : List database.Dependency). firstBrokenFrom (l .k) x (rowsOf S X))
-    (ap (map dependencyOf) (drop-take-end ds (a .held) (l .k) (search needs) room)) ∙ violation-end (rowsOf S X) (l .k)))
+    sym (ap violationOf (l .inv .1 ∙ ap (λ (x : List database.Dependency). firstBrokenFrom (l .k) x (databaseOf S X))
+    (ap (map dependencyOf) (left-none (a .held) (l .k) ds (search needs))) ∙ violation-end (databaseOf S X) (l .k)))
 
 pub violation-in-spec : {M : Type 1} → statement M
 violation-in-spec =

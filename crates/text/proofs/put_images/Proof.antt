@@ -10,7 +10,8 @@ use Rattle.theory.specs.Query.{member, variablesOf, rowEntries}
 use Rattle.query.specs.declared.Cell.{Cell}
 use Rattle.query.specs.View.{rowsOf, imagesOf}
 use Rattle.printing.proofs.Writing.{Progress, started, part-fits, wrote, finished, left-as, moved, same-size}
-use Rattle.text.specs.Text.{passing, imagesText}
+use Rattle.lists.specs.Numbers.{numbersWhere}
+use Rattle.text.specs.Text.{imagesText}
 use Rattle.text.proofs.Turns.{images-passed, images-skipped, images-end}
 use Rattle.text.proofs.put_images.Statement.{statement}
 use Rattle.text.proofs.put_images.Tie as tie
@@ -22,7 +23,8 @@ inRow schema size named cells v = member v (variablesOf (rowEntries (rowsOf sche
 abbrev Inv-loop : tie.InvT-loop
 Inv-loop buffer₀ at relations widths images size named cells next₀ v₀ buffer next v =
     let test : ℕ → Bool = inRow (take relations widths) size named cells in
-    (v ≤ 96) × Progress buffer₀ at (imagesText (imagesOf images) (passing test 0 96)) (imagesText (imagesOf images) (passing test v (96 - v))) buffer next
+    (v ≤ 96)
+    × Progress buffer₀ at (imagesText (imagesOf images) (numbersWhere test 0 96)) (imagesText (imagesOf images) (numbersWhere test v (96 - v))) buffer next
 
 abbrev μ-loop : tie.MeasureT-loop
 μ-loop buffer₀ at relations widths images size named cells next₀ v₀ buffer next v = 96 - v

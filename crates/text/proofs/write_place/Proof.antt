@@ -10,13 +10,13 @@ use lib.ListN.{length, take}
 use borrow.Author.Tests.{ne-eqb}
 use Rattle.lists.proofs.Loops.{mapped-length}
 use Rattle.theory.specs.Query as theory
-use Rattle.query.specs.declared.Query.{Query}
 use Rattle.query.specs.View.{entriesOf, queryOf, imagesOf}
 use Rattle.query.specs.Rule.{headSafe}
 use Rattle.query.proofs.Good.{good-query}
 use Rattle.query.proofs.Relations.{width-le}
 use Rattle.query.proofs.Shape.{row-count}
-use Rattle.query.proofs.Stored.{subset-in, variables-below}
+use Rattle.theory.proofs.Determined.{subset-true}
+use Rattle.query.proofs.Stored.{variables-below}
 use Rattle.printing.specs.internal.Writing.{Fits}
 use Rattle.printing.proofs.Writing.{Progress, started, part-fits, rest-fits, wrote, wrote-rest, left-as}
 use Rattle.text.specs.Text.{neverLine, placeLine, headLine, rowsText, mapLine, occurring, placeText}
@@ -69,7 +69,7 @@ variables : (c : tie.Start) → variablesInRows (source c) ≡ occurring (source
 unfolding headSafe
 variables c =
     rows-occurring (source c) (variables-below (schema c) (width-le _ _ (c .pre .relations-good)) (c .args .source) (c .pre .source-good))
-    (λ v at. subset-in _ _ (c .pre .source-safe) at)
+    (λ v at. subset-true _ _ (c .pre .source-safe) v at)
 
 -- Else the four parts are left
 lines-left : (c : tie.Start) → (c .args .result .size ≡ 0 → ⊥)

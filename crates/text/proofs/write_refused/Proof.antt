@@ -7,7 +7,7 @@ use native.Mathlib.Omega.{arith}
 use lib.ListN.{length, length-append}
 use Rattle.printing.specs.Decimal.{decimal, field}
 use Rattle.text.specs.Text.{refusedWord, newline, refusedText}
-use Rattle.printing.specs.internal.Writing.{Fits, Written}
+use Rattle.printing.specs.internal.Writing.{Fits, WrittenAt}
 use Rattle.printing.proofs.Decimal.{decimal-length}
 use Rattle.printing.proofs.Writing.{Progress, started, part-fits, rest-fits, wrote, wrote-rest}
 use Rattle.text.proofs.write_refused.Statement.{statement}
@@ -22,7 +22,7 @@ first-fits : {buffer : List ℕ} {at n : ℕ} → at + 12 ≤ length buffer → 
 unfolding refusedText
 first-fits {n = n} h b = part-fits (started (whole-fits h b)) (field refusedWord n) newline refl
 
-end-left : {buffer buffer′ : List ℕ} {at next n : ℕ} → at + 12 ≤ length buffer → n < 256 → Written buffer at (field refusedWord n) buffer′ next
+end-left : {buffer buffer′ : List ℕ} {at next n : ℕ} → at + 12 ≤ length buffer → n < 256 → WrittenAt buffer at (field refusedWord n) buffer′ next
     → Progress buffer at (refusedText n) newline buffer′ next
 unfolding refusedText
 end-left h b w = wrote (started (whole-fits h b)) newline refl w

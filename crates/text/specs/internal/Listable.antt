@@ -10,7 +10,7 @@ use Rattle.query.specs.View.{entriesOf}
 use Rattle.lists.specs.Tests.{every}
 use Rattle.query.specs.Rule.{goodRelations, goodCell, goodQuery, headSafe}
 use Rattle.theory.specs.Query as theory
-use Rattle.text.specs.Text.{passing}
+use Rattle.lists.specs.Numbers.{numbersWhere}
 
 -- The row of a relation with the entries that some cells stand for
 abbrev pub rowOfCells : ℕ → List Cell → theory.Row theory.Entry
@@ -18,7 +18,7 @@ rowOfCells relation cells = record { relation = relation; values = entriesOf cel
 
 -- The variables below 96 that stand in a row, ascending
 abbrev pub variablesInRows : theory.Query → List ℕ
-variablesInRows q = passing (λ v. theory.member v (theory.variablesOf (theory.rowEntries (q .rows)))) 0 96
+variablesInRows q = numbersWhere (λ v. theory.member v (theory.variablesOf (theory.rowEntries (q .rows)))) 0 96
 
 -- Room for the text of any place: a line of at most 37 bytes, a head of at most 93, 12 rows of at most 94 each and a mapping of at most 1444
 abbrev pub placeRoom : ℕ

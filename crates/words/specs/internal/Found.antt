@@ -10,8 +10,8 @@ use Rattle.query.specs.declared.Dependency.{Dependency}
 use Rattle.words.specs.Words.{spellsRows}
 use Rattle.words.specs.declared.Partner.{Partner}
 use Rattle.words.specs.declared.Partner.the-variants as partner
-use Rattle.words.specs.declared.Pair.{Pair}
-use Rattle.words.specs.declared.Pair.the-variants as pair
+use Rattle.words.specs.declared.RowPair.{RowPair}
+use Rattle.words.specs.declared.RowPair.the-variants as pair
 
 -- The position of a row that is found
 abbrev pub partnerOf : Option (ℕ × Row ℕ) → Partner
@@ -19,7 +19,7 @@ partnerOf none = partner.Absent
 partnerOf (some row) = partner.At (row .0)
 
 -- The positions of a pair of rows that is found
-abbrev pub pairOf : Option ((ℕ × Row ℕ) × (ℕ × Row ℕ)) → Pair
+abbrev pub pairOf : Option ((ℕ × Row ℕ) × (ℕ × Row ℕ)) → RowPair
 pairOf none = pair.Absent
 pairOf (some rows) = pair.At (rows .0 .0) (rows .1 .0)
 

@@ -7,7 +7,7 @@ use lib.ListN.{length, take, drop, getD}
 use Rattle.theory.specs.Query.{Row, constant, mapRow}
 use Rattle.theory.specs.Database.{Dependency}
 use Rattle.theory.specs.Chase.{agree}
-use Rattle.words.specs.Words.{rowsOf, spellsRows}
+use Rattle.words.specs.Words.{databaseOf, spellsRows}
 use Rattle.words.specs.Testing.{numberedFrom}
 
 -- The row of the given width that begins at a word
@@ -23,7 +23,7 @@ pub record Next (schema words : List ℕ) (at after : ℕ) : Type 0 where
   pub place : after ≡ at + 1 + getD schema (getD words at 0) 0
   pub fits : after ≤ length words
   pub known : getD words at 0 < length schema
-  pub read : rowsOf schema (drop at words) ≡ rowAt schema words at ∷ rowsOf schema (drop after words)
+  pub read : databaseOf schema (drop at words) ≡ rowAt schema words at ∷ databaseOf schema (drop after words)
   pub good : spellsRows schema (drop after words) ≡ true
 
 -- Whether two rows of numbers agree on the left columns of a dependency: as rows of constants they do
@@ -32,4 +32,4 @@ agreeRows d r s = agree (d .left) (mapRow constant r) (mapRow constant s)
 
 -- The rows of the words from `at` on with their positions, the first of them at position n
 abbrev pub rowsAt : List ℕ → List ℕ → ℕ → ℕ → List (ℕ × Row ℕ)
-rowsAt schema words at n = numberedFrom n (rowsOf schema (drop at words))
+rowsAt schema words at n = numberedFrom n (databaseOf schema (drop at words))

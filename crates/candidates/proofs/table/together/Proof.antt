@@ -4,7 +4,7 @@ use borrow.Author.Needs.{needs}
 use mathlib.Core.Path.{sym, _∙_, subst}
 use mathlib.Core.Bool.{false≢true}
 use Prim.Native.Nat.{ℕ, _+_, _-_, _≤_, _<_}
-use Rattle.lists.specs.Tests.{Tells}
+use Rattle.lists.specs.internal.Tells.{Tells}
 use Rattle.candidates.specs.internal.Candidates.{Marks, Together}
 use Rattle.candidates.proofs.Masks.{marks-start, marks-one, marks-zero, marks-end, marks-room}
 use Rattle.candidates.proofs.Candidates.{together-when}

@@ -1,5 +1,5 @@
 -- `demands::demand2::write_back` meets its contract. Assumes nothing.
-use Rattle.format.proofs.Arrays.{bytes-known}
+use Rattle.format.proofs.Bytes.{bytes-known}
 use Rattle.demands.proofs.Answering.{written-again, not-read}
 use borrow.Author.Needs.{needs}
 use Rattle.demands.proofs.demand2.write_back.Statement.{statement}
