@@ -16,10 +16,10 @@ use Rattle.theory.specs.Checking.{mapsTo}
 use Rattle.mapping.proofs.Checked.{test-tells}
 use Rattle.comparison.specs.declared.Checked.{Checked}
 use Rattle.comparison.specs.declared.Checked.the-variants.{Yes, No, Refused}
-use Rattle.comparison.specs.Comparison.{pairRefusal, checkOf, CheckedMapping}
+use Rattle.comparison.specs.Comparison.{pairRefusal, checkReply, CheckedMapping}
 
 -- What a check stands for determines it
-refused-case : (c : Checked) (n : ℕ) → checkOf c ≡ refused n → c ≡ Refused n
+refused-case : (c : Checked) (n : ℕ) → checkReply c ≡ refused n → c ≡ Refused n
 refused-case Yes n e = let z : _≡_ {A = ℕ} 0 1 = cc in absurd (omega arith)
 refused-case No n e = let z : _≡_ {A = ℕ} 0 1 = cc in absurd (omega arith)
 refused-case (Refused m) n e = cc
@@ -27,12 +27,12 @@ refused-case (Refused m) n e = cc
 true-false : true ≡ false → ⊥
 true-false e = let z : _≡_ {A = ℕ} 0 1 = cc in omega arith
 
-yes-case : (c : Checked) → checkOf c ≡ gives true → c ≡ Yes
+yes-case : (c : Checked) → checkReply c ≡ gives true → c ≡ Yes
 yes-case Yes e = refl
 yes-case No e = absurd (true-false cc)
 yes-case (Refused m) e = let z : _≡_ {A = ℕ} 0 1 = cc in absurd (omega arith)
 
-no-case : (c : Checked) → checkOf c ≡ gives false → c ≡ No
+no-case : (c : Checked) → checkReply c ≡ gives false → c ≡ No
 no-case Yes e = absurd (true-false cc)
 no-case No e = refl
 no-case (Refused m) e = let z : _≡_ {A = ℕ} 0 1 = cc in absurd (omega arith)
@@ -47,7 +47,7 @@ module _ (r : Record) (p q : ℕ) (images : List Cell) (c : Checked) (is : Check
       ⊎ ((c ≡ No) × (IsMapping (queryAt r q) (queryAt r p) (imagesOf images) → ⊥))
   checked-decided e = go (mapsTo (queryAt r q) (queryAt r p) (entriesOf images)) refl
     where
-      says : checkOf c ≡ gives (mapsTo (queryAt r q) (queryAt r p) (entriesOf images))
+      says : checkReply c ≡ gives (mapsTo (queryAt r q) (queryAt r p) (entriesOf images))
       says = is ∙ ap (λ (o : Option ℕ). reply o (mapsTo (queryAt r q) (queryAt r p) (entriesOf images))) e
 
       go : (b : Bool) → mapsTo (queryAt r q) (queryAt r p) (entriesOf images) ≡ b

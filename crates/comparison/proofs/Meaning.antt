@@ -1,10 +1,12 @@
 -- The statements of `specs/Meaning`. Assumes nothing.
-use mathlib.Core.Path.{_≡_, refl, sym, _∙_}
+use mathlib.Core.Path.{_≡_, refl, sym, ap, _∙_}
 use mathlib.Core.Logic.{_⊎_, inl, inr, ⊎-elim}
 use mathlib.Core.List.{List}
 use mathlib.Core.Option.{Option, none, some}
 use Prim.Native.Nat.{ℕ}
 use native.Mathlib.Omega.{arith}
+use Rattle.refusals.specs.Refusals.{gives}
+use Rattle.refusals.proofs.Refusals.{reply-gives}
 use Rattle.theory.specs.Answer.{IsMapping}
 use Rattle.query.specs.declared.Cell.{Cell}
 use Rattle.query.specs.View.{imagesOf}
@@ -16,10 +18,10 @@ use Rattle.comparison.specs.declared.Verdict.{Verdict}
 use Rattle.comparison.specs.declared.Verdict.the-variants as verdict
 use Rattle.comparison.specs.declared.Checked.{Checked}
 use Rattle.comparison.specs.declared.Checked.the-variants.{Yes, No, Refused}
-use Rattle.comparison.specs.Comparison.{pairRefusal, verdictOf, CheckedMapping}
+use Rattle.comparison.specs.Comparison.{pairRefusal, notContained, verdictReply, verdictOf, CheckedMapping}
 use Rattle.comparison.specs.Meaning.{CheckMeans, CheckDenies, ComparedOnce}
 use Rattle.comparison.proofs.Checks.{checked-refused, checked-decided}
-use Rattle.comparison.proofs.Verdicts.{queries, refused-apart}
+use Rattle.comparison.proofs.Verdicts.{queries, verdict-same, refused-apart}
 
 -- ---- checking a mapping
 
@@ -82,21 +84,17 @@ apart-or-not verdict.Apart = inl refl
 apart-or-not (verdict.Refused n) = inr (refused-apart n)
 
 -- Apart is never said of places that are refused
-apart-accepted : (r : Record) (p q : ℕ) → verdictOf r p q ≡ verdict.Apart → pairRefusal r p q ≡ none
-apart-accepted r p q h = go (pairRefusal r p q) refl
-  where
-    go : (o : Option ℕ) → pairRefusal r p q ≡ o → pairRefusal r p q ≡ none
-    go none e = e
-    go (some n) e = absurd (refused-apart n (sym (rw e) ∙ h))
+apart-accepted : (r : Record) (p q : ℕ) → verdictOf r p q ≡ gives notContained → pairRefusal r p q ≡ none
+apart-accepted r p q h = reply-gives (pairRefusal r p q) _ notContained h .0
 
 pub compared-once : ComparedOnce
 compared-once r p q c d sized-c sized-d is is′ =
-    let same : c .verdict ≡ d .verdict = is .verdict ∙ sym (is′ .verdict) in (
+    let same : c .verdict ≡ d .verdict = verdict-same (c .verdict) (d .verdict) (is .verdict ∙ sym (is′ .verdict)) in (
       same,
       ⊎-elim
           (λ (a : c .verdict ≡ verdict.Apart).
           let b : d .verdict ≡ verdict.Apart = sym same ∙ a in
-          let known = queries r p q (apart-accepted r p q (sym (is .verdict) ∙ a)) in
+          let known = queries r p q (apart-accepted r p q (sym (is .verdict) ∙ ap verdictReply a)) in
           stored-unique (schemaOf r) (known .narrow) (c .query) (d .query) sized-c sized-d (is .chased a .1) (is′ .chased b .1)
           (is .chased a .0 ∙ sym (is′ .chased b .0)))
           (λ (a : c .verdict ≡ verdict.Apart → ⊥). is .no-query a ∙ sym (is′ .no-query (λ b. a (same ∙ b))))

@@ -14,7 +14,8 @@ use Rattle.record.specs.declared.Record.{Record}
 use Rattle.record.specs.declared.Lookup.the-variants as lookup
 use Rattle.record.specs.Rule.{goodRecord}
 use Rattle.refusals.specs.Refusals.{firstHolding}
-use Rattle.record.specs.Calls.{above, vacant, isFilled, placeAt, filledPlace, storedAt}
+use Rattle.record.specs.Calls.{unknownPlace, vacant, isFilled, storedAt}
+use Rattle.record.specs.internal.Lookup.{placeAt, filledPlace}
 use Rattle.refusals.proofs.Refusals.{first-goes, some-holds, none-holds, nothing-holds}
 use Rattle.record.proofs.Refusals.{found-refused, place-refused, filled-at}
 use Rattle.comparison.specs.declared.Pair.the-variants.{Places, Refused}
@@ -26,7 +27,7 @@ pub filled-refused : (r : Record) (place n : ℕ) → place < 8 → filledPlace 
 filled-refused r place n low e =
     let o : firstHolding (vacant r place ∷ []) ≡ some n =
     sym (first-goes (not (ltb place 8)) 7 (vacant r place ∷ []) (ap not (lt-ltb place 8 low)))
-    ∙ found-refused (firstHolding (above place ∷ vacant r place ∷ [])) place n e
+    ∙ found-refused (firstHolding (unknownPlace place ∷ vacant r place ∷ [])) place n e
     in
     ⊎-elim (λ h. (not-true _ (h .0), sym (h .1))) (λ h. absurd (nothing-holds n (h .1))) (some-holds (not (isFilled r place)) 11 [] n o)
 

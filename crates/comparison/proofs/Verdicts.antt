@@ -10,8 +10,10 @@ use mathlib.Core.Option.{Option, none, some}
 use Prim.Native.Nat.{ℕ, _*_, _≤_}
 use native.Mathlib.Omega.{arith}
 use lib.ListN.{length, getD, replicate}
+use Rattle.refusals.specs.Refusals.{gives, reply}
 use Rattle.query.specs.declared.Cell.{Cell}
 use Rattle.query.specs.declared.Query.{Query}
+use Rattle.refusals.proofs.Refusals.{refused-gives}
 use Rattle.record.proofs.Kept.{empty-place}
 use Rattle.record.specs.declared.Record.{Record}
 use Rattle.query.specs.View.{queryOf, imagesOf}
@@ -34,7 +36,8 @@ use Rattle.theory.proofs.Search.{mappable-exact}
 use Rattle.theory.proofs.Containment.{contained-of-mapping, counterexample}
 use Rattle.comparison.specs.declared.Verdict.{Verdict}
 use Rattle.comparison.specs.declared.Verdict.the-variants.{Never, Contained, Apart, Refused}
-use Rattle.comparison.specs.Comparison.{chasedAt, pairRefusal, verdictOn, judged, verdictOf, base, Compared}
+use Rattle.comparison.specs.Comparison.{chasedAt, pairRefusal, notContained, containedByMapping, containedAsNever, verdictReply, verdictOn}
+use Rattle.comparison.specs.Comparison.{verdictOf, base, Compared}
 use Rattle.comparison.specs.internal.Pairs.{bare}
 use Rattle.comparison.proofs.Pairs.{standing}
 
@@ -72,9 +75,28 @@ queries r p q accepted =
 
 -- ---- the verdict
 
-verdict-some : (rows : List (theory.Row theory.Entry)) (mapped : Bool) → rows ≢ [] → verdictOn rows mapped ≡ cond mapped Contained Apart
+verdict-some : (rows : List (theory.Row theory.Entry)) (mapped : Bool) → rows ≢ [] → verdictOn rows mapped ≡ cond mapped containedByMapping notContained
 verdict-some [] mapped filled = absurd (filled refl)
 verdict-some (x ∷ xs) mapped filled = refl
+
+-- What a verdict says determines it
+pub verdict-same : (v w : Verdict) → verdictReply v ≡ verdictReply w → v ≡ w
+verdict-same Never Never e = refl
+verdict-same Never Contained e = let z : _≡_ {A = ℕ} 2 1 = cc in absurd (omega arith)
+verdict-same Never Apart e = let z : _≡_ {A = ℕ} 2 0 = cc in absurd (omega arith)
+verdict-same Never (Refused n) e = absurd (refused-gives (sym e))
+verdict-same Contained Never e = let z : _≡_ {A = ℕ} 1 2 = cc in absurd (omega arith)
+verdict-same Contained Contained e = refl
+verdict-same Contained Apart e = let z : _≡_ {A = ℕ} 1 0 = cc in absurd (omega arith)
+verdict-same Contained (Refused n) e = absurd (refused-gives (sym e))
+verdict-same Apart Never e = let z : _≡_ {A = ℕ} 0 2 = cc in absurd (omega arith)
+verdict-same Apart Contained e = let z : _≡_ {A = ℕ} 0 1 = cc in absurd (omega arith)
+verdict-same Apart Apart e = refl
+verdict-same Apart (Refused n) e = absurd (refused-gives (sym e))
+verdict-same (Refused n) Never e = absurd (refused-gives e)
+verdict-same (Refused n) Contained e = absurd (refused-gives e)
+verdict-same (Refused n) Apart e = absurd (refused-gives e)
+verdict-same (Refused n) (Refused m) e = let z : n ≡ m = cc in ap Refused z
 
 -- The verdicts are different
 never-contained : Never ≡ Contained → ⊥
@@ -108,15 +130,17 @@ compared-refused r p q n refused =
     }
 
 module _ (r : Record) (p q : ℕ) (accepted : pairRefusal r p q ≡ none) where
-  verdict-is : (v : Verdict) → verdictOn (chasedAt r p .rows) (search.mappable (queryAt r q) (chasedAt r p)) ≡ v → v ≡ verdictOf r p q
+  verdict-is : (v : ℕ) → verdictOn (chasedAt r p .rows) (search.mappable (queryAt r q) (chasedAt r p)) ≡ v → gives v ≡ verdictOf r p q
   verdict-is v e =
-      sym e ∙ ap (λ (o : Option ℕ). judged o (verdictOn (chasedAt r p .rows) (search.mappable (queryAt r q) (chasedAt r p)))) (sym accepted)
+      ap gives (sym e) ∙ ap (λ (o : Option ℕ). reply o (verdictOn (chasedAt r p .rows) (search.mappable (queryAt r q) (chasedAt r p)))) (sym accepted)
 
   -- The first query chases to never
   pub compared-never : chasedAt r p .rows ≡ [] → Compared r p q (bare Never)
   compared-never empty =
       record {
-        verdict = verdict-is Never (ap (λ (rows : List (theory.Row theory.Entry)). verdictOn rows (search.mappable (queryAt r q) (chasedAt r p))) empty);
+        verdict =
+            verdict-is containedAsNever
+            (ap (λ (rows : List (theory.Row theory.Entry)). verdictOn rows (search.mappable (queryAt r q) (chasedAt r p))) empty);
         mapping = λ e. absurd (never-contained e);
         no-mapping = λ e. refl;
         chased = λ e. absurd (never-apart e);
@@ -126,10 +150,10 @@ module _ (r : Record) (p q : ℕ) (accepted : pairRefusal r p q ≡ none) where
       }
 
   module _ (filled : chasedAt r p .rows ≢ []) where
-    verdict-found : (b : Bool) → search.mappable (queryAt r q) (chasedAt r p) ≡ b → cond b Contained Apart ≡ verdictOf r p q
+    verdict-found : (b : Bool) → search.mappable (queryAt r q) (chasedAt r p) ≡ b → gives (cond b containedByMapping notContained) ≡ verdictOf r p q
     verdict-found b e =
-        verdict-is (cond b Contained Apart)
-        (verdict-some (chasedAt r p .rows) (search.mappable (queryAt r q) (chasedAt r p)) filled ∙ ap (λ (t : Bool). cond t Contained Apart) e)
+        verdict-is (cond b containedByMapping notContained)
+        (verdict-some (chasedAt r p .rows) (search.mappable (queryAt r q) (chasedAt r p)) filled ∙ ap (λ (t : Bool). cond t containedByMapping notContained) e)
 
     -- The second query maps to the first, chased
     pub compared-contained : (images : List Cell) → answer.IsMapping (queryAt r q) (chasedAt r p) (imagesOf images)

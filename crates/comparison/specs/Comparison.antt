@@ -2,18 +2,17 @@
 use mathlib.Core.Path.{_≡_}
 use mathlib.Core.Bool.{Bool, true, false, not, cond}
 use mathlib.Core.List.{List, [], _∷_}
-use mathlib.Core.Option.{Option, none, some}
+use mathlib.Core.Option.{Option}
 use Prim.Native.Nat.{ℕ}
 use lib.Dec.{eqb}
 use lib.ListN.{replicate}
 use Rattle.query.specs.declared.Cell.{Cell}
-use Rattle.query.specs.declared.Query.{Query}
 use Rattle.record.specs.declared.Record.{Record}
 use Rattle.query.specs.View.{entriesOf, queryOf, imagesOf}
 use Rattle.record.specs.View.{schemaOf, dependenciesOf}
 use Rattle.query.specs.Rule.{goodQuery, noCell, noQuery}
 use Rattle.refusals.specs.Refusals.{Condition, firstHolding, headsDiffer, Reply, refused, gives, reply}
-use Rattle.record.specs.Calls.{broken, above, vacant, storedAt, queryAt}
+use Rattle.record.specs.Calls.{broken, unknownPlace, vacant, storedAt, queryAt}
 use Rattle.comparison.specs.declared.Verdict.{Verdict}
 use Rattle.comparison.specs.declared.Verdict.the-variants.{Never, Contained, Apart, Refused}
 use Rattle.comparison.specs.declared.Comparison.{Comparison}
@@ -34,25 +33,39 @@ chasedAt r place = chasing.chase (dependenciesOf r) (queryAt r place) .query
 -- What a call on two places asks: 14; 7; 11; 8 where the head lengths differ
 abbrev pub pairConditions : Record → ℕ → ℕ → List Condition
 pairConditions r p q =
-    broken r ∷ above p ∷ above q ∷ vacant r p ∷ vacant r q ∷ (not (eqb (storedAt r p .arity) (storedAt r q .arity)), headsDiffer) ∷ []
+    broken r ∷ unknownPlace p ∷ unknownPlace q ∷ vacant r p ∷ vacant r q ∷ (not (eqb (storedAt r p .arity) (storedAt r q .arity)), headsDiffer) ∷ []
 
 -- The refusal of a call on two places
 unfoldable pub pairRefusal : Record → ℕ → ℕ → Option ℕ
 pairRefusal r p q = firstHolding (pairConditions r p q)
 
+-- The three verdicts as numbers: not contained
+abbrev pub notContained : ℕ
+notContained = 0
+
+-- Contained by a mapping
+abbrev pub containedByMapping : ℕ
+containedByMapping = 1
+
+-- Contained because the first query chases to never
+abbrev pub containedAsNever : ℕ
+containedAsNever = 2
+
+-- What each case of a verdict says: one of these, or refused with a number
+abbrev pub verdictReply : Verdict → Reply ℕ
+verdictReply Apart = gives notContained
+verdictReply Contained = gives containedByMapping
+verdictReply Never = gives containedAsNever
+verdictReply (Refused n) = refused n
+
 -- The verdict on a chased query: never is contained, without a mapping; otherwise it is contained exactly when the second query can be mapped to it
-abbrev pub verdictOn : List (theory.Row theory.Entry) → Bool → Verdict
-verdictOn [] mapped = Never
-verdictOn (x ∷ xs) mapped = cond mapped Contained Apart
+abbrev pub verdictOn : List (theory.Row theory.Entry) → Bool → ℕ
+verdictOn [] mapped = containedAsNever
+verdictOn (x ∷ xs) mapped = cond mapped containedByMapping notContained
 
--- The verdict on two places, once they are not refused
-abbrev pub judged : Option ℕ → Verdict → Verdict
-judged none verdict = verdict
-judged (some n) verdict = Refused n
-
--- The verdict on places p and q
-abbrev pub verdictOf : Record → ℕ → ℕ → Verdict
-verdictOf r p q = judged (pairRefusal r p q) (verdictOn (chasedAt r p .rows) (search.mappable (queryAt r q) (chasedAt r p)))
+-- The verdict on places p and q, or the refusal
+abbrev pub verdictOf : Record → ℕ → ℕ → Reply ℕ
+verdictOf r p q = reply (pairRefusal r p q) (verdictOn (chasedAt r p .rows) (search.mappable (queryAt r q) (chasedAt r p)))
 
 -- The number of the variable 0 of a query read as a database
 abbrev pub base : ℕ
@@ -70,7 +83,7 @@ SaysContained (Refused n) = ⊥
 -- and 0 in every field not in use. And demand 2: contained means that each answer of p is an answer of q on every database that obeys the dependencies;
 -- not contained, that the chased query read as a database shows the contrary
 pub record Compared (r : Record) (p q : ℕ) (c : Comparison) : Type 0 where
-  pub verdict : c .verdict ≡ verdictOf r p q
+  pub verdict : verdictReply (c .verdict) ≡ verdictOf r p q
   pub mapping : c .verdict ≡ Contained → answer.IsMapping (queryAt r q) (chasedAt r p) (imagesOf (c .images))
   pub no-mapping : (c .verdict ≡ Contained → ⊥) → c .images ≡ replicate 96 noCell
   pub chased : c .verdict ≡ Apart → (queryOf (schemaOf r) (c .query) ≡ chasedAt r p) × (goodQuery (schemaOf r) (c .query) ≡ true)
@@ -82,12 +95,12 @@ pub record Compared (r : Record) (p q : ℕ) (c : Comparison) : Type 0 where
       (containment.frozenRows base (queryOf (schemaOf r) (c .query))) (containment.frozenHead base (queryOf (schemaOf r) (c .query)))
 
 -- What each case of a check says: refused with a number, or yes or no
-abbrev pub checkOf : Checked → Reply Bool
-checkOf checked.Yes = gives true
-checkOf checked.No = gives false
-checkOf (checked.Refused n) = refused n
+abbrev pub checkReply : Checked → Reply Bool
+checkReply checked.Yes = gives true
+checkReply checked.No = gives false
+checkReply (checked.Refused n) = refused n
 
 -- What checking a mapping for places p and q promises: the refusal, or yes exactly when the images are a mapping from q's query to p's query as it is stored.
 -- `mapsTo` is a test that says yes exactly to the mappings (`theory/specs/Checking`)
 abbrev pub CheckedMapping : Record → ℕ → ℕ → List Cell → Checked → Type 0
-CheckedMapping r p q images c = checkOf c ≡ reply (pairRefusal r p q) (mapsTo (queryAt r q) (queryAt r p) (entriesOf images))
+CheckedMapping r p q images c = checkReply c ≡ reply (pairRefusal r p q) (mapsTo (queryAt r q) (queryAt r p) (entriesOf images))

@@ -18,7 +18,7 @@ use Rattle.mapping_words.specs.Images.{imagesIn}
 use Rattle.mapping_words.specs.internal.Steps.{mappingRead}
 use Rattle.comparison.specs.declared.Checked.{Checked}
 use Rattle.comparison.specs.declared.Checked.the-variants as checked
-use Rattle.comparison.specs.Comparison.{pairRefusal, checkOf, CheckedMapping}
+use Rattle.comparison.specs.Comparison.{pairRefusal, checkReply, CheckedMapping}
 use Rattle.theory.specs.Query as theory
 use Rattle.theory.specs.Answer.{IsMapping}
 use Rattle.theory.specs.Checking.{mapsTo}
@@ -77,23 +77,23 @@ module _ (r : Record) (p q : ℕ) (words : List ℕ) (m : Mapped) (e : m ≡ map
 
   pub check-refused : (n : ℕ) → c ≡ checked.Refused n → Says due said n said
   check-refused n k =
-      says-same (still (pairRefusal r p q) n maps (wordsMap r p q words) (ap checkOf (sym k) ∙ is)) said n said (refl, refl)
+      says-same (still (pairRefusal r p q) n maps (wordsMap r p q words) (ap checkReply (sym k) ∙ is)) said n said (refl, refl)
 
   pub check-yes : c ≡ checked.Yes → m .found ≡ true → Says due said 0 1
   check-yes k g =
-      let t = replied (pairRefusal r p q) true maps (wordsMap r p q words) (ap checkOf (sym k) ∙ is) in
+      let t = replied (pairRefusal r p q) true maps (wordsMap r p q words) (ap checkReply (sym k) ∙ is) in
       let w : wordsMap r p q words ≡ true = found (queryAt r q) (queryAt r p) m (imagesIn words) e g ∙ t .0 in
       says-same (t .1 ∙ ap gives w) said 0 1 (refl, refl)
 
   pub check-bad : c ≡ checked.Yes → m .found ≡ false → Says due said 0 0
   check-bad k g =
-      let t = replied (pairRefusal r p q) true maps (wordsMap r p q words) (ap checkOf (sym k) ∙ is) in
+      let t = replied (pairRefusal r p q) true maps (wordsMap r p q words) (ap checkReply (sym k) ∙ is) in
       let w : wordsMap r p q words ≡ false = missed (queryAt r q) (queryAt r p) m (imagesIn words) e g in
       says-same (t .1 ∙ ap gives w) said 0 0 (refl, refl)
 
   pub check-no : c ≡ checked.No → Says due said 0 0
   check-no k =
-      let t = replied (pairRefusal r p q) false maps (wordsMap r p q words) (ap checkOf (sym k) ∙ is) in
+      let t = replied (pairRefusal r p q) false maps (wordsMap r p q words) (ap checkReply (sym k) ∙ is) in
       let w : wordsMap r p q words ≡ false = apart (queryAt r q) (queryAt r p) m (imagesIn words) e (t .0) in
       says-same (t .1 ∙ ap gives w) said 0 0 (refl, refl)
 

@@ -1,19 +1,18 @@
 -- What comparing leaves. Assumes nothing.
-use mathlib.Core.Path.{_≡_, refl, sym, subst, _∙_}
+use mathlib.Core.Path.{_≡_, refl, sym, ap, subst, _∙_}
 use mathlib.Core.Bool.{true}
 use mathlib.Core.List.{List, []}
-use mathlib.Core.Option.{Option}
 use mathlib.Core.Option as option
 use Prim.Native.Nat.{ℕ, _≤_, _<_}
 use native.Mathlib.Omega.{arith}
 use lib.ListN.{length}
 use borrow.Author.Tests.{le-leb, lt-leb}
 use Rattle.refusals.specs.Refusals.{_>>=_, bufferTooShort, gives, refused, Reply}
+use Rattle.refusals.proofs.Refusals.{reply-gives}
 use Rattle.record.specs.Calls.{queryAt}
 use Rattle.query.specs.declared.Cell.{Cell}
 use Rattle.query.specs.declared.Query.{Query}
 use Rattle.record.specs.declared.Record.{Record}
-use Rattle.record.specs.declared.Answer.the-variants.{Refused}
 use Rattle.record.specs.View.{schemaOf, dependenciesOf}
 use Rattle.query.specs.Rule.{headSafe}
 use Rattle.record.proofs.Kept.{filled-place}
@@ -22,9 +21,8 @@ use Rattle.format.specs.Parts.{query}
 use Rattle.format.specs.File.{placeWith, putPlace, readFile}
 use Rattle.lists.proofs.Over.{over-nil}
 use Rattle.comparison.specs.declared.Comparison.{Comparison}
-use Rattle.comparison.specs.declared.Verdict.{Verdict}
 use Rattle.comparison.specs.declared.Verdict.the-variants as verdict
-use Rattle.comparison.specs.Comparison.{pairRefusal, judged, Compared}
+use Rattle.comparison.specs.Comparison.{pairRefusal, notContained, verdictReply, Compared}
 use Rattle.comparison.proofs.Verdicts.{queries}
 use Rattle.chase.proofs.Callers.{chases-safe}
 use Rattle.theory.specs.Query as theory
@@ -108,7 +106,7 @@ module _ (words room : ℕ) (schema : List ℕ) (c : Comparison) where
 pub compared-sound : (r : Record) (p q : ℕ) (c : Comparison) → Compared r p q c → SoundComparison (schemaOf r) c
 unfolding headSafe
 compared-sound r p q c is apart =
-    let accepted : pairRefusal r p q ≡ option.none = unrefused (pairRefusal r p q) _ (sym (is .verdict) ∙ apart) in
+    let accepted : pairRefusal r p q ≡ option.none = reply-gives (pairRefusal r p q) _ notContained (sym (is .verdict) ∙ ap verdictReply apart) .0 in
     let view = queryAt r p in
     let chased = is .chased apart in
     let safe : headSafe (schemaOf r) (c .query) ≡ true =
@@ -117,10 +115,6 @@ compared-sound r p q c is apart =
     (chases-safe (chase-chases (dependenciesOf r) view) (subset-true (variablesOf (view .head)) (variablesOf (rowEntries (view .rows)))
     (queries r p q accepted .safe-p)))) in
     filled-place (schemaOf r) (c .query) (chased .1) safe
-  where
-    unrefused : (x : Option ℕ) (v : Verdict) → judged x v ≡ verdict.Apart → x ≡ option.none
-    unrefused option.none v e = refl
-    unrefused (option.some n) v e = let z : _≡_ {A = ℕ} 0 1 = cc in absurd (omega arith)
 
 module _ (file : List ℕ) (p q said : ℕ) (mapping part : List ℕ) (size : ℕ) where
   pub compare-done : (r : Record) → readFile file ≡ gives r → (c : Comparison) → Compared r p q c → ComparisonShape c

@@ -4,7 +4,7 @@ use mathlib.Core.Logic.{_↔_}
 use mathlib.Core.Bool.{Bool, true, false, cond, _&&_}
 use mathlib.Core.List.{List, [], _∷_}
 use Prim.Native.Nat.{ℕ}
-use lib.Dec.{leb}
+use lib.Dec.{eqb, leb}
 use lib.ListN.{length}
 use Rattle.refusals.specs.Refusals.{_>>=_, bufferTooShort, gives, refused, Reply, reply}
 use Rattle.record.specs.Calls.{queryAt}
@@ -20,8 +20,7 @@ use Rattle.query.specs.Rule.{shapedQuery}
 use Rattle.mapping_words.specs.Images.{mappingWords, imagesIn}
 use Rattle.comparison.specs.declared.Comparison.{Comparison}
 use Rattle.comparison.specs.declared.Verdict.{Verdict}
-use Rattle.comparison.specs.declared.Verdict.the-variants as verdict
-use Rattle.comparison.specs.Comparison.{pairRefusal, Compared}
+use Rattle.comparison.specs.Comparison.{notContained, verdictReply, pairRefusal, Compared}
 use Rattle.theory.specs.Query as theory
 use Rattle.theory.specs.Answer as answer
 use Rattle.theory.specs.Checking.{mapsTo}
@@ -29,12 +28,9 @@ use Rattle.record_on_files.specs.Lent.{statusOf, leaves}
 
 -- ---- comparing
 
--- A verdict's number with the bytes of the query that goes with it: 0 not contained, 1 contained by a mapping, 2 contained because the first chases to never
+-- A verdict's number with the bytes of the query, which is given only where it is not contained
 abbrev pub verdictBytes : Verdict → List ℕ → Reply (ℕ × List ℕ)
-verdictBytes verdict.Apart bytes = gives (0, bytes)
-verdictBytes verdict.Contained bytes = gives (1, [])
-verdictBytes verdict.Never bytes = gives (2, [])
-verdictBytes (verdict.Refused n) bytes = refused n
+verdictBytes verdict bytes = verdictReply verdict >>= λ number. gives (number, cond (eqb number notContained) bytes [])
 
 -- A verdict for buffers with so much room. Refused: bufferTooShort, there is no room for a mapping or for the query's bytes
 abbrev pub verdictFits : ℕ → ℕ → ℕ × List ℕ → Reply (ℕ × List ℕ)

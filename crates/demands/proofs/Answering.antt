@@ -1,7 +1,7 @@
 -- Demand 2 from the calls' own contracts. Assumes nothing.
 use mathlib.Core.Path.{_≡_, refl, sym, ap, _∙_}
 use mathlib.Core.Logic.{⊎-elim}
-use mathlib.Core.Bool.{Bool, true, false, not}
+use mathlib.Core.Bool.{true, false, not}
 use mathlib.Core.List.{List, [], _∷_, _++_}
 use mathlib.Core.Option.{Option, none}
 use Prim.Native.Nat.{ℕ, _≤_, _<_}
@@ -10,30 +10,28 @@ use lib.ListN.{length, take, drop, take-append-drop, List·getD-eq-default}
 use borrow.Author.Tests.{ltb-true, not-false}
 use native.Mathlib.Omega.{arith}
 use Rattle.record.specs.declared.Record.{Record}
-use Rattle.record.specs.Calls.{isFilled, queryAt, above, vacant}
+use Rattle.record.specs.Calls.{answerReply, outcomeReply, isFilled, queryAt, unknownPlace, vacant}
 use Rattle.comparison.specs.declared.Comparison.{Comparison}
 use Rattle.comparison.specs.declared.Verdict.{Verdict}
 use Rattle.comparison.specs.declared.Verdict.the-variants.{Never, Contained, Apart, Refused}
-use Rattle.comparison.specs.Comparison.{pairRefusal, verdictOn, judged, chasedAt, SaysContained, Compared}
-use Rattle.theory.specs.Query as theory
-use Rattle.refusals.specs.Refusals.{badRecord, noSuchPlace, placeVacant}
-use Rattle.refusals.proofs.Refusals.{none-holds}
+use Rattle.comparison.specs.Comparison.{pairRefusal, verdictReply, verdictOn, chasedAt, SaysContained, Compared}
+use Rattle.refusals.specs.Refusals.{badRecord, noSuchPlace, placeVacant, Reply, refused, gives, reply}
+use Rattle.refusals.proofs.Refusals.{none-holds, refused-gives}
 use Rattle.query.specs.declared.Place.{Place}
 use Rattle.query.specs.Rule.{noPlace}
 use Rattle.record.specs.Rule.{goodRecord}
 use Rattle.lists.proofs.Tests.{below-or-past}
 use Rattle.evaluation.specs.Evaluated.{answerWords}
 use Rattle.database.specs.declared.Answered.{Answered}
-use Rattle.database.specs.Calls.{unspelled, tooLong, evaluationRefused, placeAnswers, countUnless, wordsUnless, evaluated, bufferThen}
+use Rattle.database.specs.Calls.{unspelled, tooLong, evaluationRefused, placeAnswers, countReply, wordsUnless, evaluated, bufferThen}
 use Rattle.database.proofs.Meaning.{place-ascending, place-answers}
 use Rattle.theory.specs.Search as search
 use Rattle.record.specs.declared.Outcome.{Outcome}
 use Rattle.record.specs.declared.Answer.the-variants as answer
 use Rattle.format.specs.Bytes.{Bytes}
-use Rattle.format.specs.File.{readFile, outcomeOf, fileOf, shaped}
+use Rattle.format.specs.File.{readFile, readOutcome, fileOf, shaped}
 use Rattle.writer.specs.declared.Written.{Written}
-use Rattle.writer.specs.declared.Written.the-variants as variant
-use Rattle.writer.specs.Write.{written, afterWriting}
+use Rattle.writer.specs.Write.{lengthReply, written, afterWriting}
 use Rattle.file.proofs.RoundTrip.{written-back, read-back}
 use Rattle.writer.proofs.Writing.{fits-written, written-fits}
 use Rattle.lists.proofs.Over.{over-length}
@@ -53,19 +51,13 @@ says-else Contained clear not = tt
 says-else Apart clear not = absurd (not refl)
 says-else (Refused n) clear not = absurd (clear n refl)
 
--- A verdict on a chased query is no refusal
-verdict-clear : (rows : List (theory.Row theory.Entry)) (mapped : Bool) (n : ℕ) → verdictOn rows mapped ≡ Refused n → ⊥
-verdict-clear [] mapped n e = let z : _≡_ {A = ℕ} 0 1 = cc in omega arith
-verdict-clear (x ∷ xs) true n e = let z : _≡_ {A = ℕ} 0 1 = cc in omega arith
-verdict-clear (x ∷ xs) false n e = let z : _≡_ {A = ℕ} 0 1 = cc in omega arith
-
 module _ (r : Record) (p q : ℕ) (c : Comparison) (compared : Compared r p q c) where
   -- A verdict on places that are not refused is no refusal
   not-refused : pairRefusal r p q ≡ none → (n : ℕ) → c .verdict ≡ Refused n → ⊥
   not-refused accepted n e =
-      verdict-clear (chasedAt r p .rows) (search.mappable (queryAt r q) (chasedAt r p)) n
-      (sym (ap (λ (o : Option ℕ). judged o (verdictOn (chasedAt r p .rows) (search.mappable (queryAt r q) (chasedAt r p)))) accepted)
-      ∙ sym (compared .verdict) ∙ e)
+      refused-gives
+      (sym (ap verdictReply e) ∙ compared .verdict
+      ∙ ap (λ (o : Option ℕ). reply o (verdictOn (chasedAt r p .rows) (search.mappable (queryAt r q) (chasedAt r p)))) accepted)
 
   pub decides : Decides r p q c
   decides =
@@ -86,7 +78,7 @@ accepted-place : (r : Record) (place : ℕ) (words : List ℕ) (room : ℕ) → 
 unfolding evaluationRefused
 accepted-place r place words room e =
     let later = unspelled r words ∷ tooLong r place words room ∷ [] in
-    let a = none-holds (not (goodRecord r)) badRecord (above place ∷ vacant r place ∷ later) e in
+    let a = none-holds (not (goodRecord r)) badRecord (unknownPlace place ∷ vacant r place ∷ later) e in
     let b = none-holds (not (ltb place 8)) noSuchPlace (vacant r place ∷ later) (a .1) in
     let c = none-holds (not (isFilled r place)) placeVacant later (b .1) in
     (not-false (goodRecord r) (a .0), ltb-true place 8 (not-false (ltb place 8) (b .0)), not-false (isFilled r place) (c .0))
@@ -101,13 +93,13 @@ filled-inside r place e = ⊎-elim (λ h. h) past (below-or-past place (length (
         absurd (true-false (sym e ∙ blank))
 
 pub evaluates : (r : Record) (place : ℕ) (words before after : List ℕ) (a : Answered)
-    → a ≡ evaluated r place words (length before) → after ≡ bufferThen r place words before → Evaluates r place words before after a
+    → countReply a ≡ evaluated r place words (length before) → after ≡ bufferThen r place words before → Evaluates r place words before after a
 unfolding evaluated bufferThen
 evaluates r place words before after a is-a is-after =
     let n = length (placeAnswers r place words) in
     let found = answerWords (placeAnswers r place words) in
     record {
-      count = λ e. is-a ∙ ap (λ (o : Option ℕ). countUnless o n) e;
+      count = λ e. is-a ∙ ap (λ (o : Option ℕ). reply o n) e;
       written = λ e. is-after ∙ ap (λ (o : Option ℕ). wordsUnless o found before) e;
       ascends = place-ascending r place words;
       exactly = λ e.
@@ -117,11 +109,12 @@ evaluates r place words before after a is-a is-after =
 
 -- ---- files
 
-module _ (file before after : List ℕ) (o : Outcome) (is : o ≡ outcomeOf (readFile file)) where
+module _ (file before after : List ℕ) (o : Outcome) (is : outcomeReply o ≡ readOutcome (readFile file)) where
   -- A file whose record is written back
-  pub written-again : (w : Written) → Bytes file → w ≡ written (o .«record») before → after ≡ afterWriting (o .«record») before → FileComesBack file before after w
+  pub written-again : (w : Written) → Bytes file → lengthReply w ≡ written (o .«record») before → after ≡ afterWriting (o .«record») before
+      → FileComesBack file before after w
   written-again w bytes says left r reads room =
-      let same : o .«record» ≡ r = ap (λ (x : Outcome). x .«record») (is ∙ reads) in
+      let same : o .«record» ≡ r = ap (λ (x : Reply (Unit {0}) × Record). x .1) (is ∙ reads) in
       let back = written-back file before r bytes reads room in
       let buffer = left ∙ ap (λ (x : Record). afterWriting x before) same in (
         says ∙ ap (λ (x : Record). written x before) same ∙ back .0,
@@ -133,21 +126,20 @@ module _ (file before after : List ℕ) (o : Outcome) (is : o ≡ outcomeOf (rea
   -- A file that is refused
   pub not-read : (w : Written) (n : ℕ) → o .answer ≡ answer.Refused n → FileComesBack file before after w
   not-read w n says r reads room =
-      let done : answer.Done ≡ answer.Refused n = sym (ap (λ (x : Outcome). x .answer) (is ∙ reads)) ∙ says in
-      absurd (let z : _≡_ {A = ℕ} 0 1 = cc in omega arith)
+      absurd (refused-gives (sym (ap answerReply says) ∙ ap (λ (x : Reply (Unit {0}) × Record). x .0) (is ∙ reads)))
 
 module _ (r : Record) (before after : List ℕ) (o : Outcome) where
   -- A record whose file is read back
-  pub read-again : shaped r ≡ true → (n : ℕ) → written r before ≡ variant.Length n → after ≡ afterWriting r before
-      → o ≡ outcomeOf (readFile (take n after)) → RecordComesBack r before o
-  read-again shape n says left is m writes = is ∙ ap (λ (l : List ℕ). outcomeOf (readFile (take n l))) left ∙ read-back r before n shape says
+  pub read-again : shaped r ≡ true → (n : ℕ) → written r before ≡ gives n → after ≡ afterWriting r before
+      → outcomeReply o ≡ readOutcome (readFile (take n after)) → RecordComesBack r before o
+  read-again shape n says left is m writes = is ∙ ap (λ (l : List ℕ). readOutcome (readFile (take n l))) left ∙ read-back r before n shape says
 
   -- A record that is refused
-  pub not-written : (n : ℕ) → written r before ≡ variant.Refused n → RecordComesBack r before o
-  not-written n says m writes = absurd (let z : _≡_ {A = ℕ} 0 1 = cc in omega arith)
+  pub not-written : (n : ℕ) → written r before ≡ refused n → RecordComesBack r before o
+  not-written n says m writes = absurd (refused-gives (sym says ∙ writes))
 
 -- What is written lies in the buffer
-pub inside : (r : Record) (before after : List ℕ) (n : ℕ) → written r before ≡ variant.Length n → after ≡ afterWriting r before → n ≤ length after
+pub inside : (r : Record) (before after : List ℕ) (n : ℕ) → written r before ≡ gives n → after ≡ afterWriting r before → n ≤ length after
 inside r before after n says left =
     let (good, fits, long) = written-fits r before n says in
     let kept : length after ≡ length before = ap length (left ∙ sym (fits-written r before good fits .1)) ∙ over-length before (fileOf r) 0 (omega (arith, fits)) in

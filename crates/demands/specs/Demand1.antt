@@ -6,37 +6,30 @@ use mathlib.Core.Bool.{true}
 use mathlib.Core.List.{List, [], _∷_, _++_, map}
 use mathlib.Core.Option.{Option, none, some}
 use Prim.Native.Nat.{ℕ, zero, suc, _-_}
-use lib.ListN.{length, drop, getD, replicate}
+use lib.ListN.{length, drop, replicate}
 use Rattle.refusals.specs.Refusals.{badDirectory, badOffsets, badRelations, badDependency, badQuery, unsafeHead, noSuchPlace, headsDiffer, badDatabase}
 use Rattle.refusals.specs.Refusals.{bufferTooShort, placeVacant, placeFilled, dependenciesFull, badRecord}
-use Rattle.refusals.specs.Refusals.{Condition, order, follows, firstHolding, gives}
+use Rattle.refusals.specs.Refusals.{Condition, order, follows, firstHolding, gives, refusalIn}
 use Rattle.query.specs.declared.Cell.{Cell}
 use Rattle.query.specs.declared.Dependency.{Dependency}
 use Rattle.query.specs.declared.Query.{Query}
-use Rattle.query.specs.View.{columnsOf, entriesOf, maskOf}
+use Rattle.query.specs.View.{entriesOf, maskOf}
 use Rattle.query.specs.Rule.{noCell, noQuery, noPlace}
 use Rattle.record.specs.declared.Record.{Record}
-use Rattle.record.specs.declared.Answer.{Answer}
-use Rattle.record.specs.declared.Answer.the-variants as answer
 use Rattle.record.specs.declared.Outcome.{Outcome}
 use Rattle.record.specs.declared.Columns.{Columns}
-use Rattle.record.specs.declared.Columns.the-variants as columns
 use Rattle.record.specs.View.{schemaOf, dependenciesOf}
 use Rattle.record.specs.Rule.{blankRecord}
-use Rattle.record.specs.Calls.{emptyRecord, withDependency, withPlace, queryAt, openConditions, addConditions, putConditions, dropConditions, determinedConditions}
+use Rattle.record.specs.Calls.{answerReply, columnsReply, emptyRecord, withDependency, withPlace, queryAt, determinedAt}
+use Rattle.record.specs.Calls.{openConditions, addConditions, putConditions, dropConditions, determinedConditions}
 use Rattle.comparison.specs.declared.Comparison.{Comparison}
-use Rattle.comparison.specs.declared.Verdict.{Verdict}
-use Rattle.comparison.specs.declared.Verdict.the-variants as verdict
 use Rattle.comparison.specs.declared.Checked.{Checked}
-use Rattle.comparison.specs.declared.Checked.the-variants as checked
-use Rattle.comparison.specs.Comparison.{pairConditions, Compared, checkOf}
+use Rattle.comparison.specs.Comparison.{pairConditions, verdictReply, Compared, checkReply}
 use Rattle.reduction.specs.declared.Reduced.{Reduced}
 use Rattle.reduction.specs.Reduced.{reductionConditions, IsReduced}
 use Rattle.database.specs.declared.Conformance.{Conformance}
-use Rattle.database.specs.declared.Conformance.the-variants as test
 use Rattle.database.specs.declared.Answered.{Answered}
-use Rattle.database.specs.declared.Answered.the-variants as answered
-use Rattle.database.specs.Calls.{testConditions, testOf, evaluationConditions, placeAnswers}
+use Rattle.database.specs.Calls.{testReply, testConditions, countReply, evaluationConditions, placeAnswers}
 use Rattle.words.specs.Words.{databaseOf}
 use Rattle.words.specs.Testing.{firstBrokenFrom}
 use Rattle.words.specs.Broken.{violationOf}
@@ -47,10 +40,8 @@ use Rattle.format.specs.Bytes.{number}
 use Rattle.format.specs.File.{readFile, fileOf}
 use Rattle.format.specs.Faults.{readConditions}
 use Rattle.writer.specs.declared.Written.{Written}
-use Rattle.writer.specs.declared.Written.the-variants as written
-use Rattle.writer.specs.Write.{writeConditions}
+use Rattle.writer.specs.Write.{lengthReply, writeConditions}
 use Rattle.theory.specs.Checking.{mapsTo}
-use Rattle.theory.specs.Determined.{determined}
 
 -- ---- what each call asks, by the numbers of the refusals
 
@@ -126,94 +117,50 @@ pub record Meets (conditions : List Condition) (numbers : List ℕ) (said : Opti
 abbrev pub Nothing : Type 0
 Nothing = Unit {0}
 
--- ---- the number with which a call says that it is refused, if it is
-
--- A call that changes the record
-abbrev pub answerRefusal : Answer → Option ℕ
-answerRefusal answer.Done = none
-answerRefusal (answer.Refused n) = some n
-
--- A question about determined columns
-abbrev pub columnsRefusal : Columns → Option ℕ
-columnsRefusal (columns.Determined mask size) = none
-columnsRefusal (columns.Refused n) = some n
-
--- A comparison
-abbrev pub verdictRefusal : Verdict → Option ℕ
-verdictRefusal verdict.Never = none
-verdictRefusal verdict.Contained = none
-verdictRefusal verdict.Apart = none
-verdictRefusal (verdict.Refused n) = some n
-
--- A check of a mapping
-abbrev pub checkRefusal : Checked → Option ℕ
-checkRefusal checked.Yes = none
-checkRefusal checked.No = none
-checkRefusal (checked.Refused n) = some n
-
--- A test of a database
-abbrev pub testRefusal : Conformance → Option ℕ
-testRefusal test.Obeys = none
-testRefusal (test.Broken k i j) = none
-testRefusal (test.Refused n) = some n
-
--- An evaluation
-abbrev pub countRefusal : Answered → Option ℕ
-countRefusal (answered.Count n) = none
-countRefusal (answered.Refused n) = some n
-
--- Writing
-abbrev pub lengthRefusal : Written → Option ℕ
-lengthRefusal (written.Length n) = none
-lengthRefusal (written.Refused n) = some n
-
 -- ---- the calls on the record alone
 
 -- Opening a record: it was given none, so a refusal hands back the blank one
 abbrev pub OpenMeets : List ℕ → Outcome → Type 0
 OpenMeets widths o =
-    Meets (openConditions widths) openAsks (answerRefusal (o .answer)) (o .«record» ≡ blankRecord)
+    Meets (openConditions widths) openAsks (refusalIn (answerReply (o .answer))) (o .«record» ≡ blankRecord)
     (o .«record» ≡ emptyRecord (length widths) (widths ++ replicate (8 - length widths) 0))
 
 -- Adding a dependency
 abbrev pub AddMeets : Record → Dependency → Outcome → Type 0
-AddMeets r d o = Meets (addConditions r d) addAsks (answerRefusal (o .answer)) (o .«record» ≡ r) (o .«record» ≡ withDependency r d)
+AddMeets r d o = Meets (addConditions r d) addAsks (refusalIn (answerReply (o .answer))) (o .«record» ≡ r) (o .«record» ≡ withDependency r d)
 
 -- Putting a query
 abbrev pub PutMeets : Record → ℕ → Query → Outcome → Type 0
 PutMeets r place q o =
-    Meets (putConditions r place q) putAsks (answerRefusal (o .answer)) (o .«record» ≡ r) (o .«record» ≡ withPlace r place (record { filled = true; query = q }))
+    Meets (putConditions r place q) putAsks (refusalIn (answerReply (o .answer))) (o .«record» ≡ r)
+    (o .«record» ≡ withPlace r place (record { filled = true; query = q }))
 
 -- Dropping a query
 abbrev pub DropMeets : Record → ℕ → Outcome → Type 0
-DropMeets r place o = Meets (dropConditions r place) dropAsks (answerRefusal (o .answer)) (o .«record» ≡ r) (o .«record» ≡ withPlace r place noPlace)
-
--- The columns that a left set determines
-abbrev pub determinedAt : Record → ℕ → ℕ → List ℕ
-determinedAt r relation left = determined (dependenciesOf r) relation (getD (schemaOf r) relation 0) (columnsOf left)
+DropMeets r place o = Meets (dropConditions r place) dropAsks (refusalIn (answerReply (o .answer))) (o .«record» ≡ r) (o .«record» ≡ withPlace r place noPlace)
 
 -- Asking for determined columns
 abbrev pub DeterminedMeets : Record → ℕ → ℕ → Columns → Type 0
 DeterminedMeets r relation left c =
-    Meets (determinedConditions r relation left) determinedAsks (columnsRefusal c) Nothing
-    (c ≡ columns.Determined (maskOf (determinedAt r relation left)) (length (determinedAt r relation left)))
+    Meets (determinedConditions r relation left) determinedAsks (refusalIn (columnsReply c)) Nothing
+    (columnsReply c ≡ gives (maskOf (determinedAt r relation left), length (determinedAt r relation left)))
 
 -- ---- comparing, checking a mapping, reducing
 
 -- Comparing two places: what is due leaves free only which mapping
 abbrev pub CompareMeets : Record → ℕ → ℕ → Comparison → Type 0
 CompareMeets r p q c =
-    Meets (pairConditions r p q) pairAsks (verdictRefusal (c .verdict)) ((c .images ≡ replicate 96 noCell) × (c .query ≡ noQuery)) (Compared r p q c)
+    Meets (pairConditions r p q) pairAsks (refusalIn (verdictReply (c .verdict))) ((c .images ≡ replicate 96 noCell) × (c .query ≡ noQuery)) (Compared r p q c)
 
 -- Checking a mapping
 abbrev pub CheckMeets : Record → ℕ → ℕ → List Cell → Checked → Type 0
 CheckMeets r p q images c =
-    Meets (pairConditions r p q) pairAsks (checkRefusal c) Nothing (checkOf c ≡ gives (mapsTo (queryAt r q) (queryAt r p) (entriesOf images)))
+    Meets (pairConditions r p q) pairAsks (refusalIn (checkReply c)) Nothing (checkReply c ≡ gives (mapsTo (queryAt r q) (queryAt r p) (entriesOf images)))
 
 -- Reducing: what is due leaves free which rows stay, their order, and the mapping
 abbrev pub ReduceMeets : Record → ℕ → ℕ → Reduced → Type 0
 ReduceMeets r source target o =
-    Meets (reductionConditions r source target) reduceAsks (answerRefusal (o .answer))
+    Meets (reductionConditions r source target) reduceAsks (refusalIn (answerReply (o .answer)))
     ((o .«record» ≡ r) × (o .images ≡ replicate 96 noCell) × (o .count ≡ 0)) (IsReduced r source target o)
 
 -- ---- databases
@@ -221,13 +168,14 @@ ReduceMeets r source target o =
 -- Testing a database
 abbrev pub TestMeets : Record → List ℕ → Conformance → Type 0
 TestMeets r words v =
-    Meets (testConditions r words) testAsks (testRefusal v) Nothing (v ≡ testOf (violationOf (firstBrokenFrom 0 (dependenciesOf r) (databaseOf (schemaOf r) words))))
+    Meets (testConditions r words) testAsks (refusalIn (testReply v)) Nothing
+    (testReply v ≡ gives (violationOf (firstBrokenFrom 0 (dependenciesOf r) (databaseOf (schemaOf r) words))))
 
 -- Evaluating a place
 abbrev pub EvaluateMeets : Record → ℕ → List ℕ → List ℕ → List ℕ → Answered → Type 0
 EvaluateMeets r place words before after a =
-    Meets (evaluationConditions r place words (length before)) evaluateAsks (countRefusal a) (after ≡ before)
-    ((a ≡ answered.Count (length (placeAnswers r place words)))
+    Meets (evaluationConditions r place words (length before)) evaluateAsks (refusalIn (countReply a)) (after ≡ before)
+    ((countReply a ≡ gives (length (placeAnswers r place words)))
     × (after ≡ answerWords (placeAnswers r place words) ++ drop (length (answerWords (placeAnswers r place words))) before))
 
 -- ---- files
@@ -235,10 +183,10 @@ EvaluateMeets r place words before after a =
 -- Reading a file: it was given no record, so a refusal hands back the blank one
 abbrev pub ReadMeets : List ℕ → Outcome → Type 0
 ReadMeets file o =
-    Meets (readConditions file) (readAsks file) (answerRefusal (o .answer)) (o .«record» ≡ blankRecord) (readFile file ≡ gives (o .«record»))
+    Meets (readConditions file) (readAsks file) (refusalIn (answerReply (o .answer))) (o .«record» ≡ blankRecord) (readFile file ≡ gives (o .«record»))
 
 -- Writing a record into a buffer
 abbrev pub WriteMeets : Record → List ℕ → List ℕ → Written → Type 0
 WriteMeets r before after w =
-    Meets (writeConditions r (length before)) writeAsks (lengthRefusal w) (after ≡ before)
-    ((w ≡ written.Length (length (fileOf r))) × (after ≡ over before 0 (fileOf r)))
+    Meets (writeConditions r (length before)) writeAsks (refusalIn (lengthReply w)) (after ≡ before)
+    ((lengthReply w ≡ gives (length (fileOf r))) × (after ≡ over before 0 (fileOf r)))

@@ -8,19 +8,18 @@ use lib.ListN.{length, drop}
 use Rattle.query.specs.View.{queryOf}
 use Rattle.record.specs.declared.Record.{Record}
 use Rattle.record.specs.declared.Outcome.{Outcome}
-use Rattle.record.specs.declared.Answer.the-variants as answer
 use Rattle.record.specs.View.{schemaOf, dependenciesOf}
-use Rattle.record.specs.Calls.{queryAt}
+use Rattle.refusals.specs.Refusals.{gives}
+use Rattle.record.specs.Calls.{outcomeReply, queryAt}
 use Rattle.comparison.specs.declared.Comparison.{Comparison}
 use Rattle.comparison.specs.Comparison.{pairRefusal, SaysContained, base}
 use Rattle.words.specs.Words.{databaseOf}
 use Rattle.answers.specs.Ascending.{Ascending}
 use Rattle.evaluation.specs.Evaluated.{answerWords}
 use Rattle.database.specs.declared.Answered.{Answered}
-use Rattle.database.specs.declared.Answered.the-variants as answered
-use Rattle.database.specs.Calls.{evaluationRefused, placeAnswers}
+use Rattle.database.specs.Calls.{countReply, evaluationRefused, placeAnswers}
 use Rattle.writer.specs.declared.Written.{Written}
-use Rattle.writer.specs.declared.Written.the-variants as written
+use Rattle.writer.specs.Write.{lengthReply}
 use Rattle.file.specs.RoundTrip.{Reads, Writes}
 use Rattle.theory.specs.Query.{_∈_}
 use Rattle.theory.specs.Answer.{Answer}
@@ -40,7 +39,7 @@ pub record Decides (r : Record) (p q : ℕ) (c : Comparison) : Type 0 where
 
 -- The answers that an evaluation counts and writes are those of the place's query on the rows that the words spell, ascending, so each once
 pub record Evaluates (r : Record) (place : ℕ) (words before after : List ℕ) (a : Answered) : Type 0 where
-  pub count : evaluationRefused r place words (length before) ≡ none → a ≡ answered.Count (length (placeAnswers r place words))
+  pub count : evaluationRefused r place words (length before) ≡ none → countReply a ≡ gives (length (placeAnswers r place words))
   pub written : evaluationRefused r place words (length before) ≡ none
       → after ≡ answerWords (placeAnswers r place words) ++ drop (length (answerWords (placeAnswers r place words))) before
   pub ascends : Ascending (placeAnswers r place words)
@@ -52,8 +51,8 @@ pub record Evaluates (r : Record) (place : ℕ) (words before after : List ℕ) 
 -- A file that reading accepts, read and written into a buffer with room for it: the same bytes, and those after them stay
 abbrev pub FileComesBack : List ℕ → List ℕ → List ℕ → Written → Type 0
 FileComesBack file before after w =
-    (r : Record) → Reads file r → length file ≤ length before → (w ≡ written.Length (length file)) × (after ≡ file ++ drop (length file) before)
+    (r : Record) → Reads file r → length file ≤ length before → (lengthReply w ≡ gives (length file)) × (after ≡ file ++ drop (length file) before)
 
 -- A record that writing accepts, written and read back: the same record
 abbrev pub RecordComesBack : Record → List ℕ → Outcome → Type 0
-RecordComesBack r before o = (n : ℕ) → Writes r before n → o ≡ record { answer = answer.Done; «record» = r }
+RecordComesBack r before o = (n : ℕ) → Writes r before n → outcomeReply o ≡ (gives tt, r)

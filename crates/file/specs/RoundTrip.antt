@@ -6,20 +6,19 @@ use mathlib.Core.List.{List}
 use Prim.Native.Nat.{ℕ, _≤_}
 use lib.ListN.{length, take, drop}
 use Rattle.record.specs.declared.Record.{Record}
-use Rattle.record.specs.declared.Answer.the-variants.{Done}
 use Rattle.record.specs.Rule.{goodRecord}
+use Rattle.refusals.specs.Refusals.{gives}
 use Rattle.format.specs.Bytes.{Bytes}
-use Rattle.format.specs.File.{readFile, outcomeOf, shaped}
-use Rattle.writer.specs.declared.Written.the-variants.{Length}
+use Rattle.format.specs.File.{readFile, readOutcome, shaped}
 use Rattle.writer.specs.Write.{written, afterWriting}
 
 -- Reading these bytes is done and gives this record
 abbrev pub Reads : List ℕ → Record → Type 0
-Reads bytes r = outcomeOf (readFile bytes) ≡ record { answer = Done; «record» = r }
+Reads bytes r = readOutcome (readFile bytes) ≡ (gives tt, r)
 
 -- Writing this record into this buffer answers this length
 abbrev pub Writes : Record → List ℕ → ℕ → Type 0
-Writes r buffer n = written r buffer ≡ Length n
+Writes r buffer n = written r buffer ≡ gives n
 
 -- A file that is read is written back as the same bytes into every buffer that has room, and the bytes after it stay
 abbrev pub WrittenBack : Type 0

@@ -14,17 +14,15 @@ use Rattle.query.specs.declared.Query.{Query}
 use Rattle.query.specs.declared.Dependency.{Dependency}
 use Rattle.query.specs.declared.Place.{Place}
 use Rattle.record.specs.declared.Record.{Record}
-use Rattle.record.specs.declared.Answer.{Answer}
-use Rattle.record.specs.declared.Answer.the-variants.{Done, Refused}
-use Rattle.record.specs.declared.Outcome.{Outcome}
 use Rattle.record.specs.View.{schemaOf}
 use Rattle.query.specs.View.{queryOf}
 use Rattle.lists.specs.Tests.{between, every}
 use Rattle.query.specs.Rule.{goodDependency, goodQuery, headSafe, goodPlace, noPlace, shapedQuery}
 use Rattle.record.specs.Rule.{goodRecord, blankRecord}
-use Rattle.refusals.specs.Refusals.{_>>=_, badQuery, bufferTooShort, firstHolding, gives, refused, Reply}
-use Rattle.record.specs.Calls.{queryAt, concluded, broken, above, vacant, filled, withPlace, withDependency, emptyRecord, openRecord, addDependency, putQuery}
+use Rattle.refusals.specs.Refusals.{_>>=_, badQuery, bufferTooShort, firstHolding, gives, refused, reply, Reply}
+use Rattle.record.specs.Calls.{queryAt, concluded, broken, unknownPlace, vacant, filled, withPlace, withDependency, emptyRecord, openRecord, addDependency, putQuery}
 use Rattle.record.specs.Calls.{dropQuery}
+use Rattle.refusals.proofs.Refusals.{refused-gives}
 use Rattle.lists.proofs.Tests.{and-left, and-right, and-both, every-set}
 use Rattle.record.proofs.Good.{good-record}
 use Rattle.record.proofs.Meaning.{open-keeps, add-keeps, put-keeps, drop-keeps}
@@ -41,12 +39,11 @@ use Rattle.format.proofs.RoundTrip.{sound-record, file-written-back, record-rea
 use Rattle.comparison.specs.declared.Comparison.{Comparison}
 use Rattle.comparison.specs.declared.Verdict.{Verdict}
 use Rattle.comparison.specs.declared.Verdict.the-variants as verdict
-use Rattle.comparison.specs.Comparison.{chasedAt, verdictOn, judged, Compared}
-use Rattle.theory.specs.Query as theory
+use Rattle.comparison.specs.Comparison.{chasedAt, verdictReply, verdictOn, Compared}
 use Rattle.theory.specs.Search as search
 use Rattle.reduction.specs.declared.Reduced.{Reduced}
 use Rattle.record_on_files.specs.Lent.{fitted, Wrote}
-use Rattle.record_on_files.specs.Records.{ifDone, resultOf, fileFitted, putPart}
+use Rattle.record_on_files.specs.Records.{resultOf, fileFitted, putPart}
 use Rattle.reduction_on_files.specs.Shortening.{ReductionGiven, Reducing}
 use Rattle.comparison_on_files.specs.Queries.{comparisonFits, ComparisonGiven, ComparisonShape, Comparing}
 use Rattle.files_left.specs.Legible.{FileLeft, WriteLeft, OpenLeft, AddLeft, PutLeft, DropLeft, ReduceLeft, CompareLeft}
@@ -79,18 +76,19 @@ stored-left x keeps r e out size outAfter sizeAfter g =
 -- ---- the record after each call
 
 -- the record of a call that is done
-done-of : {A : Type 0} (a : Answer) (x y : A) → ifDone a x ≡ gives y → (a ≡ Done) × (x ≡ y)
-done-of Done x y e = (refl, cc)
-done-of (Refused n) x y e = absurd (not-ok e)
+done-of : (a : Reply (Unit {0})) (x y : Record) → resultOf (a, x) ≡ gives y → (a ≡ gives tt) × (x ≡ y)
+unfolding _>>=_
+done-of (gives tt) x y e = (refl, cc)
+done-of (refused n) x y e = absurd (not-ok e)
 
 -- A call whose record after it is good, and whole if it is done
-outcome-whole : (o : Outcome) (r : Record) → resultOf o ≡ gives r → (o .answer ≡ Done → Whole (o .«record»)) → Whole r
-outcome-whole o r e keeps = let k = done-of (o .answer) (o .«record») r e in subst Whole (k .1) (keeps (k .0))
+outcome-whole : (said : Reply (Unit {0}) × Record) (r : Record) → resultOf said ≡ gives r → (said .0 ≡ gives tt → Whole (said .1)) → Whole r
+outcome-whole said r e keeps = let k = done-of (said .0) (said .1) r e in subst Whole (k .1) (keeps (k .0))
 
-concluded-shaped : (x : Option ℕ) (given after : Record) → concluded x given after .answer ≡ Done → (x ≡ none → shaped after ≡ true)
-    → shaped (concluded x given after .«record») ≡ true
+concluded-shaped : (x : Option ℕ) (given after : Record) → concluded x given after .0 ≡ gives tt → (x ≡ none → shaped after ≡ true)
+    → shaped (concluded x given after .1) ≡ true
 concluded-shaped none given after e s = s refl
-concluded-shaped (some n) given after e s = let z : _≡_ {A = ℕ} 0 1 = cc in absurd (omega arith)
+concluded-shaped (some n) given after e s = absurd (refused-gives e)
 
 read-whole : (file : List ℕ) → Bytes file → (r : Record) → readFile file ≡ gives r → Whole r
 read-whole file hb r e = let k = file-written-back file r hb e in (k .0, k .1)
@@ -105,7 +103,7 @@ unrefused : (fit : Bool) → cond {A = Option ℕ} (not fit) (some 3) none ≡ n
 unrefused true e = refl
 unrefused false e = let z : _≡_ {A = ℕ} 0 1 = cc in absurd (omega arith)
 
-open-shaped : (widths : List ℕ) → openRecord widths .answer ≡ Done → shaped (openRecord widths .«record») ≡ true
+open-shaped : (widths : List ℕ) → openRecord widths .0 ≡ gives tt → shaped (openRecord widths .1) ≡ true
 unfolding openRecord firstHolding every
 open-shaped widths e =
     let few : Bool = between 1 8 (length widths) in
@@ -134,24 +132,25 @@ module _ (r : Record) (w : Whole r) where
       shaped-from (withPlace r place p) (k .widths-long) (k .dependencies-long) (length-set (r .places) place p ∙ k .places-long)
       (every-set (λ p. shapedQuery (p .query)) (r .places) place p queries s)
 
-  add-shaped : (d : Dependency) → addDependency r d .answer ≡ Done → shaped (addDependency r d .«record») ≡ true
+  add-shaped : (d : Dependency) → addDependency r d .0 ≡ gives tt → shaped (addDependency r d .1) ≡ true
   unfolding addDependency
   add-shaped d e =
       concluded-shaped (firstHolding (broken r ∷ (not (goodDependency (schemaOf r) d), 4) ∷ (eqb (r .held) 32, 13) ∷ [])) r (withDependency r d) e
       (λ _. dependency-shaped d)
 
-  put-shaped : (place : ℕ) (q : Query) → shapedQuery q ≡ true → putQuery r place q .answer ≡ Done → shaped (putQuery r place q .«record») ≡ true
+  put-shaped : (place : ℕ) (q : Query) → shapedQuery q ≡ true → putQuery r place q .0 ≡ gives tt → shaped (putQuery r place q .1) ≡ true
   unfolding putQuery
   put-shaped place q s e =
       concluded-shaped
       (firstHolding
-      (broken r ∷ above place ∷ (not (goodQuery (schemaOf r) q), 5) ∷ (not (headSafe (schemaOf r) q), 6) ∷ filled r place ∷ []))
+      (broken r ∷ unknownPlace place ∷ (not (goodQuery (schemaOf r) q), 5) ∷ (not (headSafe (schemaOf r) q), 6) ∷ filled r place ∷ []))
       r (withPlace r place (placeWith q)) e (λ _. place-shaped place (placeWith q) s)
 
-  drop-shaped : (place : ℕ) → dropQuery r place .answer ≡ Done → shaped (dropQuery r place .«record») ≡ true
+  drop-shaped : (place : ℕ) → dropQuery r place .0 ≡ gives tt → shaped (dropQuery r place .1) ≡ true
   unfolding dropQuery
   drop-shaped place e =
-      concluded-shaped (firstHolding (broken r ∷ above place ∷ vacant r place ∷ [])) r (withPlace r place noPlace) e (λ _. place-shaped place noPlace refl)
+      concluded-shaped (firstHolding (broken r ∷ unknownPlace place ∷ vacant r place ∷ [])) r (withPlace r place noPlace) e
+      (λ _. place-shaped place noPlace refl)
 
   -- A query part that is read
   part-shaped : (part : List ℕ) (p : Place) → Bytes part → readPlace (schemaOf r) true part ≡ gives p → shapedQuery (p .query) ≡ true
@@ -225,12 +224,6 @@ reduce-left file source target r e clear out size count mapping outAfter sizeAft
     go o w true k = over-read (o .«record») w out outAfter sizeAfter (k .1) (k .2)
     go o w false k = let z : _≡_ {A = ℕ} 0 10 = k .0 in absurd (omega arith)
 
--- A verdict on a chased query is no refusal
-judged-not : (rows : List (theory.Row theory.Entry)) (mapped : Bool) (n : ℕ) → verdictOn rows mapped ≡ verdict.Refused n → ⊥
-judged-not [] mapped n e = let z : _≡_ {A = ℕ} 0 1 = cc in omega arith
-judged-not (x ∷ xs) true n e = let z : _≡_ {A = ℕ} 0 1 = cc in omega arith
-judged-not (x ∷ xs) false n e = let z : _≡_ {A = ℕ} 0 1 = cc in omega arith
-
 pub compare-left : CompareLeft
 compare-left file hb p q r e clear said mapping part size mappingAfter partAfter sizeAfter g =
     let (c, is, shape, pictures, same) = subst (λ (x : Reply Record). Comparing x p q (g .result) (g .images) (length mapping) (length part)) e (g .comparing)
@@ -270,6 +263,5 @@ compare-left file hb p q r e clear said mapping part size mappingAfter partAfter
         let z = given-back 2 [] images (leb 192 (length mapping) && leb 0 (length part))
         (subst (λ (x : Reply (ℕ × List ℕ)). Given x images) (comparison-never (length mapping) (length part) (schemaOf r) c a) k) .0 in absurd (omega arith)
     go c is shape images k (verdict.Refused n) a =
-        let view = verdictOn (chasedAt r p .rows) (search.mappable (queryAt r q) (chasedAt r p)) in
-        let v : view ≡ verdict.Refused n = ap (λ (x : Option ℕ). judged x view) (sym clear) ∙ sym (is .verdict) ∙ a in
-        absurd (judged-not (chasedAt r p .rows) (search.mappable (queryAt r q) (chasedAt r p)) n v)
+        let found : ℕ = verdictOn (chasedAt r p .rows) (search.mappable (queryAt r q) (chasedAt r p)) in
+        absurd (refused-gives (sym (ap verdictReply a) ∙ is .verdict ∙ ap (λ (x : Option ℕ). reply x found) clear))

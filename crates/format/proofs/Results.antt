@@ -1,5 +1,5 @@
 -- Results: values and refusals, parts that are read to their end, and the outcome of a call.
-use mathlib.Core.Path.{_≡_, refl}
+use mathlib.Core.Path.{_≡_, refl, sym, ap, _∙_}
 use mathlib.Core.Bool.{true}
 use mathlib.Core.List.{List, [], _∷_, _++_, append-nil}
 use Prim.Native.Nat.{ℕ}
@@ -7,10 +7,11 @@ use native.Mathlib.Omega.{arith}
 use Rattle.record.specs.declared.Record.{Record}
 use Rattle.record.specs.declared.Answer.the-variants.{Done, Refused}
 use Rattle.record.specs.declared.Outcome.{Outcome}
+use Rattle.record.specs.Calls.{answerReply, outcomeReply}
 use Rattle.format.specs.Bytes.{Bytes}
 use Rattle.format.specs.Format.{Reading, none, got, Format, Lawful}
 use Rattle.refusals.specs.Refusals.{Reply, gives, refused, _>>=_}
-use Rattle.format.specs.File.{complete, outcomeOf}
+use Rattle.format.specs.File.{complete, readOutcome}
 
 -- a refusal is no value
 pub not-ok : {A : Type 0} {n : ℕ} {a : A} → refused n ≡ gives a → ⊥
@@ -42,11 +43,14 @@ complete-get n f lf part a hb e =
     (k .0, rw append-nil at (k .1))
 
 -- an outcome that is done is that of an accepted file
-pub outcome-done : (x : Reply Record) (o : Outcome) → o ≡ outcomeOf x → o .answer ≡ Done → x ≡ gives (o .«record»)
-outcome-done (gives r) o e a = cc
-outcome-done (refused n) o e a = let z : _≡_ {A = ℕ} 0 1 = cc in absurd (omega arith)
+pub outcome-done : (x : Reply Record) (o : Outcome) → outcomeReply o ≡ readOutcome x → o .answer ≡ Done → x ≡ gives (o .«record»)
+outcome-done (gives r) o e a = ap gives (sym (ap (λ (s : Reply (Unit {0}) × Record). s .1) e))
+outcome-done (refused n) o e a = absurd (not-ok (sym (ap (λ (s : Reply (Unit {0}) × Record). s .0) e) ∙ ap answerReply a))
 
 -- and one that is refused that of a file refused so
-pub outcome-refused : (x : Reply Record) (o : Outcome) (n : ℕ) → o ≡ outcomeOf x → o .answer ≡ Refused n → x ≡ refused n
-outcome-refused (gives r) o n e a = let z : _≡_ {A = ℕ} 0 1 = cc in absurd (omega arith)
-outcome-refused (refused m) o n e a = cc
+pub outcome-refused : (x : Reply Record) (o : Outcome) (n : ℕ) → outcomeReply o ≡ readOutcome x → o .answer ≡ Refused n → x ≡ refused n
+outcome-refused (gives r) o n e a = absurd (not-ok (sym (ap answerReply a) ∙ ap (λ (s : Reply (Unit {0}) × Record). s .0) e))
+outcome-refused (refused m) o n e a =
+    let same : _≡_ {A = Reply (Unit {0})} (refused m) (refused n) = sym (ap (λ (s : Reply (Unit {0}) × Record). s .0) e) ∙ ap answerReply a in
+    let number : m ≡ n = cc in
+    ap refused number

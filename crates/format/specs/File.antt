@@ -8,8 +8,6 @@ use Rattle.query.specs.declared.Query.{Query}
 use Rattle.query.specs.declared.Dependency.{Dependency}
 use Rattle.query.specs.declared.Place.{Place}
 use Rattle.record.specs.declared.Record.{Record}
-use Rattle.record.specs.declared.Answer.the-variants.{Done, Refused}
-use Rattle.record.specs.declared.Outcome.{Outcome}
 use Rattle.record.specs.View.{schemaOf}
 use Rattle.lists.specs.Tests.{between, every}
 use Rattle.lists.specs.Over.{pad}
@@ -128,10 +126,10 @@ readAll (part0 ∷ part1 ∷ parts) = readParts part0 part1 parts
 unfoldable pub readFile : List ℕ → Reply Record
 readFile file = directory file >>= readAll
 
--- A result as a call's outcome: a refused file gives the blank record
-abbrev pub outcomeOf : Reply Record → Outcome
-outcomeOf (gives r) = record { answer = Done; «record» = r }
-outcomeOf (refused n) = record { answer = Refused n; «record» = blankRecord }
+-- What reading says, and the record that it hands back: that of the file, or the blank one where it is refused
+abbrev pub readOutcome : Reply Record → Reply (Unit {0}) × Record
+readOutcome (gives r) = (gives tt, r)
+readOutcome (refused n) = (refused n, blankRecord)
 
 -- ---- writing
 

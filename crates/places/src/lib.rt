@@ -13,8 +13,8 @@ ghost use lib.ListN.{length, take, drop};
 ghost use Rattle.query.specs.Rule.{goodRelations};
 ghost use Rattle.refusals.specs.Refusals.{refused};
 ghost use Rattle.format.specs.Bytes.{number};
-ghost use Rattle.format.specs.File.{readPlaces, outcomeOf, chained, stretch, stretches};
-ghost use Rattle.places.specs.internal.Read.{recordRead};
+ghost use Rattle.format.specs.File.{readPlaces, chained, stretch, stretches};
+ghost use Rattle.places.specs.internal.Read.{outcomeOf, recordRead};
 
 // The stretch of the file that pair k names.
 pub fn part(file: &[u8], k: usize) -> &[u8]

@@ -10,7 +10,9 @@ ghost use mathlib.Core.Path.{_≡_};
 ghost use mathlib.Core.Bool.{true};
 ghost use Prim.Native.Nat.{_+_, _*_, _≤_};
 ghost use lib.ListN.{length, drop};
-ghost use Rattle.format.specs.File.{readAll, readFile, outcomeOf, directory, chained, stretches};
+ghost use Rattle.format.specs.File.{readAll, readFile, readOutcome, directory, chained, stretches};
+ghost use Rattle.record.specs.Calls.{outcomeReply};
+ghost use Rattle.places.specs.internal.Read.{outcomeOf};
 ghost use Rattle.reader.specs.internal.Read.{directoryRead};
 
 // ---- the directory
@@ -86,7 +88,7 @@ fn read_parts(file: &[u8], n: usize) -> Outcome
 
 // Read a file: its record, or the first fault and the blank record.
 pub fn read(file: &[u8]) -> Outcome
-    ensures { λ r. ⌜ r ≡ outcomeOf (readFile (now (file .entry))) ⌝ }
+    ensures { λ o. ⌜ outcomeReply o ≡ readOutcome (readFile (now (file .entry))) ⌝ }
 {
     match read_directory(file) {
         DirectoryRead::Parts(n) => read_parts(file, n),

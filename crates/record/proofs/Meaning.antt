@@ -16,18 +16,15 @@ use Rattle.theory.specs.Database as database
 use Rattle.theory.proofs.Lists.{member-mem, mem-member}
 use Rattle.theory.specs.Determined.{Determines, determined}
 use Rattle.theory.proofs.Determined.{determined-exact}
-use Rattle.query.specs.declared.Dependency.{Dependency}
 use Rattle.record.specs.declared.Record.{Record}
-use Rattle.record.specs.declared.Answer.the-variants as answer
-use Rattle.record.specs.declared.Columns.the-variants as columns
 use Rattle.query.specs.View.{columnsFrom, columnsOf, maskOf}
 use Rattle.record.specs.View.{schemaOf, dependenciesOf}
 use Rattle.lists.specs.Tests.{between, every}
 use Rattle.query.specs.Rule.{goodSet, goodRelations, goodDependency, goodQuery, headSafe, noPlace}
 use Rattle.record.specs.Rule.{goodRecord, blankRecord}
-use Rattle.refusals.specs.Refusals.{firstHolding}
-use Rattle.record.specs.Calls.{concluded, broken, above, vacant, filled, withPlace, withDependency}
-use Rattle.record.specs.Calls.{emptyRecord, openRecord, addDependency, putQuery, dropQuery, columnsAnswer, determinedColumns}
+use Rattle.refusals.specs.Refusals.{firstHolding, gives, reply}
+use Rattle.record.specs.Calls.{concluded, broken, unknownPlace, vacant, filled, withPlace, withDependency}
+use Rattle.record.specs.Calls.{emptyRecord, openRecord, addDependency, putQuery, dropQuery, determinedColumns}
 use Rattle.record.specs.Meaning.{OpenKeeps, AddKeeps, PutKeeps, DropKeeps, BlankBroken, DeterminedMeans}
 use Rattle.closure.specs.internal.Closure.{growMask}
 use Rattle.record.proofs.Good.{good-record}
@@ -35,17 +32,17 @@ use Rattle.query.proofs.Good.{good-set}
 use Rattle.record.proofs.Stored.{narrow, dependencies-fit}
 use Rattle.closure.proofs.Masks.{same-columns, columns-member, columns-count}
 use Rattle.closure.proofs.Closure.{is-columns, determined-mask, grow-lt}
-use Rattle.refusals.proofs.Refusals.{none-holds}
+use Rattle.refusals.proofs.Refusals.{none-holds, refused-gives, reply-gives}
 use Rattle.record.proofs.Outcomes.{widths-judged}
 use Rattle.record.proofs.Kept.{filled-place, empty-place, place-kept, dependency-kept, opened-good}
 
 -- ---- accepted calls keep the rule
 
 -- What holds of the record after an accepted call holds of the call's outcome
-accepted : (o : Option ℕ) (given after : Record) → concluded o given after .answer ≡ answer.Done
-    → (o ≡ none → goodRecord after ≡ true) → goodRecord (concluded o given after .«record») ≡ true
+accepted : (o : Option ℕ) (given after : Record) → concluded o given after .0 ≡ gives tt
+    → (o ≡ none → goodRecord after ≡ true) → goodRecord (concluded o given after .1) ≡ true
 accepted none given after e then = then refl
-accepted (some n) given after e then = let z : _≡_ {A = ℕ} 0 1 = cc in absurd (omega arith)
+accepted (some n) given after e then = absurd (refused-gives e)
 
 -- Open
 pub open-keeps : OpenKeeps
@@ -79,11 +76,11 @@ unfolding putQuery
 put-keeps r place q e =
     let fit : Bool = goodQuery (schemaOf r) q in
     let safe : Bool = headSafe (schemaOf r) q in
-    accepted (firstHolding (broken r ∷ above place ∷ (not fit, 5) ∷ (not safe, 6) ∷ filled r place ∷ [])) r
+    accepted (firstHolding (broken r ∷ unknownPlace place ∷ (not fit, 5) ∷ (not safe, 6) ∷ filled r place ∷ [])) r
     (withPlace r place (record { filled = true; query = q })) e
     (λ clear.
-    let a = none-holds (broken r .0) 14 (above place ∷ (not fit, 5) ∷ (not safe, 6) ∷ filled r place ∷ []) clear in
-    let b = none-holds (above place .0) 7 ((not fit, 5) ∷ (not safe, 6) ∷ filled r place ∷ []) (a .1) in
+    let a = none-holds (broken r .0) 14 (unknownPlace place ∷ (not fit, 5) ∷ (not safe, 6) ∷ filled r place ∷ []) clear in
+    let b = none-holds (unknownPlace place .0) 7 ((not fit, 5) ∷ (not safe, 6) ∷ filled r place ∷ []) (a .1) in
     let c = none-holds (not fit) 5 ((not safe, 6) ∷ filled r place ∷ []) (b .1) in
     let d = none-holds (not safe) 6 (filled r place ∷ []) (c .1) in
     place-kept r place (record { filled = true; query = q }) (not-false (goodRecord r) (a .0))
@@ -93,9 +90,9 @@ put-keeps r place q e =
 pub drop-keeps : DropKeeps
 unfolding dropQuery
 drop-keeps r place e =
-    accepted (firstHolding (broken r ∷ above place ∷ vacant r place ∷ [])) r (withPlace r place noPlace) e
+    accepted (firstHolding (broken r ∷ unknownPlace place ∷ vacant r place ∷ [])) r (withPlace r place noPlace) e
     (λ clear.
-    place-kept r place noPlace (not-false (goodRecord r) (none-holds (broken r .0) 14 (above place ∷ vacant r place ∷ []) clear .0))
+    place-kept r place noPlace (not-false (goodRecord r) (none-holds (broken r .0) 14 (unknownPlace place ∷ vacant r place ∷ []) clear .0))
     (empty-place (schemaOf r)))
 
 -- ---- the blank record
@@ -108,9 +105,11 @@ blank-broken = refl
 -- ---- determined columns
 
 -- A call that answers with columns was not refused
-answered : (o : Option ℕ) (cs : List ℕ) (mask n : ℕ) → columnsAnswer o cs ≡ columns.Determined mask n → (o ≡ none) × (maskOf cs ≡ mask) × (length cs ≡ n)
-answered none cs mask n e = (refl, cc, cc)
-answered (some m) cs mask n e = let z : _≡_ {A = ℕ} 0 1 = cc in absurd (omega arith)
+answered : (o : Option ℕ) (cs : List ℕ) (mask n : ℕ) → reply {A = ℕ × ℕ} o (maskOf cs, length cs) ≡ gives (mask, n)
+    → (o ≡ none) × (maskOf cs ≡ mask) × (length cs ≡ n)
+answered o cs mask n e =
+    let k = reply-gives o (maskOf cs, length cs) (mask, n) e in
+    (k .0, ap (λ (x : ℕ × ℕ). x .0) (k .1), ap (λ (x : ℕ × ℕ). x .1) (k .1))
 
 module _ (r : Record) (relation left : ℕ) (good : goodRecord r ≡ true) (fit : goodSet (schemaOf r) relation left ≡ true) where
   narrow-right : (d : database.Dependency) → d ∈ dependenciesOf r → d .relation ≡ relation → d .right < getD (schemaOf r) relation 0

@@ -19,14 +19,14 @@ use Rattle.query.specs.declared.Query.{Query}
 use Rattle.query.specs.declared.Dependency.{Dependency}
 use Rattle.record.specs.declared.Lookup.the-variants as lookup
 use Rattle.record.specs.declared.Record.{Record}
-use Rattle.record.specs.declared.Columns.the-variants as columns
 use Rattle.query.specs.View.{columnsOf, maskOf}
 use Rattle.record.specs.View.{schemaOf, dependenciesOf}
 use Rattle.lists.specs.Tests.{between, every, isZero}
 use Rattle.query.specs.Rule.{goodSet, blankDependency, goodRelations, goodDependency, goodQuery, headSafe, noPlace}
 use Rattle.record.specs.Rule.{blankRecord, goodRecord}
-use Rattle.refusals.specs.Refusals.{firstHolding}
-use Rattle.record.specs.Calls.{concluded, broken, above, vacant, filled, placeAt, filledPlace, vacantPlace}
+use Rattle.refusals.specs.Refusals.{firstHolding, refused, gives}
+use Rattle.record.specs.Calls.{concluded, broken, unknownPlace, vacant, filled}
+use Rattle.record.specs.internal.Lookup.{placeAt, filledPlace, vacantPlace}
 use Rattle.record.specs.Calls.{withPlace, withDependency, emptyRecord, openRecord, addDependency, putQuery, dropQuery, determinedColumns}
 use Rattle.closure.specs.internal.Closure.{growMask, rightNarrow}
 use Rattle.lists.proofs.Tests.{every-replicate, every-weaken, used-good}
@@ -80,14 +80,14 @@ module _ (r : Record) (place : ℕ) where
   drop-broken e = rw e
 
   module _ (good : goodRecord r ≡ true) where
-    past : firstHolding (broken r ∷ above place ∷ vacant r place ∷ []) ≡ firstHolding (above place ∷ vacant r place ∷ [])
-    past = first-goes (not (goodRecord r)) 14 (above place ∷ vacant r place ∷ []) (ap not good)
+    past : firstHolding (broken r ∷ unknownPlace place ∷ vacant r place ∷ []) ≡ firstHolding (unknownPlace place ∷ vacant r place ∷ [])
+    past = first-goes (not (goodRecord r)) 14 (unknownPlace place ∷ vacant r place ∷ []) (ap not good)
 
     pub drop-refused : (n : ℕ) → filledPlace r place ≡ lookup.Refused n → concluded (some n) r r ≡ dropQuery r place
     unfolding dropQuery
     drop-refused n e =
         ap (λ (o : Option ℕ). concluded o r (withPlace r place noPlace))
-        (sym (past ∙ found-refused (firstHolding (above place ∷ vacant r place ∷ [])) place n e))
+        (sym (past ∙ found-refused (firstHolding (unknownPlace place ∷ vacant r place ∷ [])) place n e))
 
     pub drop-done : (at : ℕ) → filledPlace r place ≡ lookup.At at → concluded none (withPlace r at noPlace) (withPlace r at noPlace) ≡ dropQuery r place
     unfolding dropQuery firstHolding
@@ -166,17 +166,17 @@ rights-narrow r good =
     (used-good (r .held) (goodDependency (schemaOf r)) blankDependency (r .dependencies) (good-record r good .dependencies))
 
 module _ (r : Record) (relation left : ℕ) where
-  pub determined-broken : goodRecord r ≡ false → columns.Refused 14 ≡ determinedColumns r relation left
+  pub determined-broken : goodRecord r ≡ false → refused 14 ≡ determinedColumns r relation left
   unfolding determinedColumns firstHolding
   determined-broken e = rw e
 
   module _ (good : goodRecord r ≡ true) where
-    pub determined-unfit : goodSet (schemaOf r) relation left ≡ false → columns.Refused 4 ≡ determinedColumns r relation left
+    pub determined-unfit : goodSet (schemaOf r) relation left ≡ false → refused 4 ≡ determinedColumns r relation left
     unfolding determinedColumns firstHolding
     determined-unfit e = rw (good, e)
 
     pub determined-done : goodSet (schemaOf r) relation left ≡ true → length (r .dependencies) ≡ 32 → (mask : ℕ)
-        → mask ≡ growMask (r .held) (dependenciesOf r) relation left → columns.Determined mask (ones mask) ≡ determinedColumns r relation left
+        → mask ≡ growMask (r .held) (dependenciesOf r) relation left → gives (mask, ones mask) ≡ determinedColumns r relation left
     unfolding determinedColumns firstHolding
     determined-done fit long mask e =
         let w : ℕ = getD (schemaOf r) relation 0 in
@@ -192,4 +192,4 @@ module _ (r : Record) (relation left : ℕ) where
         let count : ones mask ≡ length (determined ds relation w (columnsOf left)) =
         ap ones is ∙ sym (determined-count ds relation w fits (narrow r good relation) left within)
         in
-        rw (good, fit) (ap₂ columns.Determined set count)
+        rw (good, fit) (ap₂ (λ (m n : ℕ). gives (m, n)) set count)

@@ -11,7 +11,8 @@ use borrow.Author.Tests.{ltb-true, ltb-false, lt-ltb, le-ltb, not-true, not-fals
 use Rattle.record.specs.declared.Lookup.the-variants as lookup
 use Rattle.record.specs.declared.Record.{Record}
 use Rattle.refusals.specs.Refusals.{firstHolding}
-use Rattle.record.specs.Calls.{found, above, vacant, filled, isFilled, placeAt, filledPlace, vacantPlace}
+use Rattle.record.specs.Calls.{unknownPlace, vacant, filled, isFilled}
+use Rattle.record.specs.internal.Lookup.{found, placeAt, filledPlace, vacantPlace}
 use Rattle.refusals.proofs.Refusals.{first-goes, none-holds, some-holds, nothing-holds}
 
 -- A lookup that gives an index was not refused, and gives the place
@@ -63,33 +64,33 @@ module _ (r : Record) (place : ℕ) where
   -- What an index tells
   pub filled-at : (at : ℕ) → filledPlace r place ≡ lookup.At at → (at ≡ place) × (place < 8) × (isFilled r place ≡ true)
   filled-at at e =
-      let f = found-at (firstHolding (above place ∷ vacant r place ∷ [])) place at e in
+      let f = found-at (firstHolding (unknownPlace place ∷ vacant r place ∷ [])) place at e in
       let g = none-holds (not (ltb place 8)) 7 (vacant r place ∷ []) (f .0) in
       let h = none-holds (not (isFilled r place)) 11 [] (g .1) in
       (sym (f .1), ltb-true place 8 (not-false _ (g .0)), not-false _ (h .0))
 
   pub vacant-at : (at : ℕ) → vacantPlace r place ≡ lookup.At at → (at ≡ place) × (place < 8) × (isFilled r place ≡ false)
   vacant-at at e =
-      let f = found-at (firstHolding (above place ∷ filled r place ∷ [])) place at e in
+      let f = found-at (firstHolding (unknownPlace place ∷ filled r place ∷ [])) place at e in
       let g = none-holds (not (ltb place 8)) 7 (filled r place ∷ []) (f .0) in
       let h = none-holds (isFilled r place) 12 [] (g .1) in
       (sym (f .1), ltb-true place 8 (not-false _ (g .0)), h .0)
 
 pub place-at : (place at : ℕ) → placeAt place ≡ lookup.At at → (at ≡ place) × (place < 8)
 place-at place at e =
-    let f = found-at (firstHolding (above place ∷ [])) place at e in
+    let f = found-at (firstHolding (unknownPlace place ∷ [])) place at e in
     (sym (f .1), ltb-true place 8 (not-false _ (none-holds (not (ltb place 8)) 7 [] (f .0) .0)))
 
 -- What a refusal tells
 pub place-refused : (place n : ℕ) → placeAt place ≡ lookup.Refused n → (8 ≤ place) × (n ≡ 7)
 place-refused place n e =
     ⊎-elim (λ h. (ltb-false place 8 (not-true _ (h .0)), sym (h .1))) (λ h. absurd (nothing-holds n (h .1)))
-    (some-holds (not (ltb place 8)) 7 [] n (found-refused (firstHolding (above place ∷ [])) place n e))
+    (some-holds (not (ltb place 8)) 7 [] n (found-refused (firstHolding (unknownPlace place ∷ [])) place n e))
 
 pub vacant-refused : (r : Record) (place n : ℕ) → place < 8 → vacantPlace r place ≡ lookup.Refused n → (isFilled r place ≡ true) × (n ≡ 12)
 vacant-refused r place n low e =
     let o : firstHolding (filled r place ∷ []) ≡ some n =
     sym (first-goes (not (ltb place 8)) 7 (filled r place ∷ []) (ap not (lt-ltb place 8 low)))
-    ∙ found-refused (firstHolding (above place ∷ filled r place ∷ [])) place n e
+    ∙ found-refused (firstHolding (unknownPlace place ∷ filled r place ∷ [])) place n e
     in
     ⊎-elim (λ h. (h .0, sym (h .1))) (λ h. absurd (nothing-holds n (h .1))) (some-holds (isFilled r place) 12 [] n o)

@@ -11,10 +11,9 @@ use Rattle.query.specs.declared.Query.{Query}
 use Rattle.query.specs.declared.Dependency.{Dependency}
 use Rattle.query.specs.declared.Place.{Place}
 use Rattle.record.specs.declared.Record.{Record}
+use Rattle.record.specs.declared.Answer.{Answer}
 use Rattle.record.specs.declared.Answer.the-variants as answer
 use Rattle.record.specs.declared.Outcome.{Outcome}
-use Rattle.record.specs.declared.Lookup.{Lookup}
-use Rattle.record.specs.declared.Lookup.the-variants as lookup
 use Rattle.record.specs.declared.Columns.{Columns}
 use Rattle.record.specs.declared.Columns.the-variants as columns
 use Rattle.query.specs.View.{columnsOf, queryOf, maskOf}
@@ -23,23 +22,28 @@ use Rattle.lists.specs.Tests.{between, every}
 use Rattle.query.specs.Rule.{goodSet, goodDependency, goodQuery, headSafe, noDependency, noPlace}
 use Rattle.record.specs.Rule.{goodRecord, blankRecord}
 use Rattle.refusals.specs.Refusals.{badDependency, badQuery, badRecord, badRelations, dependenciesFull, Condition, firstHolding, noSuchPlace, placeFilled, placeVacant, unsafeHead}
+use Rattle.refusals.specs.Refusals.{Reply, refused, gives, reply}
 
--- ---- refusals
+-- ---- replies
 
--- A call that is refused with number n, or none, after which an accepted call leaves the record `after`: a refusal hands back the record given
-abbrev pub concluded : Option ℕ → Record → Record → Outcome
-concluded none given after = record { answer = answer.Done; «record» = after }
-concluded (some n) given after = record { answer = answer.Refused n; «record» = given }
+-- What each case of an answer says: done, or refused with a number
+abbrev pub answerReply : Answer → Reply (Unit {0})
+answerReply answer.Done = gives tt
+answerReply (answer.Refused n) = refused n
 
--- A place looked up that is refused with number n, or none
-abbrev pub found : Option ℕ → ℕ → Lookup
-found none place = lookup.At place
-found (some n) place = lookup.Refused n
+-- What a call that changes the record says, and the record that it hands back
+abbrev pub outcomeReply : Outcome → Reply (Unit {0}) × Record
+outcomeReply o = (answerReply (o .answer), o .«record»)
 
--- The number with which a place looked up is refused, 0 where it is not
-abbrev pub numberOf : Lookup → ℕ
-numberOf (lookup.At place) = 0
-numberOf (lookup.Refused n) = n
+-- The same of a call that is refused with a number, or not: a refusal hands back the record given, an accepted call the record `after`
+abbrev pub concluded : Option ℕ → Record → Record → Reply (Unit {0}) × Record
+concluded none given after = (gives tt, after)
+concluded (some n) given after = (refused n, given)
+
+-- What each case of an answer about determined columns says: their set and how many they are, or refused with a number
+abbrev pub columnsReply : Columns → Reply (ℕ × ℕ)
+columnsReply (columns.Determined mask size) = gives (mask, size)
+columnsReply (columns.Refused n) = refused n
 
 -- ---- places
 
@@ -48,8 +52,8 @@ abbrev pub broken : Record → Condition
 broken r = (not (goodRecord r), badRecord)
 
 -- 7: the place is above 7
-abbrev pub above : ℕ → Condition
-above place = (not (ltb place 8), noSuchPlace)
+abbrev pub unknownPlace : ℕ → Condition
+unknownPlace place = (not (ltb place 8), noSuchPlace)
 
 -- Whether a place is filled
 abbrev pub isFilled : Record → ℕ → Bool
@@ -70,18 +74,6 @@ vacant r place = (not (isFilled r place), placeVacant)
 -- 12: the place to be filled is filled
 abbrev pub filled : Record → ℕ → Condition
 filled r place = (isFilled r place, placeFilled)
-
--- The index of a place
-abbrev pub placeAt : ℕ → Lookup
-placeAt place = found (firstHolding (above place ∷ [])) place
-
--- The index of a place to be read or dropped
-abbrev pub filledPlace : Record → ℕ → Lookup
-filledPlace r place = found (firstHolding (above place ∷ vacant r place ∷ [])) place
-
--- The index of a place to be filled
-abbrev pub vacantPlace : Record → ℕ → Lookup
-vacantPlace r place = found (firstHolding (above place ∷ filled r place ∷ [])) place
 
 -- The record with another content of one place
 abbrev pub withPlace : Record → ℕ → Place → Record
@@ -105,7 +97,7 @@ abbrev pub openConditions : List ℕ → List Condition
 openConditions widths = (not (between 1 8 (length widths) && every (between 1 8) widths), badRelations) ∷ []
 
 -- Open a record from relation widths, no dependencies, all places vacant
-unfoldable pub openRecord : List ℕ → Outcome
+unfoldable pub openRecord : List ℕ → Reply (Unit {0}) × Record
 openRecord widths =
     concluded (firstHolding (openConditions widths)) blankRecord
     (emptyRecord (length widths) (widths ++ replicate (8 - length widths) 0))
@@ -115,37 +107,36 @@ abbrev pub addConditions : Record → Dependency → List Condition
 addConditions r d = broken r ∷ (not (goodDependency (schemaOf r) d), badDependency) ∷ (eqb (r .held) 32, dependenciesFull) ∷ []
 
 -- Add a dependency after those held
-unfoldable pub addDependency : Record → Dependency → Outcome
+unfoldable pub addDependency : Record → Dependency → Reply (Unit {0}) × Record
 addDependency r d = concluded (firstHolding (addConditions r d)) r (withDependency r d)
 
 -- What putting a query asks: 14; 7; 5 unless it keeps the limits and holds nothing where it is not in use; 6 where a head variable is in no row; 12
 abbrev pub putConditions : Record → ℕ → Query → List Condition
 putConditions r place q =
-    broken r ∷ above place ∷ (not (goodQuery (schemaOf r) q), badQuery) ∷ (not (headSafe (schemaOf r) q), unsafeHead) ∷ filled r place ∷ []
+    broken r ∷ unknownPlace place ∷ (not (goodQuery (schemaOf r) q), badQuery) ∷ (not (headSafe (schemaOf r) q), unsafeHead) ∷ filled r place ∷ []
 
 -- Put a query into a vacant place
-unfoldable pub putQuery : Record → ℕ → Query → Outcome
+unfoldable pub putQuery : Record → ℕ → Query → Reply (Unit {0}) × Record
 putQuery r place q = concluded (firstHolding (putConditions r place q)) r (withPlace r place (record { filled = true; query = q }))
 
 -- What dropping a place asks: 14; 7; 11
 abbrev pub dropConditions : Record → ℕ → List Condition
-dropConditions r place = broken r ∷ above place ∷ vacant r place ∷ []
+dropConditions r place = broken r ∷ unknownPlace place ∷ vacant r place ∷ []
 
 -- Drop a filled place
-unfoldable pub dropQuery : Record → ℕ → Outcome
+unfoldable pub dropQuery : Record → ℕ → Reply (Unit {0}) × Record
 dropQuery r place = concluded (firstHolding (dropConditions r place)) r (withPlace r place noPlace)
-
--- The answer about determined columns: refused with a number, or the set of columns and how many they are
-abbrev pub columnsAnswer : Option ℕ → List ℕ → Columns
-columnsAnswer none cs = columns.Determined (maskOf cs) (length cs)
-columnsAnswer (some n) cs = columns.Refused n
 
 -- What a question about determined columns asks: 14; 4 unless the relation is known and the set is a nonempty set of its columns
 abbrev pub determinedConditions : Record → ℕ → ℕ → List Condition
 determinedConditions r relation left = broken r ∷ (not (goodSet (schemaOf r) relation left), badDependency) ∷ []
 
 -- The columns of a relation that a left set determines
-unfoldable pub determinedColumns : Record → ℕ → ℕ → Columns
+abbrev pub determinedAt : Record → ℕ → ℕ → List ℕ
+determinedAt r relation left = determined (dependenciesOf r) relation (getD (schemaOf r) relation 0) (columnsOf left)
+
+-- Their set and how many they are
+unfoldable pub determinedColumns : Record → ℕ → ℕ → Reply (ℕ × ℕ)
 determinedColumns r relation left =
-    columnsAnswer (firstHolding (determinedConditions r relation left))
-    (determined (dependenciesOf r) relation (getD (schemaOf r) relation 0) (columnsOf left))
+    reply (firstHolding (determinedConditions r relation left))
+    (maskOf (determinedAt r relation left), length (determinedAt r relation left))

@@ -10,17 +10,15 @@ use Rattle.theory.specs.Determined.{Determines}
 use Rattle.query.specs.declared.Query.{Query}
 use Rattle.query.specs.declared.Dependency.{Dependency}
 use Rattle.record.specs.declared.Record.{Record}
-use Rattle.record.specs.declared.Answer.the-variants as answer
-use Rattle.record.specs.declared.Outcome.{Outcome}
-use Rattle.record.specs.declared.Columns.the-variants as columns
+use Rattle.refusals.specs.Refusals.{Reply, gives}
 use Rattle.query.specs.View.{columnsOf}
 use Rattle.record.specs.View.{schemaOf, dependenciesOf}
 use Rattle.record.specs.Rule.{goodRecord, blankRecord}
 use Rattle.record.specs.Calls.{openRecord, addDependency, putQuery, dropQuery, determinedColumns}
 
 -- A call that is done leaves a record that 14 passes
-abbrev pub LeavesGood : Outcome → Type 0
-LeavesGood o = o .answer ≡ answer.Done → goodRecord (o .«record») ≡ true
+abbrev pub LeavesGood : Reply (Unit {0}) × Record → Type 0
+LeavesGood said = said .0 ≡ gives tt → goodRecord (said .1) ≡ true
 
 -- So does opening a record
 abbrev pub OpenKeeps : Type 0
@@ -45,6 +43,6 @@ BlankBroken = goodRecord blankRecord ≡ false
 -- The columns answered are those of the relation that the left set determines in every database that obeys the dependencies, and their number is right
 abbrev pub DeterminedMeans : Type 0
 DeterminedMeans =
-    (r : Record) (relation left mask n : ℕ) → determinedColumns r relation left ≡ columns.Determined mask n
+    (r : Record) (relation left mask n : ℕ) → determinedColumns r relation left ≡ gives (mask, n)
     → ((c : ℕ) → (c ∈ columnsOf mask) ↔ ((c < getD (schemaOf r) relation 0) × Determines (schemaOf r) (dependenciesOf r) relation (columnsOf left) c))
     × (n ≡ length (columnsOf mask))

@@ -12,11 +12,12 @@ ghost use mathlib.Core.Option.{none, some};
 ghost use Prim.Native.Nat.{_<_};
 ghost use Rattle.query.specs.Rule.{noPlace};
 ghost use Rattle.record.specs.Rule.{blankRecord};
-ghost use Rattle.record.specs.Calls.{concluded, placeAt, filledPlace, vacantPlace, storedAt, withPlace, withDependency, emptyRecord, openRecord, addDependency, putQuery, dropQuery, determinedColumns, numberOf};
+ghost use Rattle.record.specs.Calls.{outcomeReply, columnsReply, concluded, storedAt, withPlace, withDependency, emptyRecord, openRecord, addDependency, putQuery, dropQuery, determinedColumns};
+ghost use Rattle.record.specs.internal.Lookup.{placeAt, filledPlace, vacantPlace, numberOf};
 
 // A call is done.
 fn done(after: Record) -> Outcome
-    ensures { λ r. ⌜ r ≡ concluded none after after ⌝ }
+    ensures { λ o. ⌜ outcomeReply o ≡ concluded none after after ⌝ }
 {
     Outcome {
         answer: Answer::Done,
@@ -25,8 +26,8 @@ fn done(after: Record) -> Outcome
 }
 
 // A call is refused with a number.
-fn refused(number: u8, given: Record) -> Outcome
-    ensures { λ r. ⌜ r ≡ concluded (some number) given given ⌝ }
+pub fn refused(number: u8, given: Record) -> Outcome
+    ensures { λ o. ⌜ outcomeReply o ≡ concluded (some number) given given ⌝ }
 {
     Outcome {
         answer: Answer::Refused(number),
@@ -125,7 +126,7 @@ pub fn blank_record() -> Record
 impl Record {
     // Open a record from relation widths.
     pub fn open(widths: &[u8]) -> Outcome
-        ensures { λ r. ⌜ r ≡ openRecord (now (widths .entry)) ⌝ }
+        ensures { λ o. ⌜ outcomeReply o ≡ openRecord (now (widths .entry)) ⌝ }
     {
         if 8 < widths.len() {
             return refused(refusals::BAD_RELATIONS, blank_record());
@@ -168,7 +169,7 @@ impl Record {
 
     // Drop a filled place.
     pub fn drop_query(self, place: usize) -> Outcome
-        ensures { λ r. ⌜ r ≡ dropQuery self place ⌝ }
+        ensures { λ o. ⌜ outcomeReply o ≡ dropQuery self place ⌝ }
     {
         if !self.is_good() {
             return refused(refusals::BAD_RECORD, self);
@@ -182,7 +183,7 @@ impl Record {
 
     // Put a query into a vacant place.
     pub fn put(self, place: usize, q: Query) -> Outcome
-        ensures { λ r. ⌜ r ≡ putQuery self place q ⌝ }
+        ensures { λ o. ⌜ outcomeReply o ≡ putQuery self place q ⌝ }
     {
         let relations = self.relations;
         let widths = self.widths;
@@ -212,7 +213,7 @@ impl Record {
 
     // Add a dependency after those held.
     pub fn add_dependency(self, d: Dependency) -> Outcome
-        ensures { λ r. ⌜ r ≡ addDependency self d ⌝ }
+        ensures { λ o. ⌜ outcomeReply o ≡ addDependency self d ⌝ }
     {
         let relations = self.relations;
         let widths = self.widths;
@@ -231,7 +232,7 @@ impl Record {
 
     // The columns of a relation that a set of its columns determines.
     pub fn determined(self, relation: u8, left: u8) -> Columns
-        ensures { λ r. ⌜ r ≡ determinedColumns self relation left ⌝ }
+        ensures { λ c. ⌜ columnsReply c ≡ determinedColumns self relation left ⌝ }
     {
         let relations = self.relations;
         let widths = self.widths;

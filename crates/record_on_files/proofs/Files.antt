@@ -10,11 +10,11 @@ use Rattle.record.specs.declared.Record.{Record}
 use Rattle.record.specs.declared.Answer.the-variants.{Done, Refused}
 use Rattle.record.specs.declared.Outcome.{Outcome}
 use Rattle.record.specs.Rule.{goodRecord}
-use Rattle.format.specs.File.{readFile, outcomeOf, fileOf}
+use Rattle.record.specs.Calls.{outcomeReply}
+use Rattle.format.specs.File.{readFile, readOutcome, fileOf}
 use Rattle.format.proofs.RoundTrip.{sound-record, file-written-back}
 use Rattle.format.proofs.Bytes.{bytes-known}
 use Rattle.format.proofs.Results.{outcome-done, outcome-refused}
-use Rattle.writer.specs.declared.Written.the-variants as written
 use Rattle.writer.specs.Write.{written, afterWriting}
 use Rattle.writer.proofs.Writing.{fits-written, long-refused, written-fits, refused-long}
 use Rattle.record_on_files.specs.Lent.{statusOf, leaves, fitted, Wrote}
@@ -58,13 +58,13 @@ wrote-none {number = number} p out n = wrote-same p out n number out n (refl, re
 
 module _ (r : Record) (out after : List ℕ) (b : after ≡ afterWriting r out) (n : ℕ) where
   -- its file and the length
-  pub written-wrote : (m : ℕ) → written r out ≡ written.Length m → Wrote (fitted (length out) (fileOf r)) out n 0 after m
+  pub written-wrote : (m : ℕ) → written r out ≡ gives m → Wrote (fitted (length out) (fileOf r)) out n 0 after m
   written-wrote m w =
       let (good, fits, long) = written-fits r out m w in
       rw (le-leb (length (fileOf r)) (length out) fits) (refl, b ∙ sym (fits-written r out good fits .1), long)
 
   -- or nothing, where there is no room
-  pub unwritten-wrote : (number : ℕ) → goodRecord r ≡ true → written r out ≡ written.Refused number
+  pub unwritten-wrote : (number : ℕ) → goodRecord r ≡ true → written r out ≡ refused number
       → Wrote (fitted (length out) (fileOf r)) out n number after n
   unwritten-wrote number good w =
       let (long, short) = refused-long r out number good w in
@@ -72,20 +72,23 @@ module _ (r : Record) (out after : List ℕ) (b : after ≡ afterWriting r out) 
 
 -- ---- a call's record
 
-pub result-done : (o : Outcome) → o .answer ≡ Done → resultOf o ≡ gives (o .«record»)
+pub result-done : (o : Outcome) → o .answer ≡ Done → resultOf (outcomeReply o) ≡ gives (o .«record»)
+unfolding _>>=_
 result-done o a = rw a
 
-pub result-refused : (o : Outcome) (n : ℕ) → o .answer ≡ Refused n → resultOf o ≡ refused n
+pub result-refused : (o : Outcome) (n : ℕ) → o .answer ≡ Refused n → resultOf (outcomeReply o) ≡ refused n
+unfolding _>>=_
 result-refused o n a = rw a
 
 -- ---- a file that is read
 
--- A record's outcome gives the record back
-pub result-of : (x : Reply Record) → resultOf (outcomeOf x) ≡ x
+-- What reading says gives the record back
+result-of : (x : Reply Record) → resultOf (readOutcome x) ≡ x
+unfolding _>>=_
 result-of (gives r) = refl
 result-of (refused n) = refl
 
-module _ (file : List ℕ) (o : Outcome) (e : o ≡ outcomeOf (readFile file)) where
+module _ (file : List ℕ) (o : Outcome) (e : outcomeReply o ≡ readOutcome (readFile file)) where
   -- The call goes on with the record of an accepted file
   pub read-done : {A : Type 0} (next : Record → Reply A) → o .answer ≡ Done → (readFile file >>= next) ≡ next (o .«record»)
   read-done next a = goes-on (outcome-done (readFile file) o e a) next
@@ -114,5 +117,5 @@ module _ (file : List ℕ) (o : Outcome) (e : o ≡ outcomeOf (readFile file)) w
     copied-from (refused n) p room = rw p
 
     -- The file that is written back is the file
-    pub copied-is : (room : ℕ) → copied file room ≡ fileFitted room (resultOf o)
+    pub copied-is : (room : ℕ) → copied file room ≡ fileFitted room (resultOf (outcomeReply o))
     copied-is room = copied-from (readFile file) refl room ∙ ap (fileFitted room) (sym (ap resultOf e ∙ result-of (readFile file)))

@@ -1,12 +1,12 @@
 -- The record after each call on a record alone is good; and a query part that is put. Assumes nothing.
-use mathlib.Core.Path.{_≡_, sym, subst}
+use mathlib.Core.Path.{_≡_, sym, ap, subst, _∙_}
 use mathlib.Core.Bool.{true}
 use mathlib.Core.List.{List}
 use Prim.Native.Nat.{ℕ, _≤_, _<_}
-use native.Mathlib.Omega.{arith}
 use lib.ListN.{length}
 use borrow.Author.Tests.{lt-ltb, le-ltb}
-use Rattle.refusals.specs.Refusals.{_>>=_, gives, noSuchPlace, refused}
+use Rattle.refusals.specs.Refusals.{_>>=_, gives, noSuchPlace, refused, Reply}
+use Rattle.refusals.proofs.Refusals.{refused-gives}
 use Rattle.query.specs.declared.Query.{Query}
 use Rattle.query.specs.declared.Dependency.{Dependency}
 use Rattle.query.specs.declared.Place.{Place}
@@ -14,28 +14,37 @@ use Rattle.record.specs.declared.Record.{Record}
 use Rattle.record.specs.declared.Outcome.{Outcome}
 use Rattle.record.specs.View.{schemaOf}
 use Rattle.record.specs.Rule.{goodRecord}
-use Rattle.record.specs.Calls.{openRecord, addDependency, putQuery, dropQuery}
+use Rattle.record.specs.Calls.{answerReply, outcomeReply, openRecord, addDependency, putQuery, dropQuery}
+use Rattle.record.specs.Meaning.{LeavesGood}
 use Rattle.record.proofs.Meaning.{open-keeps, add-keeps, put-keeps, drop-keeps}
 use Rattle.format.specs.File.{readPlace}
 use Rattle.record_on_files.specs.Records.{resultOf, putPart}
 use Rattle.record_on_files.specs.internal.Steps.{GoodIfDone}
 
--- A refused call promises nothing of its record
-pub refused-sound : (o : Outcome) (n : ℕ) → resultOf o ≡ refused n → GoodIfDone o
-refused-sound o n e a = let p : resultOf o ≡ gives (o .«record») = rw a in let z : _≡_ {A = ℕ} 0 1 = cc in absurd (omega arith)
+-- A refused call has no record as its result, and promises nothing of one
+pub refused-result : (o : Outcome) (n : ℕ) (r : Record) → outcomeReply o ≡ (refused n, r) → resultOf (outcomeReply o) ≡ refused n
+unfolding _>>=_
+refused-result o n r e = ap resultOf e
 
-pub open-sound : (widths : List ℕ) (o : Outcome) → o ≡ openRecord widths → GoodIfDone o
-open-sound widths o e = subst GoodIfDone (sym e) (open-keeps widths)
+pub refused-sound : (o : Outcome) (n : ℕ) (r : Record) → outcomeReply o ≡ (refused n, r) → GoodIfDone o
+refused-sound o n r e a = absurd (refused-gives (sym (ap (λ (s : Reply (Unit {0}) × Record). s .0) e) ∙ ap answerReply a))
+
+-- Where what a call says leaves a good record, the call does
+says-sound : (o : Outcome) (said : Reply (Unit {0}) × Record) → outcomeReply o ≡ said → LeavesGood said → GoodIfDone o
+says-sound o said e good a = subst LeavesGood (sym e) good (ap answerReply a)
+
+pub open-sound : (widths : List ℕ) (o : Outcome) → outcomeReply o ≡ openRecord widths → GoodIfDone o
+open-sound widths o e = says-sound o (openRecord widths) e (open-keeps widths)
 
 module _ (r : Record) (good : goodRecord r ≡ true) where
-  pub add-sound : (d : Dependency) (o : Outcome) → length (r .dependencies) ≡ 32 → o ≡ addDependency r d → GoodIfDone o
-  add-sound d o long e = subst GoodIfDone (sym e) (add-keeps r d long)
+  pub add-sound : (d : Dependency) (o : Outcome) → length (r .dependencies) ≡ 32 → outcomeReply o ≡ addDependency r d → GoodIfDone o
+  add-sound d o long e = says-sound o (addDependency r d) e (add-keeps r d long)
 
-  pub drop-sound : (place : ℕ) (o : Outcome) → o ≡ dropQuery r place → GoodIfDone o
-  drop-sound place o e = subst GoodIfDone (sym e) (drop-keeps r place)
+  pub drop-sound : (place : ℕ) (o : Outcome) → outcomeReply o ≡ dropQuery r place → GoodIfDone o
+  drop-sound place o e = says-sound o (dropQuery r place) e (drop-keeps r place)
 
-  pub put-sound : (place : ℕ) (q : Query) (o : Outcome) → o ≡ putQuery r place q → GoodIfDone o
-  put-sound place q o e = subst GoodIfDone (sym e) (put-keeps r place q)
+  pub put-sound : (place : ℕ) (q : Query) (o : Outcome) → outcomeReply o ≡ putQuery r place q → GoodIfDone o
+  put-sound place q o e = says-sound o (putQuery r place q) e (put-keeps r place q)
 
   -- A query part is put where it is read and the place is not above 7
   pub part-above : (place : ℕ) (part : List ℕ) → 8 ≤ place → putPart place part r ≡ refused noSuchPlace

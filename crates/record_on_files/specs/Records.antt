@@ -6,24 +6,14 @@ use Prim.Native.Nat.{ℕ}
 use lib.Dec.{ltb}
 use Rattle.refusals.specs.Refusals.{_>>=_, gives, noSuchPlace, refused, Reply}
 use Rattle.record.specs.declared.Record.{Record}
-use Rattle.record.specs.declared.Outcome.{Outcome}
-use Rattle.record.specs.declared.Answer.{Answer}
-use Rattle.record.specs.declared.Answer.the-variants.{Done, Refused}
-use Rattle.record.specs.declared.Columns.{Columns}
-use Rattle.record.specs.declared.Columns.the-variants as columns
 use Rattle.record.specs.View.{schemaOf}
 use Rattle.record.specs.Calls.{openRecord, addDependency, putQuery, dropQuery, determinedColumns}
 use Rattle.format.specs.File.{readPlace, readFile, fileOf}
 use Rattle.record_on_files.specs.Lent.{fitted}
 
--- A value where the answer is done, else its refusal
-abbrev pub ifDone : {A : Type 0} → Answer → A → Reply A
-ifDone Done a = gives a
-ifDone (Refused n) a = refused n
-
--- The record that a call gives, or its refusal
-abbrev pub resultOf : Outcome → Reply Record
-resultOf o = ifDone (o .answer) (o .«record»)
+-- The record that a call leaves, or its refusal
+abbrev pub resultOf : Reply (Unit {0}) × Record → Reply Record
+resultOf said = said .0 >>= λ _. gives (said .1)
 
 -- The file of a record, for a buffer with so much room
 abbrev pub fileFitted : ℕ → Reply Record → Reply (List ℕ)
@@ -55,11 +45,6 @@ putIn file place part room = fileFitted room (readFile file >>= putPart place pa
 abbrev pub dropped : List ℕ → ℕ → ℕ → Reply (List ℕ)
 dropped file place room = fileFitted room (readFile file >>= λ r. resultOf (dropQuery r place))
 
--- A set of columns with its size, or the refusal
-abbrev pub columnsResult : Columns → Reply (ℕ × ℕ)
-columnsResult (columns.Determined mask size) = gives (mask, size)
-columnsResult (columns.Refused n) = refused n
-
 -- The columns that a left set determines, with their number
 abbrev pub determinedIn : List ℕ → ℕ → ℕ → Reply (ℕ × ℕ)
-determinedIn file relation left = readFile file >>= λ r. columnsResult (determinedColumns r relation left)
+determinedIn file relation left = readFile file >>= λ r. determinedColumns r relation left

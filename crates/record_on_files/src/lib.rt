@@ -5,13 +5,14 @@ use record::Answer;
 use record::Columns;
 use record::Outcome;
 use record::Record;
+use record::calls::refused;
 use writer::Written;
 use writer::write_good;
 ghost use mathlib.Core.Path.{_≡_};
 ghost use mathlib.Core.Bool.{true};
 ghost use lib.ListN.{length};
 ghost use Rattle.record.specs.Rule.{goodRecord};
-ghost use Rattle.refusals.specs.Refusals.{refused};
+ghost use Rattle.record.specs.Calls.{outcomeReply};
 ghost use Rattle.format.specs.File.{fileOf, readFile};
 ghost use Rattle.record_on_files.specs.Lent.{fitted, statusOf, leaves, Wrote};
 ghost use Rattle.record_on_files.specs.Records.{resultOf, fileFitted, putPart, copied, opened, added, putIn, dropped, determinedIn};
@@ -37,7 +38,7 @@ pub fn store(given: Record, out: &mut [u8], size: &mut usize) -> u8
 // Stores the record of a call, unless it is refused.
 pub fn store_outcome(outcome: Outcome, out: &mut [u8], size: &mut usize) -> u8
     requires { ⌜ GoodIfDone outcome ⌝ }
-    ensures { λ r. ⌜ Wrote (fileFitted (length (now (out .entry))) (resultOf outcome)) (now (out .entry)) (now (size .entry)) r (now (out .exit)) (now (size .exit)) ⌝ }
+    ensures { λ r. ⌜ Wrote (fileFitted (length (now (out .entry))) (resultOf (outcomeReply outcome))) (now (out .entry)) (now (size .entry)) r (now (out .exit)) (now (size .exit)) ⌝ }
 {
     let answer = outcome.answer;
     match answer {
@@ -46,20 +47,10 @@ pub fn store_outcome(outcome: Outcome, out: &mut [u8], size: &mut usize) -> u8
     }
 }
 
-// A call that is refused with a number.
-fn refused(number: u8, given: Record) -> Outcome
-    ensures { λ o. ⌜ resultOf o ≡ refused number ⌝ }
-{
-    Outcome {
-        answer: Answer::Refused(number),
-        record: given,
-    }
-}
-
 // Puts the query of a query part into a vacant place: a place above 7 is refused before a bad part.
 pub fn put_part(given: Record, place: usize, part: &[u8]) -> Outcome
     requires { ⌜ goodRecord given ≡ true ⌝ }
-    ensures { λ o. ⌜ (resultOf o ≡ putPart place (now (part .entry)) given) × GoodIfDone o ⌝ }
+    ensures { λ o. ⌜ (resultOf (outcomeReply o) ≡ putPart place (now (part .entry)) given) × GoodIfDone o ⌝ }
 {
     if 8 <= place {
         return refused(refusals::NO_SUCH_PLACE, given);

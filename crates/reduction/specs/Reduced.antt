@@ -6,15 +6,14 @@ use mathlib.Core.List.{List, [], _∷_}
 use mathlib.Core.Option.{Option, none, some}
 use Prim.Native.Nat.{ℕ, _≤_}
 use lib.ListN.{replicate}
-use Rattle.query.specs.declared.Query.{Query}
 use Rattle.record.specs.declared.Record.{Record}
-use Rattle.record.specs.declared.Answer.the-variants as answer
+use Rattle.query.specs.declared.Cell.{Cell}
 use Rattle.query.specs.View.{imagesOf}
 use Rattle.record.specs.View.{schemaOf, dependenciesOf}
 use Rattle.record.specs.Rule.{goodRecord}
 use Rattle.query.specs.Rule.{noCell}
-use Rattle.refusals.specs.Refusals.{Condition, firstHolding}
-use Rattle.record.specs.Calls.{broken, above, vacant, filled, withPlace, storedAt, queryAt}
+use Rattle.refusals.specs.Refusals.{Condition, firstHolding, Reply, refused, gives}
+use Rattle.record.specs.Calls.{answerReply, broken, unknownPlace, vacant, filled, withPlace, storedAt, queryAt}
 use Rattle.reduction.specs.declared.Reduced.{Reduced}
 use Rattle.theory.specs.Query as theory
 use Rattle.theory.specs.Database as database
@@ -24,15 +23,19 @@ use Rattle.theory.specs.Reduction as reduction
 
 -- What a reduction asks: 14; 7; 11 where the source is vacant; 12 where the target is filled
 abbrev pub reductionConditions : Record → ℕ → ℕ → List Condition
-reductionConditions r source target = broken r ∷ above source ∷ above target ∷ vacant r source ∷ filled r target ∷ []
+reductionConditions r source target = broken r ∷ unknownPlace source ∷ unknownPlace target ∷ vacant r source ∷ filled r target ∷ []
 
 -- The refusal of a reduction
 unfoldable pub reductionRefusal : Record → ℕ → ℕ → Option ℕ
 reductionRefusal r source target = firstHolding (reductionConditions r source target)
 
--- What a refused reduction gives: the number, the record as it was, and 0 in every other field
-abbrev pub refusal : Record → ℕ → Reduced
-refusal r n = record { answer = answer.Refused n; «record» = r; count = 0; images = replicate 96 noCell }
+-- What a reduction says, the record that it hands back, the count and the mapping's images
+abbrev pub reducedReply : Reduced → Reply (Unit {0}) × Record × ℕ × List Cell
+reducedReply o = (answerReply (o .answer), o .«record», o .count, o .images)
+
+-- The same of a refused one: the number, the record as it was, and 0 in every other field
+abbrev pub refusal : Record → ℕ → Reply (Unit {0}) × Record × ℕ × List Cell
+refusal r n = (refused n, r, 0, replicate 96 noCell)
 
 -- What an accepted reduction of S, under the schema and the dependencies ds, gives: T is the result, `images` the mapping and `count` the count
 pub record ReducesTo (schema : List ℕ) (ds : List database.Dependency) (S T : theory.Query) (count : ℕ) (images : ℕ → theory.Entry) : Type 0 where
@@ -51,7 +54,7 @@ pub record ReducesTo (schema : List ℕ) (ds : List database.Dependency) (S T : 
 
 -- What an accepted reduction of the place `source` into the place `target` leaves
 pub record ShortFormStored (r : Record) (source target : ℕ) (o : Reduced) : Type 0 where
-  pub done : o .answer ≡ answer.Done
+  pub done : answerReply (o .answer) ≡ gives tt
   -- the target place holds a query, and nothing else in the record has changed
   pub unchanged : o .«record» ≡ withPlace r target (record { filled = true; query = storedAt (o .«record») target })
   -- the record keeps its rule
@@ -63,5 +66,5 @@ pub record ShortFormStored (r : Record) (source target : ℕ) (o : Reduced) : Ty
 
 -- What reducing promises: a refusal, or all of demand 3
 pub record IsReduced (r : Record) (source target : ℕ) (o : Reduced) : Type 0 where
-  pub refused : (n : ℕ) → reductionRefusal r source target ≡ some n → o ≡ refusal r n
+  pub refused : (n : ℕ) → reductionRefusal r source target ≡ some n → reducedReply o ≡ refusal r n
   pub accepted : reductionRefusal r source target ≡ none → ShortFormStored r source target o

@@ -1,25 +1,26 @@
 -- What reducing leaves. Assumes nothing.
-use mathlib.Core.Path.{_≡_, refl, sym, subst, _∙_}
+use mathlib.Core.Path.{_≡_, refl, sym, ap, subst, _∙_}
 use mathlib.Core.Bool.{Bool, true, false, cond}
 use mathlib.Core.List.{List}
 use mathlib.Core.Option.{Option}
 use mathlib.Core.Option as option
 use Prim.Native.Nat.{ℕ, _≤_, _<_}
-use native.Mathlib.Omega.{arith}
 use lib.Dec.{leb}
 use lib.ListN.{length}
 use borrow.Author.Tests.{le-leb, lt-leb}
 use Rattle.refusals.specs.Refusals.{_>>=_, bufferTooShort, gives, refused, Reply}
+use Rattle.refusals.proofs.Refusals.{refused-gives}
+use Rattle.query.specs.declared.Cell.{Cell}
 use Rattle.record.specs.declared.Record.{Record}
 use Rattle.record.specs.declared.Answer.the-variants.{Done, Refused}
 use Rattle.record.specs.Rule.{goodRecord}
+use Rattle.record.specs.Calls.{answerReply}
 use Rattle.lists.specs.Over.{over}
 use Rattle.format.specs.File.{readFile, fileOf}
-use Rattle.writer.specs.declared.Written.the-variants as written
 use Rattle.writer.specs.Write.{written, afterWriting}
 use Rattle.writer.proofs.Writing.{fits-written, long-refused, written-fits, refused-long}
 use Rattle.reduction.specs.declared.Reduced.{Reduced}
-use Rattle.reduction.specs.Reduced.{reductionRefusal, refusal, IsReduced}
+use Rattle.reduction.specs.Reduced.{reductionRefusal, IsReduced}
 use Rattle.mapping_words.specs.Images.{mappingWords}
 use Rattle.reduction_on_files.specs.Shortening.{reductionFits, ReductionGiven, ReducedShape, Reducing, ReduceGives}
 use Rattle.reduction_on_files.specs.internal.Steps.{SoundReduction}
@@ -51,7 +52,7 @@ module _ (o : Reduced) (out : List ℕ) (size count : ℕ) (mapping : List ℕ) 
       roomy t e = rw (done, le-leb 192 (length mapping) h, e)
 
       -- its file is written
-      pub reduction-stored : (n : ℕ) (out′ : List ℕ) (mapping′ : List ℕ) → written (o .«record») out ≡ written.Length n → out′ ≡ afterWriting (o .«record») out
+      pub reduction-stored : (n : ℕ) (out′ : List ℕ) (mapping′ : List ℕ) → written (o .«record») out ≡ gives n → out′ ≡ afterWriting (o .«record») out
           → mapping′ ≡ over mapping 0 (mappingWords (o .images))
           → ReductionGiven (reductionFits (length out) (length mapping) o) out size count mapping 0 out′ n (o .count) mapping′
       reduction-stored n out′ mapping′ w b m =
@@ -60,7 +61,7 @@ module _ (o : Reduced) (out : List ℕ) (size count : ℕ) (mapping : List ℕ) 
           (refl, b ∙ sym (fits-written (o .«record») out good fits .1), long, refl, m)
 
       -- or too long
-      pub reduction-long : (n : ℕ) (out′ : List ℕ) → goodRecord (o .«record») ≡ true → written (o .«record») out ≡ written.Refused n
+      pub reduction-long : (n : ℕ) (out′ : List ℕ) → goodRecord (o .«record») ≡ true → written (o .«record») out ≡ refused n
           → out′ ≡ afterWriting (o .«record») out → ReductionGiven (reductionFits (length out) (length mapping) o) out size count mapping n out′ size count mapping
       reduction-long n out′ good w b =
           let (long, short) = refused-long (o .«record») out n good w in
@@ -72,7 +73,8 @@ reduced-sound r source target o is done = go (reductionRefusal r source target) 
   where
     go : (x : Option ℕ) → reductionRefusal r source target ≡ x → goodRecord (o .«record») ≡ true
     go option.none e = is .accepted e .good
-    go (option.some n) e = let p : o ≡ refusal r n = is .refused n e in let z : _≡_ {A = ℕ} 0 1 = cc in absurd (omega arith)
+    go (option.some n) e =
+        absurd (refused-gives (sym (ap (λ (x : Reply (Unit {0}) × Record × ℕ × List Cell). x .0) (is .refused n e)) ∙ ap answerReply done))
 
 -- ---- the exported call
 

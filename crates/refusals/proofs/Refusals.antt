@@ -1,12 +1,12 @@
--- The first condition that holds: what a test that holds or fails makes of it. For any list of conditions.
+-- The first condition that holds: what a test that holds or fails makes of it, for any list of conditions. And what a reply tells.
 use mathlib.Core.Path.{_≡_, refl, ap}
 use mathlib.Core.Logic.{_⊎_, inl, inr}
 use mathlib.Core.Bool.{Bool, true, false, cond}
 use mathlib.Core.List.{List, [], _∷_}
-use mathlib.Core.Option.{none, some}
+use mathlib.Core.Option.{Option, none, some}
 use Prim.Native.Nat.{ℕ}
 use native.Mathlib.Omega.{arith}
-use Rattle.refusals.specs.Refusals.{firstHolding}
+use Rattle.refusals.specs.Refusals.{firstHolding, refused, gives, reply, refusalIn}
 
 module _ (b : Bool) (n : ℕ) (rest : List (Bool × ℕ)) where
   -- One that does not is passed over
@@ -36,3 +36,24 @@ module _ (b : Bool) (n : ℕ) (rest : List (Bool × ℕ)) where
 pub nothing-holds : (m : ℕ) → firstHolding [] ≡ some m → ⊥
 unfolding firstHolding
 nothing-holds m e = let z : _≡_ {A = ℕ} 0 1 = cc in omega arith
+
+-- ---- replies
+
+-- A refusal gives no value
+pub refused-gives : {A : Type 0} {n : ℕ} {a : A} → refused n ≡ gives a → ⊥
+refused-gives e = let z : _≡_ {A = ℕ} 0 1 = cc in omega arith
+
+-- A reply that gives a value is not refused, and gives this one
+pub reply-gives : {A : Type 0} (o : Option ℕ) (a b : A) → reply o a ≡ gives b → (o ≡ none) × (a ≡ b)
+reply-gives none a b e = (refl, cc)
+reply-gives (some n) a b e = absurd (refused-gives e)
+
+-- One that is refused has this number
+pub reply-refused : {A : Type 0} (o : Option ℕ) (a : A) (n : ℕ) → reply o a ≡ refused n → o ≡ some n
+reply-refused none a n e = let z : _≡_ {A = ℕ} 0 1 = cc in absurd (omega arith)
+reply-refused (some m) a n e = cc
+
+-- The refusal in a reply is the one that it was made with
+pub refusal-reply : {A : Type 0} (o : Option ℕ) (a : A) → refusalIn (reply o a) ≡ o
+refusal-reply none a = refl
+refusal-reply (some n) a = refl

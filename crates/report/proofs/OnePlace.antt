@@ -17,7 +17,7 @@ use Rattle.query.specs.View.{queryOf}
 use Rattle.query.specs.Rule.{goodPlace, noPlace}
 use Rattle.record.specs.Rule.{goodRecord}
 use Rattle.refusals.specs.Refusals.{firstHolding, badRecord, noSuchPlace, placeVacant, placeFilled}
-use Rattle.record.specs.Calls.{above, vacant, filled, isFilled, queryAt}
+use Rattle.record.specs.Calls.{unknownPlace, vacant, filled, isFilled, queryAt}
 use Rattle.lists.proofs.Tests.{every-set, every-replicate}
 use Rattle.record.proofs.Good.{good-record, make-record}
 use Rattle.record.proofs.Stored.{place-good}
@@ -78,8 +78,8 @@ module _ (r : Record) (place : ℕ) (low : place < 8) where
     alone-accepted held =
         let a : Record = aloneIn r place in
         let t : ℕ = otherPlace place in
-        first-goes (not (goodRecord a)) badRecord (above place ∷ above t ∷ vacant a place ∷ filled a t ∷ []) (ap not alone-good)
-        ∙ first-goes (not (ltb place 8)) noSuchPlace (above t ∷ vacant a place ∷ filled a t ∷ []) (ap not (lt-ltb place 8 low))
+        first-goes (not (goodRecord a)) badRecord (unknownPlace place ∷ unknownPlace t ∷ vacant a place ∷ filled a t ∷ []) (ap not alone-good)
+        ∙ first-goes (not (ltb place 8)) noSuchPlace (unknownPlace t ∷ vacant a place ∷ filled a t ∷ []) (ap not (lt-ltb place 8 low))
         ∙ first-goes (not (ltb t 8)) noSuchPlace (vacant a place ∷ filled a t ∷ []) (ap not (lt-ltb t 8 (other-low place)))
         ∙ first-goes (not (isFilled a place)) placeVacant (filled a t ∷ []) (ap not (ap (λ (p : Place). p .filled) alone-place ∙ held))
         ∙ first-goes (isFilled a t) placeFilled [] (ap (λ (p : Place). p .filled) alone-other)

@@ -9,8 +9,9 @@ use Rattle.record.specs.declared.Record.{Record}
 use Rattle.record.specs.declared.Answer.the-variants.{Done, Refused}
 use Rattle.record.specs.declared.Outcome.{Outcome}
 use Rattle.record.specs.Rule.{goodRecord}
+use Rattle.record.specs.Calls.{outcomeReply}
 use Rattle.refusals.specs.Refusals.{Reply}
-use Rattle.format.specs.File.{readFile, outcomeOf}
+use Rattle.format.specs.File.{readFile, readOutcome}
 use Rattle.format.proofs.RoundTrip.{file-written-back}
 use Rattle.format.proofs.Bytes.{bytes-known}
 use Rattle.format.proofs.Results.{outcome-done, outcome-refused}
@@ -24,7 +25,7 @@ use Rattle.report.specs.internal.Places.{ListingWritten}
 over-fits : (buffer text : List ℕ) → length text ≤ length (over buffer 0 text)
 over-fits buffer text = simp length-append (omega arith)
 
-module _ (file : List ℕ) (o : Outcome) (e : o ≡ outcomeOf (readFile file)) where
+module _ (file : List ℕ) (o : Outcome) (e : outcomeReply o ≡ readOutcome (readFile file)) where
   -- The record of an accepted file is good
   pub read-good : ((i : ℕ) → getD file i 0 < 256) → o .answer ≡ Done → goodRecord (o .«record») ≡ true
   read-good bytes a = file-written-back file (o .«record») (bytes-known file bytes) (outcome-done (readFile file) o e a) .0

@@ -4,13 +4,18 @@ use mathlib.Core.Option.{Option, none, some}
 use Prim.Native.Nat.{ℕ}
 use lib.Dec.{ltb}
 use lib.ListN.{length}
-use Rattle.refusals.specs.Refusals.{Condition, firstHolding, bufferTooShort}
+use Rattle.refusals.specs.Refusals.{Condition, firstHolding, bufferTooShort, Reply, refused, gives, reply}
 use Rattle.record.specs.declared.Record.{Record}
 use Rattle.record.specs.Calls.{broken}
 use Rattle.lists.specs.Over.{over}
 use Rattle.format.specs.File.{fileOf}
 use Rattle.writer.specs.declared.Written.{Written}
 use Rattle.writer.specs.declared.Written.the-variants.{Length, Refused}
+
+-- What each case of an answer to writing says: the length of the file, or refused with a number
+abbrev pub lengthReply : Written → Reply ℕ
+lengthReply (Length n) = gives n
+lengthReply (Refused n) = refused n
 
 -- What writing asks, with so much room: 14; 10 where the file is longer
 abbrev pub writeConditions : Record → ℕ → List Condition
@@ -20,19 +25,14 @@ writeConditions r room = broken r ∷ (ltb room (length (fileOf r)), bufferTooSh
 unfoldable pub writingRefused : Record → ℕ → Option ℕ
 writingRefused r room = firstHolding (writeConditions r room)
 
--- The length of the file, or the refusal that comes first
-abbrev pub lengthUnless : Option ℕ → ℕ → Written
-lengthUnless none n = Length n
-lengthUnless (some number) n = Refused number
-
 -- The buffer with the file over its start and the bytes after it as they were, or all bytes as they were where the call is refused
 abbrev pub fileUnless : Option ℕ → List ℕ → List ℕ → List ℕ
 fileUnless none file buffer = over buffer 0 file
 fileUnless (some number) file buffer = buffer
 
 -- Writing a record into a buffer: the refusal, or the file's length
-unfoldable pub written : Record → List ℕ → Written
-written r buffer = lengthUnless (writingRefused r (length buffer)) (length (fileOf r))
+unfoldable pub written : Record → List ℕ → Reply ℕ
+written r buffer = reply (writingRefused r (length buffer)) (length (fileOf r))
 
 -- The buffer after it
 unfoldable pub afterWriting : Record → List ℕ → List ℕ

@@ -7,7 +7,7 @@ use record::Record;
 ghost use mathlib.Core.Path.{_≡_};
 ghost use mathlib.Core.Bool.{true};
 ghost use Rattle.record.specs.Rule.{goodRecord};
-ghost use Rattle.writer.specs.Write.{written, afterWriting};
+ghost use Rattle.writer.specs.Write.{lengthReply, written, afterWriting};
 
 // What writing answers: the length of the file, or the number of a refusal.
 pub enum Written {
@@ -18,7 +18,7 @@ pub enum Written {
 // Write a good record: refused, with the buffer unchanged, if the file is longer than the buffer.
 pub fn write_good(given: Record, buffer: &mut [u8]) -> Written
     requires { ⌜ goodRecord given ≡ true ⌝ }
-    ensures { λ r. ⌜ (r ≡ written given (now (buffer .entry))) × (now (buffer .exit) ≡ afterWriting given (now (buffer .entry))) ⌝ }
+    ensures { λ r. ⌜ (lengthReply r ≡ written given (now (buffer .entry))) × (now (buffer .exit) ≡ afterWriting given (now (buffer .entry))) ⌝ }
 {
     let count = given.relations;
     let widths = given.widths;
@@ -39,7 +39,7 @@ pub fn write_good(given: Record, buffer: &mut [u8]) -> Written
 
 // Write a record into a lent buffer: a bad record and a file longer than the buffer are refused, with the buffer unchanged.
 pub fn write(given: Record, buffer: &mut [u8]) -> Written
-    ensures { λ r. ⌜ (r ≡ written given (now (buffer .entry))) × (now (buffer .exit) ≡ afterWriting given (now (buffer .entry))) ⌝ }
+    ensures { λ r. ⌜ (lengthReply r ≡ written given (now (buffer .entry))) × (now (buffer .exit) ≡ afterWriting given (now (buffer .entry))) ⌝ }
 {
     if !given.is_good() {
         return Written::Refused(refusals::BAD_RECORD);

@@ -7,7 +7,7 @@ use native.Mathlib.Omega.{arith}
 use borrow.Author.Tests.{not-true, not-false}
 use borrow.Author.Needs.{needs}
 use Rattle.record.specs.Rule.{goodRecord}
-use Rattle.record.specs.Calls.{numberOf}
+use Rattle.record.specs.internal.Lookup.{numberOf}
 use Rattle.record.proofs.Refusals.{place-at, filled-at}
 use Rattle.comparison.specs.declared.Pair.the-variants.{Refused}
 use Rattle.comparison.proofs.Pairs.{pair-broken, first-above, second-above, first-vacant, second-vacant, found-differ, found-stand}

@@ -1,8 +1,8 @@
 -- `evaluate_in_file` gives the answers and their count, once the file is read. Assumes nothing.
 use mathlib.Core.Path.{_≡_, sym, ap, _∙_}
 use lib.ListN.{length}
-use Rattle.database.specs.Calls.{evaluated, bufferThen}
-use Rattle.database_on_files.specs.Databases.{countResult, evaluatedIn}
+use Rattle.database.specs.Calls.{countReply, evaluated, bufferThen}
+use Rattle.database_on_files.specs.Databases.{evaluatedIn}
 use Rattle.refusals.specs.Refusals.{gives, refused}
 use Rattle.format.specs.File.{readFile}
 use Rattle.record_on_files.proofs.Files.{read-done, read-refused, done-number, done-leaves, refused-number, refused-leaves}
@@ -40,9 +40,9 @@ returns c =
     let p : evaluatedIn file (s .args .place) (s .args .words .now) (length buffer) ≡ gives (c .before .done .given .0 .0) =
     read-done file (c .before .before .before .before .before .before .before .before .before .before .read .result)
     (c .before .before .before .before .before .before .before .before .before .before .read .ensures)
-    (λ r. countResult (evaluated r (s .args .place) (s .args .words .now) (length buffer)))
+    (λ r. evaluated r (s .args .place) (s .args .words .now) (length buffer))
     (c .before .before .before .before .before .before .before .before .enum-told .given .1)
-    ∙ ap countResult (sym (c .before .before .before .before .before .evaluate .ensures .0) ∙ c .before .done .given .1) in (
+    ∙ sym (c .before .before .before .before .before .evaluate .ensures .0) ∙ ap countReply (c .before .done .given .1) in (
       done-number p,
       (
         c .before .before .before .before .before .evaluate .ensures .1 ∙ done-leaves
@@ -65,9 +65,9 @@ returns-2 c =
     let p : evaluatedIn file (s .args .place) (s .args .words .now) (length buffer) ≡ refused (c .before .done2 .given .0 .0) =
     read-done file (c .before .before .before .before .before .before .before .before .before .before .read .result)
     (c .before .before .before .before .before .before .before .before .before .before .read .ensures)
-    (λ r. countResult (evaluated r (s .args .place) (s .args .words .now) (length buffer)))
+    (λ r. evaluated r (s .args .place) (s .args .words .now) (length buffer))
     (c .before .before .before .before .before .before .before .before .enum-told .given .1)
-    ∙ ap countResult (sym (c .before .before .before .before .before .evaluate .ensures .0) ∙ c .before .done2 .given .1) in (
+    ∙ sym (c .before .before .before .before .before .evaluate .ensures .0) ∙ ap countReply (c .before .done2 .given .1) in (
       refused-number p,
       (
         c .before .before .before .before .before .evaluate .ensures .1 ∙ done-leaves
@@ -86,7 +86,7 @@ returns-3 c =
     let buffer = s .args .answers .now in
     let p : evaluatedIn file (s .args .place) (s .args .words .now) (length buffer) ≡ refused (c .before .answer .given .0 .0) =
     read-refused file (c .before .before .before .read .result) (c .before .before .before .read .ensures)
-    (λ r. countResult (evaluated r (s .args .place) (s .args .words .now) (length buffer))) _ (c .before .answer .given .1) in (
+    (λ r. evaluated r (s .args .place) (s .args .words .now) (length buffer)) _ (c .before .answer .given .1) in (
       refused-number p,
       (
         refused-leaves (outcome-refused (readFile file) (c .before .before .before .read .result) _ (c .before .before .before .read .ensures)

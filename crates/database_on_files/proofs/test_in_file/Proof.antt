@@ -1,9 +1,9 @@
 -- `test_in_file` gives what the test says, once the file is read. Assumes nothing.
 use mathlib.Core.Path.{_≡_, sym, ap, _∙_}
-use Rattle.database.specs.Calls.{tested}
-use Rattle.database_on_files.specs.Databases.{testResult, testedIn}
-use Rattle.refusals.specs.Refusals.{gives, refused}
-use Rattle.record_on_files.proofs.Files.{read-done, read-refused, done-number, done-leaves, refused-number, refused-leaves}
+use Rattle.database.specs.Calls.{testReply, tested}
+use Rattle.database_on_files.specs.Databases.{testNumbers, testedIn}
+use Rattle.refusals.specs.Refusals.{gives, refused, _>>=_}
+use Rattle.record_on_files.proofs.Files.{read-done, read-refused, goes-on, still-refused, done-number, done-leaves, refused-number, refused-leaves}
 use borrow.Author.Needs.{needs}
 use Rattle.database_on_files.proofs.test_in_file.Statement.{statement}
 use Rattle.database_on_files.proofs.test_in_file.Tie as tie
@@ -34,9 +34,9 @@ returns c =
     let s = c .before .before .before .before .before .before .before .before .before in
     let p : testedIn (s .args .file .now) (s .args .words .now) ≡ gives (record { obeys = 1; dependency = 0; first = 0; second = 0 }) =
     read-done (s .args .file .now) (c .before .before .before .before .before .before .read .result)
-    (c .before .before .before .before .before .before .read .ensures) (λ r. testResult (tested r (s .args .words .now)))
+    (c .before .before .before .before .before .before .read .ensures) (λ r. tested r (s .args .words .now) >>= λ v. gives (testNumbers v))
     (c .before .before .before .before .enum-told .given .1)
-    ∙ ap testResult (sym (c .before .before .test .ensures) ∙ c .enum-told2 .given .1) in (
+    ∙ goes-on (sym (c .before .before .test .ensures) ∙ ap testReply (c .enum-told2 .given .1)) (λ v. gives (testNumbers v)) in (
       done-number p,
       (
         done-leaves p (λ t. t .obeys) (s .args .obeys .now),
@@ -62,9 +62,9 @@ returns-2 c =
       second = c .before .found .given .0 .1 .1 .0;
     }) =
     read-done (s .args .file .now) (c .before .before .before .before .before .before .before .read .result)
-    (c .before .before .before .before .before .before .before .read .ensures) (λ r. testResult (tested r (s .args .words .now)))
+    (c .before .before .before .before .before .before .before .read .ensures) (λ r. tested r (s .args .words .now) >>= λ v. gives (testNumbers v))
     (c .before .before .before .before .before .enum-told .given .1)
-    ∙ ap testResult (sym (c .before .before .before .test .ensures) ∙ c .before .found .given .1) in (
+    ∙ goes-on (sym (c .before .before .before .test .ensures) ∙ ap testReply (c .before .found .given .1)) (λ v. gives (testNumbers v)) in (
       done-number p,
       (
         done-leaves p (λ t. t .obeys) (s .args .obeys .now),
@@ -84,9 +84,9 @@ returns-3 c =
     let s = c .before .before .before .before .before .before .before .before .before .before in
     let p : testedIn (s .args .file .now) (s .args .words .now) ≡ refused (c .before .found2 .given .0 .0) =
     read-done (s .args .file .now) (c .before .before .before .before .before .before .before .read .result)
-    (c .before .before .before .before .before .before .before .read .ensures) (λ r. testResult (tested r (s .args .words .now)))
+    (c .before .before .before .before .before .before .before .read .ensures) (λ r. tested r (s .args .words .now) >>= λ v. gives (testNumbers v))
     (c .before .before .before .before .before .enum-told .given .1)
-    ∙ ap testResult (sym (c .before .before .before .test .ensures) ∙ c .before .found2 .given .1) in (
+    ∙ still-refused (sym (c .before .before .before .test .ensures) ∙ ap testReply (c .before .found2 .given .1)) (λ v. gives (testNumbers v)) in (
       refused-number p,
       (
         refused-leaves p (λ t. t .obeys) (s .args .obeys .now),
@@ -106,7 +106,7 @@ returns-4 c =
     let s = c .before .before .before .before .before .before in
     let p : testedIn (s .args .file .now) (s .args .words .now) ≡ refused (c .before .answer .given .0 .0) =
     read-refused (s .args .file .now) (c .before .before .before .read .result) (c .before .before .before .read .ensures)
-    (λ r. testResult (tested r (s .args .words .now))) _ (c .before .answer .given .1) in (
+    (λ r. tested r (s .args .words .now) >>= λ v. gives (testNumbers v)) _ (c .before .answer .given .1) in (
       refused-number p,
       (
         refused-leaves p (λ t. t .obeys) (s .args .obeys .now),

@@ -16,12 +16,12 @@ use Rattle.query.specs.Rule.{noPlace}
 use Rattle.lists.specs.Over.{over}
 use Rattle.refusals.specs.Refusals.{Reply, gives, refused, _>>=_}
 use Rattle.decoder.proofs.Placed.{place-accepted, place-refused}
-use Rattle.format.specs.File.{stretch, stretches, readPlace, noneLeft, readPlaces, outcomeOf}
+use Rattle.format.specs.File.{stretch, stretches, readPlace, noneLeft, readPlaces}
 use Rattle.lists.proofs.Over.{over-nil, over-set}
 use Rattle.lists.proofs.Over.{pad-over}
 use Rattle.decoder.specs.declared.PlaceRead.{PlaceRead}
 use Rattle.decoder.specs.internal.Read.{placeRead}
-use Rattle.places.specs.internal.Read.{recordRead}
+use Rattle.places.specs.internal.Read.{outcomeOf, recordRead}
 use Rattle.format.proofs.Stretches.{tableAt, stretches-cons, stretch-fits}
 use Rattle.places.proofs.read_places.Statement.{statement}
 use Rattle.places.proofs.read_places.Tie as tie

@@ -3,9 +3,17 @@ use mathlib.Core.List.{List}
 use Prim.Native.Nat.{ℕ}
 use Rattle.query.specs.declared.Dependency.{Dependency}
 use Rattle.query.specs.declared.Place.{Place}
+use Rattle.record.specs.declared.Record.{Record}
 use Rattle.record.specs.declared.Outcome.{Outcome}
+use Rattle.record.specs.declared.Answer.the-variants.{Done, Refused}
+use Rattle.record.specs.Rule.{blankRecord}
 use Rattle.refusals.specs.Refusals.{Reply, gives, refused}
-use Rattle.format.specs.File.{recordWith, outcomeOf}
+use Rattle.format.specs.File.{recordWith}
+
+-- The outcome of reading: the record of the file, or the refusal with the blank record
+abbrev pub outcomeOf : Reply Record → Outcome
+outcomeOf (gives r) = record { answer = Done; «record» = r }
+outcomeOf (refused n) = record { answer = Refused n; «record» = blankRecord }
 
 -- The record of the given relations and dependencies with the places that were read
 abbrev pub recordRead : ℕ × List ℕ → ℕ × List Dependency → Reply (List Place) → Outcome

@@ -1,12 +1,21 @@
 use borrow.Author.Needs.{needs}
-use mathlib.Core.Path.{sym, ap, _∙_}
+use mathlib.Core.Path.{_≡_, refl, sym, ap, _∙_}
 use mathlib.Core.List.{List}
 use Prim.Native.Nat.{ℕ}
-use Rattle.refusals.specs.Refusals.{Reply, _>>=_}
-use Rattle.format.specs.File.{directory, readAll, readFile, outcomeOf}
+use lib.ListN.{drop}
+use Rattle.refusals.specs.Refusals.{Reply, gives, refused, _>>=_}
+use Rattle.record.specs.declared.Record.{Record}
+use Rattle.record.specs.Calls.{outcomeReply}
+use Rattle.format.specs.File.{directory, stretches, readAll, readFile, readOutcome}
+use Rattle.places.specs.internal.Read.{outcomeOf}
 use Rattle.reader.proofs.Directories.{accepts, refuses}
 use Rattle.reader.proofs.read.Statement.{statement}
 use Rattle.reader.proofs.read.Tie as tie
+
+-- What the outcome of reading says
+outcome-says : (x : Reply Record) → outcomeReply (outcomeOf x) ≡ readOutcome x
+outcome-says (gives r) = refl
+outcome-says (refused n) = refl
 
 read-directory-requires : tie.Need-read-directory-requires
 read-directory-requires c κs = search needs
@@ -32,7 +41,8 @@ returns c =
     let after-n = c .before .before in
     let after-read-directory = after-n .before .before in
     let start = after-read-directory .before .before in
-    c .read-parts .ensures ∙ sym (ap outcomeOf
+    ap outcomeReply (c .read-parts .ensures)
+    ∙ outcome-says (readAll (stretches (after-n .n .given .0 .0) (start .args .file .now) (drop 2 (start .args .file .now)))) ∙ sym (ap readOutcome
     (ap (λ (o : Reply (List (List ℕ))). o >>= readAll)
     (accepts (start .args .file .now) (after-n .n .given .0 .0) (sym (after-n .n .given .1) ∙ after-read-directory .read-directory .ensures) .parts)))
 
@@ -42,7 +52,7 @@ returns-2 c =
     let after-number = c .before .before in
     let after-read-directory = after-number .before .before in
     let start = after-read-directory .before .before in
-    c .refusal .ensures ∙ sym (ap outcomeOf
+    ap outcomeReply (c .refusal .ensures) ∙ sym (ap readOutcome
     (ap (λ (o : Reply (List (List ℕ))). o >>= readAll)
     (refuses (directory (start .args .file .now)) (after-number .number .given .0 .0)
     (sym (after-number .number .given .1) ∙ after-read-directory .read-directory .ensures))))

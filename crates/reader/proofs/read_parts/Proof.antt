@@ -15,7 +15,7 @@ use Rattle.query.specs.Rule.{goodRelations}
 use Rattle.format.specs.Bytes.{number, Bytes}
 use Rattle.format.specs.Format.{Reading, none, got}
 use Rattle.format.specs.Parts.{relations, dependencies}
-use Rattle.format.specs.File.{complete, stretch, stretches, readPlaces, recordWith, readParts, readAll, outcomeOf}
+use Rattle.format.specs.File.{complete, stretch, stretches, readPlaces, recordWith, readParts, readAll}
 use Rattle.lists.proofs.Tests.{every-take, every-drop}
 use Rattle.format.proofs.Bytes.{bytes-known}
 use Rattle.format.proofs.Parts.{relations-lawful}
@@ -24,7 +24,7 @@ use Rattle.format.proofs.Results.{complete-get}
 use Rattle.parsing.specs.declared.RelationsRead.{RelationsRead}
 use Rattle.parsing.specs.declared.DependenciesRead.{DependenciesRead}
 use Rattle.parsing.specs.internal.Read.{relationsRead, dependenciesRead}
-use Rattle.places.specs.internal.Read.{recordRead}
+use Rattle.places.specs.internal.Read.{outcomeOf, recordRead}
 use Rattle.format.proofs.Stretches.{tableAt, first-two, stretch-fits}
 use Rattle.reader.proofs.read_parts.Statement.{statement}
 use Rattle.reader.proofs.read_parts.Tie as tie

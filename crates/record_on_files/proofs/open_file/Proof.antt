@@ -1,7 +1,6 @@
 -- `spernevan_open` gives the file of the record that is opened. Assumes nothing.
 use mathlib.Core.Path.{sym, ap}
 use lib.ListN.{length}
-use Rattle.record.specs.declared.Outcome.{Outcome}
 use Rattle.record_on_files.specs.Records.{resultOf, fileFitted}
 use Rattle.record_on_files.proofs.Files.{wrote-same}
 use Rattle.record_on_files.proofs.Kept.{open-sound}
@@ -23,7 +22,7 @@ returns : tie.Need-returns
 returns c =
     let s = c .before .before .before .before .before .before .before .before in
     let out = s .args .out .now in
-    wrote-same (ap (λ (o : Outcome). fileFitted (length out) (resultOf o)) (sym (c .before .before .before .before .before .«open» .ensures))) out
+    wrote-same (ap (fileFitted (length out)) (ap resultOf (sym (c .before .before .before .before .before .«open» .ensures)))) out
     (s .args .size .now) _ _ _ (c .before .before .store-outcome .ensures)
 
 pub open-file-spec : {M : Type 1} → statement M

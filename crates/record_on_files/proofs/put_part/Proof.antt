@@ -5,7 +5,7 @@ use mathlib.Core.Bool.{true}
 use Rattle.record.proofs.Good.{good-record}
 use Rattle.format.specs.File.{readPlace}
 use Rattle.record_on_files.specs.Records.{resultOf}
-use Rattle.record_on_files.proofs.Kept.{refused-sound, put-sound, part-above, part-bad, part-read}
+use Rattle.record_on_files.proofs.Kept.{refused-result, refused-sound, put-sound, part-above, part-bad, part-read}
 use Rattle.decoder.proofs.Placed.{place-accepted, place-refused}
 use borrow.Author.Needs.{needs}
 use Rattle.record_on_files.proofs.put_part.Statement.{statement}
@@ -17,9 +17,10 @@ refused-requires c κs = search needs
 returns : tie.Need-returns
 returns c =
     let s = c .before .before .before in (
-      c .refused .ensures ∙ sym (part-above (s .args .given) (s .pre) (s .args .place) (s .args .part .now) (c .before .if1 .taken)),
+      refused-result (c .refused .result) 7 (s .args .given) (c .refused .ensures)
+          ∙ sym (part-above (s .args .given) (s .pre) (s .args .place) (s .args .part .now) (c .before .if1 .taken)),
       refused-sound
-          (c .refused .result) 7 (c .refused .ensures),
+          (c .refused .result) 7 (s .args .given) (c .refused .ensures),
     )
 
 read-place-requires : tie.Need-read-place-requires
@@ -55,9 +56,10 @@ returns-3 c =
     let r = s .args .given in
     let read = place-refused (readPlace (schemaOf r) true (s .args .part .now)) (c .before .before .before .before .read-place .result) _
     (c .before .before .before .before .read-place .ensures) (c .before .before .answer .given .1) in (
-      c .refused2 .ensures ∙ sym (part-bad r (s .pre) (s .args .place) (s .args .part .now) _ (c .before .before .before .before .before .before .if1 .left)
+      refused-result (c .refused2 .result) _ r (c .refused2 .ensures)
+          ∙ sym (part-bad r (s .pre) (s .args .place) (s .args .part .now) _ (c .before .before .before .before .before .before .if1 .left)
           read),
-      refused-sound (c .refused2 .result) _ (c .refused2 .ensures),
+      refused-sound (c .refused2 .result) _ r (c .refused2 .ensures),
     )
 
 pub put-part-spec : {M : Type 1} → statement M

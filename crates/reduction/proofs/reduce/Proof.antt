@@ -6,7 +6,7 @@ use borrow.Author.Tests.{not-true, not-false}
 use borrow.Author.Needs.{needs}
 use Rattle.record.specs.Rule.{goodRecord}
 use Rattle.record.specs.declared.Lookup.the-variants as lookup
-use Rattle.record.specs.Calls.{numberOf, filledPlace, vacantPlace}
+use Rattle.record.specs.internal.Lookup.{numberOf, filledPlace, vacantPlace}
 use Rattle.record.proofs.Refusals.{place-at}
 use Rattle.reduction.specs.Reduced.{refusal}
 use Rattle.reduction.proofs.Results.{reduce-broken, reduce-high, reduce-source, reduce-target, reduce-done, able}

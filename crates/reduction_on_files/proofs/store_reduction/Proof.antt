@@ -1,5 +1,6 @@
 -- `store_reduction` stores the file, the count and the mapping of a reduction that is done. Assumes nothing.
-use mathlib.Core.Path.{sym, _∙_}
+use mathlib.Core.Path.{sym, ap, _∙_}
+use Rattle.writer.specs.Write.{lengthReply}
 use Rattle.reduction_on_files.proofs.Reductions.{reduction-none, reduction-refused, reduction-short, reduction-stored, reduction-long}
 use borrow.Author.Needs.{needs}
 use Rattle.reduction_on_files.proofs.store_reduction.Statement.{statement}
@@ -42,7 +43,8 @@ returns-2 c =
     let a = told .before .before .before .before .args in
     let w = c .before .before .before .before .before .before .before .before .before .write-good .ensures in
     reduction-stored (a .reduced) (a .out .now) (a .size .now) (a .count .now) (a .mapping .now) (told .enum-told .given .1)
-    (c .before .before .before .before .before .before .before .before .before .before .before .before .before .if1 .left) _ _ _ (sym (w .0) ∙ c .before .before .before .before .before .written .given .1) (w .1)
+    (c .before .before .before .before .before .before .before .before .before .before .before .before .before .if1 .left)
+    _ _ _ (sym (w .0) ∙ ap lengthReply (c .before .before .before .before .before .written .given .1)) (w .1)
     (c .before .before .put-mapping .ensures)
 
 same-length-3 : tie.Need-same-length-3
@@ -55,7 +57,8 @@ returns-3 c =
     let a = start .args in
     let w = c .before .before .before .before .before .write-good .ensures in
     reduction-long (a .reduced) (a .out .now) (a .size .now) (a .count .now) (a .mapping .now) (told .enum-told .given .1)
-    (c .before .before .before .before .before .before .before .before .before .if1 .left) _ _ (start .pre (told .enum-told .given .1)) (sym (w .0) ∙ c .before .written2 .given .1) (w .1)
+    (c .before .before .before .before .before .before .before .before .before .if1 .left)
+    _ _ (start .pre (told .enum-told .given .1)) (sym (w .0) ∙ ap lengthReply (c .before .written2 .given .1)) (w .1)
 
 returns-4 : tie.Need-returns-4
 returns-4 c =

@@ -5,13 +5,12 @@ use mathlib.Core.List.{List, [], _++_, map}
 use Prim.Native.Nat.{ℕ, _+_, _*_, _≤_, _<_}
 use native.Mathlib.Omega.{arith}
 use lib.ListN.{length, take}
-use Rattle.refusals.specs.Refusals.{bufferTooShort}
+use Rattle.refusals.specs.Refusals.{bufferTooShort, refused, gives}
 use Rattle.record.specs.declared.Record.{Record}
 use Rattle.record.specs.View.{schemaOf}
 use Rattle.record.specs.Rule.{goodRecord}
 use Rattle.lists.specs.Over.{over}
 use Rattle.format.specs.File.{putPlace, fileOf}
-use Rattle.writer.specs.declared.Written.the-variants.{Length, Refused}
 use Rattle.assembly.specs.internal.Pieces.{directoryBytes, partBytes}
 use Rattle.writer.specs.Write.{written, afterWriting}
 use Rattle.lists.proofs.Loops.{mapped-length}
@@ -24,11 +23,11 @@ use Rattle.writer.proofs.write_good.Statement.{statement}
 use Rattle.writer.proofs.write_good.Tie as tie
 
 module _ (r : Record) (good : goodRecord r ≡ true) (buffer : List ℕ) (size : ℕ) (es : size ≡ length (fileOf r)) where
-  refused : length buffer < size → (Refused bufferTooShort ≡ written r buffer) × (buffer ≡ afterWriting r buffer)
-  refused h = long-refused r buffer good (omega arith)
+  too-long : length buffer < size → (refused bufferTooShort ≡ written r buffer) × (buffer ≡ afterWriting r buffer)
+  too-long h = long-refused r buffer good (omega arith)
 
-  done : (after : List ℕ) → size ≤ length buffer → after ≡ over buffer 0 (fileOf r) → (Length size ≡ written r buffer) × (after ≡ afterWriting r buffer)
-  done after h e = let w = fits-written r buffer good (omega arith) in (ap Length es ∙ w .0, e ∙ w .1)
+  done : (after : List ℕ) → size ≤ length buffer → after ≡ over buffer 0 (fileOf r) → (gives size ≡ written r buffer) × (after ≡ afterWriting r buffer)
+  done after h e = let w = fits-written r buffer good (omega arith) in (ap gives es ∙ w .0, e ∙ w .1)
 
 -- ---- what holds at each place, proved where it first does
 widths-long : (c : tie.Start) → length (c .args .given .widths) ≡ 8
@@ -169,7 +168,7 @@ add-size-5 c =
 returns : tie.Need-returns
 returns c =
     let start = c .before .before .before .before .before .before in
-    refused (start .args .given) (start .pre) (start .args .buffer .now)
+    too-long (start .args .given) (start .pre) (start .args .buffer .now)
     (fileLength start (c .before .before .up-to-filled .result) (c .before .places-length .result)) (lengths (c .before) .1) (c .if1 .taken)
 
 put-directory-requires : tie.Need-put-directory-requires

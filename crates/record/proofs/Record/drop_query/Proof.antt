@@ -11,7 +11,8 @@ use Rattle.record.specs.declared.Record.{Record}
 use Rattle.record.specs.declared.Lookup.the-variants as lookup
 use Rattle.query.specs.Rule.{noPlace}
 use Rattle.record.specs.Rule.{goodRecord}
-use Rattle.record.specs.Calls.{concluded, numberOf, filledPlace, withPlace}
+use Rattle.record.specs.Calls.{concluded, withPlace}
+use Rattle.record.specs.internal.Lookup.{numberOf, filledPlace}
 use Rattle.record.proofs.Refusals.{filled-at}
 use Rattle.record.proofs.Outcomes.{drop-broken, drop-refused, drop-done}
 use Rattle.record.proofs.Record.drop_query.Statement.{statement}

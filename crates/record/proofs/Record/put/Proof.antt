@@ -12,7 +12,8 @@ use Rattle.record.specs.declared.Lookup.the-variants as lookup
 use Rattle.record.specs.View.{schemaOf}
 use Rattle.record.specs.Rule.{goodRecord}
 use Rattle.query.specs.Rule.{goodQuery, headSafe}
-use Rattle.record.specs.Calls.{concluded, numberOf, vacantPlace}
+use Rattle.record.specs.Calls.{concluded}
+use Rattle.record.specs.internal.Lookup.{numberOf, vacantPlace}
 use Rattle.record.proofs.Good.{good-record}
 use Rattle.query.proofs.Good.{good-query}
 use Rattle.record.proofs.Refusals.{place-at, vacant-at}

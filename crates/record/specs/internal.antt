@@ -1,0 +1,2 @@
+-- What functions that are no public call promise.
+pub mod Lookup
