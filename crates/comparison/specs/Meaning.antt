@@ -1,6 +1,7 @@
 -- What the promises of the two calls come to. Each statement is proved in `proofs/Meaning`.
 use mathlib.Core.Path.{_≡_}
 use mathlib.Core.Logic.{_↔_}
+use mathlib.Core.Bool.{true}
 use mathlib.Core.List.{List}
 use mathlib.Core.Option.{none}
 use Prim.Native.Nat.{ℕ}

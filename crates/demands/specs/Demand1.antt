@@ -221,7 +221,8 @@ ReduceMeets r source target o =
 -- Testing a database
 abbrev pub TestMeets : Record → List ℕ → Conformance → Type 0
 TestMeets r words v =
-    Meets (testConditions r words) testAsks (testRefusal v) Nothing (v ≡ testOf (violationOf (firstBrokenFrom 0 (dependenciesOf r) (databaseOf (schemaOf r) words))))
+    Meets (testConditions r words) testAsks (testRefusal v) Nothing
+    (v ≡ testOf (violationOf (firstBrokenFrom 0 (dependenciesOf r) (databaseOf (schemaOf r) words))))
 
 -- Evaluating a place
 abbrev pub EvaluateMeets : Record → ℕ → List ℕ → List ℕ → List ℕ → Answered → Type 0
