@@ -1,7 +1,6 @@
 -- A record whose file and query parts are as long as any. That the lengths are right is proved in `proofs/Longest`, by computation.
 use mathlib.Core.Path.{_≡_}
 use mathlib.Core.Bool.{true}
-use Prim.Native.Nat.{ℕ}
 use lib.ListN.{length, replicate}
 use Rattle.query.specs.declared.Entry.the-variants.{Variable}
 use Rattle.query.specs.declared.Cell.{Cell}
