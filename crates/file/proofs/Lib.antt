@@ -1,3 +1,4 @@
--- The round trips of the two calls.
+-- The round trips of the two calls, and the longest file.
 pub mod RoundTrip
+pub mod Longest
 pub mod Shapes

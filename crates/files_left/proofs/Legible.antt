@@ -33,7 +33,7 @@ use Rattle.format.specs.File.{complete, isVacant, placeWith, safeQuery, readPla
 use Rattle.format.proofs.Directory.{cond-ok}
 use Rattle.format.proofs.Parts.{Narrow, query-lawful}
 use Rattle.format.proofs.Places.{read-filled}
-use Rattle.format.proofs.Results.{not-ok, bind-ok, complete-get}
+use Rattle.format.proofs.Results.{bind-ok, complete-get}
 use Rattle.format.proofs.Rules.{good-narrow, good-query}
 use Rattle.format.proofs.RoundTrip.{sound-record, file-written-back, record-read-back}
 use Rattle.comparison.specs.declared.Comparison.{Comparison}
@@ -79,7 +79,7 @@ stored-left x keeps r e out size outAfter sizeAfter g =
 done-of : (a : Reply (Unit {0})) (x y : Record) → resultOf (a, x) ≡ gives y → (a ≡ gives tt) × (x ≡ y)
 unfolding _>>=_
 done-of (gives tt) x y e = (refl, cc)
-done-of (refused n) x y e = absurd (not-ok e)
+done-of (refused n) x y e = absurd (refused-gives e)
 
 -- A call whose record after it is good, and whole if it is done
 outcome-whole : (said : Reply (Unit {0}) × Record) (r : Record) → resultOf said ≡ gives r → (said .0 ≡ gives tt → Whole (said .1)) → Whole r
@@ -164,7 +164,7 @@ module _ (r : Record) (w : Whole r) where
       narrow = good-narrow (r .relations) (r .widths) (good-record r (w .0) .relations)
 
       go : (t : Bool) → cond t (refused badQuery) (complete badQuery (query schema .get part) >>= safeQuery schema) ≡ gives p → shapedQuery (p .query) ≡ true
-      go true e = absurd (not-ok e)
+      go true e = absurd (refused-gives e)
       go false e =
           let (q, g, s) = bind-ok (complete badQuery (query schema .get part)) (safeQuery schema) p e in
           let (safe, s₁) = cond-ok (headSafe schema q) (gives (placeWith q)) 6 p s in

@@ -25,7 +25,8 @@ use Rattle.query.proofs.Shape.{blank-query}
 use Rattle.format.proofs.Parts.{Narrow, query-lawful}
 use Rattle.format.proofs.Rules.{query-good, good-query}
 use Rattle.format.proofs.Directory.{cond-ok}
-use Rattle.format.proofs.Results.{not-ok, bind-ok, complete-put, complete-get}
+use Rattle.refusals.proofs.Refusals.{refused-gives}
+use Rattle.format.proofs.Results.{bind-ok, complete-put, complete-get}
 
 -- ---- vacant places
 
@@ -85,7 +86,7 @@ unfolding readPlace safeQuery putPlace
 read-place schema hn last part p hb e = vacancy (isVacant part) refl e
   where
     vacant : (t : Bool) → last ≡ t → isVacant part ≡ true → cond t (refused badQuery) (gives noPlace) ≡ gives p → Read schema last part p
-    vacant true el ev e = absurd (not-ok e)
+    vacant true el ev e = absurd (refused-gives e)
     vacant false el ev e =
         let same : noPlace ≡ p = cc in
         subst (Read schema last part) same (no-sound schema, sym (vacant-part part ev), λ l. sym el ∙ l)

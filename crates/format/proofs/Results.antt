@@ -3,32 +3,28 @@ use mathlib.Core.Path.{_≡_, refl, sym, ap, _∙_}
 use mathlib.Core.Bool.{true}
 use mathlib.Core.List.{List, [], _∷_, _++_, append-nil}
 use Prim.Native.Nat.{ℕ}
-use native.Mathlib.Omega.{arith}
 use Rattle.record.specs.declared.Record.{Record}
 use Rattle.record.specs.declared.Answer.the-variants.{Done, Refused}
 use Rattle.record.specs.declared.Outcome.{Outcome}
 use Rattle.record.specs.Calls.{answerReply, outcomeReply}
 use Rattle.format.specs.Bytes.{Bytes}
 use Rattle.format.specs.Format.{Reading, none, got, Format, Lawful}
+use Rattle.refusals.proofs.Refusals.{refused-gives}
 use Rattle.refusals.specs.Refusals.{Reply, gives, refused, _>>=_}
 use Rattle.format.specs.File.{complete, readOutcome}
-
--- a refusal is no value
-pub not-ok : {A : Type 0} {n : ℕ} {a : A} → refused n ≡ gives a → ⊥
-not-ok e = let z : _≡_ {A = ℕ} 0 1 = cc in omega arith
 
 -- what two steps give
 pub bind-ok : {A B : Type 0} (o : Reply A) (next : A → Reply B) (b : B) → (o >>= next) ≡ gives b → (a : A) × (o ≡ gives a) × (next a ≡ gives b)
 unfolding _>>=_
 bind-ok (gives a) next b e = (a, refl, e)
-bind-ok (refused n) next b e = absurd (not-ok e)
+bind-ok (refused n) next b e = absurd (refused-gives e)
 
 -- what a part that is accepted reads
 pub complete-ok : {A : Type 0} (n : ℕ) (o : Reading A) (a : A) → complete n o ≡ gives a → o ≡ got a []
 unfolding complete
-complete-ok n none a e = absurd (not-ok e)
+complete-ok n none a e = absurd (refused-gives e)
 complete-ok n (got b []) a e = let p : b ≡ a = cc in rw p
-complete-ok n (got b (x ∷ rest)) a e = absurd (not-ok e)
+complete-ok n (got b (x ∷ rest)) a e = absurd (refused-gives e)
 
 -- a part that holds a good value and no more
 pub complete-put : {A : Type 0} (n : ℕ) (f : Format A) → Lawful f → (a : A) → f .good a ≡ true → complete n (f .get (f .put a)) ≡ gives a
@@ -45,11 +41,11 @@ complete-get n f lf part a hb e =
 -- an outcome that is done is that of an accepted file
 pub outcome-done : (x : Reply Record) (o : Outcome) → outcomeReply o ≡ readOutcome x → o .answer ≡ Done → x ≡ gives (o .«record»)
 outcome-done (gives r) o e a = ap gives (sym (ap (λ (s : Reply (Unit {0}) × Record). s .1) e))
-outcome-done (refused n) o e a = absurd (not-ok (sym (ap (λ (s : Reply (Unit {0}) × Record). s .0) e) ∙ ap answerReply a))
+outcome-done (refused n) o e a = absurd (refused-gives (sym (ap (λ (s : Reply (Unit {0}) × Record). s .0) e) ∙ ap answerReply a))
 
 -- and one that is refused that of a file refused so
 pub outcome-refused : (x : Reply Record) (o : Outcome) (n : ℕ) → outcomeReply o ≡ readOutcome x → o .answer ≡ Refused n → x ≡ refused n
-outcome-refused (gives r) o n e a = absurd (not-ok (sym (ap answerReply a) ∙ ap (λ (s : Reply (Unit {0}) × Record). s .0) e))
+outcome-refused (gives r) o n e a = absurd (refused-gives (sym (ap answerReply a) ∙ ap (λ (s : Reply (Unit {0}) × Record). s .0) e))
 outcome-refused (refused m) o n e a =
     let same : _≡_ {A = Reply (Unit {0})} (refused m) (refused n) = sym (ap (λ (s : Reply (Unit {0}) × Record). s .0) e) ∙ ap answerReply a in
     let number : m ≡ n = cc in

@@ -33,7 +33,8 @@ use Rattle.format.proofs.Parts.{Narrow, relations-lawful, dependencies-
 use Rattle.format.proofs.Rules.{relations-good, good-relations, good-narrow, dependencies-good, good-dependencies}
 use Rattle.format.proofs.Directory.{directory-assemble, assemble-directory, length-assemble}
 use Rattle.format.proofs.Lengths.{take-short, length-relations, length-dependencies, query-short}
-use Rattle.format.proofs.Results.{bind-ok, not-ok, complete-put, complete-get}
+use Rattle.refusals.proofs.Refusals.{refused-gives}
+use Rattle.format.proofs.Results.{bind-ok, complete-put, complete-get}
 use Rattle.format.proofs.Places.{sound, read-places, places-read, pad-places, upTo-fits, no-sound}
 
 -- The rule of a record, part by part, with its arrays' lengths
@@ -212,8 +213,8 @@ file-short r k =
 -- a file has at least the count's two bytes, so its parts are split as the reader takes them
 split-parts : (parts : List (List ℕ)) (r : Record) → Bytes (join parts) → length parts ≤ 10 → readAll parts ≡ gives r → SoundRecord r × (partsOf r ≡ parts)
 unfolding readAll join
-split-parts [] r b few e = absurd (not-ok e)
-split-parts (part0 ∷ []) r b few e = absurd (not-ok e)
+split-parts [] r b few e = absurd (refused-gives e)
+split-parts (part0 ∷ []) r b few e = absurd (refused-gives e)
 split-parts (part0 ∷ part1 ∷ parts) r b few e =
     let (b₀, b′) = bytes-append part0 (part1 ++ join parts) b in
     let (b₁, b₂) = bytes-append part1 (join parts) b′ in

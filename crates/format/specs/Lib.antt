@@ -4,3 +4,5 @@ pub mod Format
 pub mod Parts
 pub mod File
 pub mod Faults
+-- What the formats of the parts come to.
+pub mod Meaning

@@ -12,7 +12,8 @@ use lib.Seq.{length-take-le, take-at, drop-at, drop-cons, drop-drop}
 use Rattle.lists.proofs.Tests.{and-left, and-right}
 use Rattle.theory.specs.Query.{Row, FitsSchema}
 use Rattle.theory.specs.Database.{Database, Sound}
-use Rattle.words.specs.Words.{wordsOf, Spells, rowsFrom, spellsRowsFrom, databaseOf, spellsRows}
+use Rattle.words.specs.Words.{wordsOf, rowsFrom, spellsRowsFrom, databaseOf, spellsRows}
+use Rattle.words.specs.Meaning.{SpellsMeans, RowsSpelled, RowsOnly, RowsWritten}
 use Rattle.words.specs.internal.Rows.{rowAt, Next}
 
 -- ---- after the values that are due, reading begins again
@@ -68,11 +69,11 @@ spelled schema zero (relation ∷ words) h =
 spelled schema (suc due) (word ∷ words) h = spelled schema due words h
 
 -- words that `spellsRows` passes spell the rows that are read
-pub spells-made : (schema words : List ℕ) → spellsRows schema words ≡ true → Spells schema words (databaseOf schema words)
-spells-made schema words h = spelled schema 0 words h
+pub rows-spelled : RowsSpelled
+rows-spelled schema words h = spelled schema 0 words h
 
 -- words that spell rows are passed by `spellsRows`, and those rows are read
-pub spells-back : (schema : List ℕ) (D : Database) → Sound schema D → (spellsRows schema (wordsOf D) ≡ true) × (databaseOf schema (wordsOf D) ≡ D)
+spells-back : (schema : List ℕ) (D : Database) → Sound schema D → (spellsRows schema (wordsOf D) ≡ true) × (databaseOf schema (wordsOf D) ≡ D)
 unfolding wordsOf rowsFrom spellsRowsFrom
 spells-back schema [] sound = (refl, refl)
 spells-back schema (r ∷ D) sound =
@@ -87,6 +88,19 @@ spells-back schema (r ∷ D) sound =
       ap₂ {C = Database} (λ (v : List ℕ) (E : Database). record { relation = r .relation; values = v } ∷ E) front
           (rows-skip schema width (r .values ++ wordsOf D) long ∙ ap (λ (l : List ℕ). rowsFrom schema 0 l) past ∙ more .1),
     )
+
+-- so words spell no other rows than those that are read
+pub rows-only : RowsOnly
+rows-only schema words D spells = ap (databaseOf schema) (sym (spells .0)) ∙ spells-back schema D (spells .1) .1
+
+-- and are passed exactly when they spell some
+pub spells-means : SpellsMeans
+spells-means schema words =
+    ((λ h. (databaseOf schema words, rows-spelled schema words h)), λ s. ap (spellsRows schema) (sym (s .1 .0)) ∙ spells-back schema (s .0) (s .1 .1) .0)
+
+-- every sound database has words
+pub rows-written : RowsWritten
+rows-written schema D sound = (refl, sound)
 
 -- ---- at a place in the words
 

@@ -1,5 +1,5 @@
 -- A database as words: each row is its relation's number and then its values, one a column.
--- `databaseOf` reads them, `spellsRows` judges the words (refusal 9), and `Spells` is what the two are: `proofs/Spelling` shows it.
+-- `databaseOf` reads the rows, `spellsRows` judges the words (refusal 9), and `Spells` is what the two are: `Meaning` says so.
 use mathlib.Core.Path.{_≡_}
 use mathlib.Core.Bool.{Bool, true, false, _&&_}
 use mathlib.Core.List.{List, [], _∷_, _++_}
