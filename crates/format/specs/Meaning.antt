@@ -8,10 +8,9 @@ use Prim.Native.Nat.{ℕ, _≤_}
 use lib.ListN.{length, take}
 use Rattle.query.specs.declared.Dependency.{Dependency}
 use Rattle.query.specs.declared.Query.{Query}
-use Rattle.query.specs.Rule.{goodRelations, goodDependencies, goodQuery}
+use Rattle.query.specs.Rule.{goodRelations, goodDependencies, goodQuery, shapedQuery}
 use Rattle.format.specs.Format.{Lawful}
 use Rattle.format.specs.Parts.{relations, dependencies, query}
-use Rattle.format.specs.File.{shapedQuery}
 
 -- ---- the laws
 
