@@ -17,11 +17,11 @@ use lib.Pow.{pow-lt, pow-mono}
 use lib.ListN.{length, take, drop, getD, drop-of-length-le, length-map, List·getD-map}
 use lib.Seq.{drop-cons, getD-take, length-take-le}
 use borrow.Author.Tests.{ltb-true}
-use Rattle.theory.proofs.Determined.{adds-relation}
+use Rattle.determination.proofs.Determined.{adds-relation}
 use Rattle.theory.specs.Query.{member, _∈_}
 use Rattle.theory.specs.Chase.{firstPassing}
 use Rattle.theory.specs.Database.{Dependency}
-use Rattle.theory.specs.Determined.{subset, adds, growOn, growFor, closure, determined}
+use Rattle.determination.specs.Determined.{subset, adds, growOn, growFor, closure, determined}
 use Rattle.query.specs.declared.Dependency as stored
 use Rattle.query.specs.View.{columnsFrom, columnsOf, dependencyOf, maskOf}
 use Rattle.lists.specs.Tests.{every}

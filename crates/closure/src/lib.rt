@@ -5,7 +5,7 @@ ghost use mathlib.Core.Bool.{true};
 ghost use mathlib.Core.List.{map};
 ghost use Prim.Native.Nat.{_-_, _<_, _≤_};
 ghost use lib.ListN.{take};
-ghost use Rattle.theory.specs.Determined.{adds};
+ghost use Rattle.determination.specs.Determined.{adds};
 ghost use Rattle.query.specs.View.{columnsOf, dependencyOf};
 ghost use Rattle.closure.specs.internal.Closure.{nextMask, growMask, rightNarrow};
 ghost use Rattle.lists.specs.Tests.{every};

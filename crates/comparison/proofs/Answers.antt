@@ -31,7 +31,7 @@ use Rattle.mapping.specs.internal.Mapped.{Storable, IsMapped, Finds, Checks}
 use Rattle.theory.specs.Query as theory
 use Rattle.theory.specs.Query.{_∈_}
 use Rattle.theory.specs.Answer as answer
-use Rattle.theory.specs.Checking.{mapsTo}
+use Rattle.minimization.specs.Checking.{mapsTo}
 use Rattle.refusals.specs.Refusals.{gives, reply}
 use Rattle.comparison.specs.declared.Pair.the-variants.{Places, Refused}
 use Rattle.comparison.specs.declared.Verdict.the-variants as verdict

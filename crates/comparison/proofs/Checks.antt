@@ -12,7 +12,7 @@ use Rattle.query.specs.View.{entriesOf, imagesOf}
 use Rattle.record.specs.declared.Record.{Record}
 use Rattle.record.specs.Calls.{queryAt}
 use Rattle.theory.specs.Answer.{IsMapping}
-use Rattle.theory.specs.Checking.{mapsTo}
+use Rattle.minimization.specs.Checking.{mapsTo}
 use Rattle.mapping.proofs.Checked.{test-tells}
 use Rattle.comparison.specs.declared.Checked.{Checked}
 use Rattle.comparison.specs.declared.Checked.the-variants.{Yes, No, Refused}

@@ -31,8 +31,8 @@ use Rattle.lists.proofs.Positions.{every-getD-else}
 use Rattle.theory.specs.Query as theory
 use Rattle.theory.specs.Answer as answer
 use Rattle.theory.specs.Containment as containment
-use Rattle.theory.specs.Search as search
-use Rattle.theory.proofs.Search.{mappable-exact}
+use Rattle.minimization.specs.Search as search
+use Rattle.minimization.proofs.Search.{mappable-exact}
 use Rattle.theory.proofs.Containment.{contained-of-mapping, counterexample}
 use Rattle.comparison.specs.declared.Verdict.{Verdict}
 use Rattle.comparison.specs.declared.Verdict.the-variants.{Never, Contained, Apart, Refused}

@@ -23,8 +23,8 @@ use Rattle.theory.specs.Database as database
 use Rattle.theory.specs.Answer as answer
 use Rattle.theory.specs.Chase as chasing
 use Rattle.theory.specs.Containment as containment
-use Rattle.theory.specs.Search as search
-use Rattle.theory.specs.Checking.{mapsTo}
+use Rattle.minimization.specs.Search as search
+use Rattle.minimization.specs.Checking.{mapsTo}
 
 -- The query of a place, chased with the held dependencies
 abbrev pub chasedAt : Record → ℕ → theory.Query

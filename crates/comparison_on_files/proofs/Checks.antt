@@ -21,7 +21,7 @@ use Rattle.comparison.specs.declared.Checked.the-variants as checked
 use Rattle.comparison.specs.Comparison.{pairRefusal, checkReply, CheckedMapping}
 use Rattle.theory.specs.Query as theory
 use Rattle.theory.specs.Answer.{IsMapping}
-use Rattle.theory.specs.Checking.{mapsTo}
+use Rattle.minimization.specs.Checking.{mapsTo}
 use Rattle.record_on_files.specs.Lent.{statusOf, leaves}
 use Rattle.comparison_on_files.specs.Queries.{readingMaps, wordsMap, bit, WordsMapExact}
 

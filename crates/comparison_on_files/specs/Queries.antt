@@ -23,7 +23,7 @@ use Rattle.comparison.specs.declared.Verdict.{Verdict}
 use Rattle.comparison.specs.Comparison.{notContained, verdictReply, pairRefusal, Compared}
 use Rattle.theory.specs.Query as theory
 use Rattle.theory.specs.Answer as answer
-use Rattle.theory.specs.Checking.{mapsTo}
+use Rattle.minimization.specs.Checking.{mapsTo}
 use Rattle.record_on_files.specs.Lent.{statusOf, leaves}
 
 -- ---- comparing

@@ -11,8 +11,8 @@ use Rattle.theory.specs.Query.{WellFormed, variablesOf, rowEntries, _∈_}
 use Rattle.theory.specs.Database.{Database}
 use Rattle.theory.specs.Answer.{Answer, Mapping}
 use Rattle.theory.specs.Chase.{chase, chaseFor, chaseOn, step, firstBroken, firstFound}
-use Rattle.theory.specs.Reduction.{Reduction}
-use Rattle.theory.proofs.Reduction.{reduction-answers, reduction-wellformed}
+use Rattle.minimization.specs.Reduction.{Reduction}
+use Rattle.minimization.proofs.Reduction.{reduction-answers, reduction-wellformed}
 use Rattle.core.specs.internal.CoreOf.{IsCoreOf}
 
 -- Without dependencies the chase rests at once

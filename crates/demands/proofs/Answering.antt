@@ -25,7 +25,7 @@ use Rattle.evaluation.specs.Evaluated.{answerWords}
 use Rattle.database.specs.declared.Answered.{Answered}
 use Rattle.database.specs.Calls.{unspelled, tooLong, evaluationRefused, placeAnswers, countReply, wordsUnless, evaluated, bufferThen}
 use Rattle.database.proofs.Meaning.{place-ascending, place-answers}
-use Rattle.theory.specs.Search as search
+use Rattle.minimization.specs.Search as search
 use Rattle.record.specs.declared.Outcome.{Outcome}
 use Rattle.record.specs.declared.Answer.the-variants as answer
 use Rattle.format.specs.Bytes.{Bytes}

@@ -26,7 +26,7 @@ use Rattle.database.specs.declared.Conformance.{Conformance}
 use Rattle.database.specs.declared.Answered.{Answered}
 use Rattle.database.specs.Calls.{testReply, tested, evaluationRefused, countReply, wordsUnless, evaluated, bufferThen, placeAnswers}
 use Rattle.evaluation.specs.Evaluated.{answerWords}
-use Rattle.theory.specs.Search as search
+use Rattle.minimization.specs.Search as search
 use Rattle.record.specs.Rule.{blankRecord}
 use Rattle.format.specs.Bytes.{number}
 use Rattle.format.specs.File.{stretches, readFile, readOutcome, fileOf}

@@ -41,7 +41,7 @@ use Rattle.format.specs.File.{readFile, fileOf}
 use Rattle.format.specs.Faults.{readConditions}
 use Rattle.writer.specs.declared.Written.{Written}
 use Rattle.writer.specs.Write.{lengthReply, writeConditions}
-use Rattle.theory.specs.Checking.{mapsTo}
+use Rattle.minimization.specs.Checking.{mapsTo}
 
 -- ---- what each call asks, by the numbers of the refusals
 

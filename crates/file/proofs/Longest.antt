@@ -2,7 +2,7 @@
 use mathlib.Core.Path.{refl}
 use Rattle.lists.specs.Tests.{every}
 use Rattle.theory.specs.Query.{rowEntries, variablesOf, member}
-use Rattle.theory.specs.Determined.{subset}
+use Rattle.determination.specs.Determined.{subset}
 use Rattle.query.specs.View.{rowsOf}
 use Rattle.query.specs.Rule.{goodRelations, goodSet, goodDependency, goodDependencies, goodQuery, goodRows, headSafe}
 use Rattle.record.specs.Rule.{goodRecord}

@@ -40,7 +40,7 @@ use Rattle.comparison.specs.declared.Comparison.{Comparison}
 use Rattle.comparison.specs.declared.Verdict.{Verdict}
 use Rattle.comparison.specs.declared.Verdict.the-variants as verdict
 use Rattle.comparison.specs.Comparison.{chasedAt, verdictReply, verdictOn, Compared}
-use Rattle.theory.specs.Search as search
+use Rattle.minimization.specs.Search as search
 use Rattle.reduction.specs.declared.Reduced.{Reduced}
 use Rattle.record_on_files.specs.Lent.{fitted, Wrote}
 use Rattle.record_on_files.specs.Records.{resultOf, fileFitted, putPart}

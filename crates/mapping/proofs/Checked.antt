@@ -7,8 +7,8 @@ use Prim.Native.Nat.{ℕ}
 use lib.ListN.{List·getD-map}
 use Rattle.theory.specs.Query as theory
 use Rattle.theory.specs.Answer.{IsMapping}
-use Rattle.theory.specs.Checking.{imageAt, mapsTo}
-use Rattle.theory.proofs.Checking.{maps-to-exact}
+use Rattle.minimization.specs.Checking.{imageAt, mapsTo}
+use Rattle.minimization.proofs.Checking.{maps-to-exact}
 use Rattle.query.specs.declared.Cell.{Cell}
 use Rattle.query.specs.View.{entryOf, entriesOf, imagesOf}
 use Rattle.query.specs.Rule.{noCell}

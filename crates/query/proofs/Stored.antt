@@ -15,7 +15,7 @@ use borrow.Author.Tests.{leb-true, ltb-true, eqb-true}
 use Rattle.theory.specs.Query as theory
 use Rattle.theory.specs.Query.{variablesOf, rowEntries, WellFormed, FitsSchema, _∈_}
 use Rattle.theory.specs.Database as database
-use Rattle.theory.specs.Determined.{FitsColumns}
+use Rattle.determination.specs.Determined.{FitsColumns}
 use Rattle.theory.specs.Containment.{ConstantsBelow}
 use Rattle.query.specs.declared.Entry.{Entry}
 use Rattle.query.specs.declared.Entry.the-variants.{Constant, Variable}
@@ -25,7 +25,7 @@ use Rattle.query.specs.declared.Dependency.{Dependency}
 use Rattle.query.specs.View.{entryOf, entriesOf, rowsOf, queryOf, columnsFrom, dependencyOf}
 use Rattle.lists.specs.Tests.{every, inUse}
 use Rattle.query.specs.Rule.{goodDependency, goodEntry, goodCell, blankEntry, blankCell, goodRow, goodRows, headInUse, goodQuery, headSafe}
-use Rattle.theory.proofs.Determined.{subset-true}
+use Rattle.determination.proofs.Determined.{subset-true}
 use Rattle.lists.proofs.Tests.{and-left, and-right, and-both, every-append, used-whole, every-take, used-all, used-good}
 use Rattle.query.proofs.Good.{good-query, good-dependency}
 

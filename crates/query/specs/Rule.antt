@@ -13,7 +13,7 @@ use Rattle.query.specs.declared.Dependency.{Dependency}
 use Rattle.query.specs.declared.Place.{Place}
 use Rattle.query.specs.View.{queryOf}
 use Rattle.theory.specs.Query as theory
-use Rattle.theory.specs.Determined as determined
+use Rattle.determination.specs.Determined as determined
 use Rattle.lists.specs.Tests.{between, every, inUse, isZero}
 
 -- ---- what is not in use

@@ -14,8 +14,8 @@ use borrow.Author.Tests.{eqb-false, not-false}
 use Rattle.theory.specs.Query.{member, _∈_}
 use Rattle.theory.specs.Database as database
 use Rattle.theory.proofs.Lists.{member-mem, mem-member}
-use Rattle.theory.specs.Determined.{Determines, determined}
-use Rattle.theory.proofs.Determined.{determined-exact}
+use Rattle.determination.specs.Determined.{Determines, determined}
+use Rattle.determination.proofs.Determined.{determined-exact}
 use Rattle.record.specs.declared.Record.{Record}
 use Rattle.query.specs.View.{columnsFrom, columnsOf, maskOf}
 use Rattle.record.specs.View.{schemaOf, dependenciesOf}

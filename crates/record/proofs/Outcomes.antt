@@ -14,7 +14,7 @@ use lib.Seq.{take-append-seam, drop-append-seam}
 use borrow.Author.Tests.{lt-ltb, le-ltb, lt-leb, eq-eqb, ne-eqb}
 use Rattle.theory.specs.Database as database
 use Rattle.theory.specs.Query.{_∈_}
-use Rattle.theory.specs.Determined.{determined}
+use Rattle.determination.specs.Determined.{determined}
 use Rattle.query.specs.declared.Query.{Query}
 use Rattle.query.specs.declared.Dependency.{Dependency}
 use Rattle.record.specs.declared.Lookup.the-variants as lookup

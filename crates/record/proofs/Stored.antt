@@ -8,7 +8,7 @@ use lib.ListN.{length, take, getD}
 use lib.Seq.{length-take-le}
 use Rattle.theory.specs.Query.{_∈_}
 use Rattle.theory.specs.Database as database
-use Rattle.theory.specs.Determined.{FitsColumns}
+use Rattle.determination.specs.Determined.{FitsColumns}
 use Rattle.query.proofs.Stored.{held-fit}
 use Rattle.query.specs.declared.Dependency.{Dependency}
 use Rattle.query.specs.declared.Place.{Place}

@@ -6,7 +6,7 @@ use Prim.Native.Nat.{ℕ, _+_, _-_}
 use lib.Dec.{eqb, ltb}
 use lib.ListN.{length, getD, set, replicate}
 use Rattle.theory.specs.Query as theory
-use Rattle.theory.specs.Determined.{determined}
+use Rattle.determination.specs.Determined.{determined}
 use Rattle.query.specs.declared.Query.{Query}
 use Rattle.query.specs.declared.Dependency.{Dependency}
 use Rattle.query.specs.declared.Place.{Place}

@@ -37,10 +37,10 @@ use Rattle.theory.specs.Query as theory
 use Rattle.theory.specs.Query.{WellFormed, variablesOf, rowEntries, _∈_}
 use Rattle.theory.specs.Answer.{IsMapping, Mapping}
 use Rattle.theory.specs.Chase.{chase}
-use Rattle.theory.specs.Reduction.{Reduction}
+use Rattle.minimization.specs.Reduction.{Reduction}
 use Rattle.theory.proofs.Carry.{mapping-target}
-use Rattle.theory.proofs.Determined.{subset-of}
-use Rattle.theory.proofs.Reduction.{reduction-answers, reduction-minimal, reduction-mapping, reduction-wellformed}
+use Rattle.determination.proofs.Determined.{subset-of}
+use Rattle.minimization.proofs.Reduction.{reduction-answers, reduction-minimal, reduction-mapping, reduction-wellformed}
 use Rattle.mapping.specs.declared.Mapped.{Mapped}
 use Rattle.reduction.specs.declared.Shortened.{Shortened}
 use Rattle.reduction.specs.declared.Reduced.{Reduced}

@@ -19,7 +19,7 @@ use Rattle.theory.specs.Query as theory
 use Rattle.theory.specs.Database as database
 use Rattle.theory.specs.Answer as answers
 use Rattle.theory.specs.Chase as chasing
-use Rattle.theory.specs.Reduction as reduction
+use Rattle.minimization.specs.Reduction as reduction
 
 -- What a reduction asks: 14; 7; 11 where the source is vacant; 12 where the target is filled
 abbrev pub reductionConditions : Record → ℕ → ℕ → List Condition

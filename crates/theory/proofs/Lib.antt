@@ -2,7 +2,6 @@
 pub mod Lists
 pub mod Entries
 pub mod Members
-pub mod Without
 pub mod Carry
 pub mod Step
 pub mod Order
@@ -10,10 +9,4 @@ pub mod Survivor
 pub mod Replacement
 pub mod Chase
 pub mod Containment
-pub mod Reduction
-pub mod Determined
-pub mod Search
-pub mod Checking
-pub mod Reduce
-pub mod Examples
 pub mod Theorems

@@ -14,8 +14,7 @@ use borrow.Author.Tests.{eqb-true, eqb-false}
 use lib.Dec.{eqb}
 use lib.ListN.{length, getD, replicate}
 use Rattle.lists.proofs.Tests.{and-left, and-right}
-use Rattle.theory.specs.Query.{member, distinct, _∈_}
-use Rattle.theory.specs.Reduction.{without}
+use Rattle.theory.specs.Query.{member, distinct, _∈_, without}
 
 -- ---- truth values and options
 

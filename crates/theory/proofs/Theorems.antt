@@ -1,5 +1,5 @@
--- A proof of each statement of specs/, file by file: `AnswerTheorems`, `OrderTheorems`, `ChaseTheorems`, `ContainmentTheorems`, `ReductionTheorems`,
--- `DeterminedTheorems` and the table of `Examples`. Most are proved in the files before; here they have the form in which they are stated.
+-- A proof of each statement of specs/, file by file: `AnswerTheorems`, `OrderTheorems`, `ChaseTheorems`. Most are proved in the files before; here they
+-- have the form in which they are stated.
 -- Assumes nothing.
 use mathlib.Core.Path.{_≡_, refl, sym, _∙_, ap, subst}
 use mathlib.Core.Logic.{_⊎_, inl, inr, ⊎-elim}
@@ -7,38 +7,24 @@ use mathlib.Core.List.{List, [], map}
 use mathlib.Core.Option.{none, some}
 use Prim.Native.Nat.{ℕ, suc, _+_}
 use native.Mathlib.Omega.{arith}
-use lib.ListN.{length, length-map, getD}
+use lib.ListN.{length, length-map}
 use Rattle.theory.specs.Query.{Query, never, mapRow, mapQuery, variableCount}
 use Rattle.theory.specs.Database.{Dependency}
 use Rattle.theory.specs.Answer.{valueOf, itself}
 use Rattle.theory.specs.Chase.{firstPair, breaks, firstBroken, clash, substitute, step, Chases, rests, clashes, replaces, chase}
-use Rattle.theory.specs.Determined.{determined}
-use Rattle.theory.specs.Search.{contained}
-use Rattle.theory.specs.Examples.{ExamplesMean}
 use Rattle.theory.specs.AnswerTheorems as answers
 use Rattle.theory.specs.OrderTheorems as order
 use Rattle.theory.specs.ChaseTheorems as chases
 use Rattle.theory.specs.ChaseTheorems.{Replacements, start, next, RestsAfter, ClashesAfter}
-use Rattle.theory.specs.ContainmentTheorems as containment
-use Rattle.theory.specs.ReductionTheorems as reduction
-use Rattle.theory.specs.DeterminedTheorems as columns
-use Rattle.theory.proofs.Lists.{bool-cases, option-cases, map-empty}
+use Rattle.theory.proofs.Lists.{option-cases, map-empty}
 use Rattle.theory.proofs.Step.{breaks-broken, broken-breaks, firstBroken-found, firstBroken-nothing, step-found, step-nothing, step-rests, step-never}
 use Rattle.theory.proofs.Order.{firstPair-first, firstPair-no-pair, firstFound-first}
 use Rattle.theory.proofs.Survivor.{constant-survives, head-survives, lower-survives, constants-clash}
 use Rattle.theory.proofs.Replacement.{step-count}
 use Rattle.theory.proofs.Carry.{carries-more, mapping-target}
 use Rattle.theory.proofs.Chase.{chase-chases, chases-unique, chased-by, chases-count-le, chases-answers, chases-mapping, chases-rests}
-use Rattle.theory.proofs.Chase.{chases-wellformed, chases-head-length, chases-rows-fit, chases-constants, rests-obeys, freeze-injective}
-use Rattle.theory.proofs.Containment.{answer-along, frozen-sound, contained-iff, counterexample, contained-over, counterexample-over}
-use Rattle.theory.proofs.Reduction.{core-repeats, reduction-answers, reduction-equivalent, reduction-head-length, reduction-minimal}
-use Rattle.theory.proofs.Reduction.{reduction-same-size}
-use Rattle.theory.proofs.Reduction.{reduction-mapping, reduction-never, reduction-wellformed, reduction-length, reduction-reordered}
-use Rattle.theory.proofs.Reduction.{shrinks-reduction, reduction-shrinks}
-use Rattle.theory.proofs.Determined.{determined-exact, determined-ascending, ascending-unique}
-use Rattle.theory.proofs.Search.{mappable-exact, contained-exact, contained-false, both-below}
-use Rattle.theory.proofs.Reduce.{reduce-reduction}
-use Rattle.theory.proofs.Examples.{examples-meaning}
+use Rattle.theory.proofs.Chase.{chases-wellformed, chases-head-length, chases-rows-fit, chases-constants, rests-obeys}
+use Rattle.theory.proofs.Containment.{answer-along, frozen-sound}
 
 -- ---- answers
 
@@ -63,6 +49,9 @@ only-rows-count D E same = (
   ),
   λ widths. (λ sound r at. sound r (same r .1 at), λ sound r at. sound r (same r .0 at)),
 )
+
+pub own-width : answers.OwnWidth
+own-width = (omega arith, refl)
 
 pub never-has-no-mapping : answers.NeverHasNoMapping
 never-has-no-mapping S T f = (f .1 .carries .not-never, mapping-target S T f)
@@ -206,100 +195,3 @@ the-lower-survives = lower-survives
 
 pub two-constants-clash : chases.ConstantsClash
 two-constants-clash = constants-clash
-
--- ---- containment
-
-pub contained-exactly : containment.ContainedExactly
-contained-exactly widths ds p q fit =
-    let common = both-below p q in
-    let theorem = contained-iff widths ds p q (common .0) fit (common .2) (common .3) (common .1) in
-    (theorem .1, theorem .0)
-
-pub chased-counterexample : containment.ChasedCounterexample
-chased-counterexample widths ds p q base fit belowP belowQ positive neither =
-    counterexample widths ds p q base fit belowP belowQ positive (λ empty. neither (inl empty)) (λ f. neither (inr f))
-
-pub counterexample-refutes : containment.CounterexampleRefutes
-counterexample-refutes widths ds p q D t c all = c .no-answer (all D (c .sound) (c .obeys) t (c .answer))
-
-pub freeze-apart : containment.FreezeApart
-freeze-apart = freeze-injective
-
-pub mappable-exactly : containment.MappableExactly
-mappable-exactly = mappable-exact
-
-pub contained-computes : containment.ContainedComputes
-contained-computes = contained-exact
-
-pub not-contained-computes : containment.NotContainedComputes
-not-contained-computes widths ds p q fit = (
-  contained-false widths ds p q fit,
-  λ shown. bool-cases (contained ds p q)
-      (λ is. absurd (counterexample-refutes widths ds p q (shown .0) (shown .1) (shown .2) (contained-exact widths ds p q fit .0 is))) (λ is. is),
-)
-
-pub contained-over-exactly : containment.ContainedOverExactly
-contained-over-exactly = contained-over
-
-pub chased-counterexample-over : containment.ChasedCounterexampleOver
-chased-counterexample-over = counterexample-over
-
--- ---- reduction
-
-pub result-exists : reduction.ResultExists
-result-exists ds S = (_, reduce-reduction ds S)
-
-pub reduce-computes : reduction.ReduceComputes
-reduce-computes = reduce-reduction
-
-pub results-exactly : reduction.ResultsExactly
-results-exactly ds S T = (
-  reduction-shrinks ds S T,
-  λ shrunk.
-      let order = shrunk .2 in
-      reduction-reordered ds S (shrunk .0) T (record { head = sym (order .head); into = order .back; back = order .into; size = sym (order .size) })
-      (shrinks-reduction ds S (shrunk .0) (shrunk .1)),
-)
-
-pub result-keeps-answers : reduction.ResultKeepsAnswers
-result-keeps-answers = reduction-answers
-
-pub result-minimal : reduction.ResultMinimal
-result-minimal = reduction-minimal
-
-pub result-is-rival : reduction.ResultIsRival
-result-is-rival widths ds S T result = record { width = reduction-head-length ds S T result; same = reduction-equivalent ds S T result widths }
-
-pub results-same-size : reduction.ResultsSameSize
-results-same-size = reduction-same-size
-
-pub result-maps : reduction.ResultMaps
-result-maps = reduction-mapping
-
-pub result-never : reduction.ResultNever
-result-never = reduction-never
-
-pub result-without-repeats : reduction.ResultWithoutRepeats
-result-without-repeats ds S T result = core-repeats T (result .core)
-
-pub result-well-formed : reduction.ResultWellFormed
-result-well-formed widths ds S T result = (λ well. reduction-wellformed widths ds S T well result, reduction-length ds S T result)
-
--- ---- determined columns
-
-pub determined-exactly : columns.DeterminedExactly
-determined-exactly widths ds relation left fits held c = determined-exact widths ds fits relation held left (getD widths relation 0) refl c
-
-pub determined-is-ascending : columns.DeterminedAscending
-determined-is-ascending = determined-ascending
-
-pub determined-unique : columns.DeterminedUnique
-determined-unique widths ds relation left fits held cs up exact =
-    let same = determined-exactly widths ds relation left fits held in
-    ascending-unique cs (determined ds relation (getD widths relation 0) left) up (determined-ascending ds relation (getD widths relation 0) left)
-    (λ c at. same c .1 (exact c .0 at)) (λ c at. exact c .1 (same c .0 at))
-
--- ---- the examples
-
-pub examples-mean : ExamplesMean
-examples-mean = examples-meaning

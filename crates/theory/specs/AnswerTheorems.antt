@@ -1,10 +1,10 @@
 -- What is proved of answers and mappings. Each statement is proved in `proofs/Theorems`.
 use mathlib.Core.Path.{_≡_}
 use mathlib.Core.Logic.{_≢_, _↔_}
-use mathlib.Core.List.{List, []}
+use mathlib.Core.List.{List, [], _∷_}
 use Prim.Native.Nat.{ℕ}
 use lib.ListN.{length}
-use Rattle.theory.specs.Query.{Row, Query, _∈_}
+use Rattle.theory.specs.Query.{Row, Query, FitsSchema, _∈_}
 use Rattle.theory.specs.Database.{Database, Dependency, Obeys, Sound}
 use Rattle.theory.specs.Answer.{Answer, Mapping}
 
@@ -27,6 +27,10 @@ OnlyRowsCount =
     → ((q : Query) (t : List ℕ) → Answer D q t ↔ Answer E q t)
     × ((ds : List Dependency) → Obeys ds D ↔ Obeys ds E)
     × ((widths : List ℕ) → Sound widths D ↔ Sound widths E)
+
+-- A row has as many values as its own relation has columns: under the widths 2 and 3 a row of relation 1 with three values fits
+abbrev pub OwnWidth : Type 0
+OwnWidth = FitsSchema {A = ℕ} (2 ∷ 3 ∷ []) (record { relation = 1; values = 5 ∷ 6 ∷ 7 ∷ [] })
 
 -- There is no mapping from never, and none to it
 abbrev pub NeverHasNoMapping : Type 0

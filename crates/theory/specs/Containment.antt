@@ -17,11 +17,6 @@ pub record Counterexample (widths : List ℕ) (ds : List Dependency) (p q : Quer
   pub answer : Answer D p t
   pub no-answer : Answer D q t → ⊥
 
--- p and q have the same answers on every sound database that obeys the dependencies: t is an answer of the one exactly when it is one of the other.
--- `∥ ∥₁` asks only that there is an assignment, not which
-abbrev pub Equivalent : List ℕ → List Dependency → Query → Query → Type 0
-Equivalent widths ds p q = (D : Database) → Sound widths D → Obeys ds D → (t : List ℕ) → ∥ Answer D p t ∥₁ ↔ ∥ Answer D q t ∥₁
-
 -- An entry read as a number: a constant as itself, variable v as base + v
 abbrev pub freeze : ℕ → Entry → ℕ
 freeze base = valueOf itself (λ v. base + v)

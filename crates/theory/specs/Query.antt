@@ -2,7 +2,7 @@
 -- What a query means is in `Answer`.
 use mathlib.Core.Path.{_≡_}
 use mathlib.Core.Bool.{Bool, true, false, cond}
-use mathlib.Core.List.{List, [], _∷_, _++_, map, List·Memᴰ}
+use mathlib.Core.List.{List, [], _∷_, _++_, map, List·Memᴰ, List·Memᴰ·head, List·Memᴰ·tail}
 use Prim.Native.Nat.{ℕ, _<_}
 use lib.Dec.{eqb}
 use lib.ListN.{length, getD, replicate}
@@ -11,6 +11,11 @@ infix 25 _∈_
 -- x stands in the list xs. A proof of it is a position
 abbrev pub _∈_ {ℓ} : {A : Type ℓ} → A → List A → Type ℓ
 x ∈ xs = List·Memᴰ x xs
+
+-- A list without the element at one position
+unfoldable pub without : {A : Type 0} {x : A} (xs : List A) → x ∈ xs → List A
+without (y ∷ xs) (List·Memᴰ·head e) = xs
+without (y ∷ xs) (List·Memᴰ·tail at) = y ∷ without xs at
 
 -- An entry is a constant or a variable, each by its number
 pub data Entry : Type 0 where

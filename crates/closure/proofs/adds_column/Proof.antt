@@ -7,7 +7,7 @@ use lib.Bits.{bitAnd}
 use lib.Dec.{eqb}
 use borrow.Author.Tests.{eq-eqb, ne-eqb}
 use borrow.Author.Needs.{needs}
-use Rattle.theory.specs.Determined.{adds}
+use Rattle.determination.specs.Determined.{adds}
 use Rattle.query.specs.declared.Dependency.{Dependency}
 use Rattle.query.specs.View.{columnsOf, dependencyOf}
 use Rattle.closure.proofs.Closure.{adds-mask}

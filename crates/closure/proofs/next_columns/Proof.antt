@@ -10,7 +10,7 @@ use lib.ListN.{length, take, getD}
 use borrow.Author.Needs.{needs}
 use Rattle.theory.specs.Chase.{firstPassing}
 use Rattle.theory.specs.Database as database
-use Rattle.theory.specs.Determined.{adds}
+use Rattle.determination.specs.Determined.{adds}
 use Rattle.query.specs.View.{columnsOf, dependencyOf}
 use Rattle.query.specs.Rule.{noDependency}
 use Rattle.closure.specs.internal.Closure.{addRight, nextMask}

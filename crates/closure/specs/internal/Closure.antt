@@ -8,7 +8,7 @@ use lib.Bits.{bitOr}
 use lib.Dec.{ltb}
 use Rattle.theory.specs.Chase.{firstPassing}
 use Rattle.theory.specs.Database.{Dependency}
-use Rattle.theory.specs.Determined.{adds}
+use Rattle.determination.specs.Determined.{adds}
 use Rattle.query.specs.declared.Dependency as stored
 use Rattle.query.specs.View.{columnsOf}
 

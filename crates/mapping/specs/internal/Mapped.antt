@@ -5,7 +5,7 @@ use mathlib.Core.List.{List}
 use Prim.Native.Nat.{ℕ, _≤_}
 use lib.ListN.{getD, replicate}
 use Rattle.theory.specs.Answer.{IsMapping, Mapping}
-use Rattle.theory.specs.Checking.{mapsTo}
+use Rattle.minimization.specs.Checking.{mapsTo}
 use Rattle.query.specs.declared.Cell.{Cell}
 use Rattle.query.specs.declared.Query.{Query}
 use Rattle.query.specs.View.{entriesOf, queryOf, imagesOf}

@@ -3,13 +3,13 @@
 use mathlib.Core.Path.{_≡_, refl}
 use mathlib.Core.Bool.{Bool, true, false, cond}
 use mathlib.Core.List.{List, [], _∷_, _++_}
 use Rattle.theory.specs.Query.{Entry, Row, Query}
 use Rattle.theory.specs.Database.{Dependency}
 use Rattle.theory.specs.Chase.{chase}
-use Rattle.theory.specs.Reduction.{Reduction}
-use Rattle.theory.specs.Search.{mappable, prune, reduce}
-use Rattle.theory.proofs.Reduction.{withRows, OnePass, pass-start, pass-drop, pass-keep, pass-reduction}
-use Rattle.theory.proofs.Search.{mappable-exact, mappable-false}
+use Rattle.minimization.specs.Reduction.{Reduction}
+use Rattle.minimization.specs.Search.{mappable, prune, reduce}
+use Rattle.minimization.proofs.Reduction.{withRows, OnePass, pass-start, pass-drop, pass-keep, pass-reduction}
+use Rattle.minimization.proofs.Search.{mappable-exact, mappable-false}
 
 -- Pruning the rest ends the pass
 prune-pass : (q : Query) (kept rest : List (Row Entry)) → OnePass q kept rest → OnePass q (prune (q .head) kept rest) []

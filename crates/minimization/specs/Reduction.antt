@@ -1,19 +1,13 @@
 -- What a result of reduction is, and what demand 3 asks of it.
 use mathlib.Core.Path.{_≡_}
-use mathlib.Core.Logic.{_≢_}
-use mathlib.Core.List.{List, [], _∷_, List·Memᴰ·head, List·Memᴰ·tail}
+use mathlib.Core.Logic.{_≢_, _↔_}
+use mathlib.Core.List.{List, []}
 use Prim.Native.Nat.{ℕ, _≤_}
 use lib.ListN.{length}
-use Rattle.theory.specs.Query.{Entry, Row, Query, _∈_}
-use Rattle.theory.specs.Database.{Dependency}
-use Rattle.theory.specs.Answer.{Mapping}
+use Rattle.theory.specs.Query.{Entry, Row, Query, _∈_, without}
+use Rattle.theory.specs.Database.{Database, Dependency, Obeys, Sound}
+use Rattle.theory.specs.Answer.{Answer, Mapping}
 use Rattle.theory.specs.Chase.{chase}
-use Rattle.theory.specs.Containment.{Equivalent}
-
--- A list without the element at one position
-unfoldable pub without : {A : Type 0} {x : A} (xs : List A) → x ∈ xs → List A
-without (y ∷ xs) (List·Memᴰ·head e) = xs
-without (y ∷ xs) (List·Memᴰ·tail at) = y ∷ without xs at
 
 -- A query without one of its rows
 abbrev pub dropRow : {r : Row Entry} (q : Query) → r ∈ q .rows → Query
@@ -43,6 +37,11 @@ pub record Reordered (T U : Query) : Type 0 where
   pub into : (r : Row Entry) → r ∈ T .rows → r ∈ U .rows
   pub back : (r : Row Entry) → r ∈ U .rows → r ∈ T .rows
   pub size : length (U .rows) ≡ length (T .rows)
+
+-- p and q have the same answers on every sound database that obeys the dependencies: t is an answer of the one exactly when it is one of the other.
+-- `∥ ∥₁` asks only that there is an assignment, not which
+abbrev pub Equivalent : List ℕ → List Dependency → Query → Query → Type 0
+Equivalent widths ds p q = (D : Database) → Sound widths D → Obeys ds D → (t : List ℕ) → ∥ Answer D p t ∥₁ ↔ ∥ Answer D q t ∥₁
 
 -- R is a rival of S: a query of the same head length with the same answers on every sound database that obeys the dependencies,
 -- whatever its rows, variables and constants.

@@ -11,25 +11,25 @@ use borrow.Author.Tests.{ltb-true, eqb-true}
 use Rattle.lists.specs.Tests.{every, sameLists}
 use Rattle.lists.specs.Numbers.{numbersWhere}
 use Rattle.lists.proofs.Tests.{and-left, and-right, every-member, sameLists-true}
 use Rattle.theory.specs.Query.{Entry, Row, Query, FitsSchema, _∈_}
 use Rattle.theory.specs.Database.{Dependency}
 use Rattle.theory.specs.Query.{sameEntry, variablesOf, rowEntries, member, distinct}
 use Rattle.theory.specs.Chase.{firstPassing, firstPair, firstFound, agree, breaks, firstBroken, survives, resolve, substitute}
 use Rattle.theory.specs.Chase.{step, Chases, chaseOn, chaseFor, chase}
-use Rattle.theory.specs.Determined.{FitsColumns, subset, adds, growOn, growFor, closure, determined}
-use Rattle.theory.specs.Search.{lookup, assignTo, matchEntry, matchEntries, matchRow, tryRows, placeRows, placeQuery, mappable}
-use Rattle.theory.specs.Checking.{sameRow}
-use Rattle.theory.specs.Search.{containedOn, contained, prune, reduce}
-use Rattle.theory.specs.Examples.{Example, reduces, chasesTo, compares, determines, schema, Meaning, sameQuery}
-use Rattle.theory.specs.Examples.{fitsColumns, fitsSchema, overSchema, holds, examples}
+use Rattle.determination.specs.Determined.{FitsColumns, subset, adds, growOn, growFor, closure, determined}
+use Rattle.minimization.specs.Search.{lookup, assignTo, matchEntry, matchEntries, matchRow, tryRows, placeRows, placeQuery, mappable}
+use Rattle.minimization.specs.Checking.{sameRow}
+use Rattle.minimization.specs.Search.{containedOn, contained, prune, reduce}
+use Rattle.minimization.specs.Examples.{Example, reduces, chasesTo, compares, determines, schema, Meaning, sameQuery}
+use Rattle.minimization.specs.Examples.{fitsColumns, fitsSchema, overSchema, holds, examples}
 use Rattle.theory.proofs.Lists.{and-three, beq-true}
 use Rattle.theory.proofs.Entries.{sameEntry-eq}
-use Rattle.theory.proofs.Checking.{sameRow-eq}
+use Rattle.minimization.proofs.Checking.{sameRow-eq}
 use Rattle.theory.proofs.Chase.{chase-chases}
-use Rattle.theory.proofs.Reduction.{reduction-same-size, reduction-minimal}
-use Rattle.theory.proofs.Determined.{determined-exact, determined-ascending}
-use Rattle.theory.proofs.Search.{contained-exact, contained-false}
-use Rattle.theory.proofs.Reduce.{reduce-reduction}
+use Rattle.minimization.proofs.Reduction.{reduction-same-size, reduction-minimal}
+use Rattle.determination.proofs.Determined.{determined-exact, determined-ascending}
+use Rattle.minimization.proofs.Search.{contained-exact, contained-false}
+use Rattle.minimization.proofs.Reduce.{reduce-reduction}
 
 -- Every example of the table holds
 pub examples-hold : every holds examples ≡ true

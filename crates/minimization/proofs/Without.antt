@@ -6,10 +6,9 @@ use mathlib.Core.List.{List, [], _∷_, _++_, List·Memᴰ·head, List·Memᴰ·
 use Prim.Native.Nat.{_≤_, _<_}
 use native.Mathlib.Omega.{arith}
 use lib.ListN.{length}
-use Rattle.theory.specs.Query.{_∈_}
-use Rattle.theory.specs.Reduction.{without}
+use Rattle.theory.specs.Query.{_∈_, without}
 use Rattle.theory.proofs.Lists.{Nodup, without-length, without-keeps}
 use Rattle.theory.proofs.Members.{_⊆_, cons-part}
 
 -- ---- one element less
 

@@ -9,14 +9,14 @@ use Prim.Native.Nat.{ℕ, _≤_, _<_}
 use lib.Dec.{eqb, ltb}
 use lib.ListN.{length, getD}
 use Rattle.lists.specs.Tests.{every, sameLists}
 use Rattle.theory.specs.Query.{Entry, constant, variable, Row, Query, sameEntry, _∈_}
 use Rattle.theory.specs.Database.{Database, Dependency}
 use Rattle.theory.specs.Chase.{Chases, chase}
 use Rattle.theory.specs.Containment.{Contained, Counterexample}
-use Rattle.theory.specs.Reduction.{Reduction, Rival}
-use Rattle.theory.specs.Determined.{Determines, Ascending, determined}
-use Rattle.theory.specs.Search.{contained, reduce}
-use Rattle.theory.specs.Checking.{sameRow}
+use Rattle.minimization.specs.Reduction.{Reduction, Rival}
+use Rattle.determination.specs.Determined.{Determines, Ascending, determined}
+use Rattle.minimization.specs.Search.{contained, reduce}
+use Rattle.minimization.specs.Checking.{sameRow}
 
 -- An example: what a call with these arguments gives
 pub data Example : Type 0 where

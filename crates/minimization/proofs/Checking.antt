@@ -9,13 +9,13 @@ use native.Mathlib.Omega.{arith}
 use borrow.Author.Tests.{eqb-true, eq-eqb}
 use lib.Dec.{eqb}
 use lib.ListN.{getD}
 use Rattle.theory.specs.Query.{Entry, constant, Row, sameEntry, mapRow, variables, member, _∈_}
 use Rattle.theory.specs.Answer.{valueOf}
-use Rattle.theory.specs.Checking.{imageAt, sameRow, standsIn, rowsCarried, restZero, nonempty, mapsTo, MapsToExact}
+use Rattle.minimization.specs.Checking.{imageAt, sameRow, standsIn, rowsCarried, restZero, nonempty, mapsTo, MapsToExact}
 use Rattle.lists.specs.Tests.{sameLists}
 use Rattle.lists.proofs.Tests.{and-left, and-right, and-both, sameLists-true, sameLists-self}
 use Rattle.theory.proofs.Lists.{bool-cases, mem-cases, member-not-mem, not-mem-member}
 use Rattle.theory.proofs.Entries.{sameEntry-eq, sameEntry-refl, eq-sameEntry}
 
 -- ---- entries and rows
 

@@ -4,12 +4,12 @@ use mathlib.Core.Logic.{_≢_, _↔_}
 use mathlib.Core.List.{List, []}
 use Prim.Native.Nat.{ℕ, _≤_}
 use lib.ListN.{length}
-use Rattle.theory.specs.Query.{Entry, Row, Query, RowsFit, WellFormed, _∈_}
+use Rattle.theory.specs.Query.{Entry, Row, Query, RowsFit, WellFormed, _∈_, without}
 use Rattle.theory.specs.Database.{Database, Dependency, Obeys}
 use Rattle.theory.specs.Answer.{Answer, Mapping}
 use Rattle.theory.specs.Chase.{chase}
-use Rattle.theory.specs.Reduction.{without, Reduction, Shrinks, Reordered, Rival, Minimal}
-use Rattle.theory.specs.Search.{reduce}
+use Rattle.minimization.specs.Reduction.{Reduction, Shrinks, Reordered, Rival, Minimal}
+use Rattle.minimization.specs.Search.{reduce}
 
 -- Every query has a result
 abbrev pub ResultExists : Type 0

@@ -4,9 +4,9 @@ use mathlib.Core.Logic.{_↔_}
 use mathlib.Core.List.{List}
 use Prim.Native.Nat.{ℕ, _<_}
 use lib.ListN.{length, getD}
 use Rattle.theory.specs.Query.{_∈_}
 use Rattle.theory.specs.Database.{Dependency}
-use Rattle.theory.specs.Determined.{Determines, FitsColumns, Ascending, determined}
+use Rattle.determination.specs.Determined.{Determines, FitsColumns, Ascending, determined}
 
 -- The columns of a relation that a left set determines: those on which two rows that agree on the set agree in every sound database that obeys the dependencies
 abbrev pub Determined : List ℕ → List Dependency → ℕ → List ℕ → ℕ → Type 0

@@ -16,15 +16,15 @@ use lib.ListN.{length, getD, replicate, length-replicate, getD-replicate, List·
 use native.Mathlib.Decide.{decLt}
 use borrow.Author.Tests.{eqb-true, eq-eqb, not-true}
 use Rattle.lists.specs.Numbers.{numbersWhere}
 use Rattle.theory.specs.Query.{Row, column, member, _∈_}
 use Rattle.theory.specs.Database.{Database, Dependency, Agree, Obeys, Sound}
 use Rattle.theory.specs.Chase.{firstPassing}
-use Rattle.theory.specs.Determined.{Determines, FitsColumns, Ascending, subset, adds, growOn, growFor, closure, determined}
+use Rattle.determination.specs.Determined.{Determines, FitsColumns, Ascending, subset, adds, growOn, growFor, closure, determined}
 use Rattle.lists.proofs.Tests.{and-left, and-right, and-both}
 use Rattle.lists.proofs.Numbers.{where-from, where-of}
 use Rattle.theory.proofs.Lists.{mem-cases, member-mem, mem-member, member-not-mem}
 use Rattle.theory.proofs.Members.{_⊆_}
 use Rattle.theory.proofs.Step.{firstPassing-found, firstPassing-nothing}
 
 -- ---- 1. tests
 

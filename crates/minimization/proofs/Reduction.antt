@@ -24,20 +24,20 @@ use native.Mathlib.Bridge.{le-prop}
 use native.Mathlib.Decide.{decLe}
 use lib.ListN.{length, length-map}
 use lib.Seq.{append-snoc}
-use Rattle.theory.specs.Query.{Entry, constant, variable, Row, Query, mapRow, rowEntries, variablesOf, FitsSchema, WellFormed, _∈_}
+use Rattle.theory.specs.Query.{Entry, constant, variable, Row, Query, mapRow, rowEntries, variablesOf, FitsSchema, WellFormed, _∈_, without}
 use Rattle.theory.specs.Database.{Database, Dependency, Obeys, Sound}
 use Rattle.theory.specs.Answer.{valueOf, itself, Carries, Answer, Mapping}
 use Rattle.theory.specs.Chase.{chase}
-use Rattle.theory.specs.Containment.{Equivalent, freeze, frozenRows, frozenHead, ConstantsBelow}
-use Rattle.theory.specs.Reduction.{without, dropRow, Core, Reduction, Shrinks, stays, loses, Reordered, Minimal}
+use Rattle.theory.specs.Containment.{freeze, frozenRows, frozenHead, ConstantsBelow}
+use Rattle.minimization.specs.Reduction.{dropRow, Core, Reduction, Shrinks, stays, loses, Reordered, Minimal, Equivalent}
 use Rattle.theory.proofs.Lists.{Nodup, without-length, nodup-length-le, list-cases, map-fixes}
 use Rattle.theory.proofs.Entries.{constant-variable, variablesOf-mem, mem-variablesOf, row-rowEntries}
 use Rattle.theory.proofs.Members.{_⊆_, insert-part, map-part, some-of-member, member-of-some, row-of-entry, rowEntries-part}
-use Rattle.theory.proofs.Without.{without-part, without-cases, without-append, without-singleton, pigeonhole, nodup-of, nodup-fills}
+use Rattle.minimization.proofs.Without.{without-part, without-cases, without-append, without-singleton, pigeonhole, nodup-of, nodup-fills}
 use Rattle.theory.proofs.Carry.{carries-fewer, mapping-of, mapping-compose, mapping-self, mapping-part, mapping-inclusion, mapping-target}
 use Rattle.theory.proofs.Chase.{chase-answers, chase-mapping, chase-obeys, chase-rows-fit, chase-wellformed, chase-head-length}
 use Rattle.theory.proofs.Chase.{chase-length-le}
 use Rattle.theory.proofs.Containment.{answer-along, frozen-answer, frozen-sound, thaw, thaw-rows, thaw-head, thaw-carries}
 
 -- ---- 1. Cores
 

@@ -13,17 +13,17 @@ use Prim.Native.Nat.{ℕ, _+_, _≤_, _<_}
 use native.Mathlib.Omega.{arith}
 use lib.Dec.{eqb}
 use borrow.Author.Tests.{eqb-true, eqb-false, eq-eqb}
 use Rattle.theory.specs.Query.{Entry, constant, variable, Row, Query, mapRow, sameEntry, FitsSchema, _∈_}
 use Rattle.theory.specs.Answer.{valueOf, Carries, Mapping}
 use Rattle.theory.specs.Database.{Database, Dependency}
 use Rattle.theory.specs.Chase.{chase}
 use Rattle.theory.specs.Containment.{Contained, Counterexample, frozenRows, frozenHead, ConstantsBelow}
-use Rattle.theory.specs.Search.{Partial, lookup, assignTo, matchEntry, matchEntries, matchRow, tryRows, placeRows, placeQuery}
-use Rattle.theory.specs.Search.{assignment, isSome, mappable, containedOn, contained}
+use Rattle.minimization.specs.Search.{Partial, lookup, assignTo, matchEntry, matchEntries, matchRow, tryRows, placeRows, placeQuery}
+use Rattle.minimization.specs.Search.{assignment, isSome, mappable, containedOn, contained}
 use Rattle.theory.proofs.Entries.{sameEntry-eq, sameEntry-ne}
 use Rattle.theory.proofs.Carry.{mapping-of}
 use Rattle.theory.proofs.Containment.{contained-iff, counterexample}
-use Rattle.theory.proofs.Reduction.{some-base}
+use Rattle.minimization.proofs.Reduction.{some-base}
 
 -- Rows are equal when their relations and values are
 row-same : (r s : Row Entry) → r .relation ≡ s .relation → r .values ≡ s .values → r ≡ s

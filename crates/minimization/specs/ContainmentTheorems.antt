@@ -5,13 +5,13 @@ use mathlib.Core.Logic.{_≢_, _↔_, _⊎_}
 use mathlib.Core.Bool.{true, false}
 use mathlib.Core.List.{List, []}
 use Prim.Native.Nat.{ℕ, _<_}
 use Rattle.theory.specs.Query.{Entry, constant, Query, RowsFit}
 use Rattle.theory.specs.Database.{Database, Dependency}
 use Rattle.theory.specs.Answer.{Mapping}
 use Rattle.theory.specs.Chase.{chase}
 use Rattle.theory.specs.Containment.{Contained, Counterexample, freeze, frozenRows, frozenHead, ConstantsBelow, ContainedOver}
 use Rattle.theory.specs.Containment.{CounterexampleOver, StandsFor}
-use Rattle.theory.specs.Search.{mappable, contained}
+use Rattle.minimization.specs.Search.{mappable, contained}
 
 -- p chases to never, or q can be mapped to the chased p
 abbrev pub NeverOrMapping : List Dependency → Query → Query → Type 0

@@ -1,0 +1,1 @@
+// Containment decided, reduction to the fewest rows, and examples: definitions and theorems alone. No code runs here.
