@@ -33,6 +33,7 @@ from .commands import (
     read_once,
     reduce_command,
     say,
+    separator,
     show_command,
     test_command,
     unpack_command,
@@ -92,13 +93,23 @@ def usage() -> Parser:
             nargs="+",
             help="rows of text such as flight(1, 'Lindenberg') (- for standard input), a folder of CSV files or one such file, or an SQLite file",
         )
-        made.add_argument("--null", metavar="VALUE", help="what NULL, or an empty cell of CSV, stands for; without this it is refused")
+        made.add_argument(
+            "--null",
+            metavar="[TABLE.COLUMN=]VALUE",
+            action="append",
+            default=[],
+            help="what NULL, or an empty cell of CSV, stands for, in one column or in all others; without this it is refused",
+        )
         made.add_argument(
             "--text",
             metavar="TABLE.COLUMN",
             action="append",
             default=[],
             help="a column of CSV files whose cells are texts, also where they look like numbers",
+        )
+        made.add_argument("--decimal", metavar="SIGN", choices=(".", ","), default=".", help="the sign of decimals in CSV files, . or , (. if not given)")
+        made.add_argument(
+            "--separator", metavar="SIGN", type=separator, help="the sign between the cells of CSV files, or tab (if not given, the header tells)"
         )
 
     query = "a place, 0 to 7, or a rule, 'ans(x) :- ..', or - for a rule on standard input"

@@ -6,9 +6,9 @@ import argparse
 import json
 import os
 import sys
-from typing import Callable, Dict, Iterable, List, Optional, Tuple, Union
+from typing import Callable, Dict, Iterable, List, Optional, Sequence, Tuple, Union
 
-from .data import Database
+from .data import Database, DataError, column_of
 from .definition import Definition, define, define_all, define_query
 from .engine import Refused
 from .files import (
@@ -45,7 +45,7 @@ from .notation import (
 from .page import page
 from .publish import Shape, render, render_one, write_definition
 from .record import Asked, Broken, Comparison, Record
-from .sources import read_for_command
+from .sources import Csv, read_for_command
 from .sql import labels
 from .text import pack, unpack
 from .values import Value, read_cell, read_literal
@@ -175,6 +175,16 @@ def place(text: str) -> int:
     if not isinstance(found, int):
         raise argparse.ArgumentTypeError(f"{text!r} is not a place; places go from 0 to {PLACES - 1}")
     return found
+
+
+def separator(text: str) -> str:
+    """The sign between cells on the command line."""
+    sign = {"tab": "\t", "\\t": "\t"}.get(text, text)
+    try:
+        Csv(separator=sign)
+    except ValueError as error:
+        raise argparse.ArgumentTypeError(str(error)) from None
+    return sign
 
 
 def rule_of(asked: str) -> str:
@@ -353,15 +363,32 @@ def equivalent_command(options: Options) -> int:
     return YES if same else NO
 
 
-def _data(options: Options, record: Record) -> Database:
-    """The database of DATA."""
-    return read_for_command(options.data, record.names, _null(options.null), options.text, sys.stderr)
+def _data(options: Options, record: Record, query: Optional[Asked] = None) -> Database:
+    """The database of DATA; for a query, what cannot change its answers need not be sound."""
+    form = Csv(tuple(options.text), options.decimal, options.separator)
+    return read_for_command(options.data, record, _nulls(options.null, record.names), form, sys.stderr, query)
 
 
-def _null(text: Optional[str]) -> Optional[Value]:
+def _nulls(given: Sequence[str], names: Names) -> Dict[Optional[str], Value]:
+    """What NULL stands for, by columns: `flight.site=VALUE`, or a value for all others, under None."""
+    found: Dict[Optional[str], Value] = {}
+    for text in given:
+        column: Optional[str] = None
+        value = text
+        if "=" in text and text[:1] not in ("'", '"'):
+            column, _, value = text.partition("=")
+            try:
+                column_of(column, names)
+            except DataError as error:
+                raise Failure(f"--null {text}: {error}; a text with = in it stands between quotes") from None
+        if column in found:
+            raise Failure(f"--null says twice what NULL stands for{'' if column is None else f' in {column}'}")
+        found[column] = _null(value)
+    return found
+
+
+def _null(text: str) -> Value:
     """What NULL stands for: a literal, or the text as it is."""
-    if text is None:
-        return None
     try:
         return read_literal(text) if text[:1] in ("'", '"') and text[-1:] == text[:1] and len(text) > 1 else read_cell(text)
     except ValueError:
@@ -372,7 +399,7 @@ def _say_notes(database: Database, relations: Iterable[int]) -> None:
     """Says what is to be known of how some tables were read."""
     asked = set(relations)
     for note in database.notes:
-        if note.relation in asked:
+        if note.relation is None or note.relation in asked:
             say(f"spernevan: {note.text}")
 
 
@@ -386,7 +413,7 @@ def _broken(record: Record, database: Database, broken: Broken) -> List[str]:
 def evaluate_command(options: Options) -> int:
     record, names = load(options)
     asked = Subject(record, options.query, "the rule")
-    database = _data(options, record)
+    database = _data(options, record, asked.asked)
     relations = [row.relation for row in asked.query.rows]
     record.has_tables(database, relations, "the query asks for")
     _say_notes(database, relations)

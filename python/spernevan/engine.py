@@ -15,14 +15,9 @@ from array import array
 from functools import lru_cache
 from pathlib import Path
 from queue import SimpleQueue
-from typing import TYPE_CHECKING, Any, Callable, List, Optional, Tuple, Type, Union
+from typing import Any, Callable, List, Optional, Tuple, Type, Union
 
-if TYPE_CHECKING:
-    Words = array[int]
-else:
-    Words = array
-
-from .model import BYTE, VARIABLES, whole
+from .model import BYTE, VARIABLES, Words, whole
 
 LONGEST_FILE = 4420
 LONGEST_QUERY = 534

@@ -100,6 +100,20 @@ def is_text(data: bytes) -> bool:
     return True
 
 
+def kind_of(data: bytes) -> Optional[str]:
+    """What a file is that begins with these bytes, if it is of a kind that is given for another."""
+    if data.startswith(b"SQLite format 3\0"):
+        return "an SQLite file"
+    if data.startswith(b"\x7fELF"):
+        return "a program"
+    if data.startswith(b"archive '"):
+        return "a names file"
+    # The count of the parts, the first of which begins behind the directory.
+    if len(data) > 3 and data[1] == 0 and 2 <= data[0] <= 10 and data[2] == 2 + 4 * data[0]:
+        return "an archive file"
+    return None
+
+
 def read_names_beside(file: Path, data: bytes, given: Optional[Path] = None, codes: Iterable[int] = ()) -> Optional[NamesFile]:
     """The names file beside an archive file, or the one that is given; None if there is none.
 

@@ -354,7 +354,7 @@ class Files(Data):
         self.assertIn("the text '101' and the number 101 are different values", err)
         self.assertIn("between quotes, and --text TABLE.COLUMN takes a column of CSV as text\n", err)
         found = run("evaluate", self.text, "ans(h) :- flight(f, p, t), burst(f, h)", base, more, "--text", "burst.flight")
-        self.assertEqual((found[1], "different values" in found[2]), ("ans(7)\nans(8)\n# 2 answers\n", False))
+        self.assertEqual((found[1], "different values" in found[2]), ("ans(7.0)\nans(8)\n# 2 answers\n", False))
 
     def test_numbers_that_may_be_versions(self):
         cells = self.csv(flight="number,site,launch\n1,1.1,x\n2,1.10,x\n3,007,x\n")
@@ -399,6 +399,8 @@ class Files(Data):
                 '[\n  {"f": "001", "h": 13.0},\n  {"f": "12.5", "h": 1e-07},\n  {"f": "x", "h": 2.5}\n]\n',
             ],
         )
+        base = self.sqlite("CREATE TABLE mixed (flight, height)", "INSERT INTO mixed VALUES ('a', 13.0), ('b', 12), ('c', 2.5)", 'DROP TABLE "Burst"', 'ALTER TABLE mixed RENAME TO "Burst"')
+        self.assertEqual(self.done("evaluate", self.text, rule, base), "ans('a', 13.0)\nans('b', 12)\nans('c', 2.5)\n# 3 answers\n")
         # What is written as rows or as CSV is read as the same values.
         base = self.sqlite(bursts=[("001", 13), ("12.5", 0.25), ("x", 2.5)])
         again = self.write("x.data", self.done("evaluate", self.text, rule, base).replace("ans(", "burst("))
@@ -435,6 +437,120 @@ class Files(Data):
         )
 
 
+class WhatIsAskedFor(Data):
+    """What cannot change the answers does not stop an evaluation."""
+
+    RULE = "ans(p) :- flight(f, p, t)"
+
+    def left_out(self, source, why, rule=RULE):
+        status, out, err = run("evaluate", self.text, rule, source)
+        self.assertEqual((status, out), (0, "ans('De Bilt')\n# 1 answer\n"), err)
+        self.assertTrue(err.startswith(f"spernevan: the table burst, which the query does not ask for, is left out: {why}"), err)
+        self.assertEqual(err.count("\n"), 1)
+
+    def test_another_table(self):
+        header, row = "number,site,launch\n", ("F-1", "De Bilt", "2026-01-14")
+        flight = header + ",".join(row) + "\n"
+        for burst, why in (
+            ("flight,height\nF-1,\n", "burst.csv:2: column height: the cell is empty (NULL); say what it stands for with --null VALUE, or --null TABLE.COLUMN="),
+            ("flight\n", "burst.csv:1: there is no column height"),
+            ("flight,height\n1\n", "burst.csv:2: the row has 1 cell, the header 2"),
+            (b"flight,height\n\xff,1\n", "burst.csv:2:1: this byte is not UTF-8 text"),
+            ("flight,height\n" + "F-1,3\n" * 3 + "F-1,\n", "burst.csv:5: column height: the cell is empty"),
+        ):
+            cells = self.csv(flight, burst)
+            with mock.patch.object(sources, "CHUNK", 2):
+                self.left_out(cells, f"{cells}/{why}")
+            self.failed(f"{cells}/burst.csv", "evaluate", self.text, 0, cells)
+            self.failed(f"{cells}/burst.csv", "test", self.text, cells)
+        base = self.sqlite(flights=[row], bursts=[("F-1", None)])
+        self.left_out(base, f"{base}: row 1 of Burst, column height: NULL in Burst('F-1', NULL); say")
+        self.left_out(self.sqlite('DROP TABLE "Burst"', 'CREATE VIEW "Burst" AS SELECT * FROM kite', flights=[row]), str(self.folder))
+        for rows in ("flight('F-1', 'De Bilt', 1)\nburst(1, 2)\nburst(2, NULL)\n", "flight('F-1',\n'De Bilt', 1)\nburst(2, NULL)\n"):
+            path = self.write("n.data", rows)
+            self.left_out(path, f"{path}:3: column height: there is no value here (NULL); say")
+            self.failed(f"{path}:3:10: there is no value here (NULL)", "test", self.text, path)
+        data = {"flight": [row], "burst": [("F-1", None), ("F-1", 2)]}
+        with self.assertWarnsRegex(UserWarning, "the table burst, which the query does not ask for, is left out: burst: column height, row 0") as seen:
+            self.assertEqual(self.record.evaluate(self.RULE, data), [("De Bilt",)])
+        self.assertEqual(seen.filename, __file__)
+        self.assertRaises(DataError, self.record.test, data)
+        self.assertRaises(DataError, read_database, base, self.record)
+        with self.assertWarnsRegex(UserWarning, "the table burst, which the query does not ask for, is left out"):
+            found = read_database(base, self.record, query=self.RULE)
+        self.assertEqual(self.record.evaluate(self.RULE, found), [("De Bilt",)])
+        with self.assertRaisesRegex(ValueError, "a query goes with a record"):
+            read_database(base, self.names, query=self.RULE)
+
+    def test_another_column(self):
+        """A column in which the query has a variable that stands once, and of which no dependency speaks."""
+        text = self.write("b.text", "flight(number, site, remark)\nflight: number -> site\n")
+        cells = self.folder_of(flight="number,site,remark\nF-1,De Bilt,\nF-1,x,late\n")
+        status, out, err = run("evaluate", text, "ans(f) :- flight(f, 'De Bilt', r)", cells)
+        self.assertEqual((status, out), (0, "ans('F-1')\n# 1 answer\n"))
+        self.assertIn("flight.csv:2: flight('F-1', 'De Bilt', '')\n", err)
+        for rule in ("ans(r) :- flight(f, p, r)", "ans(f) :- flight(f, p, r), flight(g, q, r)", "ans(f) :- flight(f, p, 'late')"):
+            self.failed(f"{cells}/flight.csv:2: column remark: the cell is empty (NULL)", "evaluate", text, rule, cells)
+        self.failed(f"{cells}/flight.csv:2: column remark: the cell is empty (NULL)", "test", text, cells)
+
+    def test_null_by_columns(self):
+        cells = self.csv("number,site,launch\nF-1,,\n", "flight,height\nF-1,\n")
+        rule = "ans(f, p, t, h) :- flight(f, p, t), burst(f, h)"
+        each = ["--null", "flight.site=none", "--null", "Burst.Height=-1.5", "--null=flight.launch='a = b'"]
+        self.assertEqual(self.done("evaluate", self.text, rule, cells, *each), "ans('F-1', 'none', 'a = b', -1.5)\n# 1 answer\n")
+        rest = ["--null", "0", "--null", "flight.site="]
+        self.assertEqual(self.done("evaluate", self.text, rule, cells, *rest), "ans('F-1', '', 0, 0)\n# 1 answer\n")
+        self.assertEqual(self.done("evaluate", self.text, rule, cells, "--null='a=b'"), "ans('F-1', 'a=b', 'a=b', 'a=b')\n# 1 answer\n")
+        self.failed(f"{cells}/burst.csv:2: column height: the cell is empty (NULL); ", "test", self.text, cells, *each[:2], "--null=flight.launch=1")
+        self.failed("--null kite.site=1: kite.site is no TABLE.COLUMN of the archive; a text with = in it stands", "test", self.text, cells, "--null", "kite.site=1")
+        self.failed("--null says twice what NULL stands for\n", "test", self.text, cells, "--null", "1", "--null", "2")
+        self.failed("--null says twice what NULL stands for in flight.site\n", "test", self.text, cells, *["--null=flight.site=2"] * 2)
+        path = self.write("n.data", "flight(1, NULL, 2)\nburst(\n1, NULL)\n")
+        self.failed(f"{path}:3:4: there is no value here (NULL)", "evaluate", self.text, rule, path, "--null=flight.site=x")
+        self.assertEqual(self.done("evaluate", self.text, rule, path, "--null=flight.site=x", "--null=burst.height=3"), "ans(1, 'x', 2, 3)\n# 1 answer\n")
+        data = {"flight": [(1, None, None)], "burst": [(1, float("nan"))]}
+        found = self.record.database(data, null={"flight.site": "x", None: 7})
+        self.assertEqual(self.record.evaluate(rule, found), [(1, "x", 7, 7)])
+        with self.assertRaisesRegex(DataError, "column launch, row 0: there is no value"):
+            self.record.database(data, null={"flight.site": "x"})
+
+
+class Decimals(Data):
+    RULE = "ans(f, h) :- burst(f, h)"
+
+    def test_a_decimal_comma(self):
+        rows = "1;31200,50\n2;-0,25\n3;7\n4;13,0\n5;2026-01-14\n6;De Bilt, NL\n"
+        cells = self.csv(burst="flight;height\n" + rows)
+        found = "ans(1, 31200.50)\nans(2, -0.25)\nans(3, 7)\nans(4, 13.0)\nans(5, 2026-01-14)\nans(6, 'De Bilt, NL')\n# 6 answers\n"
+        self.assertEqual(self.done("evaluate", self.text, self.RULE, cells, "--decimal", ","), found)
+        self.assertEqual(self.done("evaluate", self.text, "ans(f) :- burst(f, 31200.5)", cells, "--decimal=,"), "ans(1)\n# 1 answer\n")
+        status, _, err = run("evaluate", self.text, self.RULE, cells)
+        self.assertIn("31200,50 in burst.height is taken as a text; the number is written with a point, 31200.50; ", err)
+        self.assertTrue(err.endswith("say --text burst.height; if the comma is that of a decimal, say --decimal ,\n"), err)
+        self.assertEqual((status, err.count("\n")), (0, 1))
+        quoted = self.csv(burst='flight,height\n1,"12,5"\n')
+        self.assertEqual(self.done("evaluate", self.text, self.RULE, quoted, "--decimal=,"), "ans(1, 12.5)\n# 1 answer\n")
+        for cell, number in (("12.5", "with a comma, 12,5"), ("1.234,5", "with a comma and without points"), ("1e-1", "0,1")):
+            cells = self.csv(burst=f"flight;height\n1;{cell}\n")
+            status, out, err = run("evaluate", self.text, self.RULE, cells, "--decimal", ",")
+            self.assertEqual(out, f"ans(1, '{cell}')\n# 1 answer\n")
+            self.assertIn(f"{cell} in burst.height is taken as a text; the number is written {number}; if it is no number, say --text burst.height\n", err)
+        self.assertEqual(self.record.evaluate(self.RULE, read_database(quoted, self.record, decimal=",")), [(1, Decimal("12.5"))])
+        for wrong in ({"decimal": ";"}, {"separator": "ab"}, {"separator": '"'}):
+            self.assertRaises(ValueError, read_database, quoted, self.record, **wrong)
+
+    def test_a_separator(self):
+        for sign, name in (("|", "|"), (":", ":"), ("\t", "tab"), ("\t", "\\t"), (";", ";")):
+            cells = self.csv(burst=f"flight{sign}height\n1{sign}a,b\n", flight=f"number{sign}site{sign}launch\n")
+            self.assertEqual(self.done("evaluate", self.text, self.RULE, cells, "--separator", name), "ans(1, 'a,b')\n# 1 answer\n")
+            self.assertEqual(self.record.evaluate(self.RULE, read_database(cells, self.record, separator=sign)), [(1, "a,b")])
+        self.failed(f"{cells}/burst.csv:1: no column of burst(flight, height) is here; ", "evaluate", self.text, self.RULE, cells / "burst.csv", "--separator=|")
+        for wrong in ("", "ab", '"'):
+            status, out, err = run("test", self.text, cells, "--separator", wrong)
+            self.assertEqual((status, out, err.count("\n")), (2, "", 1))
+            self.assertIn("the separator must be one sign, such as ; or a tabulator", err)
+
+
 class FromPython(Data):
     def setUp(self):
         super().setUp()
@@ -466,9 +582,13 @@ class FromPython(Data):
             [(1, Decimal("13")), (2, Decimal("2.50"))],
             [(True, "2026-01-14"), (False, "x")],
             [("2026-01-14", 1), ("a", 2.5), ("b", "c")],
+            [(1, 13.0), (2, 12), (3, 2.5), (4, "x"), (5, -0.5)],
+            [(1, True), (2, 12), (3, Decimal("2.50")), (4, 2.25), (5, Decimal("14.0"))],
+            [(1, 1), (2, 2), (3, 3.0), (4, 4)],
             [(date(2026, 1, 14), datetime(2026, 1, 14, 12)), (date(2026, 1, 15), datetime(2026, 1, 15))],
         ):
-            found = self.record.evaluate(rule, {"burst": rows})
+            with mock.patch("spernevan.data.CHUNK", 2):
+                found = self.record.evaluate(rule, {"burst": rows})
             self.assertEqual(sorted(map(repr, found)), sorted(map(repr, rows)))
         # Each column by its own type, also where the values are the same.
         data = {"flight": [(1, 1.0, Decimal("1.5"))], "burst": [(1.0, 1.5)]}
