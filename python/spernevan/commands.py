@@ -26,24 +26,25 @@ from .files import (
     text_of,
     write_files,
 )
-from .layout import comparison_json, reduction_json, set_mapping, set_reduction, set_tables, write_answers
+from .layout import comparison_json, frozen_text, reduction_json, set_mapping, set_tables, write_answers
 from .model import FROZEN, PLACES
 from .notation import (
     Names,
     NotationError,
     Reader,
+    blanked,
     constants,
     count,
     format_columns,
-    format_datum,
     format_dependencies,
     format_dependency,
     format_query,
+    format_row,
     parse_dependencies,
     parse_rule,
 )
 from .page import page
-from .publish import Shape, render, render_one, write_definition
+from .publish import Shape, reduction_text, render, render_one, write_definition
 from .record import Asked, Broken, Comparison, Record
 from .sources import Csv, read_for_command
 from .sql import labels
@@ -231,7 +232,7 @@ class Subject:
         else:
             self.query, self.variables = parse_rule(rule_of(asked), record.names)
             self.title, self.asked = title, self.query
-            self.shown = format_query(self.query, record.names, self.variables)
+            self.shown = format_query(self.query, record.names, blanked(self.query, self.variables))
 
 
 # ---- the commands
@@ -249,7 +250,7 @@ def list_command(options: Options) -> int:
         shapes = [{"place": one.asked, **reduction_json(one.query, record.shorten(one.asked), names, one.variables)} for one in found]
         text = json.dumps(shapes, indent=2) + "\n"
     else:
-        text = ("\n\n".join(_reduced(record, one) for one in found) or "Every place is vacant.") + "\n"
+        text = "\n".join(_reduced(record, one) for one in found) or "Every place is vacant.\n"
     write_definition(text, options.output)
     return YES
 
@@ -288,8 +289,7 @@ def page_command(options: Options) -> int:
 
 
 def _reduced(record: Record, one: Subject) -> str:
-    title = one.title[:1].upper() + one.title[1:]
-    return set_reduction(title, one.query, record.shorten(one.asked), record.names, one.variables)
+    return f"{one.title[:1].upper()}{one.title[1:]}\n{reduction_text(_defined(one, record, record.names))}"
 
 
 def show_command(options: Options) -> int:
@@ -302,7 +302,7 @@ def show_command(options: Options) -> int:
         shapes = [{"query": one.shown, **reduction_json(one.query, record.shorten(one.asked), names, one.variables)} for one in found]
         print(json.dumps(shapes, indent=2))
     else:
-        print("\n\n".join(_reduced(record, one) for one in found))
+        print("\n".join(_reduced(record, one) for one in found), end="")
     return YES
 
 
@@ -316,11 +316,11 @@ def _compared(record: Record, p: Subject, q: Subject, compared: Comparison, verd
             return [*lines, f"The dependencies leave {p.title} without an answer."]
         lines.append(f"Mapping from {q.title} to {p.title} with the dependencies applied:")
         return [*lines, set_mapping(compared.mapping, q.variables, p.variables, names.values)]
-    answer = format_datum("ans", map(names.values.decode, example[1]))
-    lines = [f"{verdict} This database obeys the dependencies:", *set_tables(example[0], names)]
+    answer = format_row("ans", [frozen_text(value, names, p.variables) for value in example[1]])
+    lines = [f"{verdict} This database obeys the dependencies:", *set_tables(example[0], names, p.variables)]
     lines.append(f"There {answer} is an answer of {p.title} and not of {q.title}.")
     if any(value >= FROZEN for _, values in example[0] for value in values):
-        lines.append(f"A number from {FROZEN} on stands for a variable of {p.title}.")
+        lines.append("A name stands for a value of its own, unlike every other value here and in the archive.")
     return lines
 
 
@@ -504,7 +504,7 @@ def put_command(options: Options) -> int:
     record, was_text = load_record(options.file)
     query, variables = parse_rule(rule_of(options.rule), record.names)
     record = record.put(options.place, query, variables)
-    save(options, record, was_text, f"place {options.place} holds {format_query(query, record.names, variables)}")
+    save(options, record, was_text, f"place {options.place} holds {format_query(query, record.names, blanked(query, variables))}")
     return YES
 
 
@@ -551,6 +551,6 @@ def reduce_command(options: Options) -> int:
         short = record.shorten(asked.asked)
         held = {number: asked.variables[number] for number in short.result.variables() if number in asked.variables}
         record = record.put(target, short.result, held)
-    rule = format_query(short.result, record.names, asked.variables)
+    rule = format_query(short.result, record.names, blanked(short.result, asked.variables))
     save(options, record, was_text, f"place {target} holds the short form of {asked.title}, {count(len(short.result.rows), 'row')}: {rule}")
     return YES

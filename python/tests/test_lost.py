@@ -303,13 +303,14 @@ class Parting(Lost):
         query = parse_query("ans(x) :- burst(x, y)", record.names)
         record = record.drop(1).put(1, query)
         record.write(self.file)
-        self.assertIn("Place 1\n  Long form, 1 row:\n    ans(v0) :- burst(v0, v1)\n", self.done("list", self.file))
+        self.assertIn("Place 1\n  Long form, 1 row:\n    ans(v0) :- burst(v0, _)\n", self.done("list", self.file))
         Record.read(self.file).drop(1).put(1, "ans(flight) :- burst(flight, 'x')").write(self.file)
         self.assertIn("1: ans(flight) :- burst(flight, 'x')\n", self.done("unpack", self.file))
         self.assertIn("0: ans(f, h) :-\n    flight(f, s, 7, t)", self.done("unpack", self.file))
         short = Record.read(self.file).reduce(0, 4).record
         short.write(self.file)
-        self.assertIn("calibration(c, l, 2),\n                 burst(f, h)\n", self.done("show", self.file, 4))
+        self.assertIn("calibration(c, _, 2),\n                 burst(f, h)\n", self.done("show", self.file, 4))
+        self.assertIn("sonde(s, c, m), calibration(c, l, 2), burst(f, h)\n", self.done("unpack", self.file))
 
     def test_a_dictionary_without_names(self):
         record = Record.open([2])
