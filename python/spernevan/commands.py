@@ -6,7 +6,7 @@ import argparse
 import json
 import os
 import sys
-from typing import Callable, Dict, Iterable, List, Optional, Sequence, Tuple, Union
+from typing import Callable, Dict, Iterable, List, Mapping, Optional, Sequence, Tuple, Union
 
 from .data import Database, DataError, column_of
 from .definition import Definition, define, define_all, define_query
@@ -15,6 +15,8 @@ from .files import (
     FILE_BYTES,
     Failure,
     is_text,
+    is_utf8,
+    kind_of,
     locked,
     names_path,
     read_bytes,
@@ -58,10 +60,24 @@ Options = argparse.Namespace
 
 # ---- files
 
+_DATA = "test and evaluate take it as DATA, after the archive"
+
+# What is given where an archive should be, and what to do about it.
+_NO_ARCHIVES: Mapping[Optional[str], str] = {
+    "a CSV file": _DATA,
+    "an SQLite file": _DATA,
+    "a names file": "give the archive file beside it, whose names these are",
+    "a program": "pack makes an archive file from a text",
+    "a ZIP file, as those of Excel are": "pack makes an archive file from a text, and data is saved as CSV",
+}
+
 
 def load_record(file: str, names: Optional[str] = None, plain: bool = False) -> Tuple[Record, bool]:
     """The record of an archive file or of a text, and whether it was a text."""
     data, text = read_while(file, FILE_BYTES, is_text)
+    kind = "a CSV file" if file.lower().endswith(".csv") else kind_of(data)
+    if kind in _NO_ARCHIVES:
+        raise Failure(f"{shown(file)} is {kind}, where an archive file or the text of one was expected; {_NO_ARCHIVES[kind]}")
     if text:
         if names is not None:
             raise Failure(f"{shown(file)} is a text, which has its names in it; --names is for archive files")
@@ -90,7 +106,7 @@ def load_record(file: str, names: Optional[str] = None, plain: bool = False) -> 
             record = record.named(found.names)
             record.names
         except ValueError as error:
-            raise Failure(f"{names or names_path(file)}: {error} ({shown(file)})") from None
+            raise Failure(f"{names or names_path(file)}: {error} ({shown(file)}); --names NAMES takes others, and --plain goes without names") from None
     return record, False
 
 
@@ -472,6 +488,9 @@ def pack_command(options: Options) -> int:
     data = read_bytes(options.text)
     if data[1:2] == b"\0":
         raise Failure(f"{shown(options.text)} is no text; if it is an archive file, unpack makes a text of it")
+    kind = kind_of(data)
+    if kind is not None or b"\0" in data[:1024] and not is_utf8(data):
+        raise Failure(f"{shown(options.text)} is {kind or 'no text'}, where the text of an archive was expected, as samples/flights.text is one")
     record, _ = pack(text_of(data, options.text), shown(options.text))
     if options.file == "-":
         write_out(record.file)

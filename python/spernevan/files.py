@@ -89,6 +89,15 @@ def shown(path: Path) -> str:
     return "standard input" if path == "-" else os.fspath(path)
 
 
+def is_utf8(data: bytes) -> bool:
+    """Whether bytes can be read as text."""
+    try:
+        data.decode("utf-8-sig")
+    except UnicodeDecodeError:
+        return False
+    return True
+
+
 def is_text(data: bytes) -> bool:
     """Whether bytes are a text. An archive file has the byte 0 in second place, as no text has."""
     if not data or b"\0" in data[:64]:
@@ -106,6 +115,8 @@ def kind_of(data: bytes) -> Optional[str]:
         return "an SQLite file"
     if data.startswith(b"\x7fELF"):
         return "a program"
+    if data.startswith(b"PK\x03\x04"):
+        return "a ZIP file, as those of Excel are"
     if data.startswith(b"archive '"):
         return "a names file"
     # The count of the parts, the first of which begins behind the directory.

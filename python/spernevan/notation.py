@@ -183,7 +183,22 @@ class NamesFile(NamedTuple):
     checksum: Optional[str]
 
 
+_CUT_SHORT = "this names file is cut short: put back the whole one, or remove it and pack the text of the archive again"
+
+
 def read_names_file(text: str, source: str) -> NamesFile:
+    """A names file. One that ends before the lines that its first line counts, or in its first line, is cut short."""
+    try:
+        return _read_names_file(text, source)
+    except NotationError as error:
+        first = re.match("archive '[^'\n]*', ([0-9]{1,9}) lines?\n", text)
+        whole = text.count("\n") > int(first[1]) if first else "\n" in text or not text.startswith("archive '"[: len(text)])
+        if whole:
+            raise
+        raise NotationError(source, error.line, error.column, _CUT_SHORT) from None
+
+
+def _read_names_file(text: str, source: str) -> NamesFile:
     """A names file: the tables in their order, then for a place the names of its variables 0, 1, ..
 
         archive '0f3a..', 3 lines
@@ -200,6 +215,8 @@ def read_names_file(text: str, source: str) -> NamesFile:
     values = Values()
     checksum: Optional[str] = None
     lines = written = 0
+    if reader.at_end():
+        raise reader.error(reader.next, _CUT_SHORT)
     while not reader.at_end():
         start = reader.next
         lines += 1
@@ -222,7 +239,7 @@ def read_names_file(text: str, source: str) -> NamesFile:
             tables.append(read_table(reader, tables))
         reader.line_ends()
     if lines < written or (checksum is not None and not text.endswith("\n")):
-        raise reader.error(reader.next, "this names file is cut short: put back the whole one, or remove it and pack the text of the archive again")
+        raise reader.error(reader.next, _CUT_SHORT)
     return NamesFile(Names(tuple(tables), variables, values), checksum)
 
 

@@ -127,13 +127,11 @@ def _read(path: Path, database: Database, csv_form: Csv) -> None:
         return
     if not data and name != "-":
         raise DataError(f"{name}: the file is empty; for no rows at all give a line such as # no rows, or a CSV file with its header line alone")
+    kind = kind_of(data)
+    if kind is not None:
+        raise DataError(f"{shown(path)}: this is {kind}; a database is rows of text, a CSV file or a folder of those, or an SQLite file")
     if b"\0" in data[:1024]:
-        kind = kind_of(data)
-        raise DataError(
-            f"{shown(path)}: this is {kind}; a database is rows of text, CSV or an SQLite file"
-            if kind
-            else f"{shown(path)}: these are neither rows of text, nor CSV, nor an SQLite file"
-        )
+        raise DataError(f"{shown(path)}: these are neither rows of text, nor CSV, nor an SQLite file")
     text = text_of(data, path)
     if _like_csv(text):
         known = ", ".join(f"{table.name}.csv" for table in database.names.tables)

@@ -204,6 +204,29 @@ class Messages(Command):
                 self.failed(f"{bad} {meaning}", *command)
         self.failed("/dev/zero is no archive file", "list", "/dev/zero")
 
+    def test_another_kind_of_file(self):
+        """What is given in place of an archive, of a text or of data is called by its name, with the cure."""
+        data = "test and evaluate take it as DATA, after the archive"
+        names = context.SAMPLES / "flights.names"
+        for file, kind, cure in (
+            (names, "a names file", "give the archive file beside it, whose names these are"),
+            (self.write("a.db", b"SQLite format 3\0\x10\0"), "an SQLite file", data),
+            (self.write("flight.csv", "number,site\n"), "a CSV file", data),
+            ("/bin/sh", "a program", "pack makes an archive file from a text"),
+            (self.write("a.xlsx", b"PK\x03\x04\x14\0"), "a ZIP file, as those of Excel are", "pack makes an archive file from a text, and data is saved as CSV"),
+        ):
+            for command in (["list", file], ["evaluate", file, 0, DATA], ["drop", file, 0]):
+                self.failed(f"{file} is {kind}, where an archive file or the text of one was expected; {cure}\n", *command)
+            if kind != "a CSV file":
+                text = f"{file} is {kind}, where the text of an archive was expected, as samples/flights.text is one\n"
+                self.failed(text, "pack", file, self.folder / "x.file")
+            if kind not in ("a CSV file", "an SQLite file"):
+                self.failed(f"{file}: this is {kind}; a database is rows of text, a CSV file or", "test", FLIGHTS, file)
+        self.failed(f"{FLIGHTS}: this is an archive file; a database is rows of text", "test", FLIGHTS, FLIGHTS)
+        noise = self.write("noise", bytes(range(255, -1, -1)))
+        self.failed(f"{noise} is no text, where the text of an archive was expected", "pack", noise, self.folder / "x.file")
+        self.failed(f"{names} has the names", "pack", context.SAMPLES / "flights.text", context.SAMPLES / "flights.other")
+
     def test_places(self):
         self.failed(f"{FLIGHTS}: there is no place 8: places go from 0 to 7", "compare", FLIGHTS, 0, 8)
         self.failed(f"{FLIGHTS}: there is no place 9: ", "compare", FLIGHTS, 9, 0)

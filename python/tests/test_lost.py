@@ -66,6 +66,9 @@ class Writing(Lost):
                 ["list", FLIGHTS],
                 ["pack", self.old, "-"],
                 ["evaluate", FLIGHTS, "5", str(context.SAMPLES / "flights.data")],
+                ["--help"],
+                ["--version"],
+                ["list", "--help"],
             ):
                 done = subprocess.run([*context.PROGRAM, *arguments], stdout=full, stderr=subprocess.PIPE)
                 self.assertEqual((done.returncode, done.stderr), (2, b"spernevan: output: No space left on device\n"))
@@ -258,11 +261,12 @@ class Parting(Lost):
         archive = self.file.read_bytes()
         lines = whole.splitlines(keepends=True)
         self.assertEqual(lines[0].split()[-2:], [b"5", b"lines"])
-        for length in range(1, len(whole)):
+        for length in range(len(whole)):
             self.names.write_bytes(whole[:length])
             for arguments in (["list", self.file], ["put", self.file, 4, "ans(x) :- flight(x, y)"]):
                 status, out, err = run(*arguments)
                 self.assertEqual((status, out, err.count("\n")), (2, "", 1), whole[:length])
+                self.assertRegex(err, f"{self.names}:[0-9]+:[0-9]+: this names file is cut short: put back the whole one, or remove it and pack the text")
             self.assertRaises((files.Failure, NotationError), Record.read, self.file)
         # Names files with a checksum and without a count of lines.
         for kept in (lines[1:], lines[1:5]):
