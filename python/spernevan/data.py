@@ -377,9 +377,9 @@ class Cells(Dict[Any, int]):
                 raise
             return self._null
         if self._read is plain:
-            kind = next((kind for kind in (bool, float, Decimal) if isinstance(cell, kind)), int)
-            if kind is Decimal or kind is not int and isinstance(value, int):
-                self.form.given.setdefault(word, kind(cell))
+            given = _given(cell, value)
+            if given is not None:
+                self.form.given.setdefault(word, given)
         elif isinstance(value, (int, Decimal)):
             self._write_down(word, cell.strip().replace(",", "."))
         elif self._read is not str and self._read is not read_row_value and self.doubt is None and (cell[:1] <= "9" or cell[:1] in "nN"):
@@ -390,6 +390,15 @@ class Cells(Dict[Any, int]):
         except TypeError:
             pass
         return word
+
+
+def _given(cell: object, value: Value) -> Optional[Value]:
+    """A number in the type in which it was given, if its value alone does not tell that."""
+    if isinstance(cell, Decimal):
+        return Decimal(cell)
+    if isinstance(cell, bool):
+        return bool(cell)
+    return float(cell) if isinstance(cell, float) and isinstance(value, int) else None
 
 
 def _whole_numbers(cells: Sequence[str]) -> Optional[Words]:

@@ -18,7 +18,7 @@ from contextlib import contextmanager
 from dataclasses import dataclass
 from functools import partial
 from itertools import islice
-from typing import Callable, Dict, Iterable, Iterator, List, NoReturn, Optional, Pattern, Sequence, TextIO, Tuple, Union
+from typing import Any, Callable, Dict, Iterable, Iterator, List, NoReturn, Optional, Pattern, Sequence, TextIO, Tuple, Union
 from urllib.request import pathname2url
 
 from .data import CHUNK, Absent, Cells, Database, DataError, Note, Progress, Where, column_of, matched, positions, read_row_value
@@ -240,7 +240,7 @@ def _read_simple_rows(text: str, source: str, database: Database) -> bool:
     """The rows of a text in which each stands in one line; False, and none is added, if it is another text."""
     tables = database.names.tables
     numbers = {table.name: relation for relation, table in enumerate(tables)}
-    patterns = list(map(_row_pattern, tables))
+    patterns: List[Any] = list(map(_row_pattern, tables))  # whose scanner has no declared type
     rows = _Rows(source, database)
     at, line = 0, 1
     try:
@@ -254,7 +254,7 @@ def _read_simple_rows(text: str, source: str, database: Database) -> bool:
                 continue
             relation = numbers[name.group(1)]
             # Rows of one table that follow one another.
-            found = list(islice(iter(patterns[relation].scanner(text, at).match, None), CHUNK))  # type: ignore[attr-defined]
+            found = list(islice(iter(patterns[relation].scanner(text, at).match, None), CHUNK))
             if not found:
                 return False
             rows.add(relation, [one.groups() for one in found], range(line, line + len(found)))

@@ -160,7 +160,8 @@ def _shown(record: Record, place: int, names: Names) -> Tuple[Dict[int, str], Di
     query = record.query(place)
     occurring = query.variables()
     named = {number: name for number, name in names.variables.get(place, {}).items() if number in occurring}
-    shown, given = blanked(query, named), {}
+    shown = blanked(query, named)
+    given: Dict[int, str] = {}
     while True:
         again, _ = parse_rule(format_query(query, names, shown), names, given=given)
         wrong = [old.number for old, new in zip(query.entries(), again.entries()) if old != new and old.number in shown]

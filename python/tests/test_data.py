@@ -4,6 +4,7 @@ import csv
 import importlib.util
 import io
 import json
+import pickle
 import random
 import sqlite3
 import subprocess
@@ -18,8 +19,9 @@ from unittest import mock
 
 import context
 from spernevan import Broken, Constant, DataError, Query, Record, Refused, Row, Table, pack, read_database, sources
-from spernevan.data import Progress, matched
+from spernevan.data import Cells, Form, Progress, matched, read_row_value
 from spernevan.notation import format_datum
+from spernevan.values import Values, plain, read_cell, read_cell_with_comma
 from test_command import Command, run
 
 TEXT = """
@@ -776,6 +778,31 @@ class Random(Data):
         rows = tuple(Row(row.relation, tuple(map(entry, row.entries))) for row in query.rows)
         return Query(tuple(map(entry, query.head)), rows, query.head_length)
 
+    def test_a_column_is_read_as_its_cells(self):
+        """Many at once or one by one, cells are the same values, under one code each."""
+        rng = random.Random(15)
+        words = ["Graw", "nan", "N-1", "12.5", "12.50", "13.0", "-0.25", "7", "0", "007", "2026-01-14", "1e4", "x, y", "3000000000", "2000000003", "9.5.1", "12,5"]
+        pools = {
+            read_cell: words,
+            read_cell_with_comma: words,
+            str: words,
+            read_row_value: ["'a'", "'it''s'", "''", '"x\\ny"', "12.5", "-3", "2026-01-14", "2000000001", "0.10"],
+            plain: ["a", "12.5", 12.5, 13.0, 7, True, Decimal("12.50"), -1, 2**40, 2_000_000_002, date(2026, 1, 14), "2026-01-14", 0.1],
+        }
+        for read, pool in pools.items():
+            for _ in range(60 * context.MANY):
+                values = Values([(2_000_000_001, "given"), (2_000_000_004, Decimal("9.75"))])
+                cells = Cells(values, None, read, Form())
+                some = rng.sample(pool, rng.randint(1, len(pool)))
+                for column in ([rng.choice(some) for _ in range(rng.randint(0, 9))] for _ in range(3)):
+                    found = list(map(values.decode, cells.column(column)))
+                    self.assertEqual([str(value) if isinstance(value, date) else value for value in found], [
+                        str(value) if isinstance(value, date) else value for value in map(read, column)
+                    ])
+                entries = dict(values)
+                self.assertEqual((len(entries), len(values), pickle.loads(pickle.dumps(values)), values.copy()), (len(values), len(entries), values, values))
+                self.assertTrue(all(values.encode(value) == code for code, value in entries.items()))
+
     def from_csv(self, number, tables, record):
         folder = self.folder / f"random{number}"
         folder.mkdir()
@@ -829,10 +856,15 @@ class Large(Data):
 
     @unittest.skipUnless(context.LONG, "takes a minute; SPERNEVAN_TEST_LONG=1 runs it")
     def test_a_million_rows(self):
-        """A million rows in seconds, from each kind of file, with texts, dates and as many different keys as rows."""
+        """A million rows in seconds, from each kind of file, with texts, dates and as many different keys as rows; and with all cells different."""
         n = 500_000
-        flights = [(f"F-{k}", f"site {k % 50}", f"2026-01-{k % 28 + 1:02d}") for k in range(n)]
-        bursts = [(f"F-{k}", k % 977 + 0.5) for k in range(n)]
+        for flights, bursts in (
+            ([(f"F-{k}", f"site {k % 50}", f"2026-01-{k % 28 + 1:02d}") for k in range(n)], [(f"F-{k}", k % 977 + 0.5) for k in range(n)]),
+            ([(f"F-{k}", f"site {k}", f"day {k}") for k in range(n)], [(f"B-{k}", k + 0.25) for k in range(n)]),
+        ):
+            self.read_from_each_kind(n, flights, bursts)
+
+    def read_from_each_kind(self, n, flights, bursts):
         sources = {
             "CSV": self.csv(
                 "number,site,launch\n" + "".join(f"{a},{b},{c}\n" for a, b, c in flights),
@@ -841,7 +873,7 @@ class Large(Data):
             "SQLite": self.sqlite(flights=flights, bursts=bursts),
             "rows of text": self.write(
                 "l.data",
-                "".join(f"flight('{a}', '{b}', {c})\n" for a, b, c in flights) + "".join(f"burst('{a}', {b})\n" for a, b in bursts),
+                "".join(f"flight('{a}', '{b}', '{c}')\n" for a, b, c in flights) + "".join(f"burst('{a}', {b})\n" for a, b in bursts),
             ),
         }
         for kind, source in sources.items():
