@@ -161,6 +161,10 @@ class Database:
         """Whether a table can change what is asked for."""
         return self._needed is None or relation in self._needed
 
+    def covers(self, needed: Needed) -> bool:
+        """Whether what is needed has been read as such."""
+        return self._needed is None or all(columns <= self._needed.get(relation, frozenset()) for relation, columns in needed.items())
+
     def leave_out(self, relation: int, why: object) -> None:
         """Notes that a table which is not needed has not been read."""
         self.notes.append(Note(None, f"the table {self.names.tables[relation].name}, which the query does not ask for, is left out: {why}"))

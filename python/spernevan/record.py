@@ -478,7 +478,10 @@ class Record:
 
         A database of named tables that breaks none must have those of which a dependency speaks.
         """
-        held = self._data(database)
+        spoken: Dict[int, Set[int]] = {}
+        for one in self.dependencies:
+            spoken.setdefault(one.relation, set()).update(one.left, {one.right})
+        held = self._data(database, None, spoken)
         found = self.broken(held)
         if found is None and isinstance(held, Database):
             self.has_tables(held, [dependency.relation for dependency in self.dependencies], "a dependency speaks of")
@@ -514,7 +517,8 @@ class Record:
         and a dependency that it breaks is a warning.
         """
         record, (at,) = self.placed(place)
-        held = record._data(database, record.needed(at) if at < PLACES else None)
+        needed = record.needed(at) if at < PLACES else None
+        held = record._data(database, needed, needed)
         if isinstance(held, Database):
             if held is not database:
                 for note in held.notes:
@@ -610,8 +614,11 @@ class Record:
         """
         return of_python(data, self.names, null)
 
-    def _data(self, data: Any, needed: Optional[Needed] = None) -> Union[Database, Words]:
-        """A database as the engine takes it. A row of a known relation must have its width."""
+    def _data(self, data: Any, needed: Optional[Needed] = None, read: Optional[Needed] = None) -> Union[Database, Words]:
+        """A database as the engine takes it. A row of a known relation must have its width.
+
+        Rows from Python are read for what is `needed`, a Database must have been read for `read`.
+        """
         if isinstance(data, array):
             return data
         if isinstance(data, (str, bytes, os.PathLike)):
@@ -619,6 +626,8 @@ class Record:
         if isinstance(data, Database):
             if data.names.tables != self.names.tables:
                 raise ValueError(f"the database is of other tables: {', '.join(map(str, data.names.tables))}")
+            if read is not None and not data.covers(read):
+                raise ValueError("the database was read for another query; without query=.. it is read for all")
             return data
         if isinstance(data, dict) or hasattr(data, "dtype") or hasattr(data, "iloc"):
             return of_python(data, self.names, None, needed)

@@ -481,6 +481,8 @@ class WhatIsAskedFor(Data):
         with self.assertWarnsRegex(UserWarning, "the table burst, which the query does not ask for, is left out"):
             found = read_database(base, self.record, query=self.RULE)
         self.assertEqual(self.record.evaluate(self.RULE, found), [("De Bilt",)])
+        for call in (lambda: self.record.evaluate(0, found), lambda: self.record.test(found)):
+            self.assertRaisesRegex(ValueError, "the database was read for another query; without query=.. it is read for all", call)
         with self.assertRaisesRegex(ValueError, "a query goes with a record"):
             read_database(base, self.names, query=self.RULE)
 
