@@ -3,6 +3,7 @@
 from __future__ import annotations
 
 import json
+import re
 from decimal import Decimal
 from typing import Any, Dict, List, Optional, Sequence, TextIO, Tuple
 
@@ -135,6 +136,9 @@ def write_answers(answers: Sequence[Tuple[Value, ...]], columns: Sequence[str], 
         out.write(f"# {count(len(answers), 'answer')}\n")
 
 
+_SIGNS = re.compile(r'[,;"\t\r\n]')
+
+
 class _Cells(Dict[Value, str]):
     """Cells of CSV by their values. A text that looks like a number stands between quotes, which a number never does."""
 
@@ -144,13 +148,15 @@ class _Cells(Dict[Value, str]):
         return super().__getitem__(value)
 
     def __missing__(self, value: str) -> str:
-        quoted = not value or value != value.strip() or any(sign in value for sign in ',;"\t\r\n') or _like_number(value)
+        quoted = not value or value != value.strip() or _SIGNS.search(value) or _like_number(value)
         found = self[value] = '"' + value.replace('"', '""') + '"' if quoted else value
         return found
 
 
 def _like_number(text: str) -> bool:
     """Whether a program could take a text for a number."""
+    if text[:1] > "9" and not text.isdigit():
+        return False
     return isinstance(read_cell(text), (int, Decimal)) or text.isdigit() or number_meant(text) is not None
 
 
