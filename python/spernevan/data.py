@@ -63,6 +63,15 @@ class Note(NamedTuple):
     text: str
 
 
+class Cures(NamedTuple):
+    """What a message says to do about an absent value, numbers meant as texts, a decimal comma, and another sign between cells."""
+
+    null: str = "say what it stands for, as in record.database(data, null=0)"
+    text: str = "give text=['{}']"
+    comma: str = "give decimal=','"
+    separator: str = "give separator='..'"
+
+
 class Form:
     """How the values of a column were given, so that answers come out as they went in."""
 
@@ -130,10 +139,7 @@ class Database:
         self.notes: List[Note] = []
         self.has_cells = False
         self.from_files = False
-        # What to do about an absent value, and about a column of numbers that are meant as texts.
-        self.null_cure = "say what it stands for, as in record.database(data, null=0)"
-        self.text_cure = "give text=['{}']"
-        self.comma_cure = "give decimal=','"
+        self.cures = Cures()
         nulls: Mapping[Optional[str], Value] = null if isinstance(null, Mapping) else {} if null is None else {None: null}
         self._nulls = {None if name is None else column_of(name, names): self.values.encode(value) for name, value in nulls.items()}
         self._needed = needed
@@ -511,7 +517,7 @@ def _read_python(database: Database, relation: int, rows: object) -> None:
     readers = [database.cells(relation, number, plain) for number in range(len(columns))]
     for start in range(0, len(columns[0]), CHUNK):
         words = [
-            _python_column(reader, column[start : start + CHUNK], start, f"{table.name}: column {label}", database.null_cure)
+            _python_column(reader, column[start : start + CHUNK], start, f"{table.name}: column {label}", database.cures.null)
             for reader, column, label in zip(readers, columns, table.columns)
         ]
         database.add(relation, words, _row_of(table.name, start))

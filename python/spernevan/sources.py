@@ -21,7 +21,7 @@ from itertools import islice
 from typing import Any, Callable, Dict, Iterable, Iterator, List, NoReturn, Optional, Pattern, Sequence, TextIO, Tuple, Union
 from urllib.request import pathname2url
 
-from .data import CHUNK, Absent, Cells, Database, DataError, Note, Progress, Where, column_of, matched, positions, read_row_value
+from .data import CHUNK, Absent, Cells, Cures, Database, DataError, Note, Progress, Where, column_of, matched, positions, read_row_value
 from .files import Path, kind_of, read_bytes, read_while, shown, text_of
 from .model import Words
 from .notation import Names, Reader, Table, Token, count, format_row
@@ -73,7 +73,7 @@ def read_database(
         raise ValueError("a query goes with a record, not with names alone")
     needed = names.needed(query) if isinstance(names, Record) and query is not None else None
     database = Database(names if isinstance(names, Names) else names.names, None, null, Progress(progress), needed)
-    database.null_cure = "say what it stands for with null=VALUE"
+    database.cures = Cures("say what it stands for with null=VALUE")
     fill(database, paths, Csv(tuple(text), decimal, separator))
     for note in database.notes:
         warnings.warn(note.text, stacklevel=2)
@@ -85,8 +85,8 @@ def read_for_command(
 ) -> Database:
     """The same for the command, whose messages name its options, and which says the notes itself."""
     database = Database(record.names, None, null, Progress(progress), None if query is None else record.needed(query))
-    database.null_cure = "say what it stands for with --null VALUE, or --null TABLE.COLUMN=VALUE for one column"
-    database.text_cure, database.comma_cure = "say --text {}", "say --decimal ,"
+    null_cure = "say what it stands for with --null VALUE, or --null TABLE.COLUMN=VALUE for one column"
+    database.cures = Cures(null_cure, "say --text {}", "say --decimal ,", "say --separator SIGN")
     fill(database, paths, csv_form)
     return database
 
@@ -199,7 +199,7 @@ class _Rows:
                     raise
                 position, error = reader.fault(cells)
                 label = self._database.names.tables[relation].columns[column]
-                self._left_out[relation] = f"{self._source}:{lines[position]}: column {label}: {error}; {self._database.null_cure}"
+                self._left_out[relation] = f"{self._source}:{lines[position]}: column {label}: {error}; {self._database.cures.null}"
                 return
         self._read.append((relation, words, _line_of(self._source, lines)))
         chunk.count += len(rows)
@@ -292,7 +292,7 @@ def _read_any_rows(text: str, source: str, database: Database) -> None:
             raise reader.error(token, f"{table} has {count(len(table.columns), 'column')}, not {len(literals)}")
         for column, held in enumerate(literals):
             if held.kind == "name" and database.needs(relation) and database.null(relation, column) is None:
-                raise reader.error(held, f"there is no value here (NULL); {database.null_cure}")
+                raise reader.error(held, f"there is no value here (NULL); {database.cures.null}")
         reader.line_ends()
         rows.add(relation, [tuple(held.text for held in literals)], [token.line])
     rows.end()
@@ -342,7 +342,8 @@ def read_csv(path: str, relation: int, database: Database, csv_form: Csv = Csv()
             if all(matched(column, header, f"{path}:1") is None for column in table.columns):
                 signs = ", or ; or a tabulator" if csv_form.separator is None else repr(sign)
                 raise DataError(
-                    f"{path}:1: no column of {table} is here; the first line has their names, with {signs} between them, or with another sign that is said"
+                    f"{path}:1: no column of {table} is here; the first line has their names, with {signs} between them; "
+                    f"for another sign {database.cures.separator}"
                 )
             at = positions(table.columns, header, f"{path}:1")
             reader = _csv_rows(file, sign)
@@ -362,13 +363,13 @@ def read_csv(path: str, relation: int, database: Database, csv_form: Csv = Csv()
                     except ValueError:
                         position, error = cells.fault(columns[number])
                         where = _csv_place(path, sign, start + position)
-                        _refuse(f"{where}: column {table.columns[column]}", error, f"the cell is empty (NULL); {database.null_cure}")
+                        _refuse(f"{where}: column {table.columns[column]}", error, f"the cell is empty (NULL); {database.cures.null}")
                     if known is None and cells.doubt is not None:
                         cell, said = cells.doubt
                         where = _csv_place(path, sign, start + columns[number].index(cell))
                         taken = f"{where}: {cell.strip()} in {table.name}.{table.columns[column]} is taken as a text; {said}"
                         comma = "," in cell and csv_form.decimal == "."
-                        _note(database, relation, column, taken, f"; if the comma is that of a decimal, {database.comma_cure}" if comma else "")
+                        _note(database, relation, column, taken, f"; if the comma is that of a decimal, {database.cures.comma}" if comma else "")
                 if rows:
                     database.add(relation, words, _csv_where(path, sign, start))
                 start += len(rows)
@@ -387,7 +388,7 @@ def read_csv(path: str, relation: int, database: Database, csv_form: Csv = Csv()
 def _note(database: Database, relation: int, column: int, text: str, further: str = "") -> None:
     """Notes what may be meant otherwise in a column of CSV, with the cure."""
     table = database.names.tables[relation]
-    cure = database.text_cure.format(f"{table.name}.{table.columns[column]}")
+    cure = database.cures.text.format(f"{table.name}.{table.columns[column]}")
     database.notes.append(Note(relation, f"{text}, {cure}{further}"))
 
 
@@ -531,7 +532,7 @@ def _read_sqlite_table(connection: sqlite3.Connection, path: str, name: str, rel
                 except ValueError:
                     position, error = reader.fault(cells)
                     row = format_row(name, [_said(value) for value in rows[position]])
-                    _refuse(f"{path}: row {start + position + 1} of {name}, column {wanted[column]}", error, f"NULL in {row}; {database.null_cure}")
+                    _refuse(f"{path}: row {start + position + 1} of {name}, column {wanted[column]}", error, f"NULL in {row}; {database.cures.null}")
             database.add(relation, words, _sqlite_where(path, name, start))
             start += len(rows)
 

@@ -206,7 +206,11 @@ class Files(Data):
             ("", "flight.csv:1: a header line with the names of the columns was expected, not an empty line"),
             ("number,site\n", "flight.csv:1: there is no column launch; there is number, site"),
             ("# a logger\nnumber,site,launch\n", "flight.csv:1: no column of flight(number, site, launch) is here; the first line has their names, with"),
-            ("number|site|launch\n", "flight.csv:1: no column of flight(number, site, launch) is here"),
+            (
+                "number|site|launch\n",
+                "flight.csv:1: no column of flight(number, site, launch) is here; the first line has their names, "
+                "with , or ; or a tabulator between them; for another sign say --separator SIGN\n",
+            ),
             ("number,site,launch,site\n", "flight.csv:1: site is there 2 times"),
             ("Number,number ,site,launch\n", "flight.csv:1: number is there 2 times"),
             (header + "1,2\n", "flight.csv:2: the row has 2 cells, the header 3"),
