@@ -93,7 +93,7 @@ def _write_wheel(folder: str, files: List[Tuple[str, bytes, int]]) -> str:
 LAUNCHER = """#!/bin/sh
 # Starts spernevan-program beside it. An interrupt is held back while Python starts, which would show where it was.
 self=$0
-[ ! -h "$self" ] || self=$(/usr/bin/readlink -f -- "$self")
+[ ! -h "$self" ] || self=$(PATH=$PATH:/usr/bin:/bin readlink -f -- "$self")
 case $self in */*) ;; *) self=./$self ;; esac
 if /usr/bin/env --block-signal=INT --version >/dev/null 2>&1; then
     exec /usr/bin/env --block-signal=INT "${self%/*}/spernevan-program" "$@"

@@ -462,7 +462,8 @@ def _sound_rows(rows: List[List[str]], width: int, path: str, sign: str, start: 
     held = [row for row in rows if row]
     for position, row in enumerate(held):
         if len(row) != width:
-            raise DataError(f"{_csv_place(path, sign, start + position)}: the row has {count(len(row), 'cell')}, the header {width}")
+            cure = "; a cell with a comma in it stands between quotes" if sign == "," and len(row) > width else ""
+            raise DataError(f"{_csv_place(path, sign, start + position)}: the row has {count(len(row), 'cell')}, the header {width}{cure}")
     return held
 
 
