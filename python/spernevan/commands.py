@@ -6,7 +6,7 @@ import argparse
 import json
 import os
 import sys
-from typing import Callable, Dict, Iterable, List, Mapping, Optional, Sequence, Tuple, Union
+from typing import Callable, Dict, Iterable, List, Optional, Sequence, Tuple, Union
 
 from .data import Database, DataError, column_of
 from .definition import Definition, define, define_all, define_query
@@ -18,6 +18,7 @@ from .files import (
     is_utf8,
     kind_of,
     locked,
+    may_be_archive,
     names_path,
     read_bytes,
     read_names_beside,
@@ -60,24 +61,11 @@ Options = argparse.Namespace
 
 # ---- files
 
-_DATA = "test and evaluate take it as DATA, after the archive"
-
-# What is given where an archive should be, and what to do about it.
-_NO_ARCHIVES: Mapping[Optional[str], str] = {
-    "a CSV file": _DATA,
-    "an SQLite file": _DATA,
-    "a names file": "give the archive file beside it, whose names these are",
-    "a program": "pack makes an archive file from a text",
-    "a ZIP file, as those of Excel are": "pack makes an archive file from a text, and data is saved as CSV",
-}
-
 
 def load_record(file: str, names: Optional[str] = None, plain: bool = False) -> Tuple[Record, bool]:
     """The record of an archive file or of a text, and whether it was a text."""
     data, text = read_while(file, FILE_BYTES, is_text)
-    kind = "a CSV file" if file.lower().endswith(".csv") else kind_of(data)
-    if kind in _NO_ARCHIVES:
-        raise Failure(f"{shown(file)} is {kind}, where an archive file or the text of one was expected; {_NO_ARCHIVES[kind]}")
+    may_be_archive(file, data)
     if text:
         if names is not None:
             raise Failure(f"{shown(file)} is a text, which has its names in it; --names is for archive files")

@@ -11,7 +11,7 @@ import signal
 import stat
 import sys
 from contextlib import contextmanager, nullcontext
-from typing import BinaryIO, Callable, ContextManager, Iterable, Iterator, List, Optional, Sequence, Tuple, TypeVar, Union
+from typing import BinaryIO, Callable, ContextManager, Iterable, Iterator, List, Mapping, Optional, Sequence, Tuple, TypeVar, Union
 
 from .notation import NamesFile, read_names_file
 
@@ -123,6 +123,25 @@ def kind_of(data: bytes) -> Optional[str]:
     if len(data) > 3 and data[1] == 0 and 2 <= data[0] <= 10 and data[2] == 2 + 4 * data[0]:
         return "an archive file"
     return None
+
+
+_DATA = "test and evaluate take it as data, after the archive"
+
+# What is given where an archive should be, and what to do about it.
+_NO_ARCHIVES: Mapping[Optional[str], str] = {
+    "a CSV file": _DATA,
+    "an SQLite file": _DATA,
+    "a names file": "give the archive file beside it, whose names these are",
+    "a program": "pack makes an archive file from a text",
+    "a ZIP file, as those of Excel are": "pack makes an archive file from a text, and data is saved as CSV",
+}
+
+
+def may_be_archive(path: Path, data: bytes) -> None:
+    """Failure if a file that begins with these bytes is of a kind that is given for an archive by mistake."""
+    kind = "a CSV file" if os.fspath(path).lower().endswith(".csv") else kind_of(data)
+    if kind in _NO_ARCHIVES:
+        raise Failure(f"{shown(path)} is {kind}, where an archive file or the text of one was expected; {_NO_ARCHIVES[kind]}")
 
 
 def read_names_beside(file: Path, data: bytes, given: Optional[Path] = None, codes: Iterable[int] = ()) -> Optional[NamesFile]:

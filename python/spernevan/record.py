@@ -19,6 +19,7 @@ from .files import (
     Path,
     checksum,
     is_text,
+    may_be_archive,
     names_path,
     read_bytes,
     read_names_beside,
@@ -187,6 +188,7 @@ class Record:
     @classmethod
     def _read(cls, path: Path, names: Union[bool, Path]) -> Record:
         data, text = read_while(path, FILE_BYTES, is_text)
+        may_be_archive(path, data)
         if text:
             from .text import pack
 

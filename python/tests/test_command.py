@@ -12,7 +12,7 @@ from pathlib import Path
 from unittest import mock
 
 import context
-from spernevan import Record, parse_query, read_names
+from spernevan import Failure, Record, parse_query, read_names
 from spernevan.command import main
 from spernevan.files import names_path
 
@@ -206,7 +206,7 @@ class Messages(Command):
 
     def test_another_kind_of_file(self):
         """What is given in place of an archive, of a text or of data is called by its name, with the cure."""
-        data = "test and evaluate take it as DATA, after the archive"
+        data = "test and evaluate take it as data, after the archive"
         names = context.SAMPLES / "flights.names"
         for file, kind, cure in (
             (names, "a names file", "give the archive file beside it, whose names these are"),
@@ -217,6 +217,8 @@ class Messages(Command):
         ):
             for command in (["list", file], ["evaluate", file, 0, DATA], ["drop", file, 0]):
                 self.failed(f"{file} is {kind}, where an archive file or the text of one was expected; {cure}\n", *command)
+            with self.assertRaisesRegex(Failure, f"is {kind}, where an archive file or the text of one was expected; {cure}"):
+                Record.read(file)
             if kind != "a CSV file":
                 text = f"{file} is {kind}, where the text of an archive was expected, as samples/flights.text is one\n"
                 self.failed(text, "pack", file, self.folder / "x.file")

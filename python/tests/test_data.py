@@ -762,19 +762,22 @@ class Random(Data):
                 for relation in range(len(plain.widths))
             }
             grouped = [(r, values) for relation in range(len(plain.widths)) for r, values in rows if r == relation]
-            for data in (
-                named.database(tables),
-                self.from_csv(number, tables, named),
-                self.from_rows(tables, named),
-                self.from_sqlite(number, tables, named),
-            ):
+            from_sqlite = self.from_sqlite(number, tables, named)
+            for data in (named.database(tables), self.from_csv(number, tables, named), self.from_rows(tables, named), from_sqlite):
                 self.assertEqual(named.test(data), plain.test(grouped))
                 seen.add(named.test(data) is None)
                 for place in plain.filled():
                     wanted = {tuple(pool[value] for value in answer) for answer in plain.evaluate(place, rows)}
                     answers = named.evaluate(place, data, tested=True)
-                    self.assertEqual((set(answers), len(answers)), (wanted, len(wanted)))
+                    # SQLite has no dates: one in a column of texts comes out as the text that went in.
+                    if data is from_sqlite:
+                        wanted, answers = ([tuple(map(self.undated, one)) for one in some] for some in (wanted, answers))
+                    self.assertEqual((set(answers), len(answers)), (set(wanted), len(wanted)))
         self.assertEqual(seen, {True, False})
+
+    @staticmethod
+    def undated(value):
+        return str(value) if isinstance(value, date) else value
 
     @staticmethod
     def renamed(query, pool, values):
@@ -802,9 +805,7 @@ class Random(Data):
                 some = rng.sample(pool, rng.randint(1, len(pool)))
                 for column in ([rng.choice(some) for _ in range(rng.randint(0, 9))] for _ in range(3)):
                     found = list(map(values.decode, cells.column(column)))
-                    self.assertEqual([str(value) if isinstance(value, date) else value for value in found], [
-                        str(value) if isinstance(value, date) else value for value in map(read, column)
-                    ])
+                    self.assertEqual(list(map(self.undated, found)), list(map(self.undated, map(read, column))))
                 entries = dict(values)
                 self.assertEqual((len(entries), len(values), pickle.loads(pickle.dumps(values)), values.copy()), (len(values), len(entries), values, values))
                 self.assertTrue(all(values.encode(value) == code for code, value in entries.items()))
