@@ -140,7 +140,8 @@ class Sample(Command):
         self.assertEqual(found["counterexample"]["answer"], [2147483648, 2147483649])
         self.assertEqual(found["counterexample"]["rows"][1], {"table": "burst", "values": [2147483648, 2147483649]})
         self.assertEqual(found["counterexample"]["variables"], {"f": 2147483648, "h": 2147483649, "v2": 2147483650, "v3": 2147483651})
-        self.assertIn("There ans(x, 'y') is an answer of the first rule", self.done("compare", FLIGHTS, "ans(x, 'y') :- burst(x, 'y')", "ans(x, 7) :- burst(x, 'y')", status=1))
+        text = self.done("compare", FLIGHTS, "ans(x, 'y') :- burst(x, 'y')", "ans(x, 7) :- burst(x, 'y')", status=1)
+        self.assertIn("There ans(x, 'y') is an answer of the first rule", text)
         found = json.loads(self.done("compare", "--json", FLIGHTS, 0, 5))
         self.assertEqual((found["contained"], found["counterexample"]), (True, None))
         self.assertEqual(found["mapping"], {"f": "f", "h": "h", "v2": "s", "v3": "t"})
@@ -206,14 +207,14 @@ class Messages(Command):
 
     def test_another_kind_of_file(self):
         """What is given in place of an archive, of a text or of data is called by its name, with the cure."""
-        data = "test and evaluate take it as data, after the archive"
+        data, pack = "test and evaluate take it as data, after the archive", "pack makes an archive file from a text"
         names = context.SAMPLES / "flights.names"
         for file, kind, cure in (
             (names, "a names file", "give the archive file beside it, whose names these are"),
             (self.write("a.db", b"SQLite format 3\0\x10\0"), "an SQLite file", data),
             (self.write("flight.csv", "number,site\n"), "a CSV file", data),
-            ("/bin/sh", "a program", "pack makes an archive file from a text"),
-            (self.write("a.xlsx", b"PK\x03\x04\x14\0"), "a ZIP file, as those of Excel are", "pack makes an archive file from a text, and data is saved as CSV"),
+            ("/bin/sh", "a program", pack),
+            (self.write("a.xlsx", b"PK\x03\x04\x14\0"), "a ZIP file, as those of Excel are", f"{pack}, and data is saved as CSV"),
         ):
             for command in (["list", file], ["evaluate", file, 0, DATA], ["drop", file, 0]):
                 self.failed(f"{file} is {kind}, where an archive file or the text of one was expected; {cure}\n", *command)
