@@ -90,10 +90,24 @@ def _write_wheel(folder: str, files: List[Tuple[str, bytes, int]]) -> str:
     return name
 
 
-def _script() -> Tuple[str, bytes, int]:
-    """The command; whoever installs the wheel puts the right Python in its first line."""
+LAUNCHER = """#!/bin/sh
+# Starts spernevan-program beside it. An interrupt is held back while Python starts, which would show where it was.
+self=$0
+[ ! -h "$self" ] || self=$(PATH=$PATH:/usr/bin:/bin readlink -f -- "$self")
+case $self in */*) ;; *) self=./$self ;; esac
+if /usr/bin/env --block-signal=INT --version >/dev/null 2>&1; then
+    exec /usr/bin/env --block-signal=INT "${self%/*}/spernevan-program" "$@"
+fi
+exec "${self%/*}/spernevan-program" "$@"
+"""
+
+
+def _scripts() -> List[Tuple[str, bytes, int]]:
+    """The command, and the program that it starts; whoever installs the wheel puts the right Python in the first line of that."""
     lines = (HERE / "program").read_bytes().split(b"\n")
-    return f"{stem()}.data/scripts/spernevan", b"\n".join([b"#!python", *lines[1:]]), 0o755
+    program = b"\n".join([b"#!python", *lines[1:]])
+    held = [("spernevan", LAUNCHER.encode()), ("spernevan-program", program)]
+    return [(f"{stem()}.data/scripts/{name}", data, 0o755) for name, data in held]
 
 
 def prepare_metadata_for_build_wheel(metadata_directory: str, config_settings: Settings = None) -> str:
@@ -110,13 +124,13 @@ def build_wheel(wheel_directory: str, config_settings: Settings = None, metadata
     held = engine()
     names = sorted(path.name for path in PACKAGE.iterdir() if path.suffix == ".py" or path.name == "py.typed")
     files = [(f"spernevan/{name}", (PACKAGE / name).read_bytes(), 0o644) for name in names]
-    return _write_wheel(wheel_directory, [*files, ("spernevan/libspernevan.so", held, 0o755), _script()])
+    return _write_wheel(wheel_directory, [*files, ("spernevan/libspernevan.so", held, 0o755), *_scripts()])
 
 
 def build_editable(wheel_directory: str, config_settings: Settings = None, metadata_directory: Optional[str] = None) -> str:
     """The hook of PEP 660: a wheel that points at this folder."""
     engine()
-    return _write_wheel(wheel_directory, [("spernevan.pth", f"{HERE}\n".encode(), 0o644), _script()])
+    return _write_wheel(wheel_directory, [("spernevan.pth", f"{HERE}\n".encode(), 0o644), *_scripts()])
 
 
 def build_sdist(sdist_directory: str, config_settings: Settings = None) -> str:

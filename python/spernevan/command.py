@@ -10,10 +10,12 @@ from __future__ import annotations
 import argparse
 import os
 import signal
+import subprocess
 import sys
-from typing import Callable, NoReturn, Optional, Sequence
+from pathlib import Path
+from typing import Any, Callable, NoReturn, Optional, Sequence
 
-from . import __version__, sql
+from . import __version__, engine, sql
 from .commands import (
     TROUBLE,
     Options,
@@ -33,6 +35,7 @@ from .commands import (
     read_once,
     reduce_command,
     say,
+    separator,
     show_command,
     test_command,
     unpack_command,
@@ -45,10 +48,17 @@ __all__ = ["main", "run", "usage"]
 
 
 class Parser(argparse.ArgumentParser):
-    """A parser whose error is one line."""
+    """A parser whose error is one line, and whose help does not pass over an output that is full."""
 
     def error(self, message: str) -> NoReturn:
         self.exit(TROUBLE, f"{self.prog}: {message}; {self.prog} --help says more\n")
+
+    def _print_message(self, message: str, file: Any = None) -> None:
+        if file is sys.stdout:
+            sys.stdout.write(message)
+            sys.stdout.flush()
+        else:
+            super()._print_message(message, file)
 
 
 def usage() -> Parser:
@@ -92,13 +102,23 @@ def usage() -> Parser:
             nargs="+",
             help="rows of text such as flight(1, 'Lindenberg') (- for standard input), a folder of CSV files or one such file, or an SQLite file",
         )
-        made.add_argument("--null", metavar="VALUE", help="what NULL, or an empty cell of CSV, stands for; without this it is refused")
+        made.add_argument(
+            "--null",
+            metavar="[TABLE.COLUMN=]VALUE",
+            action="append",
+            default=[],
+            help="what NULL, or an empty cell of CSV, stands for, in one column or in all others; without this it is refused",
+        )
         made.add_argument(
             "--text",
             metavar="TABLE.COLUMN",
             action="append",
             default=[],
             help="a column of CSV files whose cells are texts, also where they look like numbers",
+        )
+        made.add_argument("--decimal", metavar="SIGN", choices=(".", ","), default=".", help="the sign of decimals in CSV files, . or , (. if not given)")
+        made.add_argument(
+            "--separator", metavar="SIGN", type=separator, help="the sign between the cells of CSV files, or tab (if not given, the header tells)"
         )
 
     query = "a place, 0 to 7, or a rule, 'ans(x) :- ..', or - for a rule on standard input"
@@ -170,15 +190,18 @@ def usage() -> Parser:
     return parser
 
 
-def main(arguments: Optional[Sequence[str]] = None) -> int:
-    """Runs the command; returns its status."""
+def main(arguments: Optional[Sequence[str]] = None, build: Optional[Path] = None) -> int:
+    """Runs the command; returns its status. `build` is a program that makes the engine where it is not there yet."""
     for stream in (sys.stdout, sys.stderr):
         if hasattr(stream, "reconfigure"):
             stream.reconfigure(errors="backslashreplace")
-    options = usage().parse_args(arguments)
+    options = Options()
     try:
         if sys.stdout is None:
             raise Failure("standard output is closed")
+        options = usage().parse_args(arguments)
+        if build is not None and build.is_file() and not engine.is_there() and subprocess.run([str(build)], stdout=sys.stderr).returncode != 0:
+            raise Failure(f"{build} failed")
         read_once(options)
         status: int = options.run(options)
         sys.stdout.flush()
@@ -217,4 +240,4 @@ def run() -> NoReturn:
     """The command as a program. An interrupt ends it at once, as it does a program in C."""
     if signal.getsignal(signal.SIGINT) is signal.default_int_handler:
         signal.signal(signal.SIGINT, signal.SIG_DFL)
-    sys.exit(main())
+    sys.exit(main(build=Path(__file__).resolve().parents[1] / "build"))

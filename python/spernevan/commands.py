@@ -6,16 +6,19 @@ import argparse
 import json
 import os
 import sys
-from typing import Callable, Dict, Iterable, List, Optional, Tuple, Union
+from typing import Callable, Dict, Iterable, List, Optional, Sequence, Tuple, Union
 
-from .data import Database
+from .data import Database, DataError, column_of
 from .definition import Definition, define, define_all, define_query
 from .engine import Refused
 from .files import (
     FILE_BYTES,
     Failure,
     is_text,
+    is_utf8,
+    kind_of,
     locked,
+    may_be_archive,
     names_path,
     read_bytes,
     read_names_beside,
@@ -26,26 +29,27 @@ from .files import (
     text_of,
     write_files,
 )
-from .layout import comparison_json, reduction_json, set_mapping, set_reduction, set_tables, write_answers
+from .layout import comparison_json, frozen_text, reduction_json, set_mapping, set_tables, write_answers
 from .model import FROZEN, PLACES
 from .notation import (
     Names,
     NotationError,
     Reader,
+    blanked,
     constants,
     count,
     format_columns,
-    format_datum,
     format_dependencies,
     format_dependency,
     format_query,
+    format_row,
     parse_dependencies,
     parse_rule,
 )
 from .page import page
-from .publish import Shape, render, render_one, write_definition
+from .publish import Shape, reduction_text, render, render_one, write_definition
 from .record import Asked, Broken, Comparison, Record
-from .sources import read_for_command
+from .sources import Csv, read_for_command
 from .sql import labels
 from .text import pack, unpack
 from .values import Value, read_cell, read_literal
@@ -61,6 +65,7 @@ Options = argparse.Namespace
 def load_record(file: str, names: Optional[str] = None, plain: bool = False) -> Tuple[Record, bool]:
     """The record of an archive file or of a text, and whether it was a text."""
     data, text = read_while(file, FILE_BYTES, is_text)
+    may_be_archive(file, data)
     if text:
         if names is not None:
             raise Failure(f"{shown(file)} is a text, which has its names in it; --names is for archive files")
@@ -89,7 +94,7 @@ def load_record(file: str, names: Optional[str] = None, plain: bool = False) -> 
             record = record.named(found.names)
             record.names
         except ValueError as error:
-            raise Failure(f"{names or names_path(file)}: {error} ({shown(file)})") from None
+            raise Failure(f"{names or names_path(file)}: {error} ({shown(file)}); --names NAMES takes others, and --plain goes without names") from None
     return record, False
 
 
@@ -177,6 +182,16 @@ def place(text: str) -> int:
     return found
 
 
+def separator(text: str) -> str:
+    """The sign between cells on the command line."""
+    sign = {"tab": "\t", "\\t": "\t"}.get(text, text)
+    try:
+        Csv(separator=sign)
+    except ValueError as error:
+        raise argparse.ArgumentTypeError(str(error)) from None
+    return sign
+
+
 def rule_of(asked: str) -> str:
     """The text of a rule: the argument, or standard input for `-`."""
     if asked.strip() != "-":
@@ -221,7 +236,7 @@ class Subject:
         else:
             self.query, self.variables = parse_rule(rule_of(asked), record.names)
             self.title, self.asked = title, self.query
-            self.shown = format_query(self.query, record.names, self.variables)
+            self.shown = format_query(self.query, record.names, blanked(self.query, self.variables))
 
 
 # ---- the commands
@@ -239,7 +254,7 @@ def list_command(options: Options) -> int:
         shapes = [{"place": one.asked, **reduction_json(one.query, record.shorten(one.asked), names, one.variables)} for one in found]
         text = json.dumps(shapes, indent=2) + "\n"
     else:
-        text = ("\n\n".join(_reduced(record, one) for one in found) or "Every place is vacant.") + "\n"
+        text = "\n".join(_reduced(record, one) for one in found) or "Every place is vacant.\n"
     write_definition(text, options.output)
     return YES
 
@@ -278,8 +293,7 @@ def page_command(options: Options) -> int:
 
 
 def _reduced(record: Record, one: Subject) -> str:
-    title = one.title[:1].upper() + one.title[1:]
-    return set_reduction(title, one.query, record.shorten(one.asked), record.names, one.variables)
+    return f"{one.title[:1].upper()}{one.title[1:]}\n{reduction_text(_defined(one, record, record.names))}"
 
 
 def show_command(options: Options) -> int:
@@ -292,7 +306,7 @@ def show_command(options: Options) -> int:
         shapes = [{"query": one.shown, **reduction_json(one.query, record.shorten(one.asked), names, one.variables)} for one in found]
         print(json.dumps(shapes, indent=2))
     else:
-        print("\n\n".join(_reduced(record, one) for one in found))
+        print("\n".join(_reduced(record, one) for one in found), end="")
     return YES
 
 
@@ -306,11 +320,11 @@ def _compared(record: Record, p: Subject, q: Subject, compared: Comparison, verd
             return [*lines, f"The dependencies leave {p.title} without an answer."]
         lines.append(f"Mapping from {q.title} to {p.title} with the dependencies applied:")
         return [*lines, set_mapping(compared.mapping, q.variables, p.variables, names.values)]
-    answer = format_datum("ans", map(names.values.decode, example[1]))
-    lines = [f"{verdict} This database obeys the dependencies:", *set_tables(example[0], names)]
+    answer = format_row("ans", [frozen_text(value, names, p.variables) for value in example[1]])
+    lines = [f"{verdict} This database obeys the dependencies:", *set_tables(example[0], names, p.variables)]
     lines.append(f"There {answer} is an answer of {p.title} and not of {q.title}.")
     if any(value >= FROZEN for _, values in example[0] for value in values):
-        lines.append(f"A number from {FROZEN} on stands for a variable of {p.title}.")
+        lines.append("A name stands for a value of its own, unlike every other value here and in the archive.")
     return lines
 
 
@@ -353,15 +367,32 @@ def equivalent_command(options: Options) -> int:
     return YES if same else NO
 
 
-def _data(options: Options, record: Record) -> Database:
-    """The database of DATA."""
-    return read_for_command(options.data, record.names, _null(options.null), options.text, sys.stderr)
+def _data(options: Options, record: Record, query: Optional[Asked] = None) -> Database:
+    """The database of DATA; for a query, what cannot change its answers need not be sound."""
+    form = Csv(tuple(options.text), options.decimal, options.separator)
+    return read_for_command(options.data, record, _nulls(options.null, record.names), form, sys.stderr, query)
 
 
-def _null(text: Optional[str]) -> Optional[Value]:
+def _nulls(given: Sequence[str], names: Names) -> Dict[Optional[str], Value]:
+    """What NULL stands for, by columns: `flight.site=VALUE`, or a value for all others, under None."""
+    found: Dict[Optional[str], Value] = {}
+    for text in given:
+        column: Optional[str] = None
+        value = text
+        if "=" in text and text[:1] not in ("'", '"'):
+            column, _, value = text.partition("=")
+            try:
+                column_of(column, names)
+            except DataError as error:
+                raise Failure(f"--null {text}: {error}; a text with = in it stands between quotes") from None
+        if column in found:
+            raise Failure(f"--null says twice what NULL stands for{'' if column is None else f' in {column}'}")
+        found[column] = _null(value)
+    return found
+
+
+def _null(text: str) -> Value:
     """What NULL stands for: a literal, or the text as it is."""
-    if text is None:
-        return None
     try:
         return read_literal(text) if text[:1] in ("'", '"') and text[-1:] == text[:1] and len(text) > 1 else read_cell(text)
     except ValueError:
@@ -372,7 +403,7 @@ def _say_notes(database: Database, relations: Iterable[int]) -> None:
     """Says what is to be known of how some tables were read."""
     asked = set(relations)
     for note in database.notes:
-        if note.relation in asked:
+        if note.relation is None or note.relation in asked:
             say(f"spernevan: {note.text}")
 
 
@@ -386,7 +417,7 @@ def _broken(record: Record, database: Database, broken: Broken) -> List[str]:
 def evaluate_command(options: Options) -> int:
     record, names = load(options)
     asked = Subject(record, options.query, "the rule")
-    database = _data(options, record)
+    database = _data(options, record, asked.asked)
     relations = [row.relation for row in asked.query.rows]
     record.has_tables(database, relations, "the query asks for")
     _say_notes(database, relations)
@@ -445,6 +476,9 @@ def pack_command(options: Options) -> int:
     data = read_bytes(options.text)
     if data[1:2] == b"\0":
         raise Failure(f"{shown(options.text)} is no text; if it is an archive file, unpack makes a text of it")
+    kind = kind_of(data)
+    if kind is not None or b"\0" in data[:1024] and not is_utf8(data):
+        raise Failure(f"{shown(options.text)} is {kind or 'no text'}, where the text of an archive was expected, as samples/flights.text is one")
     record, _ = pack(text_of(data, options.text), shown(options.text))
     if options.file == "-":
         write_out(record.file)
@@ -477,7 +511,7 @@ def put_command(options: Options) -> int:
     record, was_text = load_record(options.file)
     query, variables = parse_rule(rule_of(options.rule), record.names)
     record = record.put(options.place, query, variables)
-    save(options, record, was_text, f"place {options.place} holds {format_query(query, record.names, variables)}")
+    save(options, record, was_text, f"place {options.place} holds {format_query(query, record.names, blanked(query, variables))}")
     return YES
 
 
@@ -524,6 +558,6 @@ def reduce_command(options: Options) -> int:
         short = record.shorten(asked.asked)
         held = {number: asked.variables[number] for number in short.result.variables() if number in asked.variables}
         record = record.put(target, short.result, held)
-    rule = format_query(short.result, record.names, asked.variables)
+    rule = format_query(short.result, record.names, blanked(short.result, asked.variables))
     save(options, record, was_text, f"place {target} holds the short form of {asked.title}, {count(len(short.result.rows), 'row')}: {rule}")
     return YES

@@ -13,14 +13,23 @@ from array import array
 from bisect import bisect_right
 from datetime import date
 from decimal import Decimal
+from functools import partial
+from math import isfinite
 from operator import itemgetter
-from typing import Any, Callable, Dict, Iterable, Iterator, List, Mapping, NamedTuple, Optional, Sequence, Set, TextIO, Tuple
+from typing import AbstractSet, Any, Callable, Dict, Iterable, Iterator, List, Mapping, NamedTuple, Optional, Sequence, Set, TextIO, Tuple, Union
 
-from .engine import Words
+from .files import Failure
+from .model import Words
 from .notation import Names, Table, count, format_datum
-from .values import FIRST_CODE, Null, Value, Values, bare, doubt, plain, read_cell, read_literal
+from .values import FIRST_CODE, Null, Value, Values, bare, doubt, plain, read_cell, read_cell_with_comma, read_literal
 
 CHUNK = 50_000
+
+# What an absent value stands for: one value, or one for each column, as {'flight.site': 'x'}; under None, for the other columns.
+Absent = Union[Value, Mapping[Optional[str], Value], None]
+
+# The columns that can change what a query answers, by the tables that it asks for.
+Needed = Mapping[int, AbstractSet[int]]
 
 # Where row n of a block stands, for a message.
 Where = Callable[[int], str]
@@ -48,10 +57,19 @@ class Stands(NamedTuple):
 
 
 class Note(NamedTuple):
-    """What a person should know of how a table was read."""
+    """What a person should know of how a table was read; without a table, whatever is asked for."""
 
-    relation: int
+    relation: Optional[int]
     text: str
+
+
+class Cures(NamedTuple):
+    """What a message says to do about an absent value, numbers meant as texts, a decimal comma, and another sign between cells."""
+
+    null: str = "say what it stands for, as in record.database(data, null=0)"
+    text: str = "give text=['{}']"
+    comma: str = "give decimal=','"
+    separator: str = "give separator='..'"
 
 
 class Form:
@@ -60,8 +78,10 @@ class Form:
     def __init__(self) -> None:
         # The types of the cells; object for cells that have no type.
         self.types: Set[type] = set()
-        # The numbers of cells without types, by their words, as they were first written.
+        # The numbers of cells without types, by their words, as they were first written, with a point.
         self.written: Dict[int, str] = {}
+        # The numbers that were given as Decimal, and whole ones that were given as float or bool.
+        self.given: Dict[int, Value] = {}
 
     def kind(self) -> Optional[type]:
         """The type of every cell, if they have one; what an absent one stands for is taken as that."""
@@ -76,8 +96,6 @@ class Shown(Dict[int, Value]):
         super().__init__()
         self._values, self._form = values, form or Form()
         self._kind = self._form.kind()
-        # The decimals of a column of several types, if only floats can have been decimals.
-        self._floats = float in self._form.types and Decimal not in self._form.types
 
     def __missing__(self, word: int) -> Value:
         found = self[word] = self._as_given(word, self._values.decode(word))
@@ -88,7 +106,9 @@ class Shown(Dict[int, Value]):
             written = self._form.written.get(word)
             if written is not None:
                 return value if written.lstrip("-").isdigit() else Decimal(written)
-            if self._kind is float or self._floats and isinstance(value, Decimal):
+            if word in self._form.given:
+                return self._form.given[word]
+            if self._kind is float or float in self._form.types and isinstance(value, Decimal):
                 return float(value)
             if self._kind is Decimal:
                 return Decimal(value)
@@ -97,9 +117,20 @@ class Shown(Dict[int, Value]):
 
 
 class Database:
-    """Rows of the tables of `names`, as words; `values` is the dictionary of their codes, which grows with them."""
+    """Rows of the tables of `names`, as words; `values` is the dictionary of their codes, which grows with them.
 
-    def __init__(self, names: Names, values: Optional[Values] = None, null: Optional[Value] = None, progress: Optional[Progress] = None) -> None:
+    `null` is what an absent value stands for. `needed` has what a query can be changed by: an absent value elsewhere in
+    its tables is taken as the text '', and another table that cannot be read is left out. Without it all is needed.
+    """
+
+    def __init__(
+        self,
+        names: Names,
+        values: Optional[Values] = None,
+        null: Absent = None,
+        progress: Optional[Progress] = None,
+        needed: Optional[Needed] = None,
+    ) -> None:
         self.names = names
         self.values = names.values.copy() if values is None else values
         self.words: Words = array("I")
@@ -108,10 +139,10 @@ class Database:
         self.notes: List[Note] = []
         self.has_cells = False
         self.from_files = False
-        # What to do about an absent value, and about a column of numbers that are meant as texts.
-        self.null_cure = "say what it stands for, as in record.database(data, null=0)"
-        self.text_cure = "give text=['{}']"
-        self._null = None if null is None else self.values.encode(null)
+        self.cures = Cures()
+        nulls: Mapping[Optional[str], Value] = null if isinstance(null, Mapping) else {} if null is None else {None: null}
+        self._nulls = {None if name is None else column_of(name, names): self.values.encode(value) for name, value in nulls.items()}
+        self._needed = needed
         self._blocks: List[Block] = []
         self._firsts: List[int] = []
         self._rows = 0
@@ -125,10 +156,36 @@ class Database:
         held = ", ".join(f"{self.names.tables[relation].name} {rows}" for relation, rows in sorted(self.tables.items()))
         return f"<Database of {count(self._rows, 'row')}: {held or 'no table'}>"
 
-    @property
-    def null(self) -> Optional[int]:
-        """The word of what an absent value stands for, if that is said."""
-        return self._null
+    def null(self, relation: int, column: int) -> Optional[int]:
+        """The word of what an absent value of a column stands for; None if that is not said and matters."""
+        found = self._nulls.get((relation, column), self._nulls.get(None))
+        if found is None and self._needed is not None and column not in self._needed.get(relation, (column,)):
+            return self.values.encode("")
+        return found
+
+    def needs(self, relation: int) -> bool:
+        """Whether a table can change what is asked for."""
+        return self._needed is None or relation in self._needed
+
+    def covers(self, needed: Needed) -> bool:
+        """Whether what is needed has been read as such."""
+        return self._needed is None or all(columns <= self._needed.get(relation, frozenset()) for relation, columns in needed.items())
+
+    def leave_out(self, relation: int, why: object) -> None:
+        """Notes that a table which is not needed has not been read."""
+        self.notes.append(Note(None, f"the table {self.names.tables[relation].name}, which the query does not ask for, is left out: {why}"))
+
+    def read(self, relation: int, fill: Callable[[], None]) -> None:
+        """Reads a table by `fill`. If that fails, one that is not needed is left out."""
+        before = len(self.words), len(self._blocks), self._rows, dict(self.tables), list(self.notes)
+        try:
+            fill()
+        except (ValueError, Failure, OSError) as error:
+            if self.needs(relation):
+                raise
+            words, blocks, self._rows, self.tables, self.notes = before
+            del self.words[words:], self._blocks[blocks:], self._firsts[blocks:]
+            self.leave_out(relation, f"{error.filename}: {error.strerror}" if isinstance(error, OSError) else error)
 
     def has(self, relation: int) -> None:
         """Notes that a table has been read, also one without rows."""
@@ -157,19 +214,10 @@ class Database:
         """What the words of a column stand for, as they were given."""
         return Shown(self.values, self.form(relation, column))
 
-    def cells(self, relation: int, column: int, text: bool = False) -> Cells:
-        """A reader of one column's cells that have no type, as in CSV; `text` leaves them as they are."""
-        self.has_cells = True
-        form = self.form(relation, column)
-        return Cells(self.values, self._null, str, form) if text else Cells(self.values, self._null, read_cell, form)
-
-    def literals(self, relation: int, column: int) -> Cells:
-        """A reader of one column's values as rows of text have them."""
-        return Cells(self.values, self._null, _read_row_value, self.form(relation, column))
-
-    def typed(self, relation: int, column: int) -> Cells:
-        """A reader of one column's values that have a type."""
-        return Cells(self.values, self._null, plain, self.form(relation, column))
+    def cells(self, relation: int, column: int, read: Callable[[Any], Value]) -> Cells:
+        """A reader of one column's cells: `plain` for values that have a type, else how a cell without one is read."""
+        self.has_cells = self.has_cells or read in (str, read_cell, read_cell_with_comma)
+        return Cells(self.values, self.null(relation, column), read, self.form(relation, column))
 
     def stands(self, position: int) -> Stands:
         """The row at a position, from 0 over all rows."""
@@ -235,11 +283,18 @@ def in_order(values: Values, words: Iterable[int]) -> List[int]:
     return [word for kind in (numbers, dates, texts) for _, word in sorted(kind, key=itemgetter(0))]
 
 
-def _read_row_value(word: str) -> Value:
+def read_row_value(word: str) -> Value:
     """The value of a literal in a row of text, where NULL may stand."""
     if word[0] in "nN":
         raise Null()
     return read_literal(word)
+
+
+# A number that is not whole, with a point and with a comma.
+_FRACTION = re.compile(r"-?(?:0|[1-9][0-9]{0,40})\.[0-9]{0,40}[1-9]0{0,40}")
+_FRACTION_WITH_COMMA = re.compile(_FRACTION.pattern.replace(r"\.", ","))
+# A line that may be meant as no value.
+_MAY_BE_ABSENT = re.compile(r"^\s*n(?:an?|/a|ull|one)\s*$", re.IGNORECASE | re.MULTILINE)
 
 
 class Cells(Dict[Any, int]):
@@ -255,25 +310,62 @@ class Cells(Dict[Any, int]):
 
     def column(self, cells: Sequence[Any]) -> Words:
         """Cells in words. A cell that is no value raises ValueError, or Null; `fault` then says which."""
-        if self._read is plain:
-            types = set(map(type, cells))
-            self.form.types |= types
-            try:
-                if types == {int}:
-                    words = array("I", cells)
-                    if not words or max(words) < FIRST_CODE:
-                        return words
-            except OverflowError:
-                pass
-        elif self._read is not str:
-            self.form.types.add(object)
-            found = _whole_numbers(cells)
-            if found is not None:
-                return found
+        found = self._all_whole(cells)
+        if found is not None:
+            return found
+        texts = self._all_texts(cells)
+        if texts is not None:
+            return self._values.codes(texts)
         try:
+            self._learn_fractions([cell for cell in dict.fromkeys(cells) if cell not in self])
             return array("I", map(self.__getitem__, cells))
         except TypeError:
             return array("I", map(self.__missing__, cells))
+
+    def _all_whole(self, cells: Sequence[Any]) -> Optional[Words]:
+        """The words of cells that are all whole numbers which stand for themselves; else None."""
+        if self._read is str:
+            return None
+        if self._read is not plain:
+            self.form.types.add(object)
+            return _whole_numbers(cells)
+        types = set(map(type, cells))
+        self.form.types |= types
+        try:
+            words = array("I", cells if types == {int} else ())
+        except OverflowError:
+            return None
+        return words if len(words) == len(cells) and max(words, default=0) < FIRST_CODE else None
+
+    def _all_texts(self, cells: Sequence[Any]) -> Optional[Sequence[str]]:
+        """The texts that cells are, if it is seen at once that all are texts; else None."""
+        if self._read is plain:
+            return cells if set(map(type, cells)) == {str} else None
+        first = min(cells, default="")
+        if self._read is str:
+            return cells if first else None
+        if self._read is read_row_value:
+            return [cell[1:-1].replace("''", "'") for cell in cells] if first >= "'" and max(cells) < "(" else None
+        return cells if first >= ":" and (self.doubt is not None or _MAY_BE_ABSENT.search("\n".join(cells)) is None) else None
+
+    def _learn_fractions(self, new: Sequence[Any]) -> None:
+        """Takes up numbers that are not whole, many at once; `__missing__` takes up the other cells."""
+        if self._read is plain:
+            numbers = [cell for cell in new if type(cell) is float and not cell.is_integer() and isfinite(cell)]
+            self.update(zip(numbers, self._values.codes(list(map(Decimal, map(repr, numbers))))))
+        elif self._read is not str:
+            cells = list(filter((_FRACTION_WITH_COMMA if self._read is read_cell_with_comma else _FRACTION).fullmatch, new))
+            spelled = [cell.replace(",", ".") for cell in cells]
+            words = self._values.codes(list(map(Decimal, spelled)))
+            self.update(zip(cells, words))
+            for word, one in zip(words, spelled):
+                self._write_down(word, one)
+
+    def _write_down(self, word: int, spelled: str) -> None:
+        """Notes how a number is written."""
+        written = self.form.written.setdefault(word, spelled)
+        if written != spelled and word and self.same is None:
+            self.same = written, spelled
 
     def fault(self, cells: Sequence[Any]) -> Tuple[int, ValueError]:
         """The position of the first cell that `column` did not take, and why."""
@@ -294,19 +386,29 @@ class Cells(Dict[Any, int]):
             if self._null is None:
                 raise
             return self._null
-        if self._read is not plain and isinstance(value, (int, Decimal)):
-            spelled = cell.strip()
-            written = self.form.written.setdefault(word, spelled)
-            if written != spelled and word and self.same is None:
-                self.same = written, spelled
-        elif self._read is read_cell and self.doubt is None and (cell[:1] <= "9" or cell[:1] in "nN"):
-            said = doubt(cell)
+        if self._read is plain:
+            given = _given(cell, value)
+            if given is not None:
+                self.form.given.setdefault(word, given)
+        elif isinstance(value, (int, Decimal)):
+            self._write_down(word, cell.strip().replace(",", "."))
+        elif self._read is not str and self._read is not read_row_value and self.doubt is None and (cell[:1] <= "9" or cell[:1] in "nN"):
+            said = doubt(cell, "," if self._read is read_cell_with_comma else ".")
             self.doubt = None if said is None else (cell, said)
         try:
             self[cell] = word
         except TypeError:
             pass
         return word
+
+
+def _given(cell: object, value: Value) -> Optional[Value]:
+    """A number in the type in which it was given, if its value alone does not tell that."""
+    if isinstance(cell, Decimal):
+        return Decimal(cell)
+    if isinstance(cell, bool):
+        return bool(cell)
+    return float(cell) if isinstance(cell, float) and isinstance(value, int) else None
 
 
 def _whole_numbers(cells: Sequence[str]) -> Optional[Words]:
@@ -370,6 +472,16 @@ def matched(name: str, among: Sequence[str], where: str) -> Optional[int]:
     return None
 
 
+def column_of(name: str, names: Names) -> Tuple[int, int]:
+    """The table and the column of `sonde.version`."""
+    table, _, column = name.partition(".")
+    relation = matched(table, [held.name for held in names.tables], name)
+    found = None if relation is None else matched(column, names.tables[relation].columns, name)
+    if relation is None or found is None:
+        raise DataError(f"{name} is no TABLE.COLUMN of the archive")
+    return relation, found
+
+
 def relation_of(table: object, names: Names) -> int:
     """The number of a table that is named."""
     found = matched(table, [held.name for held in names.tables], "the tables") if isinstance(table, str) else None
@@ -378,32 +490,37 @@ def relation_of(table: object, names: Names) -> int:
     return found
 
 
-def of_python(data: object, names: Names, values: Optional[Values] = None, null: Optional[Value] = None) -> Database:
+def of_python(data: object, names: Names, null: Absent = None, needed: Optional[Needed] = None) -> Database:
     """A database from `{'burst': rows}`: rows as lists, tuples or dicts, a pandas DataFrame, or a numpy array.
 
     A DataFrame, dicts and a structured array are matched by the names of columns, the others by position.
     A single DataFrame or array is the one table of a record that has only one.
     """
-    database = Database(names, values, null)
+    database = Database(names, None, null, None, needed)
     if not isinstance(data, Mapping):
         if len(names.tables) != 1:
             raise DataError(f"say which table these rows are of, as in {{{names.tables[0].name!r}: rows}}")
         data = {names.tables[0].name: data}
     for table, rows in data.items():
         relation = relation_of(table, names)
-        held = names.tables[relation]
         if relation in database.tables:
-            raise DataError(f"the table {held.name} is there twice, the second time as {table!r:.40}")
-        database.has(relation)
-        columns = _columns_of(rows, held)
-        readers = [database.typed(relation, number) for number in range(len(columns))]
-        for start in range(0, len(columns[0]), CHUNK):
-            words = [
-                _python_column(reader, column[start : start + CHUNK], start, f"{held.name}: column {label}", database.null_cure)
-                for reader, column, label in zip(readers, columns, held.columns)
-            ]
-            database.add(relation, words, _row_of(held.name, start))
+            raise DataError(f"the table {names.tables[relation].name} is there twice, the second time as {table!r:.40}")
+        database.read(relation, partial(_read_python, database, relation, rows))
     return database
+
+
+def _read_python(database: Database, relation: int, rows: object) -> None:
+    """The rows of a table from Python."""
+    table = database.names.tables[relation]
+    database.has(relation)
+    columns = _columns_of(rows, table)
+    readers = [database.cells(relation, number, plain) for number in range(len(columns))]
+    for start in range(0, len(columns[0]), CHUNK):
+        words = [
+            _python_column(reader, column[start : start + CHUNK], start, f"{table.name}: column {label}", database.cures.null)
+            for reader, column, label in zip(readers, columns, table.columns)
+        ]
+        database.add(relation, words, _row_of(table.name, start))
 
 
 def _row_of(name: str, start: int) -> Where:

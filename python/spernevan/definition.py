@@ -6,9 +6,9 @@ variables stand once, and which dependencies are left when all that the engine f
 
 from __future__ import annotations
 
-from collections import Counter
-from dataclasses import dataclass, field, replace
-from typing import Callable, Dict, FrozenSet, List, Optional, Sequence, Tuple
+from dataclasses import dataclass, field
+from functools import cached_property
+from typing import Callable, Dict, List, Optional, Sequence, Tuple
 
 from .model import Constant, Dependency, Entry, Mapping, Query, Row, Variable
 from .notation import Names
@@ -26,23 +26,33 @@ def itself(number: int) -> Value:
 
 @dataclass(frozen=True)
 class Definition:
-    """A query and its reduction, as a paper prints them.
-
-    `chased` is the long form after the chase, row by row. `used` has the positions of dependencies under which
-    alone the two forms have the same answers; without any one of them they have not.
-    """
+    """A query of a record and its reduction, as a paper prints them."""
 
     names: Names
-    dependencies: Tuple[Dependency, ...]
+    record: Record
     long: Query
     short: Query
-    chased: Query
     mapping: Optional[Mapping]
     replaced: int
-    used: Tuple[int, ...]
     variables: Dict[int, str] = field(default_factory=dict)
     place: Optional[int] = None
     decode: Decode = itself
+
+    @property
+    def dependencies(self) -> Tuple[Dependency, ...]:
+        return self.record.dependencies
+
+    @cached_property
+    def chased(self) -> Query:
+        """The long form after the chase, row by row: what the engine shows when it is compared with never."""
+        never = Query.never(self.long.head_length)
+        compared = _under(self.record, range(len(self.dependencies))).put(0, self.long).put(1, never).compare(0, 1)
+        return never if compared.chased is None else compared.chased
+
+    @cached_property
+    def used(self) -> Tuple[int, ...]:
+        """The positions of dependencies under which alone the two forms have the same answers; without any one of them they have not."""
+        return used_dependencies(self.record, self.long, self.short)
 
     @property
     def title(self) -> str:
@@ -70,7 +80,7 @@ class Definition:
 
     def named(self) -> Dict[int, Entry]:
         """The mapping's images where neither side is written `_`; the images of the rows tell the others."""
-        before, after = lone(self.long), lone(self.short)
+        before, after = self.long.lone(), self.short.lone()
         return {
             number: entry
             for number, entry in sorted((self.mapping or {}).items())
@@ -85,32 +95,17 @@ def _moved(row: Row, mapping: Mapping) -> Row:
 
 def define(record: Record, names: Names, place: int, decode: Decode = itself) -> Definition:
     """The definition of a saved query."""
-    reduction = record.shorten(place)
-    long = record.queries[place]
-    assert long is not None
+    short = record.shorten(place)
     variables = names.variables.get(place, {})
-    return Definition(
-        names,
-        record.dependencies,
-        long,
-        reduction.result,
-        _chased(record, place, long),
-        reduction.mapping,
-        reduction.replaced,
-        used_dependencies(record, long, reduction.result),
-        variables,
-        place,
-        decode,
-    )
+    return Definition(names, record, record.query(place), short.result, short.mapping, short.replaced, variables, place, decode)
 
 
 def define_query(
     record: Record, names: Names, query: Query, variables: Optional[Dict[int, str]] = None, decode: Decode = itself
 ) -> Definition:
     """The definition of a query that is saved nowhere."""
-    bare = _under(record, range(len(record.dependencies)))
-    held = Names(names.tables, {0: variables or {}})
-    return replace(define(bare.put(0, query), held, 0, decode), names=names, place=None)
+    short = record.shorten(query)
+    return Definition(names, record, query, short.result, short.mapping, short.replaced, variables or {}, None, decode)
 
 
 def define_all(record: Record, names: Names, decode: Decode = itself) -> List[Definition]:
@@ -125,13 +120,6 @@ def _under(record: Record, held: Sequence[int]) -> Record:
         dependency = record.dependencies[number]
         bare = bare.add(dependency.relation, dependency.left, dependency.right)
     return bare
-
-
-def _chased(record: Record, place: int, long: Query) -> Query:
-    """A saved query after the chase: what the engine shows when it is compared with never."""
-    other = 1 if place == 0 else 0
-    compared = record.alone(place).put(other, Query.never(long.head_length)).compare(place, other)
-    return Query.never(long.head_length) if compared.chased is None else compared.chased
 
 
 def used_dependencies(record: Record, long: Query, short: Query) -> Tuple[int, ...]:
@@ -160,13 +148,6 @@ def used_dependencies(record: Record, long: Query, short: Query) -> Tuple[int, .
 # ---- how entries are shown
 
 
-def lone(query: Query) -> FrozenSet[int]:
-    """The variables that stand once in a query, which are written `_`."""
-    entries = [*query.head, *(entry for row in query.rows for entry in row.entries)]
-    counted = Counter(entry.number for entry in entries if isinstance(entry, Variable))
-    return frozenset(number for number, times in counted.items() if times == 1)
-
-
 def variable_text(number: int, variables: Dict[int, str]) -> str:
     """A variable's name if it has one, else v and its number."""
     return variables.get(number, f"v{number}")
@@ -184,7 +165,7 @@ class Writer:
         """A constant's value; `_` for a variable that stands once, else its name."""
         if isinstance(entry, Constant):
             return format_value(self.decode(entry.number))
-        return "_" if entry.number in lone(self.query) else variable_text(entry.number, self.variables)
+        return "_" if entry.number in self.query.lone() else variable_text(entry.number, self.variables)
 
     def atom(self, name: str, entries: Sequence[Entry]) -> str:
         """`name(entry, entry)`."""

@@ -15,14 +15,9 @@ from array import array
 from functools import lru_cache
 from pathlib import Path
 from queue import SimpleQueue
-from typing import TYPE_CHECKING, Any, Callable, List, Optional, Tuple, Type, Union
+from typing import Any, Callable, List, Optional, Tuple, Type, Union
 
-if TYPE_CHECKING:
-    Words = array[int]
-else:
-    Words = array
-
-from .model import BYTE, VARIABLES, whole
+from .model import BYTE, VARIABLES, Words, whole
 
 LONGEST_FILE = 4420
 LONGEST_QUERY = 534
@@ -95,10 +90,15 @@ _CALLS = {
 _LIBRARY = Path(__file__).with_name("libspernevan.so")
 
 
+def is_there() -> bool:
+    """Whether the engine is built."""
+    return _LIBRARY.exists()
+
+
 @lru_cache(maxsize=None)
 def _library() -> ctypes.CDLL:
     """The shared object beside this file, with the types of its functions set."""
-    if not _LIBRARY.exists():
+    if not is_there():
         raise EngineMissing(f"the engine {_LIBRARY} is not there; the command python/build makes it")
     try:
         library = ctypes.CDLL(str(_LIBRARY))

@@ -11,7 +11,7 @@ import signal
 import stat
 import sys
 from contextlib import contextmanager, nullcontext
-from typing import BinaryIO, Callable, ContextManager, Iterable, Iterator, List, Optional, Sequence, Tuple, TypeVar, Union
+from typing import BinaryIO, Callable, ContextManager, Iterable, Iterator, List, Mapping, Optional, Sequence, Tuple, TypeVar, Union
 
 from .notation import NamesFile, read_names_file
 
@@ -89,6 +89,15 @@ def shown(path: Path) -> str:
     return "standard input" if path == "-" else os.fspath(path)
 
 
+def is_utf8(data: bytes) -> bool:
+    """Whether bytes can be read as text."""
+    try:
+        data.decode("utf-8-sig")
+    except UnicodeDecodeError:
+        return False
+    return True
+
+
 def is_text(data: bytes) -> bool:
     """Whether bytes are a text. An archive file has the byte 0 in second place, as no text has."""
     if not data or b"\0" in data[:64]:
@@ -98,6 +107,41 @@ def is_text(data: bytes) -> bool:
     except UnicodeDecodeError as error:
         return error.start > FILE_BYTES - 4
     return True
+
+
+def kind_of(data: bytes) -> Optional[str]:
+    """What a file is that begins with these bytes, if it is of a kind that is given for another."""
+    if data.startswith(b"SQLite format 3\0"):
+        return "an SQLite file"
+    if data.startswith(b"\x7fELF"):
+        return "a program"
+    if data.startswith(b"PK\x03\x04"):
+        return "a ZIP file, as those of Excel are"
+    if data.startswith(b"archive '"):
+        return "a names file"
+    # The count of the parts, the first of which begins behind the directory.
+    if len(data) > 3 and data[1] == 0 and 2 <= data[0] <= 10 and data[2] == 2 + 4 * data[0]:
+        return "an archive file"
+    return None
+
+
+_DATA = "test and evaluate take it as data, after the archive"
+
+# What is given where an archive should be, and what to do about it.
+_NO_ARCHIVES: Mapping[Optional[str], str] = {
+    "a CSV file": _DATA,
+    "an SQLite file": _DATA,
+    "a names file": "give the archive file beside it, whose names these are",
+    "a program": "pack makes an archive file from a text",
+    "a ZIP file, as those of Excel are": "pack makes an archive file from a text, and data is saved as CSV",
+}
+
+
+def may_be_archive(path: Path, data: bytes) -> None:
+    """Failure if a file that begins with these bytes is of a kind that is given for an archive by mistake."""
+    kind = "a CSV file" if os.fspath(path).lower().endswith(".csv") else kind_of(data)
+    if kind in _NO_ARCHIVES:
+        raise Failure(f"{shown(path)} is {kind}, where an archive file or the text of one was expected; {_NO_ARCHIVES[kind]}")
 
 
 def read_names_beside(file: Path, data: bytes, given: Optional[Path] = None, codes: Iterable[int] = ()) -> Optional[NamesFile]:

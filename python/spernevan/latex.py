@@ -10,7 +10,7 @@ from __future__ import annotations
 import unicodedata
 from typing import Dict, Iterable, List, Optional, Sequence, Tuple
 
-from .definition import Definition, lone
+from .definition import Definition
 from .model import Constant, Dependency, Entry, Query
 from .notation import Names
 from .scan import count
@@ -146,7 +146,7 @@ class _Form:
     """Entries of one query in LaTeX."""
 
     def __init__(self, query: Query, definition: Definition) -> None:
-        self.alone = lone(query)
+        self.alone = query.lone()
         self.definition = definition
 
     def entry(self, entry: Entry) -> str:
@@ -244,7 +244,7 @@ def fragment(definition: Definition, title: Optional[str] = None) -> str:
     if definition.mapping is not None:
         parts.append(_titled("Mapping from the long form to the short.", mapping(definition)))
     parts.append(rf"\par\medskip\noindent {claim(definition)}")
-    if lone(definition.long) or lone(definition.short):
+    if definition.long.lone() or definition.short.lone():
         parts.append(r"A variable that stands once is written \_.")
     body = "\n".join(parts)
     return f"\\begingroup\\raggedright\n{body}\n\\par\\endgroup\n"

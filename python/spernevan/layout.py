@@ -3,11 +3,12 @@
 from __future__ import annotations
 
 import json
+import re
 from decimal import Decimal
 from typing import Any, Dict, List, Optional, Sequence, TextIO, Tuple
 
-from .model import Entry, Mapping, Query, Variable
-from .notation import Names, count, format_datum, format_entry, format_mapping, format_parts, format_query
+from .model import FROZEN, Entry, Mapping, Query, Variable
+from .notation import Names, count, format_datum, format_entry, format_mapping, format_query
 from .record import Comparison, Reduction
 from .values import Value, Values, bare, format_value, number_meant, read_cell
 
@@ -62,8 +63,9 @@ def reduction_json(query: Query, short: Reduction, names: Names, variables: Vari
 
 
 def comparison_json(compared: Comparison, names: Names, of_p: Variables, of_q: Variables) -> Json:
-    """A comparison."""
+    """A comparison. In a counterexample a number from 2147483648 on stands for a variable, which is named beside it."""
     example = compared.counterexample()
+    frozen = sorted({value for _, values in example[0] for value in values if value >= FROZEN}) if example else []
     return {
         "contained": compared.contained,
         "mapping": mapping_json(compared.mapping, of_q, of_p, names.values),
@@ -74,18 +76,12 @@ def comparison_json(compared: Comparison, names: Names, of_p: Variables, of_q: V
                 for relation, values in example[0]
             ],
             "answer": [value_json(names.values.decode(value)) for value in example[1]],
+            "variables": {frozen_text(value, names, of_p): value for value in frozen},
         },
     }
 
 
 # ---- for people
-
-
-def set_rule(query: Query, names: Names, variables: Variables) -> str:
-    """A rule with a row to a line, the rows below each other."""
-    head, rows = format_parts(query, names, variables)
-    between = ",\n    " + " " * len(f"{head} :- ")
-    return f"    {head} :- {between.join(rows)}"
 
 
 def set_mapping(mapping: Mapping, source: Variables, target: Variables, values: Values) -> str:
@@ -99,11 +95,18 @@ def set_mapping(mapping: Mapping, source: Variables, target: Variables, values: 
     return "\n".join(lines)[:-1]
 
 
-def set_tables(rows: Sequence[Tuple[int, Tuple[int, ...]]], names: Names) -> List[str]:
-    """The rows of a database as a small table for each relation that has some."""
+def frozen_text(value: int, names: Names, variables: Variables) -> str:
+    """A value of a counterexample: a variable's name, or what a constant stands for."""
+    if value >= FROZEN:
+        return format_entry(Variable(value - FROZEN), variables)
+    return format_value(names.values.decode(value))
+
+
+def set_tables(rows: Sequence[Tuple[int, Tuple[int, ...]]], names: Names, variables: Variables) -> List[str]:
+    """The rows of a counterexample as a small table for each relation that has some."""
     lines: List[str] = []
     for relation, table in enumerate(names.tables):
-        held = [tuple(format_value(names.values.decode(value)) for value in values) for number, values in rows if number == relation]
+        held = [tuple(frozen_text(value, names, variables) for value in values) for number, values in rows if number == relation]
         if not held:
             continue
         widths = [max(map(len, column)) for column in zip(table.columns, *held)]
@@ -111,22 +114,6 @@ def set_tables(rows: Sequence[Tuple[int, Tuple[int, ...]]], names: Names) -> Lis
         for line in [table.columns, *held]:
             lines.append("    " + "  ".join(word.rjust(width) for word, width in zip(line, widths)))
     return lines
-
-
-def set_reduction(title: str, query: Query, short: Reduction, names: Names, variables: Variables) -> str:
-    """A query and its reduction."""
-    lines = [
-        title,
-        f"  Long form, {count(len(query.rows), 'row')}:",
-        set_rule(query, names, variables),
-        f"  Short form, {count(len(short.result.rows), 'row')}:",
-        set_rule(short.result, names, variables),
-    ]
-    if short.mapping is not None:
-        lines.append("  Mapping from the long form to the short:")
-        lines.append(set_mapping(short.mapping, variables, variables, names.values))
-    lines.append(f"  Replaced by the dependencies: {count(short.replaced, 'variable')}")
-    return "\n".join(lines)
 
 
 # ---- answers
@@ -149,6 +136,9 @@ def write_answers(answers: Sequence[Tuple[Value, ...]], columns: Sequence[str], 
         out.write(f"# {count(len(answers), 'answer')}\n")
 
 
+_SIGNS = re.compile(r'[,;"\t\r\n]')
+
+
 class _Cells(Dict[Value, str]):
     """Cells of CSV by their values. A text that looks like a number stands between quotes, which a number never does."""
 
@@ -158,13 +148,15 @@ class _Cells(Dict[Value, str]):
         return super().__getitem__(value)
 
     def __missing__(self, value: str) -> str:
-        quoted = not value or value != value.strip() or any(sign in value for sign in ',;"\t\r\n') or _like_number(value)
+        quoted = not value or value != value.strip() or _SIGNS.search(value) or _like_number(value)
         found = self[value] = '"' + value.replace('"', '""') + '"' if quoted else value
         return found
 
 
 def _like_number(text: str) -> bool:
     """Whether a program could take a text for a number."""
+    if text[:1] > "9" and not text.isdigit():
+        return False
     return isinstance(read_cell(text), (int, Decimal)) or text.isdigit() or number_meant(text) is not None
 
 

@@ -8,8 +8,15 @@ from __future__ import annotations
 
 import operator
 import struct
+from array import array
+from collections import Counter
 from dataclasses import dataclass
-from typing import Dict, FrozenSet, Iterable, List, Optional, Sequence, Tuple, TypeVar, Union
+from typing import TYPE_CHECKING, Dict, FrozenSet, Iterable, List, Optional, Sequence, Tuple, TypeVar, Union
+
+if TYPE_CHECKING:
+    Words = array[int]
+else:
+    Words = array
 
 T = TypeVar("T")
 
@@ -139,10 +146,18 @@ class Query:
     def is_never(self) -> bool:
         return not self.rows
 
+    def entries(self) -> List[Entry]:
+        """The entries of the head and of the rows, in the order in which a rule has them."""
+        return [*self.head, *(entry for row in self.rows for entry in row.entries)]
+
     def variables(self) -> List[int]:
         """The numbers of the variables that occur, ascending."""
-        entries = [*self.head, *(entry for row in self.rows for entry in row.entries)]
-        return sorted({entry.number for entry in entries if isinstance(entry, Variable)})
+        return sorted({entry.number for entry in self.entries() if isinstance(entry, Variable)})
+
+    def lone(self) -> FrozenSet[int]:
+        """The variables that stand once, which are written `_`."""
+        counted = Counter(entry.number for entry in self.entries() if isinstance(entry, Variable))
+        return frozenset(number for number, times in counted.items() if times == 1)
 
 
 @dataclass(frozen=True)

@@ -183,7 +183,22 @@ class NamesFile(NamedTuple):
     checksum: Optional[str]
 
 
+_CUT_SHORT = "this names file is cut short: put back the whole one, or remove it and pack the text of the archive again"
+
+
 def read_names_file(text: str, source: str) -> NamesFile:
+    """A names file. One that ends before the lines that its first line counts, or in its first line, is cut short."""
+    try:
+        return _read_names_file(text, source)
+    except NotationError as error:
+        first = re.match("archive '[^'\n]*', ([0-9]{1,9}) lines?\n", text)
+        whole = text.count("\n") > int(first[1]) if first else "\n" in text or not text.startswith("archive '"[: len(text)])
+        if whole:
+            raise
+        raise NotationError(source, error.line, error.column, _CUT_SHORT) from None
+
+
+def _read_names_file(text: str, source: str) -> NamesFile:
     """A names file: the tables in their order, then for a place the names of its variables 0, 1, ..
 
         archive '0f3a..', 3 lines
@@ -200,6 +215,8 @@ def read_names_file(text: str, source: str) -> NamesFile:
     values = Values()
     checksum: Optional[str] = None
     lines = written = 0
+    if reader.at_end():
+        raise reader.error(reader.next, _CUT_SHORT)
     while not reader.at_end():
         start = reader.next
         lines += 1
@@ -209,7 +226,7 @@ def read_names_file(text: str, source: str) -> NamesFile:
             place = read_place(reader)
             if place in variables:
                 raise reader.error(start, f"the variables of place {place} have their names already")
-            variables[place] = _read_variable_names(reader)
+            variables[place] = read_variable_names(reader)
         elif start.text == "archive" and reader.then.kind == "text":
             if checksum is not None:
                 raise reader.error(start, "there is a line archive already")
@@ -222,7 +239,7 @@ def read_names_file(text: str, source: str) -> NamesFile:
             tables.append(read_table(reader, tables))
         reader.line_ends()
     if lines < written or (checksum is not None and not text.endswith("\n")):
-        raise reader.error(reader.next, "this names file is cut short: put back the whole one, or remove it and pack the text of the archive again")
+        raise reader.error(reader.next, _CUT_SHORT)
     return NamesFile(Names(tuple(tables), variables, values), checksum)
 
 
@@ -231,7 +248,7 @@ def read_names(text: str, source: str) -> Names:
     return read_names_file(text, source).names
 
 
-def _read_variable_names(reader: Reader) -> Dict[int, str]:
+def read_variable_names(reader: Reader) -> Dict[int, str]:
     """`f, s, v2, t`: names of variables 0, 1, .., where v2 is no name. NULL, which a rule cannot have, is none either."""
     names: Dict[int, str] = {}
     number = 0
@@ -253,12 +270,15 @@ def _read_variable_names(reader: Reader) -> Dict[int, str]:
 def format_names(names: Names, checksum: Optional[str] = None) -> str:
     """A names file."""
     lines = [str(table) for table in names.tables]
-    for place, named in sorted(names.variables.items()):
-        if named:
-            lines.append(f"{place}: {', '.join(named.get(n, f'v{n}') for n in range(max(named) + 1))}")
+    lines += [f"{place}: {format_variable_names(named)}" for place, named in sorted(names.variables.items()) if named]
     lines += format_entries(names.values)
     first = [] if checksum is None else [f"archive '{checksum}', {count(len(lines), 'line')}"]
     return "".join(f"{line}\n" for line in first + lines)
+
+
+def format_variable_names(named: Dict[int, str]) -> str:
+    """What `read_variable_names` reads."""
+    return ", ".join(named.get(number, f"v{number}") for number in range(max(named) + 1))
 
 
 # ---- rules
@@ -268,8 +288,11 @@ def format_names(names: Names, checksum: Optional[str] = None) -> str:
 _Term = Union[Constant, Token]
 
 
-def read_rule(reader: Reader, names: Names) -> Tuple[Query, Dict[int, str]]:
-    """A rule: the query, and the names of its variables that have one. Its values are entered in `names.values`."""
+def read_rule(reader: Reader, names: Names, given: Optional[Dict[int, str]] = None) -> Tuple[Query, Dict[int, str]]:
+    """A rule: the query, and the names of its variables that have one. Its values are entered in `names.values`.
+
+    `given` has names whose variables are known beforehand.
+    """
     start = reader.take("name", "'ans'")
     if start.text != "ans":
         raise reader.error(start, f"a rule begins with ans, not {start.text}")
@@ -322,10 +345,10 @@ def read_rule(reader: Reader, names: Names) -> Tuple[Query, Dict[int, str]]:
         if token.kind == "name" and token.text not in in_rows:
             raise reader.error(token, f"{token.text} is in no row")
 
+    named = {number: name for number, name in (given or {}).items() if name in in_rows}
+    numbers = {name: number for number, name in named.items()}
     # A row has at most 8 entries, so at most 96 variables occur, and there is a number for each.
-    free = iter([n for n in range(VARIABLES) if f"v{n}" not in in_rows])
-    numbers: Dict[str, int] = {}
-    named: Dict[int, str] = {}
+    free = iter([n for n in range(VARIABLES) if f"v{n}" not in in_rows and n not in named])
 
     def entry(held: _Term) -> Entry:
         if isinstance(held, Constant):
@@ -343,11 +366,11 @@ def read_rule(reader: Reader, names: Names) -> Tuple[Query, Dict[int, str]]:
     return Query(shown, tuple(Row(relation, tuple(map(entry, row))) for relation, row in rows)), named
 
 
-def parse_rule(text: str, names: Names, source: str = "rule") -> Tuple[Query, Dict[int, str]]:
-    """The query of a rule, and the names of its variables that have one."""
+def parse_rule(text: str, names: Names, source: str = "rule", given: Optional[Dict[int, str]] = None) -> Tuple[Query, Dict[int, str]]:
+    """The query of a rule, and the names of its variables that have one. `given` has names whose variables are known beforehand."""
     reader = Reader(text, source)
     reader.at_end()
-    found = read_rule(reader, names)
+    found = read_rule(reader, names, given)
     if not reader.at_end():
         raise reader.error(reader.next, "the rule ends here; ',' goes between its rows")
     return found
@@ -393,6 +416,11 @@ def format_query(query: Query, names: Names, variables: Optional[Dict[int, str]]
     return f"{head} :- {f',{between}'.join(rows)}"
 
 
+def blanked(query: Query, variables: Dict[int, str]) -> Dict[int, str]:
+    """The names of variables, and `_` for those without one that stand once."""
+    return {**dict.fromkeys(query.lone(), "_"), **variables}
+
+
 def format_mapping(
     mapping: Mapping,
     source: Optional[Dict[int, str]] = None,
@@ -408,8 +436,7 @@ def format_mapping(
 
 def constants(query: Query) -> List[int]:
     """The numbers of the constants of a query, in the order in which its rule has them."""
-    entries = [*query.head, *(entry for row in query.rows for entry in row.entries)]
-    return [entry.number for entry in entries if isinstance(entry, Constant)]
+    return [entry.number for entry in query.entries() if isinstance(entry, Constant)]
 
 
 # ---- dependencies
@@ -495,6 +522,7 @@ __all__ = [
     "Reader",
     "Table",
     "Token",
+    "blanked",
     "constants",
     "count",
     "format_columns",
@@ -508,6 +536,7 @@ __all__ = [
     "format_parts",
     "format_query",
     "format_row",
+    "format_variable_names",
     "key_dependencies",
     "parse_dependencies",
     "parse_query",
@@ -521,4 +550,5 @@ __all__ = [
     "read_place",
     "read_rule",
     "read_table",
+    "read_variable_names",
 ]

@@ -40,6 +40,12 @@ def definition_text(definition: Definition) -> str:
         lines += [f"    {names.tables[relation]}" for relation in definition.relations]
     lines.append("  Dependencies needed:")
     lines += [f"    {format_dependency(definition.dependencies[number], names)}" for number in definition.used] or ["    none"]
+    return "\n".join(lines) + "\n" + reduction_text(definition)
+
+
+def reduction_text(definition: Definition) -> str:
+    """The two forms for people, the mapping and the count."""
+    lines: List[str] = []
     for title, query in (("Long", definition.long), ("Short", definition.short)):
         lines.append(f"  {title} form, {count(len(query.rows), 'row')}:")
         lines.append(textwrap.indent(rule_text(definition, query), "    "))

@@ -8,17 +8,18 @@ import warnings
 from array import array
 from dataclasses import dataclass
 from functools import cached_property
-from typing import Any, Dict, FrozenSet, Iterable, List, Optional, Sequence, Tuple, Union
+from typing import Any, Dict, FrozenSet, Iterable, List, Optional, Sequence, Set, Tuple, Union
 
 from . import engine
-from .data import Database, DataError, Shown, of_python
-from .engine import Refused, Words
+from .data import Absent, Database, DataError, Needed, Shown, of_python
+from .engine import Refused
 from .files import (
     FILE_BYTES,
     Failure,
     Path,
     checksum,
     is_text,
+    may_be_archive,
     names_path,
     read_bytes,
     read_names_beside,
@@ -36,6 +37,7 @@ from .model import (
     PLACES,
     VARIABLES,
     WORD,
+    Words,
     Constant,
     Contents,
     Dependency,
@@ -64,7 +66,7 @@ from .notation import (
     parse_rule,
     read_names_file,
 )
-from .values import FIRST_CODE, Value
+from .values import FIRST_CODE
 
 # A row of a database: the number of its relation, and its values.
 DataRow = Tuple[int, Tuple[int, ...]]
@@ -186,6 +188,7 @@ class Record:
     @classmethod
     def _read(cls, path: Path, names: Union[bool, Path]) -> Record:
         data, text = read_while(path, FILE_BYTES, is_text)
+        may_be_archive(path, data)
         if text:
             from .text import pack
 
@@ -477,7 +480,10 @@ class Record:
 
         A database of named tables that breaks none must have those of which a dependency speaks.
         """
-        held = self._data(database)
+        spoken: Dict[int, Set[int]] = {}
+        for one in self.dependencies:
+            spoken.setdefault(one.relation, set()).update(one.left, {one.right})
+        held = self._data(database, None, spoken)
         found = self.broken(held)
         if found is None and isinstance(held, Database):
             self.has_tables(held, [dependency.relation for dependency in self.dependencies], "a dependency speaks of")
@@ -513,8 +519,12 @@ class Record:
         and a dependency that it breaks is a warning.
         """
         record, (at,) = self.placed(place)
-        held = record._data(database)
+        needed = record.needed(at) if at < PLACES else None
+        held = record._data(database, needed, needed)
         if isinstance(held, Database):
+            if held is not database:
+                for note in held.notes:
+                    warnings.warn(note.text, stacklevel=2)
             if at < PLACES:
                 self.has_tables(held, [row.relation for row in record.query(at).rows], "the query asks for")
             if not tested:
@@ -536,6 +546,22 @@ class Record:
         if isinstance(held, Database):
             return held.decoded(answers[: number * length], number, _shown(query, held))
         return [tuple(answers[start * length : (start + 1) * length]) for start in range(number)]
+
+    def needed(self, place: Asked) -> Needed:
+        """What can change the answers of a query: by its tables, the columns in which it has a constant or a variable
+        that stands more than once, and those of which a dependency speaks."""
+        record, (at,) = self.placed(place)
+        query = record.query(at)
+        lone = query.lone()
+        found: Dict[int, Set[int]] = {row.relation: set() for row in query.rows}
+        for row in query.rows:
+            found[row.relation].update(
+                column for column, entry in enumerate(row.entries) if isinstance(entry, Constant) or entry.number not in lone
+            )
+        for dependency in self.dependencies:
+            if dependency.relation in found:
+                found[dependency.relation] |= dependency.left | {dependency.right}
+        return found
 
     def columns(self, place: Asked) -> Tuple[str, ...]:
         """A name for each column of a query's answers, no two alike, as CSV, JSON and SQL have them."""
@@ -577,20 +603,24 @@ class Record:
         same = Query(tuple(map(entry, query.head)), tuple(rows), query.head_length)
         return (self, place) if same == query else (self.alone(place).drop(place).put(0, same), 0)
 
-    def database(self, data: Any, null: Optional[Value] = None) -> Database:
+    def database(self, data: Any, null: Absent = None) -> Database:
         """A database for `test` and `evaluate`.
 
         `data` is `{'burst': rows}`, rows being lists, tuples or dicts, a pandas DataFrame or a numpy
         array, with numbers, texts, decimals and dates; answers then come out as such. `null` is what
-        None and NaN stand for; without it they are refused. `read_database` reads files.
+        None and NaN stand for, or a dict of that by columns, as `{'burst.height': -1}`, with None for the
+        others; without it they are refused. `read_database` reads files.
 
         `test` and `evaluate` take the same without `null`, and also rows as pairs of a relation's number
         and whole numbers, or an array of words as the engine has them.
         """
-        return of_python(data, self.names, None, null)
+        return of_python(data, self.names, null)
 
-    def _data(self, data: Any) -> Union[Database, Words]:
-        """A database as the engine takes it. A row of a known relation must have its width."""
+    def _data(self, data: Any, needed: Optional[Needed] = None, read: Optional[Needed] = None) -> Union[Database, Words]:
+        """A database as the engine takes it. A row of a known relation must have its width.
+
+        Rows from Python are read for what is `needed`, a Database must have been read for `read`.
+        """
         if isinstance(data, array):
             return data
         if isinstance(data, (str, bytes, os.PathLike)):
@@ -598,9 +628,11 @@ class Record:
         if isinstance(data, Database):
             if data.names.tables != self.names.tables:
                 raise ValueError(f"the database is of other tables: {', '.join(map(str, data.names.tables))}")
+            if read is not None and not data.covers(read):
+                raise ValueError("the database was read for another query; without query=.. it is read for all")
             return data
         if isinstance(data, dict) or hasattr(data, "dtype") or hasattr(data, "iloc"):
-            return self.database(data)
+            return of_python(data, self.names, None, needed)
         words = array("I")
         for position, row in enumerate(items("a database", data)):
             pair: Tuple[Any, ...] = items(f"row {position}", row)

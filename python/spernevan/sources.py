@@ -14,90 +14,110 @@ import re
 import sqlite3
 import warnings
 from array import array
+from contextlib import contextmanager
+from dataclasses import dataclass
+from functools import partial
 from itertools import islice
-from typing import AbstractSet, Dict, Iterable, Iterator, List, NoReturn, Optional, Pattern, Protocol, Sequence, TextIO, Tuple, Union
+from typing import Any, Callable, Dict, Iterable, Iterator, List, NoReturn, Optional, Pattern, Sequence, TextIO, Tuple, Union
 from urllib.request import pathname2url
 
-from .data import CHUNK, Cells, Database, DataError, Note, Progress, Where, matched, positions
-from .engine import Words
-from .files import Path, read_bytes, read_while, shown, text_of
-from .notation import Names, Reader, Table, count, format_row
-from .values import Null, Value, format_value
+from .data import CHUNK, Absent, Cells, Cures, Database, DataError, Note, Progress, Where, column_of, matched, positions, read_row_value
+from .files import Path, kind_of, read_bytes, read_while, shown, text_of
+from .model import Words
+from .notation import Names, Reader, Table, Token, count, format_row
+from .record import Asked, Record
+from .values import Null, Value, format_value, plain, read_cell, read_cell_with_comma
 
 
-class Named(Protocol):
-    """What has names, as a record."""
+@dataclass(frozen=True)
+class Csv:
+    """How CSV files are read: the columns whose cells stay texts, the sign of decimals, and the one between cells if it is said."""
 
-    @property
-    def names(self) -> Names: ...
+    text: Iterable[str] = ()
+    decimal: str = "."
+    separator: Optional[str] = None
+
+    def __post_init__(self) -> None:
+        if self.decimal not in (".", ","):
+            raise ValueError(f"the decimal sign must be . or ,, not {self.decimal!r:.40}")
+        if self.separator is not None and (len(self.separator) != 1 or self.separator in '"\r\n\0 '):
+            raise ValueError(f"the separator must be one sign, such as ; or a tabulator, not {self.separator!r:.40}")
+
+    def reader(self, names: Names, relation: int, column: int) -> Callable[[str], Value]:
+        """How the cells of a column are read."""
+        if (relation, column) in [column_of(kept, names) for kept in self.text]:
+            return str
+        return read_cell if self.decimal == "." else read_cell_with_comma
 
 
 def read_database(
     paths: Union[Path, Sequence[Path]],
-    names: Union[Named, Names],
-    null: Optional[Value] = None,
+    names: Union[Record, Names],
+    null: Absent = None,
     text: Iterable[str] = (),
     progress: Optional[TextIO] = None,
+    decimal: str = ".",
+    separator: Optional[str] = None,
+    query: Optional[Asked] = None,
 ) -> Database:
     """The database of a file or some files, for a record or its names: rows of text, CSV files or folders of them, SQLite files.
 
-    `null` is what an absent value stands for; without it, one is refused. `text` has columns of CSV
-    files, as `sonde.version`, whose cells stay texts also where they look like numbers. `progress` is
-    a stream for a line that says how far it is, if it is a terminal. A cell that may be meant otherwise
-    than it is taken is a warning, and one of the database's `notes`.
+    `null` is what an absent value stands for, or a dict of that by columns, as `{'flight.site': 'x'}`, with None
+    for the others; without it, one is refused. `text` has columns of CSV files, as `sonde.version`, whose cells stay
+    texts also where they look like numbers; `decimal` may be a comma; `separator` is the sign between cells, if the
+    header does not tell. For a `query` of a record, what cannot change its answers need not be sound. `progress` is a
+    stream for a line that says how far it is, if it is a terminal. A cell that may be meant otherwise than it is
+    taken is a warning, and one of the database's `notes`.
     """
-    database = Database(names if isinstance(names, Names) else names.names, None, null, Progress(progress))
-    database.null_cure = "say what it stands for with null=VALUE"
-    fill(database, paths, text)
+    if query is not None and not isinstance(names, Record):
+        raise ValueError("a query goes with a record, not with names alone")
+    needed = names.needed(query) if isinstance(names, Record) and query is not None else None
+    database = Database(names if isinstance(names, Names) else names.names, None, null, Progress(progress), needed)
+    database.cures = Cures("say what it stands for with null=VALUE")
+    fill(database, paths, Csv(tuple(text), decimal, separator))
     for note in database.notes:
         warnings.warn(note.text, stacklevel=2)
     return database
 
 
-def read_for_command(paths: Sequence[Path], names: Names, null: Optional[Value], text: Iterable[str], progress: Optional[TextIO]) -> Database:
+def read_for_command(
+    paths: Sequence[Path], record: Record, null: Absent, csv_form: Csv, progress: Optional[TextIO], query: Optional[Asked] = None
+) -> Database:
     """The same for the command, whose messages name its options, and which says the notes itself."""
-    database = Database(names, None, null, Progress(progress))
-    database.null_cure, database.text_cure = "say what it stands for with --null VALUE", "say --text {}"
-    fill(database, paths, text)
+    database = Database(record.names, None, null, Progress(progress), None if query is None else record.needed(query))
+    null_cure = "say what it stands for with --null VALUE, or --null TABLE.COLUMN=VALUE for one column"
+    database.cures = Cures(null_cure, "say --text {}", "say --decimal ,", "say --separator SIGN")
+    fill(database, paths, csv_form)
     return database
 
 
-def fill(database: Database, paths: Union[Path, Sequence[Path]], text: Iterable[str] = ()) -> None:
+def fill(database: Database, paths: Union[Path, Sequence[Path]], csv_form: Csv = Csv()) -> None:
     """Reads files into a database."""
-    names, database.from_files = database.names, True
-    kept = {_column(name, names) for name in text}
+    database.from_files = True
+    for name in csv_form.text:
+        column_of(name, database.names)
     collecting = gc.isenabled()
     gc.disable()  # Rows make no cycles, and looking for them doubles the time.
     try:
         for path in [paths] if isinstance(paths, (str, os.PathLike)) else paths:
-            _read(path, database, kept)
+            _read(path, database, csv_form)
     finally:
         if collecting:
             gc.enable()
         database.progress.done()
 
 
-def _column(name: str, names: Names) -> Tuple[int, int]:
-    """The table and the column of `sonde.version`."""
-    table, _, column = name.partition(".")
-    relation = matched(table, [held.name for held in names.tables], name)
-    found = None if relation is None else matched(column, names.tables[relation].columns, name)
-    if relation is None or found is None:
-        raise DataError(f"{name} is no TABLE.COLUMN of the archive")
-    return relation, found
-
-
-def _read(path: Path, database: Database, kept: AbstractSet[Tuple[int, int]]) -> None:
+def _read(path: Path, database: Database, csv_form: Csv) -> None:
     name = os.fspath(path)
     if name != "-" and os.path.isdir(name):
-        _read_folder(name, database, kept)
+        _read_folder(name, database, csv_form)
         return
     if name.lower().endswith(".csv"):
         relation = _relation(name, database.names)
         if relation is None:
             known = ", ".join(f"{table.name}.csv" for table in database.names.tables)
             raise DataError(f"{name}: the archive has no table of that name; a CSV file is called {known}")
-        read_csv(name, relation, database, kept)
+        database.read(relation, partial(read_csv, name, relation, database, csv_form))
         return
     data, other = read_while(path, 16, lambda start: start != b"SQLite format 3\0")
     if not other:
@@ -107,6 +127,9 @@ def _read(path: Path, database: Database, kept: AbstractSet[Tuple[int, int]]) ->
         return
     if not data and name != "-":
         raise DataError(f"{name}: the file is empty; for no rows at all give a line such as # no rows, or a CSV file with its header line alone")
+    kind = kind_of(data)
+    if kind is not None:
+        raise DataError(f"{shown(path)}: this is {kind}; a database is rows of text, a CSV file or a folder of those, or an SQLite file")
     if b"\0" in data[:1024]:
         raise DataError(f"{shown(path)}: these are neither rows of text, nor CSV, nor an SQLite file")
     text = text_of(data, path)
@@ -150,22 +173,37 @@ class _Rows:
         self._source, self._database = source, database
         self._tables = [_Chunk(relation, database) for relation in range(len(database.names.tables))]
         self._read: List[Tuple[int, List[Words], Where]] = []
+        # Why a table that is not needed is left out.
+        self._left_out: Dict[int, str] = {}
 
-    def add(self, relation: int, literals: Tuple[str, ...], line: int) -> None:
-        """One more row. ValueError if a value of its chunk is none."""
+    def add(self, relation: int, rows: Sequence[Tuple[str, ...]], lines: Iterable[int]) -> None:
+        """More rows of a table. ValueError if a value of a full chunk is none."""
         chunk = self._tables[relation]
-        chunk.rows.append(literals)
-        chunk.lines.append(line)
-        if len(chunk.rows) == CHUNK:
+        chunk.rows.extend(rows)
+        chunk.lines.extend(lines)
+        if len(chunk.rows) >= CHUNK:
             self._code(relation)
 
     def _code(self, relation: int) -> None:
         chunk = self._tables[relation]
-        words = [reader.column(cells) for reader, cells in zip(chunk.readers, zip(*chunk.rows))]
-        self._read.append((relation, words, _line_of(self._source, chunk.lines)))
-        chunk.count += len(chunk.rows)
-        self._database.progress.at(self._database.names.tables[relation].name, chunk.count)
+        rows, lines = chunk.rows, chunk.lines
         chunk.rows, chunk.lines = [], array("I")
+        if relation in self._left_out:
+            return
+        words = []
+        for column, (reader, cells) in enumerate(zip(chunk.readers, zip(*rows))):
+            try:
+                words.append(reader.column(cells))
+            except ValueError:
+                if self._database.needs(relation):
+                    raise
+                position, error = reader.fault(cells)
+                label = self._database.names.tables[relation].columns[column]
+                self._left_out[relation] = f"{self._source}:{lines[position]}: column {label}: {error}; {self._database.cures.null}"
+                return
+        self._read.append((relation, words, _line_of(self._source, lines)))
+        chunk.count += len(rows)
+        self._database.progress.at(self._database.names.tables[relation].name, chunk.count)
 
     def end(self) -> None:
         """There are no more rows."""
@@ -173,14 +211,18 @@ class _Rows:
             if chunk.rows:
                 self._code(relation)
         for relation, words, where in self._read:
-            self._database.add(relation, words, where)
+            if relation not in self._left_out:
+                self._database.add(relation, words, where)
+        for relation, why in self._left_out.items():
+            self._database.leave_out(relation, why)
 
 
 class _Chunk:
     """Rows of one table with their lines, and the readers of its columns."""
 
     def __init__(self, relation: int, database: Database) -> None:
-        self.readers = [database.literals(relation, column) for column in range(len(database.names.tables[relation].columns))]
+        width = len(database.names.tables[relation].columns)
+        self.readers = [database.cells(relation, column, read_row_value) for column in range(width)]
         self.rows: List[Tuple[str, ...]] = []
         self.lines: Words = array("I")
         self.count = 0
@@ -198,27 +240,25 @@ def _read_simple_rows(text: str, source: str, database: Database) -> bool:
     """The rows of a text in which each stands in one line; False, and none is added, if it is another text."""
     tables = database.names.tables
     numbers = {table.name: relation for relation, table in enumerate(tables)}
-    patterns = list(map(_row_pattern, tables))
+    patterns: List[Any] = list(map(_row_pattern, tables))  # whose scanner has no declared type
     rows = _Rows(source, database)
-    at = line = relation = 0
+    at, line = 0, 1
     try:
         while at < len(text):
-            line += 1
-            found = patterns[relation].match(text, at)
-            if found is None:
-                name = _NAME.match(text, at)
-                if name is None:
-                    found = _NO_ROW.match(text, at)
-                    if found is None:
-                        return False
-                    at = found.end()
-                    continue
-                relation = numbers[name.group(1)]
-                found = patterns[relation].match(text, at)
-                if found is None:
+            name = _NAME.match(text, at)
+            if name is None:
+                empty = _NO_ROW.match(text, at)
+                if empty is None:
                     return False
-            rows.add(relation, found.groups(), line)
-            at = found.end()
+                at, line = empty.end(), line + 1
+                continue
+            relation = numbers[name.group(1)]
+            # Rows of one table that follow one another.
+            found = list(islice(iter(patterns[relation].scanner(text, at).match, None), CHUNK))
+            if not found:
+                return False
+            rows.add(relation, [one.groups() for one in found], range(line, line + len(found)))
+            at, line = found[-1].end(), line + len(found)
         rows.end()
     except (KeyError, ValueError):
         return False
@@ -234,28 +274,28 @@ def _read_any_rows(text: str, source: str, database: Database) -> None:
     reader = Reader(text, source)
     names = database.names
     rows = _Rows(source, database)
+
+    def literal() -> Token:
+        """The next value as it is written, or NULL."""
+        token = reader.next
+        if token.kind == "name" and token.text.upper() == "NULL":
+            return reader.take("name")
+        reader.value("a value")
+        return token
+
     while not reader.at_end():
         token = reader.next
         relation = names.relation(reader)
-        literals = reader.listed(lambda: _literal(reader, database))
+        literals = reader.listed(literal)
         table = names.tables[relation]
         if len(literals) != len(table.columns):
             raise reader.error(token, f"{table} has {count(len(table.columns), 'column')}, not {len(literals)}")
+        for column, held in enumerate(literals):
+            if held.kind == "name" and database.needs(relation) and database.null(relation, column) is None:
+                raise reader.error(held, f"there is no value here (NULL); {database.cures.null}")
         reader.line_ends()
-        rows.add(relation, tuple(literals), token.line)
+        rows.add(relation, [tuple(held.text for held in literals)], [token.line])
     rows.end()
-
-
-def _literal(reader: Reader, database: Database) -> str:
-    """The next value as it is written; NULL is one if it is said what that stands for."""
-    token = reader.next
-    if token.kind == "name" and token.text.upper() == "NULL":
-        if database.null is None:
-            raise reader.error(token, f"there is no value here (NULL); {database.null_cure}")
-        reader.take("name")
-    else:
-        reader.value("a value")
-    return token.text
 
 
 # ---- CSV
@@ -267,7 +307,7 @@ def _relation(path: str, names: Names) -> Optional[int]:
     return matched(stem, [table.name for table in names.tables], path)
 
 
-def _read_folder(folder: str, database: Database, kept: AbstractSet[Tuple[int, int]]) -> None:
+def _read_folder(folder: str, database: Database, csv_form: Csv) -> None:
     """The CSV files of a folder, a table each."""
     found: Dict[int, str] = {}
     for name in sorted(os.listdir(folder)):
@@ -283,23 +323,28 @@ def _read_folder(folder: str, database: Database, kept: AbstractSet[Tuple[int, i
         known = ", ".join(f"{table.name}.csv" for table in database.names.tables)
         raise DataError(f"{folder}: there is no CSV file of a table of the archive here; it may have {known}")
     for relation, name in sorted(found.items()):
-        read_csv(os.path.join(folder, name), relation, database, kept)
+        database.read(relation, partial(read_csv, os.path.join(folder, name), relation, database, csv_form))
 
 
-def read_csv(path: str, relation: int, database: Database, kept: AbstractSet[Tuple[int, int]] = frozenset()) -> None:
-    """A CSV file with a header line, as rows of a table. Cells go by , or ; or a tabulator, as the header does."""
+def read_csv(path: str, relation: int, database: Database, csv_form: Csv = Csv()) -> None:
+    """A CSV file with a header line, as rows of a table. Cells go by , or ; or a tabulator, as the header does, unless it is said."""
     table = database.names.tables[relation]
     database.has(relation)
-    sign, readers = ",", [database.cells(relation, column, (relation, column) in kept) for column in range(len(table.columns))]
+    sign = ","
+    readers = [database.cells(relation, column, csv_form.reader(database.names, relation, column)) for column in range(len(table.columns))]
     try:
         with open(path, encoding="utf-8-sig", newline="") as file:
             first = file.readline()
-            sign = _delimiter(first, table, path)
+            sign = csv_form.separator or _delimiter(first, table, path)
             header: List[str] = next(_csv_rows([first], sign), [])
             if not header:
                 raise DataError(f"{path}:1: a header line with the names of the columns was expected, not an empty line")
             if all(matched(column, header, f"{path}:1") is None for column in table.columns):
-                raise DataError(f"{path}:1: no column of {table} is here; the first line has their names, with , or ; or a tabulator between them")
+                signs = ", or ; or a tabulator" if csv_form.separator is None else repr(sign)
+                raise DataError(
+                    f"{path}:1: no column of {table} is here; the first line has their names, with {signs} between them; "
+                    f"for another sign {database.cures.separator}"
+                )
             at = positions(table.columns, header, f"{path}:1")
             reader = _csv_rows(file, sign)
             start = 0
@@ -318,11 +363,13 @@ def read_csv(path: str, relation: int, database: Database, kept: AbstractSet[Tup
                     except ValueError:
                         position, error = cells.fault(columns[number])
                         where = _csv_place(path, sign, start + position)
-                        _refuse(f"{where}: column {table.columns[column]}", error, f"the cell is empty (NULL); {database.null_cure}")
+                        _refuse(f"{where}: column {table.columns[column]}", error, f"the cell is empty (NULL); {database.cures.null}")
                     if known is None and cells.doubt is not None:
                         cell, said = cells.doubt
                         where = _csv_place(path, sign, start + columns[number].index(cell))
-                        _note(database, relation, column, f"{where}: {cell.strip()} in {table.name}.{table.columns[column]} is taken as a text; {said}")
+                        taken = f"{where}: {cell.strip()} in {table.name}.{table.columns[column]} is taken as a text; {said}"
+                        comma = "," in cell and csv_form.decimal == "."
+                        _note(database, relation, column, taken, f"; if the comma is that of a decimal, {database.cures.comma}" if comma else "")
                 if rows:
                     database.add(relation, words, _csv_where(path, sign, start))
                 start += len(rows)
@@ -338,11 +385,11 @@ def read_csv(path: str, relation: int, database: Database, kept: AbstractSet[Tup
             _note(database, relation, column, f"{path}: {same}; if they are no numbers")
 
 
-def _note(database: Database, relation: int, column: int, text: str) -> None:
+def _note(database: Database, relation: int, column: int, text: str, further: str = "") -> None:
     """Notes what may be meant otherwise in a column of CSV, with the cure."""
     table = database.names.tables[relation]
-    cure = database.text_cure.format(f"{table.name}.{table.columns[column]}")
-    database.notes.append(Note(relation, f"{text}, {cure}"))
+    cure = database.cures.text.format(f"{table.name}.{table.columns[column]}")
+    database.notes.append(Note(relation, f"{text}, {cure}{further}"))
 
 
 def _delimiter(header: str, table: Table, path: str) -> str:
@@ -415,7 +462,8 @@ def _sound_rows(rows: List[List[str]], width: int, path: str, sign: str, start: 
     held = [row for row in rows if row]
     for position, row in enumerate(held):
         if len(row) != width:
-            raise DataError(f"{_csv_place(path, sign, start + position)}: the row has {count(len(row), 'cell')}, the header {width}")
+            cure = "; a cell with a comma in it stands between quotes" if sign == "," and len(row) > width else ""
+            raise DataError(f"{_csv_place(path, sign, start + position)}: the row has {count(len(row), 'cell')}, the header {width}{cure}")
     return held
 
 
@@ -433,9 +481,18 @@ def _quoted(name: str) -> str:
     return '"' + name.replace('"', '""') + '"'
 
 
+@contextmanager
+def _sqlite_errors(path: str) -> Iterator[None]:
+    """Errors of SQLite as errors of the data."""
+    try:
+        yield
+    except sqlite3.Error as error:
+        raise DataError(f"{path}: SQLite says: {error}") from None
+
+
 def read_sqlite(path: str, database: Database) -> None:
     """The tables of an SQLite file that the archive has. Nothing is written to it."""
-    try:
+    with _sqlite_errors(path):
         connection = sqlite3.connect(f"file:{pathname2url(os.path.abspath(path))}?mode=ro", uri=True)
         try:
             # One transaction, so that every table is as it was at one moment.
@@ -444,8 +501,6 @@ def read_sqlite(path: str, database: Database) -> None:
             _read_connection(connection, path, database)
         finally:
             connection.close()
-    except sqlite3.Error as error:
-        raise DataError(f"{path}: SQLite says: {error}") from None
 
 
 def _read_connection(connection: sqlite3.Connection, path: str, database: Database) -> None:
@@ -455,31 +510,32 @@ def _read_connection(connection: sqlite3.Connection, path: str, database: Databa
         raise DataError(f"{path}: no table of the archive is here; there is {', '.join(there) or 'none'}")
     for relation, number in found:
         if number is not None:
-            _read_sqlite_table(connection, path, there[number], relation, database)
+            database.read(relation, partial(_read_sqlite_table, connection, path, there[number], relation, database))
 
 
 def _read_sqlite_table(connection: sqlite3.Connection, path: str, name: str, relation: int, database: Database) -> None:
-    table = database.names.tables[relation]
-    labels = [row[1] for row in connection.execute(f"PRAGMA table_info({_quoted(name)})")]
-    wanted = [labels[number] for number in positions(table.columns, labels, f"{path}: table {name}")]
-    database.has(relation)
-    readers: List[Cells] = [database.typed(relation, column) for column in range(len(wanted))]
-    cursor = connection.execute(f"SELECT {', '.join(map(_quoted, wanted))} FROM {_quoted(name)}")
-    start = 0
-    while True:
-        rows = cursor.fetchmany(CHUNK)
-        if not rows:
-            return
-        words = []
-        for column, (cells, reader) in enumerate(zip(zip(*rows), readers)):
-            try:
-                words.append(reader.column(cells))
-            except ValueError:
-                position, error = reader.fault(cells)
-                row = format_row(name, [_said(value) for value in rows[position]])
-                _refuse(f"{path}: row {start + position + 1} of {name}, column {wanted[column]}", error, f"NULL in {row}; {database.null_cure}")
-        database.add(relation, words, _sqlite_where(path, name, start))
-        start += len(rows)
+    with _sqlite_errors(path):
+        table = database.names.tables[relation]
+        labels = [row[1] for row in connection.execute(f"PRAGMA table_info({_quoted(name)})")]
+        wanted = [labels[number] for number in positions(table.columns, labels, f"{path}: table {name}")]
+        database.has(relation)
+        readers: List[Cells] = [database.cells(relation, column, plain) for column in range(len(wanted))]
+        cursor = connection.execute(f"SELECT {', '.join(map(_quoted, wanted))} FROM {_quoted(name)}")
+        start = 0
+        while True:
+            rows = cursor.fetchmany(CHUNK)
+            if not rows:
+                return
+            words = []
+            for column, (cells, reader) in enumerate(zip(zip(*rows), readers)):
+                try:
+                    words.append(reader.column(cells))
+                except ValueError:
+                    position, error = reader.fault(cells)
+                    row = format_row(name, [_said(value) for value in rows[position]])
+                    _refuse(f"{path}: row {start + position + 1} of {name}, column {wanted[column]}", error, f"NULL in {row}; {database.cures.null}")
+            database.add(relation, words, _sqlite_where(path, name, start))
+            start += len(rows)
 
 
 def _sqlite_where(path: str, name: str, start: int) -> Where:

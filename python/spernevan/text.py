@@ -11,7 +11,8 @@
     0: ans(f, c) :- flight(f, s, 'Lindenberg'), sonde(s, c, m)
 
 A table stands above what names it; otherwise lines come in any order. See notation.py for the rules.
-A line such as `2000000000 = 'Lindenberg'` gives a value its number beforehand.
+A line such as `2000000000 = 'Lindenberg'` gives a value its number beforehand, and `0: f, v1, c` above the
+rule of place 0 gives f and c the numbers 0 and 2.
 """
 
 from __future__ import annotations
@@ -19,24 +20,27 @@ from __future__ import annotations
 from typing import Dict, List, NamedTuple, Sequence, Tuple
 
 from .engine import Refused
-from .model import MOST_DEPENDENCIES, Dependency, Entry, Query
+from .model import MOST_DEPENDENCIES, Dependency, Query
 from .notation import (
     Names,
     Reader,
     Table,
     Token,
+    blanked,
     constants,
     format_dependencies,
     format_entries,
     format_parts,
     format_query,
+    format_variable_names,
     key_dependencies,
-    parse_query,
+    parse_rule,
     read_dependencies,
     read_entry,
     read_keyed_table,
     read_place,
     read_rule,
+    read_variable_names,
 )
 from .record import Record
 from .values import FIRST_CODE, Values
@@ -49,6 +53,7 @@ def pack(text: str, source: str = "text") -> Tuple[Record, Names]:
     dependencies: List[Dependency] = []
     queries: Dict[int, Tuple[Token, Query]] = {}
     variables: Dict[int, Dict[int, str]] = {}
+    given: Dict[int, Tuple[Token, Dict[int, str]]] = {}
     values = Values()
 
     def add(token: Token, found: List[Dependency]) -> None:
@@ -69,8 +74,13 @@ def pack(text: str, source: str = "text") -> Tuple[Record, Names]:
             place = read_place(reader)
             if place in queries:
                 raise reader.error(start, f"place {place} is filled on line {queries[place][0].line}")
-            query, variables[place] = read_rule(reader, names)
-            queries[place] = start, query
+            if reader.next.kind == "name" and reader.then.kind in (",", "newline", "end"):
+                if place in given:
+                    raise reader.error(start, f"the variables of place {place} have their names on line {given[place][0].line}")
+                given[place] = start, read_variable_names(reader)
+            else:
+                query, variables[place] = read_rule(reader, names, given[place][1] if place in given else None)
+                queries[place] = start, query
         elif start.text == "ans":
             raise reader.error(start, "a saved query has its place before it, as in 0: ans(..")
         elif start.kind == "name" and reader.then.kind == ":":
@@ -84,6 +94,9 @@ def pack(text: str, source: str = "text") -> Tuple[Record, Names]:
         reader.line_ends()
     if not tables:
         raise reader.error(reader.next, "a text has at least one table, as in flight(number, sonde)")
+    for place, (token, _) in given.items():
+        if place not in queries:
+            raise reader.error(token, f"these are names for the variables of place {place}, whose rule, {place}: ans(.., is missing below")
 
     names = Names(tuple(tables), variables, values)
     at = reader.next
@@ -110,15 +123,20 @@ class Parts(NamedTuple):
 def unpack_parts(record: Record, names: Names) -> Parts:
     """The parts of a record's text."""
     names.fit(record.widths)
-    rules = [(place, _rule(record, place, names)) for place in record.filled()]
+    rules = [(place, _set_rule(record, place, names, _shown(record, place, names)[0])) for place in record.filled()]
     return Parts(names.tables, format_dependencies(record.dependencies, names), rules)
 
 
 def unpack(record: Record, names: Names) -> str:
     """The text of a record; pack gives the record back, to the byte."""
-    parts = unpack_parts(record, names)
-    groups: List[Sequence[str]] = [[str(table) for table in parts.tables], parts.dependencies, _entries(record, names)]
-    groups.append([f"{place}: {rule}" for place, rule in parts.rules])
+    names.fit(record.widths)
+    groups: List[Sequence[str]] = [[str(table) for table in names.tables], format_dependencies(record.dependencies, names), _entries(record, names)]
+    rules: List[str] = []
+    for place in record.filled():
+        shown, given = _shown(record, place, names)
+        rules += [f"{place}: {format_variable_names(given)}"] if given else []
+        rules.append(f"{place}: {_set_rule(record, place, names, shown)}")
+    groups.append(rules)
     return "\n".join("".join(f"{line}\n" for line in group) for group in groups if group)
 
 
@@ -136,21 +154,28 @@ def _constants(record: Record, place: int) -> List[int]:
     return [] if query is None else constants(query)
 
 
-def _entries_of(query: Query) -> List[Entry]:
-    return [*query.head, *(entry for row in query.rows for entry in row.entries)]
-
-
-def _rule(record: Record, place: int, names: Names) -> str:
-    """A saved query as a rule: under the names of those of its variables that are read back with the same numbers."""
-    query = record.queries[place]
-    assert query is not None
-    variables = dict(names.variables.get(place, {}))
+def _shown(record: Record, place: int, names: Names) -> Tuple[Dict[int, str], Dict[int, str]]:
+    """How the variables of a saved query are written so that they are read back with the same numbers; and the names that must be given
+    their numbers beforehand for that, if any."""
+    query = record.query(place)
+    occurring = query.variables()
+    named = {number: name for number, name in names.variables.get(place, {}).items() if number in occurring}
+    shown = blanked(query, named)
+    given: Dict[int, str] = {}
     while True:
-        again = parse_query(format_query(query, names, variables), names)
-        wrong = [old.number for old, new in zip(_entries_of(query), _entries_of(again)) if old != new and old.number in variables]
+        again, _ = parse_rule(format_query(query, names, shown), names, given=given)
+        wrong = [old.number for old, new in zip(query.entries(), again.entries()) if old != new and old.number in shown]
         if not wrong:
-            break
-        del variables[wrong[0]]
+            return shown, given
+        if not given and any(shown[number] != "_" for number in wrong):
+            shown, given = blanked(query, named), named
+        else:
+            del shown[wrong[0]]
+
+
+def _set_rule(record: Record, place: int, names: Names, variables: Dict[int, str]) -> str:
+    """A saved query as a rule, in several lines if it is long."""
+    query = record.query(place)
     rule = format_query(query, names, variables)
     if len(rule) <= 96:
         return rule

@@ -15,11 +15,15 @@ from __future__ import annotations
 import json
 import operator
 import re
+from array import array
+from collections import defaultdict
 from datetime import date, datetime
 from decimal import Decimal, InvalidOperation
-from typing import Dict, Iterable, Iterator, Optional, Tuple, Union
+from itertools import count, filterfalse, islice
+from operator import itemgetter
+from typing import DefaultDict, Dict, Iterable, Iterator, List, Optional, Sequence, Tuple, Type, Union
 
-from .model import LARGEST_CONSTANT
+from .model import LARGEST_CONSTANT, Words
 
 FIRST_CODE = 2_000_000_000
 
@@ -86,47 +90,54 @@ def plain(value: object) -> Value:
     raise ValueError(f"a value must be a number, a text or a date, not {value!r:.40}")
 
 
-def _key(value: Value) -> Union[int, Decimal, str, float]:
+def _key(value: Value) -> _Key:
     """What two equal values share."""
     if isinstance(value, date):
         return value.isoformat(" ") if isinstance(value, datetime) else value.isoformat()
     return value
 
 
+_Key = Union[int, Decimal, str, float]
+
+
 class Values:
     """A dictionary of codes; it only grows. `encode` gives a value's number, `decode` the value of a number."""
 
     def __init__(self, entries: Iterable[Tuple[int, Value]] = ()) -> None:
-        self._codes: Dict[Union[int, Decimal, str, float], int] = {}
-        self._values: Dict[int, Value] = {}
-        self._next = FIRST_CODE
+        # The values whose codes are given, and the others in the order of their codes, with None where a code is given.
+        self._given: Dict[int, Value] = {}
+        self._counted: List[Optional[Value]] = []
+        # The codes. A key that is not there gets the next number that is free, so `get` and `in` are for those that only ask.
+        self._codes: DefaultDict[_Key, int] = defaultdict(filterfalse(self._given.__contains__, count(FIRST_CODE)).__next__)
         for code, value in entries:
             self.define(code, value)
 
     def __len__(self) -> int:
-        return len(self._values)
+        return len(self._codes)
 
     def __iter__(self) -> Iterator[Tuple[int, Value]]:
         """The codes and their values, ascending."""
-        return iter(sorted(self._values.items()))
+        counted = ((code, value) for code, value in enumerate(self._counted, FIRST_CODE) if value is not None)
+        return iter(sorted((*self._given.items(), *counted), key=itemgetter(0)))
 
     def __eq__(self, other: object) -> bool:
         return isinstance(other, Values) and self._codes == other._codes
 
     __hash__ = None  # type: ignore[assignment]
 
+    def __reduce__(self) -> Tuple[Type[Values], Tuple[List[Tuple[int, Value]]]]:
+        return type(self), (list(self),)
+
     def __repr__(self) -> str:
         return f"Values({list(self)!r})"
 
     def copy(self) -> Values:
         """A dictionary with the same entries, to be added to without changing this one."""
-        made = Values()
-        made._codes, made._values, made._next = dict(self._codes), dict(self._values), self._next
-        return made
+        return Values(self)
 
     def only(self, codes: Iterable[int]) -> Values:
         """The entries of some codes."""
-        return Values((code, self._values[code]) for code in sorted(set(codes)) if code in self._values)
+        return Values((code, self.decode(code)) for code in sorted(set(codes)) if self._taken(code))
 
     def encode(self, value: object) -> int:
         """The number that stands for a value; it gets a code if it needs one and has none. Null and ValueError if it is no value."""
@@ -140,17 +151,54 @@ class Values:
             return held
         key = held if isinstance(held, (str, Decimal)) else _key(held)
         code = self._codes.get(key)
-        if code is None:
-            code = held if isinstance(held, int) and self._free(held) else self._new()
-            self._codes[key] = code
-            self._values[code] = held
-        elif isinstance(held, date) and isinstance(self._values[code], str):
-            self._values[code] = held
+        if code is None and isinstance(held, int) and self._free(held):
+            self._given[held] = self._codes[key] = code = held
+        elif code is None:
+            code = self._codes[key]
+            self._count([held], [key])
+        elif isinstance(held, date) and isinstance(self.decode(code), str):
+            self._replace(code, held)
         return code
+
+    def codes(self, keys: Sequence[Union[str, Decimal]]) -> Words:
+        """The numbers that stand for texts, or for decimals that are not whole, many at once."""
+        before = len(self._codes)
+        words = array("I", map(self._codes.__getitem__, keys))
+        new = list(islice(reversed(self._codes), len(self._codes) - before))
+        if new:
+            new.reverse()
+            self._count(new, new)
+        return words
+
+    def _count(self, new: Sequence[Value], keys: Sequence[_Key]) -> None:
+        """Enters values whose keys have just got their codes, ascending."""
+        last = self._codes[keys[-1]]
+        if last > LARGEST_CONSTANT:
+            raise ValueError(f"there are more than {LARGEST_CONSTANT - FIRST_CODE + 1} different values")
+        if last - FIRST_CODE == len(self._counted) + len(new) - 1:
+            self._counted.extend(new)
+            return
+        for value, code in zip(new, map(self._codes.__getitem__, keys)):
+            self._counted.extend([None] * (code - FIRST_CODE - len(self._counted)))
+            self._counted.append(value)
+
+    def _replace(self, code: int, value: Value) -> None:
+        if code in self._given:
+            self._given[code] = value
+        else:
+            self._counted[code - FIRST_CODE] = value
+
+    def _taken(self, code: int) -> bool:
+        """Whether a code stands for a value."""
+        return code in self._given or 0 <= code - FIRST_CODE < len(self._counted) and self._counted[code - FIRST_CODE] is not None
 
     def decode(self, code: int) -> Value:
         """The value that a number stands for: itself, if it is no code of this dictionary."""
-        return self._values.get(code, code)
+        if 0 <= code - FIRST_CODE < len(self._counted):
+            found = self._counted[code - FIRST_CODE]
+            if found is not None:
+                return found
+        return self._given.get(code, code)
 
     def known(self, value: Value) -> bool:
         """Whether a value has a code."""
@@ -164,12 +212,12 @@ class Values:
             raise ValueError(f"a code must be from {FIRST_CODE} to {LARGEST_CONSTANT}, not {code}")
         if isinstance(held, int) and 0 <= held < FIRST_CODE:
             raise ValueError(f"{held} stands for itself and has no code")
-        if code in self._values:
-            raise ValueError(f"{code} stands for {format_value(self._values[code])} already")
+        if self._taken(code):
+            raise ValueError(f"{code} stands for {format_value(self.decode(code))} already")
         if key in self._codes:
             raise ValueError(f"{format_value(held)} has the code {self._codes[key]} already")
         self._codes[key] = code
-        self._values[code] = held
+        self._given[code] = held
 
     def reserve(self, numbers: Iterable[int]) -> None:
         """Enters numbers that a record holds: one among the codes that has no entry stands for itself."""
@@ -179,18 +227,11 @@ class Values:
 
     def numbers_as_text(self) -> Dict[int, str]:
         """The texts that look like whole numbers, by those numbers."""
-        texts = (value for value in self._values.values() if isinstance(value, str))
-        return {int(text): text for text in texts if _WHOLE.fullmatch(text) and len(text) < 20}
+        texts = (key for key in self._codes if isinstance(key, str) and key <= ":" and len(key) < 20)
+        return {int(text): text for text in texts if _WHOLE.fullmatch(text)}
 
     def _free(self, number: int) -> bool:
-        return FIRST_CODE <= number <= LARGEST_CONSTANT and number not in self._values
-
-    def _new(self) -> int:
-        while self._next in self._values:
-            self._next += 1
-        if self._next > LARGEST_CONSTANT:
-            raise ValueError(f"there are more than {LARGEST_CONSTANT - FIRST_CODE + 1} different values")
-        return self._next
+        return FIRST_CODE <= number <= LARGEST_CONSTANT and not self._taken(number)
 
 
 # ---- values as they are written
@@ -229,31 +270,41 @@ def read_cell(cell: str) -> Value:
     return cell
 
 
-def number_meant(cell: str) -> Optional[str]:
+def read_cell_with_comma(cell: str) -> Value:
+    """The same where decimals have a comma: 12,5 is a number, and 12.5 a text."""
+    found = cell if "." in cell else read_cell(cell.replace(",", "."))
+    return cell if isinstance(found, str) else found
+
+
+_SWAPPED = str.maketrans(".,", ",.")
+
+
+def number_meant(cell: str, decimal: str = ".") -> Optional[str]:
     """How `read_cell` wants the number of a cell that it takes as a text, as 1e4, +5, 5., .5 or 12,5; None if it looks like none.
 
-    Digits alone, as 007, are meant as they are.
+    Digits alone, as 007, are meant as they are. `decimal` is the sign of a decimal, a point or a comma.
     """
-    word = cell.strip()
+    word = cell.strip() if decimal == "." else cell.strip().translate(_SWAPPED)
+    sign, others = ("point", "commas") if decimal == "." else ("comma", "points")
     if "," in word and _WITH_COMMAS.fullmatch(word):
-        return "with a point and without commas" if _THOUSANDS.fullmatch(word) else f"with a point, {word.replace(',', '.'):.40}"
+        return f"with a {sign} and without {others}" if _THOUSANDS.fullmatch(word) else f"with a {sign}, {word.replace(',', decimal):.40}"
     if word.isdigit() or len(word) > MOST_DIGITS or not _LIKE_NUMBER.fullmatch(word):
         return None
     try:
         found = bare(_number(Decimal(word)))
     except (InvalidOperation, ValueError):
         return None
-    return found if len(found) <= 40 else "without an exponent"
+    return found.replace(".", decimal) if len(found) <= 40 else "without an exponent"
 
 
 _ABSENT = frozenset(["nan", "na", "n/a", "#n/a", "null", "none"])
 
 
-def doubt(cell: str) -> Optional[str]:
+def doubt(cell: str, decimal: str = ".") -> Optional[str]:
     """What to say of a cell that `read_cell` takes as a text and that a program may have meant otherwise; None if there is no doubt."""
     if cell.strip().casefold() in _ABSENT:
         return "an absent value is an empty cell; if it is a text"
-    number = number_meant(cell)
+    number = number_meant(cell, decimal)
     return None if number is None else f"the number is written {number}; if it is no number"
 
 

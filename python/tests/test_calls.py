@@ -333,8 +333,8 @@ class Random(Calls):
                 if got.mapping is not None:
                     self.assertEqual(sorted(got.mapping), query.variables())
                     self.assertTrue(got.record.check(target, place, got.mapping))
-                    wrong = {**got.mapping, 77: Constant(1)} if 77 not in got.mapping else {}
-                    self.assertFalse(got.record.check(target, place, wrong))
+                    spare = next(number for number in range(96) if number not in got.mapping)
+                    self.assertFalse(got.record.check(target, place, {**got.mapping, spare: Constant(1)}))
                 self.assertTrue(got.record.compare(place, target).contained)
                 self.assertTrue(got.record.compare(target, place).contained)
                 for other, rival in enumerate(record.queries):

@@ -29,6 +29,13 @@ class Changes(Command):
         self.failed(f"{self.file}: place 4 is vacant; filled: 1, 2, 3, 5, 6", "drop", self.file, 1, 4)
         self.assertEqual(Record.read(self.file).filled(), [1, 2, 3, 5, 6])
 
+    def test_put_writes_a_blank_as_it_came(self):
+        rule = "ans(f) :- flight(f, _, _, t), burst(f, _)"
+        self.assertEqual(self.done("put", self.file, 4, rule), f"{self.file}: place 4 holds {rule}\n")
+        self.assertIn(f"4: {rule}\n", self.done("unpack", self.file))
+        found = json.loads(self.done("compare", "--json", self.file, rule, 4))
+        self.assertEqual(found["p"], rule)
+
     def test_add(self):
         self.assertEqual(
             self.done("add", self.file, "burst: height -> flight", "layer: level -> height, flight"),
@@ -82,9 +89,10 @@ class Changes(Command):
     def test_reduce(self):
         rule = "ans(f, h) :- flight(f, s, 7, t), sonde(s, c, m), calibration(c, l, 2), burst(f, h)"
         self.assertEqual(self.done("reduce", self.file, 0), f"{self.file}: place 4 holds the short form of place 0, 4 rows: {rule}\n")
-        self.assertIn(
-            "4: ans(f, h) :- flight(f, s, 7, t), sonde(s, v7, v8), calibration(v7, v11, 2), burst(f, h)\n", self.done("unpack", self.file)
-        )
+        unpacked = self.done("unpack", self.file)
+        self.assertIn(f"\n4: f, h, s, t, v4, v5, v6, c, m, v9, v10, l\n4: {rule}\n", unpacked)
+        self.assertEqual(pack(unpacked)[0].file, self.file.read_bytes())
+        self.assertEqual(pack(unpacked)[1].variables[4], Record.read(self.file).names.variables[4])
         self.failed(f"{self.file}: place 5 is filled; vacant: 7", "reduce", self.file, 0, 5)
         self.assertEqual(
             self.done("reduce", self.file, "ans(a, b, c) :- burst(a, b), burst(a, c)", 7),
@@ -178,7 +186,7 @@ class Rules(Command):
         shown = self.done("show", FLIGHTS, "ans(a) :- burst(a, b), burst(a, c)", 3)
         self.assertTrue(
             shown.startswith(
-                "The rule\n  Long form, 2 rows:\n    ans(a) :- burst(a, b),\n              burst(a, c)\n  Short form, 1 row:\n"
+                "The rule\n  Long form, 2 rows:\n    ans(a) :- burst(a, _),\n              burst(a, _)\n  Short form, 1 row:\n"
             ),
             shown,
         )

@@ -12,7 +12,7 @@ from pathlib import Path
 from unittest import mock
 
 import context
-from spernevan import Record, parse_query, read_names
+from spernevan import Failure, Record, parse_query, read_names
 from spernevan.command import main
 from spernevan.files import names_path
 
@@ -64,11 +64,12 @@ class Sample(Command):
             "Place 0\n"
             "  Long form, 2 rows:\n"
             "    ans(v0, v1, v2) :- R0(v0, v1, v2),\n"
-            "                       R0(v0, 7, v3)\n"
+            "                       R0(v0, 7, _)\n"
             "  Short form, 1 row:\n"
             "    ans(v0, 7, v2) :- R0(v0, 7, v2)\n"
             "  Mapping from the long form to the short:\n"
-            "    v0 -> v0, v1 -> 7, v2 -> v2, v3 -> v2\n"
+            "    v0 -> v0, v1 -> 7, v2 -> v2\n"
+            "    row 1 -> row 1, row 2 -> row 1\n"
             "  Replaced by the dependencies: 1 variable\n",
         )
 
@@ -98,6 +99,15 @@ class Sample(Command):
         self.assertLess(max(map(len, text.splitlines())), 80)
         self.assertIn("ans(v0, v1, v1) :- R4(v0, v1)", self.done("list", "--plain", FLIGHTS))
 
+    def test_list_and_define_write_variables_alike(self):
+        for arguments in (["list", FLIGHTS], ["show", FLIGHTS, *range(4), 5, 6], ["list", "--plain", EXAMPLE]):
+            text = self.done(*arguments)
+            plain = ["--plain"] if "--plain" in arguments else []
+            for place in ([0] if plain else [0, 1, 2, 3, 5, 6]):
+                defined = self.done("define", arguments[-1] if plain else FLIGHTS, place, *plain)
+                self.assertIn(f"Place {place}\n" + defined[defined.index("  Long form") :], text)
+            self.assertNotIn("v3", text)
+
     def test_list_nothing(self):
         path = self.folder / "empty.file"
         Record.open([1]).write(path)
@@ -116,19 +126,22 @@ class Sample(Command):
             self.done("compare", FLIGHTS, 5, 0, status=1),
             "Not contained. This database obeys the dependencies:\n"
             "  flight\n"
-            "        number       sonde  site      launch\n"
-            "    2147483648  2147483650     7  2147483651\n"
+            "    number  sonde  site  launch\n"
+            "         f     v2     7      v3\n"
             "  burst\n"
-            "        flight      height\n"
-            "    2147483648  2147483649\n"
-            "There ans(2147483648, 2147483649) is an answer of place 5 and not of place 0.\n"
-            "A number from 2147483648 on stands for a variable of place 5.\n",
+            "    flight  height\n"
+            "         f       h\n"
+            "There ans(f, h) is an answer of place 5 and not of place 0.\n"
+            "A name stands for a value of its own, unlike every other value here and in the archive.\n",
         )
         self.assertIn("The dependencies leave place 3 without an answer.", self.done("compare", FLIGHTS, 3, 3))
         found = json.loads(self.done("compare", "--json", FLIGHTS, 5, 0, status=1))
         self.assertEqual((found["contained"], found["mapping"]), (False, None))
         self.assertEqual(found["counterexample"]["answer"], [2147483648, 2147483649])
         self.assertEqual(found["counterexample"]["rows"][1], {"table": "burst", "values": [2147483648, 2147483649]})
+        self.assertEqual(found["counterexample"]["variables"], {"f": 2147483648, "h": 2147483649, "v2": 2147483650, "v3": 2147483651})
+        text = self.done("compare", FLIGHTS, "ans(x, 'y') :- burst(x, 'y')", "ans(x, 7) :- burst(x, 'y')", status=1)
+        self.assertIn("There ans(x, 'y') is an answer of the first rule", text)
         found = json.loads(self.done("compare", "--json", FLIGHTS, 0, 5))
         self.assertEqual((found["contained"], found["counterexample"]), (True, None))
         self.assertEqual(found["mapping"], {"f": "f", "h": "h", "v2": "s", "v3": "t"})
@@ -191,6 +204,31 @@ class Messages(Command):
             for command in (["list", bad], ["unpack", bad], ["compare", bad, 0, 0], ["test", bad, DATA], ["put", bad, 0, "ans() :- never"]):
                 self.failed(f"{bad} {meaning}", *command)
         self.failed("/dev/zero is no archive file", "list", "/dev/zero")
+
+    def test_another_kind_of_file(self):
+        """What is given in place of an archive, of a text or of data is called by its name, with the cure."""
+        data, pack = "test and evaluate take it as data, after the archive", "pack makes an archive file from a text"
+        names = context.SAMPLES / "flights.names"
+        for file, kind, cure in (
+            (names, "a names file", "give the archive file beside it, whose names these are"),
+            (self.write("a.db", b"SQLite format 3\0\x10\0"), "an SQLite file", data),
+            (self.write("flight.csv", "number,site\n"), "a CSV file", data),
+            ("/bin/sh", "a program", pack),
+            (self.write("a.xlsx", b"PK\x03\x04\x14\0"), "a ZIP file, as those of Excel are", f"{pack}, and data is saved as CSV"),
+        ):
+            for command in (["list", file], ["evaluate", file, 0, DATA], ["drop", file, 0]):
+                self.failed(f"{file} is {kind}, where an archive file or the text of one was expected; {cure}\n", *command)
+            with self.assertRaisesRegex(Failure, f"is {kind}, where an archive file or the text of one was expected; {cure}"):
+                Record.read(file)
+            if kind != "a CSV file":
+                text = f"{file} is {kind}, where the text of an archive was expected, as samples/flights.text is one\n"
+                self.failed(text, "pack", file, self.folder / "x.file")
+            if kind not in ("a CSV file", "an SQLite file"):
+                self.failed(f"{file}: this is {kind}; a database is rows of text, a CSV file or", "test", FLIGHTS, file)
+        self.failed(f"{FLIGHTS}: this is an archive file; a database is rows of text", "test", FLIGHTS, FLIGHTS)
+        noise = self.write("noise", bytes(range(255, -1, -1)))
+        self.failed(f"{noise} is no text, where the text of an archive was expected", "pack", noise, self.folder / "x.file")
+        self.failed(f"{names} has the names", "pack", context.SAMPLES / "flights.text", context.SAMPLES / "flights.other")
 
     def test_places(self):
         self.failed(f"{FLIGHTS}: there is no place 8: places go from 0 to 7", "compare", FLIGHTS, 0, 8)

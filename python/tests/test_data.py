@@ -4,6 +4,7 @@ import csv
 import importlib.util
 import io
 import json
+import pickle
 import random
 import sqlite3
 import subprocess
@@ -18,8 +19,9 @@ from unittest import mock
 
 import context
 from spernevan import Broken, Constant, DataError, Query, Record, Refused, Row, Table, pack, read_database, sources
-from spernevan.data import Progress, matched
+from spernevan.data import Cells, Form, Progress, matched, read_row_value
 from spernevan.notation import format_datum
+from spernevan.values import Values, plain, read_cell, read_cell_with_comma
 from test_command import Command, run
 
 TEXT = """
@@ -204,11 +206,15 @@ class Files(Data):
             ("", "flight.csv:1: a header line with the names of the columns was expected, not an empty line"),
             ("number,site\n", "flight.csv:1: there is no column launch; there is number, site"),
             ("# a logger\nnumber,site,launch\n", "flight.csv:1: no column of flight(number, site, launch) is here; the first line has their names, with"),
-            ("number|site|launch\n", "flight.csv:1: no column of flight(number, site, launch) is here"),
+            (
+                "number|site|launch\n",
+                "flight.csv:1: no column of flight(number, site, launch) is here; the first line has their names, "
+                "with , or ; or a tabulator between them; for another sign say --separator SIGN\n",
+            ),
             ("number,site,launch,site\n", "flight.csv:1: site is there 2 times"),
             ("Number,number ,site,launch\n", "flight.csv:1: number is there 2 times"),
-            (header + "1,2\n", "flight.csv:2: the row has 2 cells, the header 3"),
-            (header + "1,2,3\n\n1,2,3,4\n", "flight.csv:4: the row has 4 cells, the header 3"),
+            (header + "1,2\n", "flight.csv:2: the row has 2 cells, the header 3\n"),
+            (header + "1,2,3\n\n1,2,3,4\n", "flight.csv:4: the row has 4 cells, the header 3; a cell with a comma in it stands between quotes\n"),
             (header.encode() + b"1,2,3\n1,\xff,3\n", "flight.csv:3:3: this byte is not UTF-8 text"),
             (header + '1,2,"' + "x" * 200000 + '"\n', 'flight.csv:2: a cell has more than 131072 characters; a quote " may be missing'),
             (header + '1,"2\n0",3\n\n1,"2,3\n1,2,3\n', 'flight.csv:5: a quote " that begins in this row does not end'),
@@ -354,7 +360,7 @@ class Files(Data):
         self.assertIn("the text '101' and the number 101 are different values", err)
         self.assertIn("between quotes, and --text TABLE.COLUMN takes a column of CSV as text\n", err)
         found = run("evaluate", self.text, "ans(h) :- flight(f, p, t), burst(f, h)", base, more, "--text", "burst.flight")
-        self.assertEqual((found[1], "different values" in found[2]), ("ans(7)\nans(8)\n# 2 answers\n", False))
+        self.assertEqual((found[1], "different values" in found[2]), ("ans(7.0)\nans(8)\n# 2 answers\n", False))
 
     def test_numbers_that_may_be_versions(self):
         cells = self.csv(flight="number,site,launch\n1,1.1,x\n2,1.10,x\n3,007,x\n")
@@ -399,6 +405,10 @@ class Files(Data):
                 '[\n  {"f": "001", "h": 13.0},\n  {"f": "12.5", "h": 1e-07},\n  {"f": "x", "h": 2.5}\n]\n',
             ],
         )
+        base = self.sqlite(
+            'DROP TABLE "Burst"', 'CREATE TABLE "Burst" (flight, height)', "INSERT INTO burst VALUES ('a', 13.0), ('b', 12), ('c', 2.5)"
+        )
+        self.assertEqual(self.done("evaluate", self.text, rule, base), "ans('a', 13.0)\nans('b', 12)\nans('c', 2.5)\n# 3 answers\n")
         # What is written as rows or as CSV is read as the same values.
         base = self.sqlite(bursts=[("001", 13), ("12.5", 0.25), ("x", 2.5)])
         again = self.write("x.data", self.done("evaluate", self.text, rule, base).replace("ans(", "burst("))
@@ -435,6 +445,127 @@ class Files(Data):
         )
 
 
+class WhatIsAskedFor(Data):
+    """What cannot change the answers does not stop an evaluation."""
+
+    RULE = "ans(p) :- flight(f, p, t)"
+
+    def left_out(self, source, why, rule=RULE):
+        status, out, err = run("evaluate", self.text, rule, source)
+        self.assertEqual((status, out), (0, "ans('De Bilt')\n# 1 answer\n"), err)
+        self.assertTrue(err.startswith(f"spernevan: the table burst, which the query does not ask for, is left out: {why}"), err)
+        self.assertEqual(err.count("\n"), 1)
+
+    def test_another_table(self):
+        header, row = "number,site,launch\n", ("F-1", "De Bilt", "2026-01-14")
+        flight = header + ",".join(row) + "\n"
+        for burst, why in (
+            (
+                "flight,height\nF-1,\n",
+                "burst.csv:2: column height: the cell is empty (NULL); say what it stands for with --null VALUE, or --null TABLE.COLUMN=VALUE ",
+            ),
+            ("flight\n", "burst.csv:1: there is no column height"),
+            ("flight,height\n1\n", "burst.csv:2: the row has 1 cell, the header 2"),
+            (b"flight,height\n\xff,1\n", "burst.csv:2:1: this byte is not UTF-8 text"),
+            ("flight,height\n" + "F-1,3\n" * 3 + "F-1,\n", "burst.csv:5: column height: the cell is empty"),
+        ):
+            cells = self.csv(flight, burst)
+            with mock.patch.object(sources, "CHUNK", 2):
+                self.left_out(cells, f"{cells}/{why}")
+            self.failed(f"{cells}/burst.csv", "evaluate", self.text, 0, cells)
+            self.failed(f"{cells}/burst.csv", "test", self.text, cells)
+        base = self.sqlite(flights=[row], bursts=[("F-1", None)])
+        self.left_out(base, f"{base}: row 1 of Burst, column height: NULL in Burst('F-1', NULL); say")
+        self.left_out(self.sqlite('DROP TABLE "Burst"', 'CREATE VIEW "Burst" AS SELECT * FROM kite', flights=[row]), str(self.folder))
+        for rows in ("flight('F-1', 'De Bilt', 1)\nburst(1, 2)\nburst(2, NULL)\n", "flight('F-1',\n'De Bilt', 1)\nburst(2, NULL)\n"):
+            path = self.write("n.data", rows)
+            self.left_out(path, f"{path}:3: column height: there is no value here (NULL); say")
+            self.failed(f"{path}:3:10: there is no value here (NULL)", "test", self.text, path)
+        data = {"flight": [row], "burst": [("F-1", None), ("F-1", 2)]}
+        with self.assertWarnsRegex(UserWarning, "the table burst, which the query does not ask for, is left out: burst: column height, row 0") as seen:
+            self.assertEqual(self.record.evaluate(self.RULE, data), [("De Bilt",)])
+        self.assertEqual(seen.filename, __file__)
+        self.assertRaises(DataError, self.record.test, data)
+        self.assertRaises(DataError, read_database, base, self.record)
+        with self.assertWarnsRegex(UserWarning, "the table burst, which the query does not ask for, is left out"):
+            found = read_database(base, self.record, query=self.RULE)
+        self.assertEqual(self.record.evaluate(self.RULE, found), [("De Bilt",)])
+        for call in (lambda: self.record.evaluate(0, found), lambda: self.record.test(found)):
+            self.assertRaisesRegex(ValueError, "the database was read for another query; without query=.. it is read for all", call)
+        with self.assertRaisesRegex(ValueError, "a query goes with a record"):
+            read_database(base, self.names, query=self.RULE)
+
+    def test_another_column(self):
+        """A column in which the query has a variable that stands once, and of which no dependency speaks."""
+        text = self.write("b.text", "flight(number, site, remark)\nflight: number -> site\n")
+        cells = self.folder_of(flight="number,site,remark\nF-1,De Bilt,\nF-1,x,late\n")
+        status, out, err = run("evaluate", text, "ans(f) :- flight(f, 'De Bilt', r)", cells)
+        self.assertEqual((status, out), (0, "ans('F-1')\n# 1 answer\n"))
+        self.assertIn("flight.csv:2: flight('F-1', 'De Bilt', '')\n", err)
+        for rule in ("ans(r) :- flight(f, p, r)", "ans(f) :- flight(f, p, r), flight(g, q, r)", "ans(f) :- flight(f, p, 'late')"):
+            self.failed(f"{cells}/flight.csv:2: column remark: the cell is empty (NULL)", "evaluate", text, rule, cells)
+        self.failed(f"{cells}/flight.csv:2: column remark: the cell is empty (NULL)", "test", text, cells)
+
+    def test_null_by_columns(self):
+        cells = self.csv("number,site,launch\nF-1,,\n", "flight,height\nF-1,\n")
+        rule = "ans(f, p, t, h) :- flight(f, p, t), burst(f, h)"
+        each = ["--null", "flight.site=none", "--null", "Burst.Height=-1.5", "--null=flight.launch='a = b'"]
+        self.assertEqual(self.done("evaluate", self.text, rule, cells, *each), "ans('F-1', 'none', 'a = b', -1.5)\n# 1 answer\n")
+        rest = ["--null", "0", "--null", "flight.site="]
+        self.assertEqual(self.done("evaluate", self.text, rule, cells, *rest), "ans('F-1', '', 0, 0)\n# 1 answer\n")
+        self.assertEqual(self.done("evaluate", self.text, rule, cells, "--null='a=b'"), "ans('F-1', 'a=b', 'a=b', 'a=b')\n# 1 answer\n")
+        self.failed(f"{cells}/burst.csv:2: column height: the cell is empty (NULL); ", "test", self.text, cells, *each[:2], "--null=flight.launch=1")
+        unknown = "--null kite.site=1: kite.site is no TABLE.COLUMN of the archive; a text with = in it stands"
+        self.failed(unknown, "test", self.text, cells, "--null", "kite.site=1")
+        self.failed("--null says twice what NULL stands for\n", "test", self.text, cells, "--null", "1", "--null", "2")
+        self.failed("--null says twice what NULL stands for in flight.site\n", "test", self.text, cells, *["--null=flight.site=2"] * 2)
+        path = self.write("n.data", "flight(1, NULL, 2)\nburst(\n1, NULL)\n")
+        self.failed(f"{path}:3:4: there is no value here (NULL)", "evaluate", self.text, rule, path, "--null=flight.site=x")
+        self.assertEqual(self.done("evaluate", self.text, rule, path, "--null=flight.site=x", "--null=burst.height=3"), "ans(1, 'x', 2, 3)\n# 1 answer\n")
+        data = {"flight": [(1, None, None)], "burst": [(1, float("nan"))]}
+        found = self.record.database(data, null={"flight.site": "x", None: 7})
+        self.assertEqual(self.record.evaluate(rule, found), [(1, "x", 7, 7)])
+        with self.assertRaisesRegex(DataError, "column launch, row 0: there is no value"):
+            self.record.database(data, null={"flight.site": "x"})
+
+
+class Decimals(Data):
+    RULE = "ans(f, h) :- burst(f, h)"
+
+    def test_a_decimal_comma(self):
+        rows = "1;31200,50\n2;-0,25\n3;7\n4;13,0\n5;2026-01-14\n6;De Bilt, NL\n"
+        cells = self.csv(burst="flight;height\n" + rows)
+        found = "ans(1, 31200.50)\nans(2, -0.25)\nans(3, 7)\nans(4, 13.0)\nans(5, 2026-01-14)\nans(6, 'De Bilt, NL')\n# 6 answers\n"
+        self.assertEqual(self.done("evaluate", self.text, self.RULE, cells, "--decimal", ","), found)
+        self.assertEqual(self.done("evaluate", self.text, "ans(f) :- burst(f, 31200.5)", cells, "--decimal=,"), "ans(1)\n# 1 answer\n")
+        status, _, err = run("evaluate", self.text, self.RULE, cells)
+        self.assertIn("31200,50 in burst.height is taken as a text; the number is written with a point, 31200.50; ", err)
+        self.assertTrue(err.endswith("say --text burst.height; if the comma is that of a decimal, say --decimal ,\n"), err)
+        self.assertEqual((status, err.count("\n")), (0, 1))
+        quoted = self.csv(burst='flight,height\n1,"12,5"\n')
+        self.assertEqual(self.done("evaluate", self.text, self.RULE, quoted, "--decimal=,"), "ans(1, 12.5)\n# 1 answer\n")
+        for cell, number in (("12.5", "with a comma, 12,5"), ("1.234,5", "with a comma and without points"), ("1e-1", "0,1")):
+            cells = self.csv(burst=f"flight;height\n1;{cell}\n")
+            status, out, err = run("evaluate", self.text, self.RULE, cells, "--decimal", ",")
+            self.assertEqual(out, f"ans(1, '{cell}')\n# 1 answer\n")
+            self.assertIn(f"{cell} in burst.height is taken as a text; the number is written {number}; if it is no number, say --text burst.height\n", err)
+        self.assertEqual(self.record.evaluate(self.RULE, read_database(quoted, self.record, decimal=",")), [(1, Decimal("12.5"))])
+        for wrong in ({"decimal": ";"}, {"separator": "ab"}, {"separator": '"'}):
+            self.assertRaises(ValueError, read_database, quoted, self.record, **wrong)
+
+    def test_a_separator(self):
+        for sign, name in (("|", "|"), (":", ":"), ("\t", "tab"), ("\t", "\\t"), (";", ";")):
+            cells = self.csv(burst=f"flight{sign}height\n1{sign}a,b\n", flight=f"number{sign}site{sign}launch\n")
+            self.assertEqual(self.done("evaluate", self.text, self.RULE, cells, "--separator", name), "ans(1, 'a,b')\n# 1 answer\n")
+            self.assertEqual(self.record.evaluate(self.RULE, read_database(cells, self.record, separator=sign)), [(1, "a,b")])
+        burst = cells / "burst.csv"
+        self.failed(f"{burst}:1: no column of burst(flight, height) is here; ", "evaluate", self.text, self.RULE, burst, "--separator=|")
+        for wrong in ("", "ab", '"'):
+            status, out, err = run("test", self.text, cells, "--separator", wrong)
+            self.assertEqual((status, out, err.count("\n")), (2, "", 1))
+            self.assertIn("the separator must be one sign, such as ; or a tabulator", err)
+
+
 class FromPython(Data):
     def setUp(self):
         super().setUp()
@@ -466,9 +597,13 @@ class FromPython(Data):
             [(1, Decimal("13")), (2, Decimal("2.50"))],
             [(True, "2026-01-14"), (False, "x")],
             [("2026-01-14", 1), ("a", 2.5), ("b", "c")],
+            [(1, 13.0), (2, 12), (3, 2.5), (4, "x"), (5, -0.5)],
+            [(1, True), (2, 12), (3, Decimal("2.50")), (4, 2.25), (5, Decimal("14.0"))],
+            [(1, 1), (2, 2), (3, 3.0), (4, 4)],
             [(date(2026, 1, 14), datetime(2026, 1, 14, 12)), (date(2026, 1, 15), datetime(2026, 1, 15))],
         ):
-            found = self.record.evaluate(rule, {"burst": rows})
+            with mock.patch("spernevan.data.CHUNK", 2):
+                found = self.record.evaluate(rule, {"burst": rows})
             self.assertEqual(sorted(map(repr, found)), sorted(map(repr, rows)))
         # Each column by its own type, also where the values are the same.
         data = {"flight": [(1, 1.0, Decimal("1.5"))], "burst": [(1.0, 1.5)]}
@@ -634,19 +769,22 @@ class Random(Data):
                 for relation in range(len(plain.widths))
             }
             grouped = [(r, values) for relation in range(len(plain.widths)) for r, values in rows if r == relation]
-            for data in (
-                named.database(tables),
-                self.from_csv(number, tables, named),
-                self.from_rows(tables, named),
-                self.from_sqlite(number, tables, named),
-            ):
+            from_sqlite = self.from_sqlite(number, tables, named)
+            for data in (named.database(tables), self.from_csv(number, tables, named), self.from_rows(tables, named), from_sqlite):
                 self.assertEqual(named.test(data), plain.test(grouped))
                 seen.add(named.test(data) is None)
                 for place in plain.filled():
                     wanted = {tuple(pool[value] for value in answer) for answer in plain.evaluate(place, rows)}
                     answers = named.evaluate(place, data, tested=True)
-                    self.assertEqual((set(answers), len(answers)), (wanted, len(wanted)))
+                    # SQLite has no dates: one in a column of texts comes out as the text that went in.
+                    if data is from_sqlite:
+                        wanted, answers = ([tuple(map(self.undated, one)) for one in some] for some in (wanted, answers))
+                    self.assertEqual((set(answers), len(answers)), (set(wanted), len(wanted)))
         self.assertEqual(seen, {True, False})
+
+    @staticmethod
+    def undated(value):
+        return str(value) if isinstance(value, date) else value
 
     @staticmethod
     def renamed(query, pool, values):
@@ -655,6 +793,29 @@ class Random(Data):
 
         rows = tuple(Row(row.relation, tuple(map(entry, row.entries))) for row in query.rows)
         return Query(tuple(map(entry, query.head)), rows, query.head_length)
+
+    def test_a_column_is_read_as_its_cells(self):
+        """Many at once or one by one, cells are the same values, under one code each."""
+        rng = random.Random(15)
+        words = "Graw|nan|N-1|12.5|12.50|13.0|-0.25|7|0|007|2026-01-14|1e4|x, y|3000000000|2000000003|9.5.1|12,5".split("|")
+        pools = {
+            read_cell: words,
+            read_cell_with_comma: words,
+            str: words,
+            read_row_value: ["'a'", "'it''s'", "''", '"x\\ny"', "12.5", "-3", "2026-01-14", "2000000001", "0.10"],
+            plain: ["a", "12.5", 12.5, 13.0, 7, True, Decimal("12.50"), -1, 2**40, 2_000_000_002, date(2026, 1, 14), "2026-01-14", 0.1],
+        }
+        for read, pool in pools.items():
+            for _ in range(60 * context.MANY):
+                values = Values([(2_000_000_001, "given"), (2_000_000_004, Decimal("9.75"))])
+                cells = Cells(values, None, read, Form())
+                some = rng.sample(pool, rng.randint(1, len(pool)))
+                for column in ([rng.choice(some) for _ in range(rng.randint(0, 9))] for _ in range(3)):
+                    found = list(map(values.decode, cells.column(column)))
+                    self.assertEqual(list(map(self.undated, found)), list(map(self.undated, map(read, column))))
+                entries = dict(values)
+                self.assertEqual((len(entries), pickle.loads(pickle.dumps(values)), values.copy()), (len(values), values, values))
+                self.assertTrue(all(values.encode(value) == code for code, value in entries.items()))
 
     def from_csv(self, number, tables, record):
         folder = self.folder / f"random{number}"
@@ -709,10 +870,15 @@ class Large(Data):
 
     @unittest.skipUnless(context.LONG, "takes a minute; SPERNEVAN_TEST_LONG=1 runs it")
     def test_a_million_rows(self):
-        """A million rows in seconds, from each kind of file, with texts, dates and as many different keys as rows."""
+        """A million rows in seconds, from each kind of file, with texts, dates and as many different keys as rows; and with all cells different."""
         n = 500_000
-        flights = [(f"F-{k}", f"site {k % 50}", f"2026-01-{k % 28 + 1:02d}") for k in range(n)]
-        bursts = [(f"F-{k}", k % 977 + 0.5) for k in range(n)]
+        for flights, bursts in (
+            ([(f"F-{k}", f"site {k % 50}", f"2026-01-{k % 28 + 1:02d}") for k in range(n)], [(f"F-{k}", k % 977 + 0.5) for k in range(n)]),
+            ([(f"F-{k}", f"site {k}", f"day {k}") for k in range(n)], [(f"B-{k}", k + 0.25) for k in range(n)]),
+        ):
+            self.read_from_each_kind(n, flights, bursts)
+
+    def read_from_each_kind(self, n, flights, bursts):
         sources = {
             "CSV": self.csv(
                 "number,site,launch\n" + "".join(f"{a},{b},{c}\n" for a, b, c in flights),
@@ -721,7 +887,7 @@ class Large(Data):
             "SQLite": self.sqlite(flights=flights, bursts=bursts),
             "rows of text": self.write(
                 "l.data",
-                "".join(f"flight('{a}', '{b}', {c})\n" for a, b, c in flights) + "".join(f"burst('{a}', {b})\n" for a, b in bursts),
+                "".join(f"flight('{a}', '{b}', '{c}')\n" for a, b, c in flights) + "".join(f"burst('{a}', {b})\n" for a, b in bursts),
             ),
         }
         for kind, source in sources.items():

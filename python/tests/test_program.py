@@ -17,7 +17,19 @@ from spernevan import Record
 from test_command import DATA, FLIGHTS, Command
 
 
-class Program(Command):
+class Started(Command):
+    def interrupted_early(self, program):
+        """An interrupt in the first hundredths of a second ends a program without a word."""
+        for wait in range(0, 60, 4):
+            running = subprocess.Popen([str(program), "list", FLIGHTS], stdout=subprocess.PIPE, stderr=subprocess.PIPE)
+            time.sleep(wait / 1000)
+            running.send_signal(signal.SIGINT)
+            _, err = running.communicate(timeout=20)
+            self.assertEqual(err, b"")
+            self.assertIn(running.returncode, (-signal.SIGINT, 0))
+
+
+class Program(Started):
     def slow(self):
         """An evaluation that takes far longer than a test."""
         text = self.folder / "slow.text"
@@ -28,6 +40,21 @@ class Program(Command):
         data = self.folder / "slow.data"
         data.write_text("".join(f"edge({a}, {b})\n" for a in range(120) for b in range(120)))
         return [str(text), "0", str(data)]
+
+    def test_only_what_needs_the_engine_builds_it(self):
+        tree = self.folder / "tree"
+        shutil.copytree(context.HERE.parent, tree / "python", ignore=shutil.ignore_patterns("__pycache__", "tests", "dist", "*.so"))
+        shutil.copy(context.ROOT / "spernevan", tree)
+        (tree / "python" / "build").write_text("#!/bin/sh\necho building\nexit 1\n")
+        for arguments, status, out, err in (
+            (["--version"], 0, b"spernevan 1", b""),
+            (["--help"], 0, b"usage: ", b""),
+            (["lst"], 2, b"", b"spernevan: argument COMMAND"),
+            (["list", FLIGHTS], 2, b"", f"building\nspernevan: {tree}/python/build failed\n".encode()),
+        ):
+            done = subprocess.run([str(tree / "spernevan"), *arguments], capture_output=True)
+            self.assertEqual(done.returncode, status)
+            self.assertTrue(done.stdout.startswith(out) and done.stderr.startswith(err) and bool(done.stderr) == bool(err), done)
 
     def test_through_a_link(self):
         link = self.folder / "linked"
@@ -79,13 +106,7 @@ class Program(Command):
     def test_an_interrupt_while_python_starts(self):
         if subprocess.run(["env", "--block-signal=INT", "true"], capture_output=True).returncode != 0:
             self.skipTest("env does not know --block-signal")
-        for wait in range(0, 60, 4):
-            running = subprocess.Popen([str(context.ROOT / "spernevan"), "list", FLIGHTS], stdout=subprocess.PIPE, stderr=subprocess.PIPE)
-            time.sleep(wait / 1000)
-            running.send_signal(signal.SIGINT)
-            _, err = running.communicate(timeout=20)
-            self.assertEqual(err, b"")
-            self.assertIn(running.returncode, (-signal.SIGINT, 0))
+        self.interrupted_early(context.ROOT / "spernevan")
 
     def test_nothing_is_read_before_an_interrupt_ends_the_command(self):
         done = subprocess.run([sys.executable, "-X", "importtime", *context.PROGRAM[1:], "--version"], capture_output=True, text=True)
@@ -144,7 +165,7 @@ class Program(Command):
         self.assertEqual(subprocess.run(arguments, capture_output=True).stderr, b"")
 
 
-class Install(Command):
+class Install(Started):
     """The wheel, and then the folder in its stead, in a fresh environment without this folder."""
 
     def pip(self, *arguments):
@@ -164,6 +185,13 @@ class Install(Command):
             [self.folder / "venv" / "bin" / "python", "-c", code], capture_output=True, text=True, cwd=self.folder, env=bare, check=True
         )
         self.assertTrue(done.stdout.startswith(str(self.folder / "venv")))
+        link = self.folder / "link"
+        if not link.exists():
+            link.symlink_to(program)
+            self.assertEqual(subprocess.run([link, "--version"], capture_output=True, env=bare).returncode, 0)
+            self.assertEqual(subprocess.run(["/bin/sh", "spernevan", "--version"], capture_output=True, env=bare, cwd=program.parent).returncode, 0)
+            if subprocess.run(["env", "--block-signal=INT", "true"], capture_output=True).returncode == 0:
+                self.interrupted_early(program)
 
     def environment(self):
         """Makes a fresh environment, with an archive and its data beside it."""

@@ -11,7 +11,7 @@ from unittest import mock
 
 import context
 from spernevan import Names, Query, Record, parse_query, publish, read_names
-from spernevan.definition import Writer, define, define_all, define_query, lone, used_dependencies
+from spernevan.definition import Writer, define, define_all, define_query, used_dependencies
 from spernevan.publish import Shape
 from test_command import FLIGHTS, Command, run
 
@@ -76,7 +76,7 @@ class Definitions(unittest.TestCase):
     def test_lone_variables(self):
         names = Names.default([3])
         query = parse_query("ans(x, y) :- R0(x, y, z), R0(x, w, 7), R0(u, u, t)", names)
-        self.assertEqual(len(lone(query)), 3)
+        self.assertEqual(len(query.lone()), 3)
         text = Writer(query, {}).rule(names)
         self.assertEqual(text, "ans(v0, v1) :- R0(v0, v1, _), R0(v0, _, 7), R0(v4, v4, _)")
         again = parse_query(text, names)

@@ -35,7 +35,7 @@ class Text(unittest.TestCase):
             "0: ans(_) :- never\n2: ans(f, h) :- flight(f, s), burst(f, h)\n",
         )
         self.assertEqual(unpack(record, Names.default(record.widths)).splitlines()[-1],
-                         "2: ans(v0, v1) :- R0(v0, v2), R1(v0, v1)")
+                         "2: ans(v0, v1) :- R0(v0, _), R1(v0, v1)")
 
     def test_round_trip_to_the_byte(self):
         rng = random.Random(9)
@@ -49,8 +49,23 @@ class Text(unittest.TestCase):
                 plain.tables,
                 {p: {n: f"x{n}" for n in range(96) if rng.random() < 0.8} for p in range(8) if rng.random() < 0.8},
             )
-            again, _ = pack(unpack(record, named))
+            again, names = pack(unpack(record, named))
             self.assertEqual(again.file, record.file)
+            for place in record.filled():
+                occurring = record.queries[place].variables()
+                kept = {n: name for n, name in named.variables.get(place, {}).items() if n in occurring}
+                self.assertEqual(names.variables[place], kept)
+
+    def test_names_that_are_given_their_numbers(self):
+        text = "flight(number, sonde)\n0: f, v1, v2, s\n0: ans(f) :- flight(f, s), flight(_, x), flight(x, _)\n"
+        record, names = pack(text)
+        rows = [[entry.number for entry in row.entries] for row in record.queries[0].rows]
+        self.assertEqual((rows, names.variables[0]), ([[0, 3], [1, 2], [2, 4]], {0: "f", 2: "x", 3: "s"}))
+        self.assertEqual(unpack(record, names).splitlines()[-2:], ["0: f, v1, x, s", "0: ans(f) :- flight(f, s), flight(_, x), flight(x, _)"])
+        # A blank that would be read back with another number is written with its own.
+        record, names = pack("R(a, b)\n0: ans() :- R(v5, v6), R(v0, v7)\n")
+        self.assertEqual(unpack(record, names).splitlines()[-1], "0: ans() :- R(v5, v6), R(_, v7)")
+        self.assertEqual(pack(unpack(record, names))[0], record)
 
     def test_names_come_back(self):
         record, names = pack(SMALL)
@@ -95,6 +110,10 @@ class Text(unittest.TestCase):
             (table + "0: flight(x, y)", "2:4: a rule begins with ans, not flight"),
             (table + "flight: number -> sonde\n" * 33, "34:1: an archive has 32 dependencies at most, and these make 33; "),
             (table + "\t\u00b5\u00a7", "2:3: '\u00a7' has no meaning here"),
+            (table + "0: f, s\n", "2:1: these are names for the variables of place 0, whose rule, 0: ans(.., is missing below"),
+            (table + "0: f\n0: s\n", "3:1: the variables of place 0 have their names on line 2"),
+            (table + "0: ans() :- never\n0: f\n", "3:1: place 0 is filled on line 2"),
+            (table + "0: v1\n", "2:4: v1 cannot be the name of v0"),
         ]
         for text, message in cases:
             with self.subTest(text=text[-40:]), self.assertRaises(NotationError) as caught:
