@@ -9,8 +9,8 @@ use mapping_words::read_mapping;
 use query::Cell;
 use query::Place;
 use query::Query;
-use record::Answer;
 use record::Record;
+use record::Status;
 ghost use mathlib.Core.Path.{_≡_};
 ghost use mathlib.Core.Bool.{true};
 ghost use mathlib.Core.List.{[]};
@@ -150,14 +150,14 @@ pub fn compare_in_file(
     let outcome = file::read(file);
     let answer = outcome.answer;
     match answer {
-        Answer::Done => {
+        Status::Done => {
             let given = outcome.record;
             let count = given.relations;
             let widths = given.widths;
             let compared = comparison::compare(given, p, q);
             store_comparison(compared, count, widths, verdict, mapping, part, size)
         }
-        Answer::Refused(n) => n,
+        Status::Refused(n) => n,
     }
 }
 
@@ -169,10 +169,10 @@ pub fn check_in_file(file: &[u8], p: usize, q: usize, mapping: &[u32], verdict: 
     let outcome = file::read(file);
     let answer = outcome.answer;
     match answer {
-        Answer::Done => {
+        Status::Done => {
             let given = outcome.record;
             check_words(given, p, q, mapping, verdict)
         }
-        Answer::Refused(n) => n,
+        Status::Refused(n) => n,
     }
 }

@@ -2,7 +2,7 @@
 // lent as it was.
 use database::Answered;
 use database::Conformance;
-use record::Answer;
+use record::Status;
 ghost use mathlib.Core.Path.{_≡_};
 ghost use lib.ListN.{length};
 ghost use Rattle.record_on_files.specs.Lent.{statusOf, leaves};
@@ -26,7 +26,7 @@ pub fn test_in_file(
     let outcome = file::read(file);
     let answer = outcome.answer;
     match answer {
-        Answer::Done => {
+        Status::Done => {
             let given = outcome.record;
             let found = database::test(given, words);
             match found {
@@ -47,7 +47,7 @@ pub fn test_in_file(
                 Conformance::Refused(n) => n,
             }
         }
-        Answer::Refused(n) => n,
+        Status::Refused(n) => n,
     }
 }
 
@@ -66,7 +66,7 @@ pub fn evaluate_in_file(
     let outcome = file::read(file);
     let answer = outcome.answer;
     match answer {
-        Answer::Done => {
+        Status::Done => {
             let given = outcome.record;
             let done = database::evaluate(given, place, words, answers);
             match done {
@@ -77,6 +77,6 @@ pub fn evaluate_in_file(
                 Answered::Refused(n) => n,
             }
         }
-        Answer::Refused(n) => n,
+        Status::Refused(n) => n,
     }
 }

@@ -4,7 +4,7 @@ use Prim.Native.Nat.{ℕ}
 use native.Mathlib.Omega.{arith}
 use Rattle.refusals.specs.Refusals.{Reply, gives, refused}
 use Rattle.query.specs.declared.Place.{Place}
-use Rattle.record.specs.declared.Answer.the-variants.{Done, Refused}
+use Rattle.record.specs.declared.Status.the-variants.{Done, Refused}
 use Rattle.decoder.specs.declared.PlaceRead.{PlaceRead}
 use Rattle.decoder.specs.internal.Read.{placeRead}
 

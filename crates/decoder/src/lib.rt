@@ -1,7 +1,7 @@
 // A query part, read off bytes: a vacant place, or the query that the part holds.
 use parsing::read_query;
 use query::Place;
-use record::Answer;
+use record::Status;
 use record::calls;
 ghost use mathlib.Core.Path.{_≡_};
 ghost use mathlib.Core.Bool.{true};
@@ -23,7 +23,7 @@ fn is_vacant(part: &[u8]) -> bool
 
 // A place, or a refusal.
 pub struct PlaceRead {
-    pub answer: Answer,
+    pub answer: Status,
     pub place: Place,
 }
 
@@ -32,7 +32,7 @@ fn no_place_read(number: u8) -> PlaceRead
     ensures { λ r. ⌜ r ≡ placeRead (refused number) ⌝ }
 {
     PlaceRead {
-        answer: Answer::Refused(number),
+        answer: Status::Refused(number),
         place: calls::no_place(),
     }
 }
@@ -47,7 +47,7 @@ pub fn read_place(part: &[u8], last: bool, count: u8, widths: [u8; 8]) -> PlaceR
             return no_place_read(refusals::BAD_QUERY);
         }
         return PlaceRead {
-            answer: Answer::Done,
+            answer: Status::Done,
             place: calls::no_place(),
         };
     }
@@ -63,7 +63,7 @@ pub fn read_place(part: &[u8], last: bool, count: u8, widths: [u8; 8]) -> PlaceR
     }
     if safe {
         return PlaceRead {
-            answer: Answer::Done,
+            answer: Status::Done,
             place: Place {
                 filled: true,
                 query,

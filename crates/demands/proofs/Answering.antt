@@ -10,7 +10,7 @@ use lib.ListN.{length, take, drop, take-append-drop, List·getD-eq-default}
 use borrow.Author.Tests.{ltb-true, not-false}
 use native.Mathlib.Omega.{arith}
 use Rattle.record.specs.declared.Record.{Record}
-use Rattle.record.specs.Calls.{answerReply, outcomeReply, isFilled, queryAt, unknownPlace, vacant}
+use Rattle.record.specs.Calls.{statusReply, outcomeReply, isFilled, queryAt, unknownPlace, vacant}
 use Rattle.comparison.specs.declared.Comparison.{Comparison}
 use Rattle.comparison.specs.declared.Verdict.{Verdict}
 use Rattle.comparison.specs.declared.Verdict.the-variants.{Never, Contained, Apart, Refused}
@@ -27,7 +27,7 @@ use Rattle.database.specs.Calls.{unspelled, tooLong, evaluationRefused, placeAn
 use Rattle.database.proofs.Meaning.{place-ascending, place-answers}
 use Rattle.minimization.specs.Search as search
 use Rattle.record.specs.declared.Outcome.{Outcome}
-use Rattle.record.specs.declared.Answer.the-variants as answer
+use Rattle.record.specs.declared.Status.the-variants as status
 use Rattle.format.specs.Bytes.{Bytes}
 use Rattle.format.specs.File.{readFile, readOutcome, fileOf, shaped}
 use Rattle.writer.specs.declared.Written.{Written}
@@ -124,9 +124,9 @@ module _ (file before after : List ℕ) (o : Outcome) (is : outcomeReply o ≡ r
       )
 
   -- A file that is refused
-  pub not-read : (w : Written) (n : ℕ) → o .answer ≡ answer.Refused n → FileComesBack file before after w
+  pub not-read : (w : Written) (n : ℕ) → o .answer ≡ status.Refused n → FileComesBack file before after w
   not-read w n says r reads room =
-      absurd (refused-gives (sym (ap answerReply says) ∙ ap (λ (x : Reply (Unit {0}) × Record). x .0) (is ∙ reads)))
+      absurd (refused-gives (sym (ap statusReply says) ∙ ap (λ (x : Reply (Unit {0}) × Record). x .0) (is ∙ reads)))
 
 module _ (r : Record) (before after : List ℕ) (o : Outcome) where
   -- A record whose file is read back

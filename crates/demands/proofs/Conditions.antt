@@ -14,7 +14,7 @@ use Rattle.query.specs.declared.Query.{Query}
 use Rattle.record.specs.declared.Record.{Record}
 use Rattle.record.specs.declared.Outcome.{Outcome}
 use Rattle.record.specs.declared.Columns.{Columns}
-use Rattle.record.specs.Calls.{answerReply, outcomeReply, columnsReply, concluded, openRecord, addDependency, putQuery, dropQuery, determinedColumns, queryAt}
+use Rattle.record.specs.Calls.{statusReply, outcomeReply, columnsReply, concluded, openRecord, addDependency, putQuery, dropQuery, determinedColumns, queryAt}
 use Rattle.comparison.specs.declared.Comparison.{Comparison}
 use Rattle.comparison.specs.declared.Verdict.{Verdict}
 use Rattle.comparison.specs.declared.Verdict.the-variants as verdict
@@ -55,7 +55,7 @@ concluded-said (some n) given after = refl
 -- A call that hands back the record given, or leaves another
 concluded-meets : (conditions : List Condition) (numbers : List ℕ) → map (λ (c : Condition). c .1) conditions ≡ numbers → (given after : Record) (o : Outcome)
     → outcomeReply o ≡ concluded (firstHolding conditions) given after
-    → Meets conditions numbers (refusalIn (answerReply (o .answer))) (o .«record» ≡ given) (o .«record» ≡ after)
+    → Meets conditions numbers (refusalIn (statusReply (o .answer))) (o .«record» ≡ given) (o .«record» ≡ after)
 concluded-meets conditions numbers asks given after o e =
     meets conditions numbers _ _ _ asks
     (ap (λ (x : Reply (Unit {0}) × Record). refusalIn (x .0)) e ∙ concluded-said (firstHolding conditions) given after)
@@ -124,7 +124,7 @@ reduce-meets r source target o is =
     (λ n f. let e = is .refused n f in (ap (λ (x : Given). x .1) e, ap (λ (x : Given). x .3) e, ap (λ (x : Given). x .2) e)) (λ f. is)
   where
     go : (f : Option ℕ) → firstHolding (reductionConditions r source target) ≡ f
-        → refusalIn (answerReply (o .answer)) ≡ firstHolding (reductionConditions r source target)
+        → refusalIn (statusReply (o .answer)) ≡ firstHolding (reductionConditions r source target)
     go none f = ap refusalIn (is .accepted f .done) ∙ sym f
     go (some n) f = ap (λ (x : Given). refusalIn (x .0)) (is .refused n f) ∙ sym f
 

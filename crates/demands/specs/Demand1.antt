@@ -20,7 +20,7 @@ use Rattle.record.specs.declared.Outcome.{Outcome}
 use Rattle.record.specs.declared.Columns.{Columns}
 use Rattle.record.specs.View.{schemaOf, dependenciesOf}
 use Rattle.record.specs.Rule.{blankRecord}
-use Rattle.record.specs.Calls.{answerReply, columnsReply, emptyRecord, withDependency, withPlace, queryAt, determinedAt}
+use Rattle.record.specs.Calls.{statusReply, columnsReply, emptyRecord, withDependency, withPlace, queryAt, determinedAt}
 use Rattle.record.specs.Calls.{openConditions, addConditions, putConditions, dropConditions, determinedConditions}
 use Rattle.comparison.specs.declared.Comparison.{Comparison}
 use Rattle.comparison.specs.declared.Checked.{Checked}
@@ -122,22 +122,22 @@ Nothing = Unit {0}
 -- Opening a record: it was given none, so a refusal hands back the blank one
 abbrev pub OpenMeets : List ℕ → Outcome → Type 0
 OpenMeets widths o =
-    Meets (openConditions widths) openAsks (refusalIn (answerReply (o .answer))) (o .«record» ≡ blankRecord)
+    Meets (openConditions widths) openAsks (refusalIn (statusReply (o .answer))) (o .«record» ≡ blankRecord)
     (o .«record» ≡ emptyRecord (length widths) (widths ++ replicate (8 - length widths) 0))
 
 -- Adding a dependency
 abbrev pub AddMeets : Record → Dependency → Outcome → Type 0
-AddMeets r d o = Meets (addConditions r d) addAsks (refusalIn (answerReply (o .answer))) (o .«record» ≡ r) (o .«record» ≡ withDependency r d)
+AddMeets r d o = Meets (addConditions r d) addAsks (refusalIn (statusReply (o .answer))) (o .«record» ≡ r) (o .«record» ≡ withDependency r d)
 
 -- Putting a query
 abbrev pub PutMeets : Record → ℕ → Query → Outcome → Type 0
 PutMeets r place q o =
-    Meets (putConditions r place q) putAsks (refusalIn (answerReply (o .answer))) (o .«record» ≡ r)
+    Meets (putConditions r place q) putAsks (refusalIn (statusReply (o .answer))) (o .«record» ≡ r)
     (o .«record» ≡ withPlace r place (record { filled = true; query = q }))
 
 -- Dropping a query
 abbrev pub DropMeets : Record → ℕ → Outcome → Type 0
-DropMeets r place o = Meets (dropConditions r place) dropAsks (refusalIn (answerReply (o .answer))) (o .«record» ≡ r) (o .«record» ≡ withPlace r place noPlace)
+DropMeets r place o = Meets (dropConditions r place) dropAsks (refusalIn (statusReply (o .answer))) (o .«record» ≡ r) (o .«record» ≡ withPlace r place noPlace)
 
 -- Asking for determined columns
 abbrev pub DeterminedMeets : Record → ℕ → ℕ → Columns → Type 0
@@ -160,7 +160,7 @@ CheckMeets r p q images c =
 -- Reducing: what is due leaves free which rows stay, their order, and the mapping
 abbrev pub ReduceMeets : Record → ℕ → ℕ → Reduced → Type 0
 ReduceMeets r source target o =
-    Meets (reductionConditions r source target) reduceAsks (refusalIn (answerReply (o .answer)))
+    Meets (reductionConditions r source target) reduceAsks (refusalIn (statusReply (o .answer)))
     ((o .«record» ≡ r) × (o .images ≡ replicate 96 noCell) × (o .count ≡ 0)) (IsReduced r source target o)
 
 -- ---- databases
@@ -183,7 +183,7 @@ EvaluateMeets r place words before after a =
 -- Reading a file: it was given no record, so a refusal hands back the blank one
 abbrev pub ReadMeets : List ℕ → Outcome → Type 0
 ReadMeets file o =
-    Meets (readConditions file) (readAsks file) (refusalIn (answerReply (o .answer))) (o .«record» ≡ blankRecord) (readFile file ≡ gives (o .«record»))
+    Meets (readConditions file) (readAsks file) (refusalIn (statusReply (o .answer))) (o .«record» ≡ blankRecord) (readFile file ≡ gives (o .«record»))
 
 -- Writing a record into a buffer
 abbrev pub WriteMeets : Record → List ℕ → List ℕ → Written → Type 0

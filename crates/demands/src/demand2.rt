@@ -2,9 +2,9 @@
 use comparison::Comparison;
 use database::Answered;
 use file::Written;
-use record::Answer;
 use record::Outcome;
 use record::Record;
+use record::Status;
 ghost use Rattle.demands.specs.Demand2.{Decides, Evaluates, FileComesBack, RecordComesBack};
 
 // Contained exactly when it is so on every database that obeys the dependencies; otherwise one is shown on which it is not.
@@ -28,8 +28,8 @@ pub fn write_back(file: &[u8], buffer: &mut [u8]) -> Written
     let read = file::read(file);
     let answer = read.answer;
     match answer {
-        Answer::Done => file::write(read.record, buffer),
-        Answer::Refused(n) => Written::Refused(n),
+        Status::Done => file::write(read.record, buffer),
+        Status::Refused(n) => Written::Refused(n),
     }
 }
 
@@ -41,7 +41,7 @@ pub fn read_back(given: Record, buffer: &mut [u8]) -> Outcome
     match written {
         Written::Length(n) => file::read(&buffer[..n]),
         Written::Refused(n) => Outcome {
-            answer: Answer::Refused(n),
+            answer: Status::Refused(n),
             record: given,
         },
     }

@@ -7,19 +7,19 @@ use query::Cell;
 use query::Dependency;
 use query::Entry;
 use query::Query;
-use record::Answer;
 use record::Columns;
 use record::Outcome;
 use record::Record;
+use record::Status;
 
 // Writes an answer, and hands on the record.
 fn answer(outcome: Outcome) -> Record {
     let answer = outcome.answer;
     match answer {
-        Answer::Done => {
+        Status::Done => {
             io::write_all(1, b"done");
         }
-        Answer::Refused(n) => {
+        Status::Refused(n) => {
             show::number(b"", n);
         }
     }

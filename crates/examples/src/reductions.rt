@@ -7,8 +7,8 @@ use crate::queries::put;
 use crate::show;
 use query::Entry;
 use query::Query;
-use record::Answer;
 use record::Record;
+use record::Status;
 use reduction::Reduced;
 
 // Writes a query: never, or its number of rows, its first row and its head.
@@ -31,7 +31,7 @@ fn result(q: Query) {
 // Writes a reduction into a place.
 fn reduced(o: Reduced, target: usize) {
     let answer = o.answer;
-    if let Answer::Refused(n) = answer {
+    if let Status::Refused(n) = answer {
         show::number(b" ", n);
         show::end();
         return;

@@ -7,7 +7,7 @@ use native.Mathlib.Omega.{arith}
 use lib.ListN.{length, take, drop}
 use lib.Seq.{take-at, drop-at}
 use Rattle.refusals.specs.Refusals.{gives}
-use Rattle.record.specs.declared.Answer.the-variants.{Done}
+use Rattle.record.specs.declared.Status.the-variants.{Done}
 use Rattle.format.specs.File.{readFile, readOutcome, fileOf}
 use Rattle.format.proofs.RoundTrip.{file-written-back, record-read-back, file-fits}
 use Rattle.format.proofs.Results.{outcome-done}

@@ -4,9 +4,9 @@ use mathlib.Core.Bool.{true}
 use mathlib.Core.List.{List, [], _∷_, _++_, append-nil}
 use Prim.Native.Nat.{ℕ}
 use Rattle.record.specs.declared.Record.{Record}
-use Rattle.record.specs.declared.Answer.the-variants.{Done, Refused}
+use Rattle.record.specs.declared.Status.the-variants.{Done, Refused}
 use Rattle.record.specs.declared.Outcome.{Outcome}
-use Rattle.record.specs.Calls.{answerReply, outcomeReply}
+use Rattle.record.specs.Calls.{statusReply, outcomeReply}
 use Rattle.format.specs.Bytes.{Bytes}
 use Rattle.format.specs.Format.{Reading, none, got, Format, Lawful}
 use Rattle.refusals.proofs.Refusals.{refused-gives}
@@ -41,12 +41,12 @@ complete-get n f lf part a hb e =
 -- an outcome that is done is that of an accepted file
 pub outcome-done : (x : Reply Record) (o : Outcome) → outcomeReply o ≡ readOutcome x → o .answer ≡ Done → x ≡ gives (o .«record»)
 outcome-done (gives r) o e a = ap gives (sym (ap (λ (s : Reply (Unit {0}) × Record). s .1) e))
-outcome-done (refused n) o e a = absurd (refused-gives (sym (ap (λ (s : Reply (Unit {0}) × Record). s .0) e) ∙ ap answerReply a))
+outcome-done (refused n) o e a = absurd (refused-gives (sym (ap (λ (s : Reply (Unit {0}) × Record). s .0) e) ∙ ap statusReply a))
 
 -- and one that is refused that of a file refused so
 pub outcome-refused : (x : Reply Record) (o : Outcome) (n : ℕ) → outcomeReply o ≡ readOutcome x → o .answer ≡ Refused n → x ≡ refused n
-outcome-refused (gives r) o n e a = absurd (refused-gives (sym (ap answerReply a) ∙ ap (λ (s : Reply (Unit {0}) × Record). s .0) e))
+outcome-refused (gives r) o n e a = absurd (refused-gives (sym (ap statusReply a) ∙ ap (λ (s : Reply (Unit {0}) × Record). s .0) e))
 outcome-refused (refused m) o n e a =
-    let same : _≡_ {A = Reply (Unit {0})} (refused m) (refused n) = sym (ap (λ (s : Reply (Unit {0}) × Record). s .0) e) ∙ ap answerReply a in
+    let same : _≡_ {A = Reply (Unit {0})} (refused m) (refused n) = sym (ap (λ (s : Reply (Unit {0}) × Record). s .0) e) ∙ ap statusReply a in
     let number : m ≡ n = cc in
     ap refused number

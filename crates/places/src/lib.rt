@@ -2,9 +2,9 @@
 use decoder::read_place;
 use parsing::word16;
 use query::Dependency;
-use record::Answer;
 use record::Outcome;
 use record::Record;
+use record::Status;
 use record::calls;
 ghost use mathlib.Core.Path.{_≡_};
 ghost use mathlib.Core.Bool.{true};
@@ -33,7 +33,7 @@ pub fn refusal(number: u8) -> Outcome
     ensures { λ r. ⌜ r ≡ outcomeOf (refused number) ⌝ }
 {
     Outcome {
-        answer: Answer::Refused(number),
+        answer: Status::Refused(number),
         record: calls::blank_record(),
     }
 }
@@ -58,11 +58,11 @@ pub fn read_places(
         let read = read_place(part(file, k), k + 1 == n, count, widths);
         let answer = read.answer;
         match answer {
-            Answer::Done => {
+            Status::Done => {
                 let place = read.place;
                 places[k - 2] = place;
             }
-            Answer::Refused(number) => {
+            Status::Refused(number) => {
                 return refusal(number);
             }
         }
@@ -75,7 +75,7 @@ pub fn read_places(
         places,
     };
     Outcome {
-        answer: Answer::Done,
+        answer: Status::Done,
         record,
     }
 }

@@ -11,8 +11,8 @@ use Rattle.query.specs.declared.Query.{Query}
 use Rattle.query.specs.declared.Dependency.{Dependency}
 use Rattle.query.specs.declared.Place.{Place}
 use Rattle.record.specs.declared.Record.{Record}
-use Rattle.record.specs.declared.Answer.{Answer}
-use Rattle.record.specs.declared.Answer.the-variants as answer
+use Rattle.record.specs.declared.Status.{Status}
+use Rattle.record.specs.declared.Status.the-variants as status
 use Rattle.record.specs.declared.Outcome.{Outcome}
 use Rattle.record.specs.declared.Columns.{Columns}
 use Rattle.record.specs.declared.Columns.the-variants as columns
@@ -27,13 +27,13 @@ use Rattle.refusals.specs.Refusals.{Reply, refused, gives, reply}
 -- ---- replies
 
 -- What each case of an answer says: done, or refused with a number
-abbrev pub answerReply : Answer → Reply (Unit {0})
-answerReply answer.Done = gives tt
-answerReply (answer.Refused n) = refused n
+abbrev pub statusReply : Status → Reply (Unit {0})
+statusReply status.Done = gives tt
+statusReply (status.Refused n) = refused n
 
 -- What a call that changes the record says, and the record that it hands back
 abbrev pub outcomeReply : Outcome → Reply (Unit {0}) × Record
-outcomeReply o = (answerReply (o .answer), o .«record»)
+outcomeReply o = (statusReply (o .answer), o .«record»)
 
 -- The same of a call that is refused with a number, or not: a refusal hands back the record given, an accepted call the record `after`
 abbrev pub concluded : Option ℕ → Record → Record → Reply (Unit {0}) × Record

@@ -1,9 +1,9 @@
 // The calls that change or ask the record alone. One that changes it takes it by value and hands it back with the answer, unchanged where it is refused.
-use crate::Answer;
 use crate::Columns;
 use crate::Lookup;
 use crate::Outcome;
 use crate::Record;
+use crate::Status;
 use query::Dependency;
 use query::Place;
 use query::Query;
@@ -20,7 +20,7 @@ fn done(after: Record) -> Outcome
     ensures { λ o. ⌜ outcomeReply o ≡ concluded none after after ⌝ }
 {
     Outcome {
-        answer: Answer::Done,
+        answer: Status::Done,
         record: after,
     }
 }
@@ -30,7 +30,7 @@ pub fn refused(number: u8, given: Record) -> Outcome
     ensures { λ o. ⌜ outcomeReply o ≡ concluded (some number) given given ⌝ }
 {
     Outcome {
-        answer: Answer::Refused(number),
+        answer: Status::Refused(number),
         record: given,
     }
 }

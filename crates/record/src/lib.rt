@@ -15,14 +15,14 @@ pub struct Record {
 }
 
 // What a call answers: done, or refused with a number of SPECIFICATION, Refusals.
-pub enum Answer {
+pub enum Status {
     Done,
     Refused(u8),
 }
 
 // A call's answer with the record after it. A refused call hands back the record that it was given.
 pub struct Outcome {
-    pub answer: Answer,
+    pub answer: Status,
     pub record: Record,
 }
 

@@ -7,7 +7,7 @@ use lib.ListN.{length, getD}
 use borrow.Author.Tests.{le-leb, lt-leb}
 use Rattle.refusals.specs.Refusals.{_>>=_, gives, refused, Reply}
 use Rattle.record.specs.declared.Record.{Record}
-use Rattle.record.specs.declared.Answer.the-variants.{Done, Refused}
+use Rattle.record.specs.declared.Status.the-variants.{Done, Refused}
 use Rattle.record.specs.declared.Outcome.{Outcome}
 use Rattle.record.specs.Rule.{goodRecord}
 use Rattle.record.specs.Calls.{outcomeReply}

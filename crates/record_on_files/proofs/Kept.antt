@@ -14,7 +14,7 @@ use Rattle.record.specs.declared.Record.{Record}
 use Rattle.record.specs.declared.Outcome.{Outcome}
 use Rattle.record.specs.View.{schemaOf}
 use Rattle.record.specs.Rule.{goodRecord}
-use Rattle.record.specs.Calls.{answerReply, outcomeReply, openRecord, addDependency, putQuery, dropQuery}
+use Rattle.record.specs.Calls.{statusReply, outcomeReply, openRecord, addDependency, putQuery, dropQuery}
 use Rattle.record.specs.Meaning.{LeavesGood}
 use Rattle.record.proofs.Meaning.{open-keeps, add-keeps, put-keeps, drop-keeps}
 use Rattle.format.specs.File.{readPlace}
@@ -27,11 +27,11 @@ unfolding _>>=_
 refused-result o n r e = ap resultOf e
 
 pub refused-sound : (o : Outcome) (n : ℕ) (r : Record) → outcomeReply o ≡ (refused n, r) → GoodIfDone o
-refused-sound o n r e a = absurd (refused-gives (sym (ap (λ (s : Reply (Unit {0}) × Record). s .0) e) ∙ ap answerReply a))
+refused-sound o n r e a = absurd (refused-gives (sym (ap (λ (s : Reply (Unit {0}) × Record). s .0) e) ∙ ap statusReply a))
 
 -- Where what a call says leaves a good record, the call does
 says-sound : (o : Outcome) (said : Reply (Unit {0}) × Record) → outcomeReply o ≡ said → LeavesGood said → GoodIfDone o
-says-sound o said e good a = subst LeavesGood (sym e) good (ap answerReply a)
+says-sound o said e good a = subst LeavesGood (sym e) good (ap statusReply a)
 
 pub open-sound : (widths : List ℕ) (o : Outcome) → outcomeReply o ≡ openRecord widths → GoodIfDone o
 open-sound widths o e = says-sound o (openRecord widths) e (open-keeps widths)

@@ -1,10 +1,10 @@
 // The calls on the record alone, on files: a record is the bytes of its file, in and out.
 // Each returns 0, or the number of the refusal, which leaves every buffer and number that it is lent as it was.
 use query::Dependency;
-use record::Answer;
 use record::Columns;
 use record::Outcome;
 use record::Record;
+use record::Status;
 use record::calls::refused;
 use writer::Written;
 use writer::write_good;
@@ -42,8 +42,8 @@ pub fn store_outcome(outcome: Outcome, out: &mut [u8], size: &mut usize) -> u8
 {
     let answer = outcome.answer;
     match answer {
-        Answer::Done => store(outcome.record, out, size),
-        Answer::Refused(n) => n,
+        Status::Done => store(outcome.record, out, size),
+        Status::Refused(n) => n,
     }
 }
 
@@ -59,12 +59,12 @@ pub fn put_part(given: Record, place: usize, part: &[u8]) -> Outcome
     let read = decoder::read_place(part, true, given.relations, widths);
     let answer = read.answer;
     match answer {
-        Answer::Done => {
+        Status::Done => {
             let p = read.place;
             let query = p.query;
             given.put(place, query)
         }
-        Answer::Refused(n) => refused(n, given),
+        Status::Refused(n) => refused(n, given),
     }
 }
 
@@ -77,8 +77,8 @@ pub fn check_file(file: &[u8]) -> u8
     let outcome = file::read(file);
     let answer = outcome.answer;
     match answer {
-        Answer::Done => 0,
-        Answer::Refused(n) => n,
+        Status::Done => 0,
+        Status::Refused(n) => n,
     }
 }
 
@@ -112,7 +112,7 @@ pub fn add_in_file(
     let outcome = file::read(file);
     let answer = outcome.answer;
     match answer {
-        Answer::Done => {
+        Status::Done => {
             let given = outcome.record;
             let d = Dependency {
                 relation,
@@ -121,7 +121,7 @@ pub fn add_in_file(
             };
             store_outcome(given.add_dependency(d), out, size)
         }
-        Answer::Refused(n) => n,
+        Status::Refused(n) => n,
     }
 }
 
@@ -132,11 +132,11 @@ pub fn put_in_file(file: &[u8], place: usize, query: &[u8], out: &mut [u8], size
     let outcome = file::read(file);
     let answer = outcome.answer;
     match answer {
-        Answer::Done => {
+        Status::Done => {
             let given = outcome.record;
             store_outcome(put_part(given, place, query), out, size)
         }
-        Answer::Refused(n) => n,
+        Status::Refused(n) => n,
     }
 }
 
@@ -147,11 +147,11 @@ pub fn drop_in_file(file: &[u8], place: usize, out: &mut [u8], size: &mut usize)
     let outcome = file::read(file);
     let answer = outcome.answer;
     match answer {
-        Answer::Done => {
+        Status::Done => {
             let given = outcome.record;
             store_outcome(given.drop_query(place), out, size)
         }
-        Answer::Refused(n) => n,
+        Status::Refused(n) => n,
     }
 }
 
@@ -170,7 +170,7 @@ pub fn determined_in_file(
     let outcome = file::read(file);
     let answer = outcome.answer;
     match answer {
-        Answer::Done => {
+        Status::Done => {
             let given = outcome.record;
             let found = given.determined(relation, left);
             match found {
@@ -182,6 +182,6 @@ pub fn determined_in_file(
                 Columns::Refused(n) => n,
             }
         }
-        Answer::Refused(n) => n,
+        Status::Refused(n) => n,
     }
 }

@@ -14,7 +14,7 @@ use Rattle.query.specs.declared.Query.{Query}
 use Rattle.query.specs.declared.Dependency.{Dependency}
 use Rattle.query.specs.declared.Place.{Place}
 use Rattle.record.specs.declared.Record.{Record}
-use Rattle.record.specs.declared.Answer.the-variants as answer
+use Rattle.record.specs.declared.Status.the-variants as status
 use Rattle.record.specs.declared.Lookup.the-variants as lookup
 use Rattle.query.specs.View.{queryOf, heldOf, imagesOf}
 use Rattle.record.specs.View.{schemaOf, dependenciesOf}
@@ -136,7 +136,7 @@ module _ (r : Record) (source target : ℕ) (able : Reducible r source target) (
       → ((schema : List ℕ) → every (between 1 8) schema ≡ true → goodQuery schema q ≡ true → headSafe schema q ≡ true
       → IsShortened schema (dependenciesOf r) q s)
       → ShortFormStored r source target
-      (record { answer = answer.Done; «record» = withPlace r target (record { filled = true; query = s .query }); count = s .count; images = s .images })
+      (record { answer = status.Done; «record» = withPlace r target (record { filled = true; query = s .query }); count = s .count; images = s .images })
   stored-reduced q is s tells =
       let schema = schemaOf r in
       let after = withPlace r target (record { filled = true; query = s .query }) in

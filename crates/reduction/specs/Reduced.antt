@@ -13,7 +13,7 @@ use Rattle.record.specs.View.{schemaOf, dependenciesOf}
 use Rattle.record.specs.Rule.{goodRecord}
 use Rattle.query.specs.Rule.{noCell}
 use Rattle.refusals.specs.Refusals.{Condition, firstHolding, Reply, refused, gives}
-use Rattle.record.specs.Calls.{answerReply, broken, unknownPlace, vacant, filled, withPlace, storedAt, queryAt}
+use Rattle.record.specs.Calls.{statusReply, broken, unknownPlace, vacant, filled, withPlace, storedAt, queryAt}
 use Rattle.reduction.specs.declared.Reduced.{Reduced}
 use Rattle.theory.specs.Query as theory
 use Rattle.theory.specs.Database as database
@@ -31,7 +31,7 @@ reductionRefusal r source target = firstHolding (reductionConditions r source ta
 
 -- What a reduction says, the record that it hands back, the count and the mapping's images
 abbrev pub reducedReply : Reduced → Reply (Unit {0}) × Record × ℕ × List Cell
-reducedReply o = (answerReply (o .answer), o .«record», o .count, o .images)
+reducedReply o = (statusReply (o .answer), o .«record», o .count, o .images)
 
 -- The same of a refused one: the number, the record as it was, and 0 in every other field
 abbrev pub refusal : Record → ℕ → Reply (Unit {0}) × Record × ℕ × List Cell
@@ -54,7 +54,7 @@ pub record ReducesTo (schema : List ℕ) (ds : List database.Dependency) (S T : 
 
 -- What an accepted reduction of the place `source` into the place `target` leaves
 pub record ShortFormStored (r : Record) (source target : ℕ) (o : Reduced) : Type 0 where
-  pub done : answerReply (o .answer) ≡ gives tt
+  pub done : statusReply (o .answer) ≡ gives tt
   -- the target place holds a query, and nothing else in the record has changed
   pub unchanged : o .«record» ≡ withPlace r target (record { filled = true; query = storedAt (o .«record») target })
   -- the record keeps its rule

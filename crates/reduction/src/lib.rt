@@ -5,9 +5,9 @@ use query::Dependency;
 use query::Entry;
 use query::Place;
 use query::Query;
-use record::Answer;
 use record::Lookup;
 use record::Record;
+use record::Status;
 ghost use mathlib.Core.Path.{_≡_};
 ghost use mathlib.Core.Bool.{true};
 ghost use mathlib.Core.List.{List};
@@ -21,7 +21,7 @@ ghost use Rattle.reduction.specs.internal.Steps.{Shortenable, IsShortene
 // What a reduction gives: its answer, the record after it, the number of replacements, and the mapping from the source query to the result.
 // Where there is no mapping, its images hold constant 0.
 pub struct Reduced {
-    pub answer: Answer,
+    pub answer: Status,
     pub record: Record,
     pub count: u8,
     pub images: [Cell; 96],
@@ -42,7 +42,7 @@ fn refused(number: u8, given: Record) -> Reduced
         entry: Entry::Constant(0),
     };
     Reduced {
-        answer: Answer::Refused(number),
+        answer: Status::Refused(number),
         record: given,
         count: 0,
         images: [blank; 96],
@@ -85,7 +85,7 @@ fn store_reduced(given: Record, source: usize, target: usize) -> Reduced
         query: query,
     };
     Reduced {
-        answer: Answer::Done,
+        answer: Status::Done,
         record: after,
         count: shortened.count,
         images: images,

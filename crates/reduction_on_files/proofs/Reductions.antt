@@ -12,9 +12,9 @@ use Rattle.refusals.specs.Refusals.{_>>=_, bufferTooShort, gives, refused, Repl
 use Rattle.refusals.proofs.Refusals.{refused-gives}
 use Rattle.query.specs.declared.Cell.{Cell}
 use Rattle.record.specs.declared.Record.{Record}
-use Rattle.record.specs.declared.Answer.the-variants.{Done, Refused}
+use Rattle.record.specs.declared.Status.the-variants.{Done, Refused}
 use Rattle.record.specs.Rule.{goodRecord}
-use Rattle.record.specs.Calls.{answerReply}
+use Rattle.record.specs.Calls.{statusReply}
 use Rattle.lists.specs.Over.{over}
 use Rattle.format.specs.File.{readFile, fileOf}
 use Rattle.writer.specs.Write.{written, afterWriting}
@@ -74,7 +74,7 @@ reduced-sound r source target o is done = go (reductionRefusal r source target) 
     go : (x : Option ℕ) → reductionRefusal r source target ≡ x → goodRecord (o .«record») ≡ true
     go option.none e = is .accepted e .good
     go (option.some n) e =
-        absurd (refused-gives (sym (ap (λ (x : Reply (Unit {0}) × Record × ℕ × List Cell). x .0) (is .refused n e)) ∙ ap answerReply done))
+        absurd (refused-gives (sym (ap (λ (x : Reply (Unit {0}) × Record × ℕ × List Cell). x .0) (is .refused n e)) ∙ ap statusReply done))
 
 -- ---- the exported call
 

@@ -7,7 +7,7 @@ use lib.Dec.{leb}
 use lib.ListN.{length}
 use Rattle.refusals.specs.Refusals.{_>>=_, bufferTooShort, gives, refused, Reply}
 use Rattle.record.specs.declared.Record.{Record}
-use Rattle.record.specs.Calls.{answerReply}
+use Rattle.record.specs.Calls.{statusReply}
 use Rattle.lists.specs.Over.{over}
 use Rattle.format.specs.File.{readFile, fileOf, shaped}
 use Rattle.mapping_words.specs.Images.{mappingWords}
@@ -19,7 +19,7 @@ use Rattle.record_on_files.specs.Lent.{statusOf, leaves}
 -- or the other has no room for a mapping. The file is that of the reduction `o`: nothing here says that all reductions of a place have files of one length
 abbrev pub reductionFits : ℕ → ℕ → Reduced → Reply Reduced
 reductionFits room words o =
-    answerReply (o .answer) >>= λ _. cond (leb 192 words && leb (length (fileOf (o .«record»))) room) (gives o) (refused bufferTooShort)
+    statusReply (o .answer) >>= λ _. cond (leb 192 words && leb (length (fileOf (o .«record»))) room) (gives o) (refused bufferTooShort)
 
 -- What a reduction returns and leaves: the file of the record after it with its length, the count of replacements, and the mapping's words
 abbrev pub ReductionGiven : Reply Reduced → List ℕ → ℕ → ℕ → List ℕ → ℕ → List ℕ → ℕ → ℕ → List ℕ → Type 0

@@ -1,6 +1,6 @@
 // Reducing on files: what the call leaves in what it is lent.
 use mapping_words::put_mapping;
-use record::Answer;
+use record::Status;
 use reduction::Reduced;
 use writer::Written;
 use writer::write_good;
@@ -21,7 +21,7 @@ pub fn store_reduction(
 {
     let answer = reduced.answer;
     match answer {
-        Answer::Done => {
+        Status::Done => {
             if mapping.len() < 192 {
                 return refusals::BUFFER_TOO_SHORT;
             }
@@ -38,7 +38,7 @@ pub fn store_reduction(
                 Written::Refused(n) => n,
             }
         }
-        Answer::Refused(n) => n,
+        Status::Refused(n) => n,
     }
 }
 
@@ -57,11 +57,11 @@ pub fn reduce_in_file(
     let outcome = file::read(file);
     let answer = outcome.answer;
     match answer {
-        Answer::Done => {
+        Status::Done => {
             let given = outcome.record;
             let reduced = reduction::reduce(given, source, target);
             store_reduction(reduced, out, size, count, mapping)
         }
-        Answer::Refused(n) => n,
+        Status::Refused(n) => n,
     }
 }

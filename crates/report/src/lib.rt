@@ -1,7 +1,7 @@
 // The listing of a file, written into a lent buffer: `refused n`, or the lines of each filled place, reduced in a copy of the record from which every other
 // place is dropped.
-use record::Answer;
 use record::Record;
+use record::Status;
 ghost use mathlib.Core.Path.{_≡_};
 ghost use mathlib.Core.Bool.{true};
 ghost use Prim.Native.Nat.{_*_, _≤_, _<_};
@@ -108,7 +108,7 @@ pub fn report(file: &[u8], buffer: &mut [u8]) -> usize
     let outcome = file::read(file);
     let answer = outcome.answer;
     match answer {
-        Answer::Done => write_places(buffer, outcome.record),
-        Answer::Refused(n) => text::write_refused(buffer, 0, n),
+        Status::Done => write_places(buffer, outcome.record),
+        Status::Refused(n) => text::write_refused(buffer, 0, n),
     }
 }

@@ -1,5 +1,5 @@
 use borrow.Author.Needs.{needs}
-use Rattle.record.specs.declared.Answer.the-variants.{Refused}
+use Rattle.record.specs.declared.Status.the-variants.{Refused}
 use Rattle.decoder.proofs.no_place_read.Statement.{statement}
 use Rattle.decoder.proofs.no_place_read.Tie as tie
 

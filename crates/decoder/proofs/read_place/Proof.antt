@@ -9,7 +9,7 @@ use lib.Dec.{eqb}
 use lib.ListN.{length, take}
 use Rattle.refusals.specs.Refusals.{_>>=_, badQuery, gives, refused, unsafeHead}
 use Rattle.query.specs.declared.Query.{Query}
-use Rattle.record.specs.declared.Answer.the-variants.{Done}
+use Rattle.record.specs.declared.Status.the-variants.{Done}
 use Rattle.query.specs.Rule.{headSafe, noPlace}
 use Rattle.query.proofs.Good as stored
 use Rattle.format.specs.Bytes.{Bytes}

@@ -11,7 +11,7 @@ use denote.Ref.{now}
 use Rattle.query.specs.declared.Dependency.{Dependency}
 use Rattle.query.specs.declared.Place.{Place}
 use Rattle.record.specs.declared.Outcome.{Outcome}
-use Rattle.record.specs.declared.Answer.the-variants.{Done, Refused}
+use Rattle.record.specs.declared.Status.the-variants.{Done, Refused}
 use Rattle.query.specs.Rule.{noPlace}
 use Rattle.lists.specs.Over.{over}
 use Rattle.refusals.specs.Refusals.{Reply, gives, refused, _>>=_}

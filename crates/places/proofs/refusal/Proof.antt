@@ -1,5 +1,5 @@
 use borrow.Author.Needs.{needs}
-use Rattle.record.specs.declared.Answer.the-variants.{Refused}
+use Rattle.record.specs.declared.Status.the-variants.{Refused}
 use Rattle.places.proofs.refusal.Statement.{statement}
 use Rattle.places.proofs.refusal.Tie as tie
 

@@ -1,7 +1,7 @@
 -- What the functions behind the calls ask and answer. No promise of a call cites this.
 use mathlib.Core.Path.{_≡_}
 use mathlib.Core.Bool.{true}
-use Rattle.record.specs.declared.Answer.the-variants.{Done}
+use Rattle.record.specs.declared.Status.the-variants.{Done}
 use Rattle.record.specs.Rule.{goodRecord}
 use Rattle.reduction.specs.declared.Reduced.{Reduced}
 

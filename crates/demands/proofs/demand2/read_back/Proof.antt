@@ -1,7 +1,7 @@
 -- `demands::demand2::read_back` meets its contract. Assumes nothing.
 use mathlib.Core.Path.{sym, ap, _∙_}
 use lib.Seq.{length-take-le}
-use Rattle.record.specs.declared.Answer.the-variants.{Refused}
+use Rattle.record.specs.declared.Status.the-variants.{Refused}
 use Rattle.writer.specs.Write.{lengthReply}
 use Rattle.file.proofs.Shapes.{record-shaped}
 use Rattle.demands.proofs.Answering.{read-again, not-written, inside}
