@@ -64,7 +64,8 @@ module _ (r : Record) (p q : ℕ) (c : Comparison) (compared : Compared r p q c)
       record {
         exactly = λ accepted. (
           (λ says D sound obeys. compared .contained says D obeys),
-          λ contained. says-else (c .verdict) (not-refused accepted) (λ e. let x = compared .apart e in x .no-answer (contained _ (x .sound) (x .obeys) _ (x .answer))),
+          λ contained. says-else (c .verdict) (not-refused accepted)
+              (λ e. let x = compared .apart e in x .no-answer (contained _ (x .sound) (x .obeys) _ (x .answer))),
         );
         shown = λ accepted not. compared .apart (apart-else (c .verdict) (not-refused accepted) not);
       }
@@ -142,5 +143,6 @@ module _ (r : Record) (before after : List ℕ) (o : Outcome) where
 pub inside : (r : Record) (before after : List ℕ) (n : ℕ) → written r before ≡ gives n → after ≡ afterWriting r before → n ≤ length after
 inside r before after n says left =
     let (good, fits, long) = written-fits r before n says in
-    let kept : length after ≡ length before = ap length (left ∙ sym (fits-written r before good fits .1)) ∙ over-length before (fileOf r) 0 (omega (arith, fits)) in
+    let kept : length after ≡ length before =
+    ap length (left ∙ sym (fits-written r before good fits .1)) ∙ over-length before (fileOf r) 0 (omega (arith, fits)) in
     omega (arith, fits, long, kept)

@@ -35,7 +35,8 @@ use Rattle.format.proofs.Faults.{first-fault}
 use Rattle.format.proofs.Stretches.{length-stretches}
 use Rattle.writer.specs.declared.Written.{Written}
 use Rattle.writer.specs.Write.{lengthReply, writingRefused, fileUnless, written, afterWriting}
-use Rattle.demands.specs.Demand1.{Meets, Nothing, OpenMeets, AddMeets, PutMeets, DropMeets, DeterminedMeets, CompareMeets, CheckMeets, ReduceMeets, TestMeets, EvaluateMeets, partsAsk, readAsks, AsksInOrder, ReadMeets, WriteMeets}
+use Rattle.demands.specs.Demand1.{Meets, Nothing, OpenMeets, AddMeets, PutMeets, DropMeets, DeterminedMeets, CompareMeets, CheckMeets}
+use Rattle.demands.specs.Demand1.{ReduceMeets, TestMeets, EvaluateMeets, partsAsk, readAsks, AsksInOrder, ReadMeets, WriteMeets}
 
 -- ---- every call
 

@@ -6,7 +6,7 @@ use mathlib.Core.Bool.{true}
 use mathlib.Core.List.{List, [], _∷_, _++_, map}
 use mathlib.Core.Option.{Option, none, some}
 use Prim.Native.Nat.{ℕ, zero, suc, _-_}
-use lib.ListN.{length, drop, replicate}
+use lib.ListN.{length, replicate}
 use Rattle.refusals.specs.Refusals.{badDirectory, badOffsets, badRelations, badDependency, badQuery, unsafeHead, noSuchPlace, headsDiffer, badDatabase}
 use Rattle.refusals.specs.Refusals.{bufferTooShort, placeVacant, placeFilled, dependenciesFull, badRecord}
 use Rattle.refusals.specs.Refusals.{Condition, order, follows, firstHolding, gives, refusalIn}
@@ -176,7 +176,7 @@ abbrev pub EvaluateMeets : Record → ℕ → List ℕ → List ℕ → List ℕ
 EvaluateMeets r place words before after a =
     Meets (evaluationConditions r place words (length before)) evaluateAsks (refusalIn (countReply a)) (after ≡ before)
     ((countReply a ≡ gives (length (placeAnswers r place words)))
-    × (after ≡ answerWords (placeAnswers r place words) ++ drop (length (answerWords (placeAnswers r place words))) before))
+    × (after ≡ over before 0 (answerWords (placeAnswers r place words))))
 
 -- ---- files
 

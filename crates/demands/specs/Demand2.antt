@@ -1,10 +1,10 @@
 -- Demand 2: containment over all databases, the answers of conjunctive queries, and files that are written and read back.
 use mathlib.Core.Path.{_≡_}
 use mathlib.Core.Logic.{_↔_}
-use mathlib.Core.List.{List, _++_}
+use mathlib.Core.List.{List}
 use mathlib.Core.Option.{none}
 use Prim.Native.Nat.{ℕ, _≤_}
-use lib.ListN.{length, drop}
+use lib.ListN.{length}
 use Rattle.query.specs.View.{queryOf}
 use Rattle.record.specs.declared.Record.{Record}
 use Rattle.record.specs.declared.Outcome.{Outcome}
@@ -24,6 +24,7 @@ use Rattle.file.specs.RoundTrip.{Reads, Writes}
 use Rattle.theory.specs.Query.{_∈_}
 use Rattle.theory.specs.Answer.{Answer}
 use Rattle.theory.specs.Containment.{Contained, Counterexample, frozenRows, frozenHead}
+use Rattle.lists.specs.Over.{over}
 
 -- ---- containment
 
@@ -41,7 +42,7 @@ pub record Decides (r : Record) (p q : ℕ) (c : Comparison) : Type 0 where
 pub record Evaluates (r : Record) (place : ℕ) (words before after : List ℕ) (a : Answered) : Type 0 where
   pub count : evaluationRefused r place words (length before) ≡ none → countReply a ≡ gives (length (placeAnswers r place words))
   pub written : evaluationRefused r place words (length before) ≡ none
-      → after ≡ answerWords (placeAnswers r place words) ++ drop (length (answerWords (placeAnswers r place words))) before
+      → after ≡ over before 0 (answerWords (placeAnswers r place words))
   pub ascends : Ascending (placeAnswers r place words)
   pub exactly : evaluationRefused r place words (length before) ≡ none
       → (t : List ℕ) → (t ∈ placeAnswers r place words) ↔ Answer (databaseOf (schemaOf r) words) (queryAt r place) t
@@ -51,7 +52,7 @@ pub record Evaluates (r : Record) (place : ℕ) (words before after : List ℕ) 
 -- A file that reading accepts, read and written into a buffer with room for it: the same bytes, and those after them stay
 abbrev pub FileComesBack : List ℕ → List ℕ → List ℕ → Written → Type 0
 FileComesBack file before after w =
-    (r : Record) → Reads file r → length file ≤ length before → (lengthReply w ≡ gives (length file)) × (after ≡ file ++ drop (length file) before)
+    (r : Record) → Reads file r → length file ≤ length before → (lengthReply w ≡ gives (length file)) × (after ≡ over before 0 file)
 
 -- A record that writing accepts, written and read back: the same record
 abbrev pub RecordComesBack : Record → List ℕ → Outcome → Type 0

@@ -20,7 +20,8 @@ use Rattle.lists.specs.Tests.{between, every}
 use Rattle.query.specs.Rule.{goodDependency, goodQuery, headSafe, goodPlace, noPlace, shapedQuery}
 use Rattle.record.specs.Rule.{goodRecord, blankRecord}
 use Rattle.refusals.specs.Refusals.{_>>=_, badQuery, bufferTooShort, firstHolding, gives, refused, reply, Reply}
-use Rattle.record.specs.Calls.{queryAt, concluded, broken, unknownPlace, vacant, filled, withPlace, withDependency, emptyRecord, openRecord, addDependency, putQuery}
+use Rattle.record.specs.Calls.{queryAt, concluded, broken, unknownPlace, vacant, filled}
+use Rattle.record.specs.Calls.{withPlace, withDependency, emptyRecord, openRecord, addDependency, putQuery}
 use Rattle.record.specs.Calls.{dropQuery}
 use Rattle.refusals.proofs.Refusals.{refused-gives}
 use Rattle.lists.proofs.Tests.{and-left, and-right, and-both, every-set}

@@ -1,4 +1,5 @@
--- Laws of the wide rows: a column is a cell, agreement on the columns of a mask as a loop over its bits sees it, the test of a pair by its parts, and what is read from good cells.
+-- Laws of the wide rows: a column is a cell, agreement on the columns of a mask as a loop over its bits sees it, the test of a pair by its parts,
+-- and what is read from good cells.
 -- Assumes nothing.
 use mathlib.Core.Path.{_≡_, refl, _∙_, ap}
 use mathlib.Core.Bool.{Bool, true, false, not, _&&_}

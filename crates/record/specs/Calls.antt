@@ -21,7 +21,8 @@ use Rattle.record.specs.View.{schemaOf, dependenciesOf}
 use Rattle.lists.specs.Tests.{between, every}
 use Rattle.query.specs.Rule.{goodSet, goodDependency, goodQuery, headSafe, noDependency, noPlace}
 use Rattle.record.specs.Rule.{goodRecord, blankRecord}
-use Rattle.refusals.specs.Refusals.{badDependency, badQuery, badRecord, badRelations, dependenciesFull, Condition, firstHolding, noSuchPlace, placeFilled, placeVacant, unsafeHead}
+use Rattle.refusals.specs.Refusals.{badDependency, badQuery, badRecord, badRelations, dependenciesFull}
+use Rattle.refusals.specs.Refusals.{Condition, firstHolding, noSuchPlace, placeFilled, placeVacant, unsafeHead}
 use Rattle.refusals.specs.Refusals.{Reply, refused, gives, reply}
 
 -- ---- replies

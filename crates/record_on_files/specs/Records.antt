@@ -32,7 +32,8 @@ abbrev pub added : List ℕ → ℕ → ℕ → ℕ → ℕ → Reply (List ℕ)
 added file relation left right room =
     fileFitted room (readFile file >>= λ r. resultOf (addDependency r (record { relation = relation; left = left; right = right })))
 
--- A record with the query of a query part put into a place. Refused: noSuchPlace; the query part's badQuery or unsafeHead, where 255 alone is no query; placeFilled
+-- A record with the query of a query part put into a place. Refused: noSuchPlace; the query part's badQuery or unsafeHead, where 255 alone is no query;
+-- placeFilled
 abbrev pub putPart : ℕ → List ℕ → Record → Reply Record
 putPart place part r =
     cond (ltb place 8) (readPlace (schemaOf r) true part >>= λ p. resultOf (putQuery r place (p .query))) (refused noSuchPlace)

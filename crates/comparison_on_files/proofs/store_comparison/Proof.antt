@@ -1,6 +1,7 @@
 -- `store_comparison` stores what the verdict asks for. Assumes nothing.
 use lib.ListN.{length, take}
-use Rattle.comparison_on_files.proofs.Verdicts.{comparison-same, comparison-none, comparison-apart, comparison-contained, comparison-never, comparison-refused}
+use Rattle.comparison_on_files.proofs.Verdicts.{comparison-same, comparison-none, comparison-apart, comparison-contained}
+use Rattle.comparison_on_files.proofs.Verdicts.{comparison-never, comparison-refused}
 use borrow.Author.Needs.{needs}
 use Rattle.comparison_on_files.proofs.store_comparison.Statement.{statement}
 use Rattle.comparison_on_files.proofs.store_comparison.Tie as tie

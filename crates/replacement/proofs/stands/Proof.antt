@@ -1,4 +1,5 @@
--- `replacement::stands` meets its contract. The loop's invariant: the variable stands in the head exactly when it stands in what is left of it. Assumes nothing.
+-- `replacement::stands` meets its contract. The loop's invariant: the variable stands in the head exactly when it stands in what is left of it.
+-- Assumes nothing.
 use mathlib.Core.Path.{_≡_, refl, sym, _∙_}
 use mathlib.Core.Logic.{⊎-elim}
 use Prim.Native.Nat.{_≤_, _-_}

@@ -8,7 +8,9 @@ check-mapping-requires : tie.Need-check-mapping-requires
 check-mapping-requires c κs = search needs
 
 returns : tie.Need-returns
-returns c = check-meets (c .before .args .given) (c .before .args .p) (c .before .args .q) (c .before .args .images) (c .check-mapping .result) (c .check-mapping .ensures)
+returns c =
+    let a = c .before .args in
+    check-meets (a .given) (a .p) (a .q) (a .images) (c .check-mapping .result) (c .check-mapping .ensures)
 
 pub check-spec : {M : Type 1} → statement M
 check-spec = tie.close (tie.spec check-mapping-requires returns)

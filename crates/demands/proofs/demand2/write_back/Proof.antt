@@ -26,7 +26,8 @@ returns c =
     let s = c .before .before .before .before .before .before .before .before .before in
     let read = c .before .before .before .before .before .before .read in
     written-again (s .args .file .now) (s .args .buffer .now) _ (read .result) (read .ensures) (c .before .before .write .result)
-    (bytes-known (s .args .file .now) (λ i. c .before .before .before .before .before .before .before .before .shared-slice-known .given i .fits)) (c .before .before .write .ensures .0) (c .before .before .write .ensures .1)
+    (bytes-known (s .args .file .now) (λ i. c .before .before .before .before .before .before .before .before .shared-slice-known .given i .fits))
+    (c .before .before .write .ensures .0) (c .before .before .write .ensures .1)
 
 returns-2 : tie.Need-returns-2
 returns-2 c =
