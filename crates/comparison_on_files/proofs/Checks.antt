@@ -22,7 +22,7 @@ use Rattle.comparison.specs.Comparison.{pairRefusal, checkReply, CheckedMapping
 use Rattle.theory.specs.Query as theory
 use Rattle.theory.specs.Answer.{IsMapping}
 use Rattle.minimization.specs.Checking.{mapsTo}
-use Rattle.record_on_files.specs.Lent.{statusOf, leaves}
+use Rattle.record_on_files.specs.Lent.{returned, leaves}
 use Rattle.comparison_on_files.specs.Queries.{readingMaps, wordsMap, bit, WordsMapExact}
 
 -- ---- what is read, and what the test says of it
@@ -60,10 +60,10 @@ still (option.some m) n b c e = cc
 
 -- A number that is returned and one that is left, for what checking says
 abbrev pub Says : Reply Bool → ℕ → ℕ → ℕ → Type 0
-Says x said number said′ = (number ≡ statusOf x) × (said′ ≡ leaves x bit said)
+Says x said number said′ = (number ≡ returned x) × (said′ ≡ leaves x bit said)
 
 pub says-same : {x y : Reply Bool} → x ≡ y → (said number said′ : ℕ) → Says y said number said′ → Says x said number said′
-says-same p said number said′ w = (w .0 ∙ ap statusOf (sym p), w .1 ∙ ap (λ (z : Reply Bool). leaves z bit said) (sym p))
+says-same p said number said′ w = (w .0 ∙ ap returned (sym p), w .1 ∙ ap (λ (z : Reply Bool). leaves z bit said) (sym p))
 
 module _ (r : Record) (p q : ℕ) (words : List ℕ) (m : Mapped) (e : m ≡ mappingRead (imagesIn words)) (c : Checked)
     (is : CheckedMapping r p q (m .images) c) (said : ℕ) where

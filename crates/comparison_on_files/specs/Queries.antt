@@ -24,7 +24,7 @@ use Rattle.comparison.specs.Comparison.{notContained, verdictReply, pairRefusal
 use Rattle.theory.specs.Query as theory
 use Rattle.theory.specs.Answer as answer
 use Rattle.minimization.specs.Checking.{mapsTo}
-use Rattle.record_on_files.specs.Lent.{statusOf, leaves}
+use Rattle.record_on_files.specs.Lent.{returned, leaves}
 
 -- ---- comparing
 
@@ -43,7 +43,7 @@ comparisonFits words room schema c = verdictBytes (c .verdict) (query schema .pu
 -- What a comparison returns and leaves: the verdict, the mapping's words, the bytes of the query with their length
 abbrev pub ComparisonGiven : Reply (ℕ × List ℕ) → List Cell → ℕ → List ℕ → List ℕ → ℕ → ℕ → ℕ → List ℕ → List ℕ → ℕ → Type 0
 ComparisonGiven result images said mapping part size number saidAfter mappingAfter partAfter sizeAfter =
-    (number ≡ statusOf result) × (saidAfter ≡ leaves result (λ t. t .0) said)
+    (number ≡ returned result) × (saidAfter ≡ leaves result (λ t. t .0) said)
     × (mappingAfter ≡ leaves result (λ _. over mapping 0 (mappingWords images)) mapping)
     × (partAfter ≡ leaves result (λ t. over part 0 (t .1)) part) × (sizeAfter ≡ leaves result (λ t. length (t .1)) size)
 

@@ -20,7 +20,7 @@ ghost use Rattle.format.specs.Parts.{query};
 ghost use Rattle.format.specs.File.{placeWith};
 ghost use Rattle.refusals.specs.Refusals.{reply};
 ghost use Rattle.comparison.specs.Comparison.{pairRefusal};
-ghost use Rattle.record_on_files.specs.Lent.{statusOf, leaves};
+ghost use Rattle.record_on_files.specs.Lent.{returned, leaves};
 ghost use Rattle.comparison_on_files.specs.Queries.{verdictFits, comparisonFits, ComparisonGiven, CompareGives, wordsMap, checkedIn, bit};
 ghost use Rattle.comparison_on_files.specs.internal.Steps.{SoundComparison};
 
@@ -110,7 +110,7 @@ pub fn store_comparison(
 
 // Checks words for two places: words that are no mapping are none between the queries.
 pub fn check_words(given: Record, p: usize, q: usize, words: &[u32], verdict: &mut u8) -> u8
-    ensures { λ r. ⌜ r ≡ statusOf (reply (pairRefusal given p q) (wordsMap given p q (now (words .entry)))) ⌝ }
+    ensures { λ r. ⌜ r ≡ returned (reply (pairRefusal given p q) (wordsMap given p q (now (words .entry)))) ⌝ }
     ensures { λ _. ⌜ now (verdict .exit) ≡ leaves (reply (pairRefusal given p q) (wordsMap given p q (now (words .entry)))) bit (now (verdict .entry)) ⌝ }
 {
     let read = read_mapping(words);
@@ -163,7 +163,7 @@ pub fn compare_in_file(
 
 // Checks a mapping from the query of place q to that of place p.
 pub fn check_in_file(file: &[u8], p: usize, q: usize, mapping: &[u32], verdict: &mut u8) -> u8
-    ensures { λ r. ⌜ r ≡ statusOf (checkedIn (now (file .entry)) p q (now (mapping .entry))) ⌝ }
+    ensures { λ r. ⌜ r ≡ returned (checkedIn (now (file .entry)) p q (now (mapping .entry))) ⌝ }
     ensures { λ _. ⌜ now (verdict .exit) ≡ leaves (checkedIn (now (file .entry)) p q (now (mapping .entry))) bit (now (verdict .entry)) ⌝ }
 {
     let outcome = file::read(file);

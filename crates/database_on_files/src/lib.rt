@@ -5,7 +5,7 @@ use database::Conformance;
 use record::Status;
 ghost use mathlib.Core.Path.{_≡_};
 ghost use lib.ListN.{length};
-ghost use Rattle.record_on_files.specs.Lent.{statusOf, leaves};
+ghost use Rattle.record_on_files.specs.Lent.{returned, leaves};
 ghost use Rattle.database_on_files.specs.Databases.{testedIn, evaluatedIn, answersIn};
 
 // Tests a database against the dependencies.
@@ -17,7 +17,7 @@ pub fn test_in_file(
     first: &mut usize,
     second: &mut usize,
 ) -> u8
-    ensures { λ r. ⌜ r ≡ statusOf (testedIn (now (file .entry)) (now (words .entry))) ⌝ }
+    ensures { λ r. ⌜ r ≡ returned (testedIn (now (file .entry)) (now (words .entry))) ⌝ }
     ensures { λ _. ⌜ now (obeys .exit) ≡ leaves (testedIn (now (file .entry)) (now (words .entry))) (λ t. t .obeys) (now (obeys .entry)) ⌝ }
     ensures { λ _. ⌜ now (dependency .exit) ≡ leaves (testedIn (now (file .entry)) (now (words .entry))) (λ t. t .dependency) (now (dependency .entry)) ⌝ }
     ensures { λ _. ⌜ now (first .exit) ≡ leaves (testedIn (now (file .entry)) (now (words .entry))) (λ t. t .first) (now (first .entry)) ⌝ }
@@ -59,7 +59,7 @@ pub fn evaluate_in_file(
     answers: &mut [u32],
     count: &mut usize,
 ) -> u8
-    ensures { λ r. ⌜ r ≡ statusOf (evaluatedIn (now (file .entry)) place (now (words .entry)) (length (now (answers .entry)))) ⌝ }
+    ensures { λ r. ⌜ r ≡ returned (evaluatedIn (now (file .entry)) place (now (words .entry)) (length (now (answers .entry)))) ⌝ }
     ensures { λ _. ⌜ now (answers .exit) ≡ answersIn (now (file .entry)) place (now (words .entry)) (now (answers .entry)) ⌝ }
     ensures { λ _. ⌜ now (count .exit) ≡ leaves (evaluatedIn (now (file .entry)) place (now (words .entry)) (length (now (answers .entry)))) (λ n. n) (now (count .entry)) ⌝ }
 {

@@ -3,7 +3,7 @@
 ghost use mathlib.Core.Path.{_≡_};
 ghost use lib.ListN.{length};
 ghost use Rattle.format.specs.File.{readFile};
-ghost use Rattle.record_on_files.specs.Lent.{statusOf, leaves, Wrote};
+ghost use Rattle.record_on_files.specs.Lent.{returned, leaves, Wrote};
 ghost use Rattle.record_on_files.specs.Records.{copied, opened, added, putIn, dropped, determinedIn};
 ghost use Rattle.reduction_on_files.specs.Shortening.{ReduceGives};
 ghost use Rattle.comparison_on_files.specs.Queries.{CompareGives, checkedIn, bit};
@@ -14,7 +14,7 @@ ghost use Rattle.database_on_files.specs.Databases.{testedIn, evaluatedIn, answ
 // Whether the bytes are a file.
 #[no_mangle]
 pub extern "C" fn spernevan_read(file: &[u8]) -> u8
-    ensures { λ r. ⌜ r ≡ statusOf (readFile (now (file .entry))) ⌝ }
+    ensures { λ r. ⌜ r ≡ returned (readFile (now (file .entry))) ⌝ }
 {
     record_on_files::check_file(file)
 }
@@ -83,7 +83,7 @@ pub extern "C" fn spernevan_determined(
     columns: &mut u8,
     count: &mut u8,
 ) -> u8
-    ensures { λ r. ⌜ r ≡ statusOf (determinedIn (now (file .entry)) relation left) ⌝ }
+    ensures { λ r. ⌜ r ≡ returned (determinedIn (now (file .entry)) relation left) ⌝ }
     ensures { λ _. ⌜ now (columns .exit) ≡ leaves (determinedIn (now (file .entry)) relation left) (λ s. s .0) (now (columns .entry)) ⌝ }
     ensures { λ _. ⌜ now (count .exit) ≡ leaves (determinedIn (now (file .entry)) relation left) (λ s. s .1) (now (count .entry)) ⌝ }
 {
@@ -133,7 +133,7 @@ pub extern "C" fn spernevan_check(
     mapping: &[u32],
     verdict: &mut u8,
 ) -> u8
-    ensures { λ r. ⌜ r ≡ statusOf (checkedIn (now (file .entry)) p q (now (mapping .entry))) ⌝ }
+    ensures { λ r. ⌜ r ≡ returned (checkedIn (now (file .entry)) p q (now (mapping .entry))) ⌝ }
     ensures { λ _. ⌜ now (verdict .exit) ≡ leaves (checkedIn (now (file .entry)) p q (now (mapping .entry))) bit (now (verdict .entry)) ⌝ }
 {
     comparison_on_files::check_in_file(file, p, q, mapping, verdict)
@@ -151,7 +151,7 @@ pub extern "C" fn spernevan_test(
     first: &mut usize,
     second: &mut usize,
 ) -> u8
-    ensures { λ r. ⌜ r ≡ statusOf (testedIn (now (file .entry)) (now (words .entry))) ⌝ }
+    ensures { λ r. ⌜ r ≡ returned (testedIn (now (file .entry)) (now (words .entry))) ⌝ }
     ensures { λ _. ⌜ now (obeys .exit) ≡ leaves (testedIn (now (file .entry)) (now (words .entry))) (λ t. t .obeys) (now (obeys .entry)) ⌝ }
     ensures { λ _. ⌜ now (dependency .exit) ≡ leaves (testedIn (now (file .entry)) (now (words .entry))) (λ t. t .dependency) (now (dependency .entry)) ⌝ }
     ensures { λ _. ⌜ now (first .exit) ≡ leaves (testedIn (now (file .entry)) (now (words .entry))) (λ t. t .first) (now (first .entry)) ⌝ }
@@ -169,7 +169,7 @@ pub extern "C" fn spernevan_evaluate(
     answers: &mut [u32],
     count: &mut usize,
 ) -> u8
-    ensures { λ r. ⌜ r ≡ statusOf (evaluatedIn (now (file .entry)) place (now (words .entry)) (length (now (answers .entry)))) ⌝ }
+    ensures { λ r. ⌜ r ≡ returned (evaluatedIn (now (file .entry)) place (now (words .entry)) (length (now (answers .entry)))) ⌝ }
     ensures { λ _. ⌜ now (answers .exit) ≡ answersIn (now (file .entry)) place (now (words .entry)) (now (answers .entry)) ⌝ }
     ensures { λ _. ⌜ now (count .exit) ≡ leaves (evaluatedIn (now (file .entry)) place (now (words .entry)) (length (now (answers .entry)))) (λ n. n) (now (count .entry)) ⌝ }
 {

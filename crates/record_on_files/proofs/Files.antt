@@ -17,23 +17,23 @@ use Rattle.format.proofs.Bytes.{bytes-known}
 use Rattle.format.proofs.Results.{outcome-done, outcome-refused}
 use Rattle.writer.specs.Write.{written, afterWriting}
 use Rattle.writer.proofs.Writing.{fits-written, long-refused, written-fits, refused-long}
-use Rattle.record_on_files.specs.Lent.{statusOf, leaves, fitted, Wrote}
+use Rattle.record_on_files.specs.Lent.{returned, leaves, fitted, Wrote}
 use Rattle.record_on_files.specs.Records.{resultOf, fileFitted, copied}
 
 -- ---- results
 
 -- What an accepted result returns and leaves
 module _ {A : Type 0} {x : Reply A} {a : A} (p : x ≡ gives a) where
-  pub done-number : 0 ≡ statusOf x
-  done-number = ap statusOf (sym p)
+  pub done-number : 0 ≡ returned x
+  done-number = ap returned (sym p)
 
   pub done-leaves : {B : Type 0} (value : A → B) (before : B) → value a ≡ leaves x value before
   done-leaves value before = ap (λ (y : Reply A). leaves y value before) (sym p)
 
 -- What a refused one does
 module _ {A : Type 0} {x : Reply A} {n : ℕ} (p : x ≡ refused n) where
-  pub refused-number : n ≡ statusOf x
-  refused-number = ap statusOf (sym p)
+  pub refused-number : n ≡ returned x
+  refused-number = ap returned (sym p)
 
   pub refused-leaves : {B : Type 0} (value : A → B) (before : B) → before ≡ leaves x value before
   refused-leaves value before = ap (λ (y : Reply A). leaves y value before) (sym p)

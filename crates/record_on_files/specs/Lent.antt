@@ -9,9 +9,9 @@ use Rattle.refusals.specs.Refusals.{bufferTooShort, gives, refused, Reply}
 use Rattle.lists.specs.Over.{over}
 
 -- The number that a call returns: 0 where it is accepted, else that of the refusal (SPECIFICATION, Refusals)
-abbrev pub statusOf : {A : Type 0} → Reply A → ℕ
-statusOf (gives a) = 0
-statusOf (refused n) = n
+abbrev pub returned : {A : Type 0} → Reply A → ℕ
+returned (gives a) = 0
+returned (refused n) = n
 
 -- What a call leaves in what it is lent: a value of its result, and what was there where it is refused
 abbrev pub leaves : {A B : Type 0} → Reply A → (A → B) → B → B
@@ -25,4 +25,4 @@ fitted room bytes = cond (leb (length bytes) room) (gives bytes) (refused buffer
 -- What a call that gives bytes returns and leaves: the bytes over the start of the buffer, and their length
 abbrev pub Wrote : Reply (List ℕ) → List ℕ → ℕ → ℕ → List ℕ → ℕ → Type 0
 Wrote result buffer count number after countAfter =
-    (number ≡ statusOf result) × (after ≡ leaves result (λ bytes. over buffer 0 bytes) buffer) × (countAfter ≡ leaves result length count)
+    (number ≡ returned result) × (after ≡ leaves result (λ bytes. over buffer 0 bytes) buffer) × (countAfter ≡ leaves result length count)

@@ -14,7 +14,7 @@ ghost use lib.ListN.{length};
 ghost use Rattle.record.specs.Rule.{goodRecord};
 ghost use Rattle.record.specs.Calls.{outcomeReply};
 ghost use Rattle.format.specs.File.{fileOf, readFile};
-ghost use Rattle.record_on_files.specs.Lent.{fitted, statusOf, leaves, Wrote};
+ghost use Rattle.record_on_files.specs.Lent.{fitted, returned, leaves, Wrote};
 ghost use Rattle.record_on_files.specs.Records.{resultOf, fileFitted, putPart, copied, opened, added, putIn, dropped, determinedIn};
 ghost use Rattle.record_on_files.specs.internal.Steps.{GoodIfDone};
 
@@ -72,7 +72,7 @@ pub fn put_part(given: Record, place: usize, part: &[u8]) -> Outcome
 
 // Whether the bytes are a file.
 pub fn check_file(file: &[u8]) -> u8
-    ensures { λ r. ⌜ r ≡ statusOf (readFile (now (file .entry))) ⌝ }
+    ensures { λ r. ⌜ r ≡ returned (readFile (now (file .entry))) ⌝ }
 {
     let outcome = file::read(file);
     let answer = outcome.answer;
@@ -163,7 +163,7 @@ pub fn determined_in_file(
     columns: &mut u8,
     count: &mut u8,
 ) -> u8
-    ensures { λ r. ⌜ r ≡ statusOf (determinedIn (now (file .entry)) relation left) ⌝ }
+    ensures { λ r. ⌜ r ≡ returned (determinedIn (now (file .entry)) relation left) ⌝ }
     ensures { λ _. ⌜ now (columns .exit) ≡ leaves (determinedIn (now (file .entry)) relation left) (λ s. s .0) (now (columns .entry)) ⌝ }
     ensures { λ _. ⌜ now (count .exit) ≡ leaves (determinedIn (now (file .entry)) relation left) (λ s. s .1) (now (count .entry)) ⌝ }
 {

@@ -13,7 +13,7 @@ use Rattle.format.specs.File.{readFile, fileOf, shaped}
 use Rattle.mapping_words.specs.Images.{mappingWords}
 use Rattle.reduction.specs.declared.Reduced.{Reduced}
 use Rattle.reduction.specs.Reduced.{IsReduced}
-use Rattle.record_on_files.specs.Lent.{statusOf, leaves}
+use Rattle.record_on_files.specs.Lent.{returned, leaves}
 
 -- A reduction for buffers with so much room. Refused, after the refusals of the reduction itself: bufferTooShort, its file is longer than the one buffer,
 -- or the other has no room for a mapping. The file is that of the reduction `o`: nothing here says that all reductions of a place have files of one length
@@ -24,7 +24,7 @@ reductionFits room words o =
 -- What a reduction returns and leaves: the file of the record after it with its length, the count of replacements, and the mapping's words
 abbrev pub ReductionGiven : Reply Reduced → List ℕ → ℕ → ℕ → List ℕ → ℕ → List ℕ → ℕ → ℕ → List ℕ → Type 0
 ReductionGiven result out size count mapping number outAfter sizeAfter countAfter mappingAfter =
-    (number ≡ statusOf result) × (outAfter ≡ leaves result (λ o. over out 0 (fileOf (o .«record»))) out)
+    (number ≡ returned result) × (outAfter ≡ leaves result (λ o. over out 0 (fileOf (o .«record»))) out)
     × (sizeAfter ≡ leaves result (λ o. length (fileOf (o .«record»))) size) × (countAfter ≡ leaves result (λ o. o .count) count)
     × (mappingAfter ≡ leaves result (λ o. over mapping 0 (mappingWords (o .images))) mapping)
 
