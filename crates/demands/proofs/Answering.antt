@@ -15,7 +15,7 @@ use Rattle.comparison.specs.declared.Comparison.{Comparison}
 use Rattle.comparison.specs.declared.Verdict.{Verdict}
 use Rattle.comparison.specs.declared.Verdict.the-variants.{Never, Contained, Apart, Refused}
 use Rattle.comparison.specs.Comparison.{pairRefusal, verdictReply, verdictOn, chasedAt, SaysContained, Compared}
-use Rattle.refusals.specs.Refusals.{badRecord, noSuchPlace, placeVacant, Reply, refused, gives, reply}
+use Rattle.refusals.specs.Refusals.{overUnless, badRecord, noSuchPlace, placeVacant, Reply, refused, gives, reply}
 use Rattle.refusals.proofs.Refusals.{none-holds, refused-gives}
 use Rattle.query.specs.declared.Place.{Place}
 use Rattle.query.specs.Rule.{noPlace}
@@ -23,7 +23,7 @@ use Rattle.record.specs.Rule.{goodRecord}
 use Rattle.lists.proofs.Tests.{below-or-past}
 use Rattle.evaluation.specs.Evaluated.{answerWords}
 use Rattle.database.specs.declared.Answered.{Answered}
-use Rattle.database.specs.Calls.{unspelled, tooLong, evaluationRefused, placeAnswers, countReply, wordsUnless, evaluated, bufferThen}
+use Rattle.database.specs.Calls.{unspelled, tooLong, evaluationRefused, placeAnswers, countReply, evaluated, bufferThen}
 use Rattle.database.proofs.Meaning.{place-ascending, place-answers}
 use Rattle.minimization.specs.Search as search
 use Rattle.record.specs.declared.Outcome.{Outcome}
@@ -101,7 +101,7 @@ evaluates r place words before after a is-a is-after =
     let found = answerWords (placeAnswers r place words) in
     record {
       count = λ e. is-a ∙ ap (λ (o : Option ℕ). reply o n) e;
-      written = λ e. is-after ∙ ap (λ (o : Option ℕ). wordsUnless o found before) e;
+      written = λ e. is-after ∙ ap (λ (o : Option ℕ). overUnless o found before) e;
       ascends = place-ascending r place words;
       exactly = λ e.
           let k = accepted-place r place words (length before) e in

@@ -7,7 +7,7 @@ use lib.ListN.{length, drop}
 use native.Mathlib.Omega.{arith}
 use Rattle.refusals.proofs.Refusals.{refused-gives, refusal-reply}
 use Rattle.lists.specs.Tests.{every}
-use Rattle.refusals.specs.Refusals.{Condition, follows, firstHolding, Reply, refused, gives, reply, refusalIn}
+use Rattle.refusals.specs.Refusals.{overUnless, Condition, follows, firstHolding, Reply, refused, gives, reply, refusalIn}
 use Rattle.query.specs.declared.Cell.{Cell}
 use Rattle.query.specs.declared.Dependency.{Dependency}
 use Rattle.query.specs.declared.Query.{Query}
@@ -24,7 +24,7 @@ use Rattle.reduction.specs.declared.Reduced.{Reduced}
 use Rattle.reduction.specs.Reduced.{reductionRefusal, reductionConditions, IsReduced}
 use Rattle.database.specs.declared.Conformance.{Conformance}
 use Rattle.database.specs.declared.Answered.{Answered}
-use Rattle.database.specs.Calls.{testReply, tested, evaluationRefused, countReply, wordsUnless, evaluated, bufferThen, placeAnswers}
+use Rattle.database.specs.Calls.{testReply, tested, evaluationRefused, countReply, evaluated, bufferThen, placeAnswers}
 use Rattle.evaluation.specs.Evaluated.{answerWords}
 use Rattle.minimization.specs.Search as search
 use Rattle.record.specs.Rule.{blankRecord}
@@ -34,7 +34,7 @@ use Rattle.format.specs.Faults.{partAt, schemaIn, placeConditions, readConditio
 use Rattle.format.proofs.Faults.{first-fault}
 use Rattle.format.proofs.Stretches.{length-stretches}
 use Rattle.writer.specs.declared.Written.{Written}
-use Rattle.writer.specs.Write.{lengthReply, writingRefused, fileUnless, written, afterWriting}
+use Rattle.writer.specs.Write.{lengthReply, writingRefused, written, afterWriting}
 use Rattle.demands.specs.Demand1.{Meets, Nothing, OpenMeets, AddMeets, PutMeets, DropMeets, DeterminedMeets, CompareMeets, CheckMeets}
 use Rattle.demands.specs.Demand1.{ReduceMeets, TestMeets, EvaluateMeets, partsAsk, readAsks, AsksInOrder, ReadMeets, WriteMeets}
 
@@ -141,9 +141,9 @@ unfolding evaluated bufferThen evaluationRefused
 evaluate-meets r place words before after a is-a is-after =
     let found = answerWords (placeAnswers r place words) in
     meets _ _ _ _ _ refl (ap refusalIn is-a ∙ refusal-reply _ _)
-    (λ n f. is-after ∙ ap (λ (y : Option ℕ). wordsUnless y found before) f)
+    (λ n f. is-after ∙ ap (λ (y : Option ℕ). overUnless y found before) f)
     (λ f.
-    (is-a ∙ ap (λ (y : Option ℕ). reply y (length (placeAnswers r place words))) f, is-after ∙ ap (λ (y : Option ℕ). wordsUnless y found before) f))
+    (is-a ∙ ap (λ (y : Option ℕ). reply y (length (placeAnswers r place words))) f, is-after ∙ ap (λ (y : Option ℕ). overUnless y found before) f))
 
 -- ---- files
 
@@ -152,9 +152,9 @@ pub write-meets : (r : Record) (before after : List ℕ) (w : Written) → lengt
 unfolding written afterWriting writingRefused
 write-meets r before after w is-w is-after =
     meets _ _ _ _ _ refl (ap refusalIn is-w ∙ refusal-reply _ _)
-    (λ n f. is-after ∙ ap (λ (y : Option ℕ). fileUnless y (fileOf r) before) f)
+    (λ n f. is-after ∙ ap (λ (y : Option ℕ). overUnless y (fileOf r) before) f)
     (λ f.
-    (is-w ∙ ap (λ (y : Option ℕ). reply y (length (fileOf r))) f, is-after ∙ ap (λ (y : Option ℕ). fileUnless y (fileOf r) before) f))
+    (is-w ∙ ap (λ (y : Option ℕ). reply y (length (fileOf r))) f, is-after ∙ ap (λ (y : Option ℕ). overUnless y (fileOf r) before) f))
 
 -- The numbers of the faults of query parts
 parts-ask : (schema : List ℕ) (parts : List (List ℕ)) → map (λ (c : Condition). c .1) (placeConditions schema parts) ≡ partsAsk (length parts)

@@ -4,6 +4,7 @@ use mathlib.Core.List.{List, [], _∷_}
 use mathlib.Core.Option.{Option, none, some}
 use Prim.Native.Nat.{ℕ}
 use lib.Dec.{eqb}
+use Rattle.lists.specs.Over.{over}
 
 -- ---- because of the input
 
@@ -110,3 +111,8 @@ infixl 10 _>>=_
 unfoldable pub _>>=_ : {A B : Type 0} → Reply A → (A → Reply B) → Reply B
 gives a >>= next = next a
 refused n >>= next = refused n
+
+-- A buffer with something written over its start and the rest as it was, or all of it as it was where the call is refused
+abbrev pub overUnless : {A : Type 0} → Option ℕ → List A → List A → List A
+overUnless none xs buffer = over buffer 0 xs
+overUnless (some number) xs buffer = buffer

@@ -1,13 +1,12 @@
 -- What writing a record answers: what it asks, in the order of SPECIFICATION, Refusals, and the buffer after it.
 use mathlib.Core.List.{List, [], _∷_}
-use mathlib.Core.Option.{Option, none, some}
+use mathlib.Core.Option.{Option}
 use Prim.Native.Nat.{ℕ}
 use lib.Dec.{ltb}
 use lib.ListN.{length}
-use Rattle.refusals.specs.Refusals.{Condition, firstHolding, bufferTooShort, Reply, refused, gives, reply}
+use Rattle.refusals.specs.Refusals.{overUnless, Condition, firstHolding, bufferTooShort, Reply, refused, gives, reply}
 use Rattle.record.specs.declared.Record.{Record}
 use Rattle.record.specs.Calls.{broken}
-use Rattle.lists.specs.Over.{over}
 use Rattle.format.specs.File.{fileOf}
 use Rattle.writer.specs.declared.Written.{Written}
 use Rattle.writer.specs.declared.Written.the-variants.{Length, Refused}
@@ -25,15 +24,10 @@ writeConditions r room = broken r ∷ (ltb room (length (fileOf r)), bufferTooSh
 unfoldable pub writingRefused : Record → ℕ → Option ℕ
 writingRefused r room = firstHolding (writeConditions r room)
 
--- The buffer with the file over its start and the bytes after it as they were, or all bytes as they were where the call is refused
-abbrev pub fileUnless : Option ℕ → List ℕ → List ℕ → List ℕ
-fileUnless none file buffer = over buffer 0 file
-fileUnless (some number) file buffer = buffer
-
 -- Writing a record into a buffer: the refusal, or the file's length
 unfoldable pub written : Record → List ℕ → Reply ℕ
 written r buffer = reply (writingRefused r (length buffer)) (length (fileOf r))
 
 -- The buffer after it
 unfoldable pub afterWriting : Record → List ℕ → List ℕ
-afterWriting r buffer = fileUnless (writingRefused r (length buffer)) (fileOf r) buffer
+afterWriting r buffer = overUnless (writingRefused r (length buffer)) (fileOf r) buffer
