@@ -1,5 +1,6 @@
 -- The statements of `specs/Longest`, by computation. Assumes nothing.
 use mathlib.Core.Path.{refl}
+use mathlib.Core.List.{flatMap}
 use Rattle.lists.specs.Tests.{every}
 use Rattle.theory.specs.Query.{rowEntries, variablesOf, member}
 use Rattle.determination.specs.Determined.{subset}
@@ -7,7 +8,7 @@ use Rattle.query.specs.View.{rowsOf}
 use Rattle.query.specs.Rule.{goodRelations, goodSet, goodDependency, goodDependencies, goodQuery, goodRows, headSafe}
 use Rattle.record.specs.Rule.{goodRecord}
 use Rattle.format.specs.Bytes.{bytesOf}
-use Rattle.format.specs.Format.{byte, sequence, putAll, padded, via}
+use Rattle.format.specs.Format.{byte, sequence, padded, via}
 use Rattle.format.specs.Parts.{relations, dependency, dependencies, putEntry, entry, entries, row, rows, chunk, query}
 use Rattle.format.specs.File.{tableOf, join, assemble, putPlace, upToFilled, partsOf, fileOf}
 use Rattle.file.specs.Longest.{LongestGood, LongestPart, LongestFile}
@@ -17,10 +18,10 @@ unfolding goodRecord goodRelations goodDependencies goodDependency goodSet goodQ
 longest-good = (refl, refl)
 
 pub longest-part : LongestPart
-unfolding query via sequence byte padded putAll entries entry putEntry row rows chunk bytesOf
+unfolding query via sequence byte padded flatMap entries entry putEntry row rows chunk bytesOf
 longest-part = refl
 
 pub longest-file : LongestFile
-unfolding fileOf partsOf assemble tableOf join putPlace upToFilled relations dependencies dependency query via sequence byte padded putAll entries entry
+unfolding fileOf partsOf assemble tableOf join putPlace upToFilled relations dependencies dependency query via sequence byte padded flatMap entries entry
     putEntry row rows chunk bytesOf
 longest-file = refl
