@@ -36,6 +36,7 @@ use Rattle.file.proofs.RoundTrip.{written-back, read-back}
 use Rattle.writer.proofs.Writing.{fits-written, written-fits}
 use Rattle.lists.proofs.Over.{over-length}
 use Rattle.demands.specs.Demand2.{Decides, Evaluates, FileComesBack, RecordComesBack}
+use native.Mathlib.Nat.{zero-add}
 
 -- A verdict that is not a refusal and does not say contained is Apart
 apart-else : (v : Verdict) → ((n : ℕ) → v ≡ Refused n → ⊥) → (SaysContained v → ⊥) → v ≡ Apart
@@ -121,7 +122,8 @@ module _ (file before after : List ℕ) (o : Outcome) (is : outcomeReply o ≡ r
         says ∙ ap (λ (x : Record). written x before) same ∙ back .0,
         sym (take-append-drop (length file) after)
             ∙ ap (λ (l : List ℕ). l ++ drop (length file) after) (ap (take (length file)) buffer ∙ back .1)
-            ∙ ap (λ (l : List ℕ). file ++ l) (ap (drop (length file)) buffer ∙ back .2),
+            ∙ ap (λ (l : List ℕ). file ++ l) (ap (drop (length file)) buffer ∙ back .2)
+            ∙ ap (λ (n : ℕ). file ++ drop n before) (sym (zero-add (length file))),
       )
 
   -- A file that is refused
