@@ -1,10 +1,10 @@
 // One place reduced into another, and the refusals with their order.
 // A line is the source, the target and the answer: the refusal's number; never, with the length of the head; or the number of rows, the first row, the head's
 // first two entries and the images of v0, v1, v2; then the number of replacements. Relation 0 is R with columns a, b.
-use crate::queries;
-use crate::queries::pair;
-use crate::queries::put;
-use crate::show;
+use example_parts::queries;
+use example_parts::queries::pair;
+use example_parts::queries::put;
+use example_parts::show;
 use query::Entry;
 use query::Query;
 use record::Record;

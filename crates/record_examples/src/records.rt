@@ -1,8 +1,8 @@
 // The calls on the record alone: limits, refusals and their order, determined columns.
 // A line is the call with the number of the case, and the answer: done, or the refusal's number, or a set of columns (bit c for column c) and its size.
 // Relation 0 is R with columns a, b, and relation 1 is S with columns a, b, c.
-use crate::queries;
-use crate::show;
+use example_parts::queries;
+use example_parts::show;
 use query::Cell;
 use query::Dependency;
 use query::Entry;

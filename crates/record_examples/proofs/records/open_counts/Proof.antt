@@ -1,12 +1,12 @@
--- `examples::records::open_counts` is safe and ends: the loop counts to 10, and the text that it writes stays as it is.
+-- `record_examples::records::open_counts` is safe and ends: the loop counts to 10, and the text that it writes stays as it is.
 -- Assumes nothing.
 use mathlib.Core.Path.{_≡_, sym}
 use Prim.Native.Nat.{_-_, _≤_}
 use lib.ListN.{length, replicate}
 use lib.Seq.{length-take-le}
 use borrow.Author.Needs.{needs}
-use Rattle.examples.proofs.records.open_counts.Statement.{statement}
-use Rattle.examples.proofs.records.open_counts.Tie as tie
+use Rattle.record_examples.proofs.records.open_counts.Statement.{statement}
+use Rattle.record_examples.proofs.records.open_counts.Tie as tie
 
 abbrev Inv-loop : tie.InvT-loop
 Inv-loop widths n₀ t3 n = (n ≤ 10) × (length t3 ≡ 13) × (length widths ≡ 9)

@@ -1,17 +1,17 @@
--- `examples::records::full` is safe and ends: the loop counts to 32, and the text that it writes stays as it is.
+-- `record_examples::records::drops` is safe and ends: the loop counts to 10, and the text that it writes stays as it is.
 -- Assumes nothing.
 use mathlib.Core.Path.{_≡_}
 use Prim.Native.Nat.{_-_, _≤_}
 use lib.ListN.{length}
 use borrow.Author.Needs.{needs}
-use Rattle.examples.proofs.records.full.Statement.{statement}
-use Rattle.examples.proofs.records.full.Tie as tie
+use Rattle.record_examples.proofs.records.drops.Statement.{statement}
+use Rattle.record_examples.proofs.records.drops.Tie as tie
 
 abbrev Inv-loop : tie.InvT-loop
-Inv-loop grown₀ case₀ t4 grown case = (case ≤ 32) × (length t4 ≡ 7)
+Inv-loop r place₀ t3 place = (place ≤ 10) × (length t3 ≡ 5)
 
 abbrev μ-loop : tie.MeasureT-loop
-μ-loop grown₀ case₀ t4 grown case = 32 - case
+μ-loop r place₀ t3 place = 10 - place
 
 loop-holds : tie.Need-loop-holds Inv-loop μ-loop
 loop-holds c = search needs
@@ -19,23 +19,20 @@ loop-holds c = search needs
 slice-aggregate-case : tie.Need-slice-aggregate-case Inv-loop μ-loop
 slice-aggregate-case c = search needs
 
+cast-case : tie.Need-cast-case Inv-loop μ-loop
+cast-case c = search needs
+
 case-requires : tie.Need-case-requires Inv-loop μ-loop
 case-requires c κs = search needs
 
-sub-dependency : tie.Need-sub-dependency Inv-loop μ-loop
-sub-dependency c = search needs
-
-dependency-requires : tie.Need-dependency-requires Inv-loop μ-loop
-dependency-requires c κs = search needs
-
-add-dependency-requires : tie.Need-add-dependency-requires Inv-loop μ-loop
-add-dependency-requires c κs = search needs
+drop-query-requires : tie.Need-drop-query-requires Inv-loop μ-loop
+drop-query-requires c κs = search needs
 
 answer-requires : tie.Need-answer-requires Inv-loop μ-loop
 answer-requires c κs = search needs
 
-add-case : tie.Need-add-case Inv-loop μ-loop
-add-case c = search needs
+add-place : tie.Need-add-place Inv-loop μ-loop
+add-place c = search needs
 
 loop-less : tie.Need-loop-less Inv-loop μ-loop
 loop-less c = search needs
@@ -46,20 +43,19 @@ loop-again c = search needs
 returns : tie.Need-returns Inv-loop μ-loop
 returns c = search needs
 
-pub full-spec : {M : Type 1} → statement M
-full-spec =
+pub drops-spec : {M : Type 1} → statement M
+drops-spec =
     tie.close
     (tie.spec
     Inv-loop
     μ-loop
     loop-holds
     slice-aggregate-case
+    cast-case
     case-requires
-    sub-dependency
-    dependency-requires
-    add-dependency-requires
+    drop-query-requires
     answer-requires
-    add-case
+    add-place
     loop-less
     loop-again
     returns)

@@ -1,11 +1,11 @@
--- `examples::records::determined` is safe and ends: the loop counts to 9, and the text that it writes stays as it is.
+-- `record_examples::records::determined` is safe and ends: the loop counts to 9, and the text that it writes stays as it is.
 -- Assumes nothing.
 use mathlib.Core.Path.{_≡_}
 use Prim.Native.Nat.{_-_, _≤_}
 use lib.ListN.{length}
 use borrow.Author.Needs.{needs}
-use Rattle.examples.proofs.records.determined.Statement.{statement}
-use Rattle.examples.proofs.records.determined.Tie as tie
+use Rattle.record_examples.proofs.records.determined.Statement.{statement}
+use Rattle.record_examples.proofs.records.determined.Tie as tie
 
 abbrev Inv-loop : tie.InvT-loop
 Inv-loop r relation left₀ t4 left = (left ≤ 9) × (length t4 ≡ 14)

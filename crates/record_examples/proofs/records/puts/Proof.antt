@@ -1,17 +1,17 @@
--- `examples::records::adds` is safe and ends: the loop counts to 6, and the text that it writes stays as it is.
+-- `record_examples::records::puts` is safe and ends: the loop counts to 16, and the text that it writes stays as it is.
 -- Assumes nothing.
 use mathlib.Core.Path.{_≡_}
 use Prim.Native.Nat.{_-_, _≤_}
 use lib.ListN.{length}
 use borrow.Author.Needs.{needs}
-use Rattle.examples.proofs.records.adds.Statement.{statement}
-use Rattle.examples.proofs.records.adds.Tie as tie
+use Rattle.record_examples.proofs.records.puts.Statement.{statement}
+use Rattle.record_examples.proofs.records.puts.Tie as tie
 
 abbrev Inv-loop : tie.InvT-loop
-Inv-loop r case₀ t3 case = (case ≤ 6) × (length t3 ≡ 4)
+Inv-loop r place case₀ t4 case = (case ≤ 16) × (length t4 ≡ 4)
 
 abbrev μ-loop : tie.MeasureT-loop
-μ-loop r case₀ t3 case = 6 - case
+μ-loop r place case₀ t4 case = 16 - case
 
 loop-holds : tie.Need-loop-holds Inv-loop μ-loop
 loop-holds c = search needs
@@ -22,11 +22,11 @@ slice-aggregate-case c = search needs
 case-requires : tie.Need-case-requires Inv-loop μ-loop
 case-requires c κs = search needs
 
-dependency-requires : tie.Need-dependency-requires Inv-loop μ-loop
-dependency-requires c κs = search needs
+query-requires : tie.Need-query-requires Inv-loop μ-loop
+query-requires c κs = search needs
 
-add-dependency-requires : tie.Need-add-dependency-requires Inv-loop μ-loop
-add-dependency-requires c κs = search needs
+put-requires : tie.Need-put-requires Inv-loop μ-loop
+put-requires c κs = search needs
 
 answer-requires : tie.Need-answer-requires Inv-loop μ-loop
 answer-requires c κs = search needs
@@ -43,8 +43,8 @@ loop-again c = search needs
 returns : tie.Need-returns Inv-loop μ-loop
 returns c = search needs
 
-pub adds-spec : {M : Type 1} → statement M
-adds-spec =
+pub puts-spec : {M : Type 1} → statement M
+puts-spec =
     tie.close
     (tie.spec
     Inv-loop
@@ -52,8 +52,8 @@ adds-spec =
     loop-holds
     slice-aggregate-case
     case-requires
-    dependency-requires
-    add-dependency-requires
+    query-requires
+    put-requires
     answer-requires
     add-case
     loop-less

@@ -1,17 +1,17 @@
--- `examples::records::open_widths` is safe and ends: the loop counts to 10, and the text that it writes stays as it is.
+-- `record_examples::records::full` is safe and ends: the loop counts to 32, and the text that it writes stays as it is.
 -- Assumes nothing.
 use mathlib.Core.Path.{_≡_}
 use Prim.Native.Nat.{_-_, _≤_}
 use lib.ListN.{length}
 use borrow.Author.Needs.{needs}
-use Rattle.examples.proofs.records.open_widths.Statement.{statement}
-use Rattle.examples.proofs.records.open_widths.Tie as tie
+use Rattle.record_examples.proofs.records.full.Statement.{statement}
+use Rattle.record_examples.proofs.records.full.Tie as tie
 
 abbrev Inv-loop : tie.InvT-loop
-Inv-loop w₀ t2 w = (w ≤ 10) × (length t2 ≡ 12)
+Inv-loop grown₀ case₀ t4 grown case = (case ≤ 32) × (length t4 ≡ 7)
 
 abbrev μ-loop : tie.MeasureT-loop
-μ-loop w₀ t2 w = 10 - w
+μ-loop grown₀ case₀ t4 grown case = 32 - case
 
 loop-holds : tie.Need-loop-holds Inv-loop μ-loop
 loop-holds c = search needs
@@ -22,17 +22,20 @@ slice-aggregate-case c = search needs
 case-requires : tie.Need-case-requires Inv-loop μ-loop
 case-requires c κs = search needs
 
-slice-aggregate-open : tie.Need-slice-aggregate-open Inv-loop μ-loop
-slice-aggregate-open c = search needs
+sub-dependency : tie.Need-sub-dependency Inv-loop μ-loop
+sub-dependency c = search needs
 
-open-requires : tie.Need-open-requires Inv-loop μ-loop
-open-requires c κs = search needs
+dependency-requires : tie.Need-dependency-requires Inv-loop μ-loop
+dependency-requires c κs = search needs
+
+add-dependency-requires : tie.Need-add-dependency-requires Inv-loop μ-loop
+add-dependency-requires c κs = search needs
 
 answer-requires : tie.Need-answer-requires Inv-loop μ-loop
 answer-requires c κs = search needs
 
-add-w : tie.Need-add-w Inv-loop μ-loop
-add-w c = search needs
+add-case : tie.Need-add-case Inv-loop μ-loop
+add-case c = search needs
 
 loop-less : tie.Need-loop-less Inv-loop μ-loop
 loop-less c = search needs
@@ -43,8 +46,8 @@ loop-again c = search needs
 returns : tie.Need-returns Inv-loop μ-loop
 returns c = search needs
 
-pub open-widths-spec : {M : Type 1} → statement M
-open-widths-spec =
+pub full-spec : {M : Type 1} → statement M
+full-spec =
     tie.close
     (tie.spec
     Inv-loop
@@ -52,10 +55,11 @@ open-widths-spec =
     loop-holds
     slice-aggregate-case
     case-requires
-    slice-aggregate-open
-    open-requires
+    sub-dependency
+    dependency-requires
+    add-dependency-requires
     answer-requires
-    add-w
+    add-case
     loop-less
     loop-again
     returns)
