@@ -12,7 +12,7 @@ use Rattle.query.specs.View.{entriesOf, queryOf, imagesOf}
 use Rattle.record.specs.View.{schemaOf, dependenciesOf}
 use Rattle.query.specs.Rule.{goodQuery, noCell, noQuery}
 use Rattle.refusals.specs.Refusals.{Condition, firstHolding, headsDiffer, Reply, refused, gives, reply}
-use Rattle.record.specs.Calls.{broken, unknownPlace, vacant, storedAt, queryAt}
+use Rattle.record.specs.Calls.{brokenRecord, unknownPlace, vacant, storedAt, queryAt}
 use Rattle.comparison.specs.declared.Verdict.{Verdict}
 use Rattle.comparison.specs.declared.Verdict.the-variants.{Never, Contained, Apart, Refused}
 use Rattle.comparison.specs.declared.Comparison.{Comparison}
@@ -33,7 +33,7 @@ chasedAt r place = chasing.chase (dependenciesOf r) (queryAt r place) .query
 -- What a call on two places asks: 14; 7; 11; 8 where the head lengths differ
 abbrev pub pairConditions : Record → ℕ → ℕ → List Condition
 pairConditions r p q =
-    broken r ∷ unknownPlace p ∷ unknownPlace q ∷ vacant r p ∷ vacant r q ∷ (not (eqb (storedAt r p .arity) (storedAt r q .arity)), headsDiffer) ∷ []
+    brokenRecord r ∷ unknownPlace p ∷ unknownPlace q ∷ vacant r p ∷ vacant r q ∷ (not (eqb (storedAt r p .arity) (storedAt r q .arity)), headsDiffer) ∷ []
 
 -- The refusal of a call on two places
 unfoldable pub pairRefusal : Record → ℕ → ℕ → Option ℕ
@@ -101,6 +101,6 @@ checkReply checked.No = gives false
 checkReply (checked.Refused n) = refused n
 
 -- What checking a mapping for places p and q promises: the refusal, or yes exactly when the images are a mapping from q's query to p's query as it is stored.
--- `mapsTo` is a test that says yes exactly to the mappings (`theory/specs/Checking`)
+-- `mapsTo` is a test that says yes exactly to the mappings (`minimization/specs/Checking`)
 abbrev pub CheckedMapping : Record → ℕ → ℕ → List Cell → Checked → Type 0
 CheckedMapping r p q images c = checkReply c ≡ reply (pairRefusal r p q) (mapsTo (queryAt r q) (queryAt r p) (entriesOf images))

@@ -20,6 +20,13 @@ pub enum Pair {
     Refused(u8),
 }
 
+// A verdict as a number: not contained.
+pub const NOT_CONTAINED: u8 = 0;
+// Contained by a mapping.
+pub const CONTAINED_BY_MAPPING: u8 = 1;
+// Contained because the first query chases to never.
+pub const CONTAINED_AS_NEVER: u8 = 2;
+
 // What a comparison says: contained because the first query chases to never, contained by a mapping, not contained, or refused with a number.
 pub enum Verdict {
     Never,

@@ -74,7 +74,7 @@ fn store_apart(
     }
     put_place(part, 0, place, count, widths);
     put_mapping(images, mapping);
-    *verdict = 0;
+    *verdict = comparison::NOT_CONTAINED;
     *size = n;
     0
 }
@@ -100,8 +100,22 @@ pub fn store_comparison(
             let chased = compared.query;
             store_apart(chased, images, count, widths, verdict, mapping, part, size)
         }
-        Verdict::Contained => store_contained(1, images, verdict, mapping, part, size),
-        Verdict::Never => store_contained(2, images, verdict, mapping, part, size),
+        Verdict::Contained => store_contained(
+            comparison::CONTAINED_BY_MAPPING,
+            images,
+            verdict,
+            mapping,
+            part,
+            size,
+        ),
+        Verdict::Never => store_contained(
+            comparison::CONTAINED_AS_NEVER,
+            images,
+            verdict,
+            mapping,
+            part,
+            size,
+        ),
         Verdict::Refused(n) => n,
     }
 }

@@ -29,5 +29,5 @@ abbrev pub evaluatedIn : List ℕ → ℕ → List ℕ → ℕ → Reply ℕ
 evaluatedIn file place words room = readFile file >>= λ r. evaluated r place words room
 
 -- The buffer after it: a refused file leaves it as it was
-abbrev pub answersIn : List ℕ → ℕ → List ℕ → List ℕ → List ℕ
-answersIn file place words buffer = leaves (readFile file) (λ r. bufferThen r place words buffer) buffer
+abbrev pub answersLeft : List ℕ → ℕ → List ℕ → List ℕ → List ℕ
+answersLeft file place words buffer = leaves (readFile file) (λ r. bufferThen r place words buffer) buffer

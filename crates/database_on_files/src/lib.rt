@@ -6,7 +6,7 @@ use record::Status;
 ghost use mathlib.Core.Path.{_≡_};
 ghost use lib.ListN.{length};
 ghost use Rattle.record_on_files.specs.Lent.{returned, leaves};
-ghost use Rattle.database_on_files.specs.Databases.{testedIn, evaluatedIn, answersIn};
+ghost use Rattle.database_on_files.specs.Databases.{testedIn, evaluatedIn, answersLeft};
 
 // Tests a database against the dependencies.
 pub fn test_in_file(
@@ -60,7 +60,7 @@ pub fn evaluate_in_file(
     count: &mut usize,
 ) -> u8
     ensures { λ r. ⌜ r ≡ returned (evaluatedIn (now (file .entry)) place (now (words .entry)) (length (now (answers .entry)))) ⌝ }
-    ensures { λ _. ⌜ now (answers .exit) ≡ answersIn (now (file .entry)) place (now (words .entry)) (now (answers .entry)) ⌝ }
+    ensures { λ _. ⌜ now (answers .exit) ≡ answersLeft (now (file .entry)) place (now (words .entry)) (now (answers .entry)) ⌝ }
     ensures { λ _. ⌜ now (count .exit) ≡ leaves (evaluatedIn (now (file .entry)) place (now (words .entry)) (length (now (answers .entry)))) (λ n. n) (now (count .entry)) ⌝ }
 {
     let outcome = file::read(file);

@@ -20,7 +20,7 @@ use Rattle.lists.specs.Tests.{between, every}
 use Rattle.query.specs.Rule.{goodDependency, goodQuery, headSafe, goodPlace, noPlace, shapedQuery}
 use Rattle.record.specs.Rule.{goodRecord, blankRecord}
 use Rattle.refusals.specs.Refusals.{_>>=_, badQuery, bufferTooShort, firstHolding, gives, refused, reply, Reply}
-use Rattle.record.specs.Calls.{queryAt, concluded, broken, unknownPlace, vacant, filled}
+use Rattle.record.specs.Calls.{queryAt, concluded, brokenRecord, unknownPlace, vacant, filled}
 use Rattle.record.specs.Calls.{withPlace, withDependency, emptyRecord, openRecord, addDependency, putQuery}
 use Rattle.record.specs.Calls.{dropQuery}
 use Rattle.refusals.proofs.Refusals.{refused-gives}
@@ -136,7 +136,7 @@ module _ (r : Record) (w : Whole r) where
   add-shaped : (d : Dependency) → addDependency r d .0 ≡ gives tt → shaped (addDependency r d .1) ≡ true
   unfolding addDependency
   add-shaped d e =
-      concluded-shaped (firstHolding (broken r ∷ (not (goodDependency (schemaOf r) d), 4) ∷ (eqb (r .held) 32, 13) ∷ [])) r (withDependency r d) e
+      concluded-shaped (firstHolding (brokenRecord r ∷ (not (goodDependency (schemaOf r) d), 4) ∷ (eqb (r .held) 32, 13) ∷ [])) r (withDependency r d) e
       (λ _. dependency-shaped d)
 
   put-shaped : (place : ℕ) (q : Query) → shapedQuery q ≡ true → putQuery r place q .0 ≡ gives tt → shaped (putQuery r place q .1) ≡ true
@@ -144,13 +144,13 @@ module _ (r : Record) (w : Whole r) where
   put-shaped place q s e =
       concluded-shaped
       (firstHolding
-      (broken r ∷ unknownPlace place ∷ (not (goodQuery (schemaOf r) q), 5) ∷ (not (headSafe (schemaOf r) q), 6) ∷ filled r place ∷ []))
+      (brokenRecord r ∷ unknownPlace place ∷ (not (goodQuery (schemaOf r) q), 5) ∷ (not (headSafe (schemaOf r) q), 6) ∷ filled r place ∷ []))
       r (withPlace r place (placeWith q)) e (λ _. place-shaped place (placeWith q) s)
 
   drop-shaped : (place : ℕ) → dropQuery r place .0 ≡ gives tt → shaped (dropQuery r place .1) ≡ true
   unfolding dropQuery
   drop-shaped place e =
-      concluded-shaped (firstHolding (broken r ∷ unknownPlace place ∷ vacant r place ∷ [])) r (withPlace r place noPlace) e
+      concluded-shaped (firstHolding (brokenRecord r ∷ unknownPlace place ∷ vacant r place ∷ [])) r (withPlace r place noPlace) e
       (λ _. place-shaped place noPlace refl)
 
   -- A query part that is read

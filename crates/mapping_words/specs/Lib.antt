@@ -1,3 +1,3 @@
--- Mappings as words (Images). `internal` is this crate's own, and what the checking of words rests on.
+-- Mappings as words (Images). `internal` is what functions of this crate cite, on the way to the checking of words.
 pub mod Images
 pub mod internal

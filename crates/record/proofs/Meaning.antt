@@ -23,7 +23,7 @@ use Rattle.lists.specs.Tests.{between, every}
 use Rattle.query.specs.Rule.{goodSet, goodRelations, goodDependency, goodQuery, headSafe, noPlace}
 use Rattle.record.specs.Rule.{goodRecord, blankRecord}
 use Rattle.refusals.specs.Refusals.{firstHolding, gives, reply}
-use Rattle.record.specs.Calls.{concluded, broken, unknownPlace, vacant, filled, withPlace, withDependency}
+use Rattle.record.specs.Calls.{concluded, brokenRecord, unknownPlace, vacant, filled, withPlace, withDependency}
 use Rattle.record.specs.Calls.{emptyRecord, openRecord, addDependency, putQuery, dropQuery, determinedColumns}
 use Rattle.record.specs.Meaning.{OpenKeeps, AddKeeps, PutKeeps, DropKeeps, BlankBroken, DeterminedMeans}
 use Rattle.closure.specs.internal.Closure.{growMask}
@@ -60,7 +60,7 @@ unfolding addDependency
 add-keeps r d long e =
     let fit : Bool = goodDependency (schemaOf r) d in
     let full : (Bool × ℕ) = (eqb (r .held) 32, 13) in
-    accepted (firstHolding (broken r ∷ (not fit, 4) ∷ full ∷ [])) r (withDependency r d) e
+    accepted (firstHolding (brokenRecord r ∷ (not fit, 4) ∷ full ∷ [])) r (withDependency r d) e
     (λ clear.
     let a = none-holds (not (goodRecord r)) 14 ((not fit, 4) ∷ full ∷ []) clear in
     let b = none-holds (not fit) 4 (full ∷ []) (a .1) in
@@ -76,10 +76,10 @@ unfolding putQuery
 put-keeps r place q e =
     let fit : Bool = goodQuery (schemaOf r) q in
     let safe : Bool = headSafe (schemaOf r) q in
-    accepted (firstHolding (broken r ∷ unknownPlace place ∷ (not fit, 5) ∷ (not safe, 6) ∷ filled r place ∷ [])) r
+    accepted (firstHolding (brokenRecord r ∷ unknownPlace place ∷ (not fit, 5) ∷ (not safe, 6) ∷ filled r place ∷ [])) r
     (withPlace r place (record { filled = true; query = q })) e
     (λ clear.
-    let a = none-holds (broken r .0) 14 (unknownPlace place ∷ (not fit, 5) ∷ (not safe, 6) ∷ filled r place ∷ []) clear in
+    let a = none-holds (brokenRecord r .0) 14 (unknownPlace place ∷ (not fit, 5) ∷ (not safe, 6) ∷ filled r place ∷ []) clear in
     let b = none-holds (unknownPlace place .0) 7 ((not fit, 5) ∷ (not safe, 6) ∷ filled r place ∷ []) (a .1) in
     let c = none-holds (not fit) 5 ((not safe, 6) ∷ filled r place ∷ []) (b .1) in
     let d = none-holds (not safe) 6 (filled r place ∷ []) (c .1) in
@@ -90,9 +90,9 @@ put-keeps r place q e =
 pub drop-keeps : DropKeeps
 unfolding dropQuery
 drop-keeps r place e =
-    accepted (firstHolding (broken r ∷ unknownPlace place ∷ vacant r place ∷ [])) r (withPlace r place noPlace) e
+    accepted (firstHolding (brokenRecord r ∷ unknownPlace place ∷ vacant r place ∷ [])) r (withPlace r place noPlace) e
     (λ clear.
-    place-kept r place noPlace (not-false (goodRecord r) (none-holds (broken r .0) 14 (unknownPlace place ∷ vacant r place ∷ []) clear .0))
+    place-kept r place noPlace (not-false (goodRecord r) (none-holds (brokenRecord r .0) 14 (unknownPlace place ∷ vacant r place ∷ []) clear .0))
     (empty-place (schemaOf r)))
 
 -- ---- the blank record
@@ -154,8 +154,8 @@ pub determined-means : DeterminedMeans
 unfolding determinedColumns
 determined-means r relation left mask n e =
     let cs : List ℕ = determined (dependenciesOf r) relation (getD (schemaOf r) relation 0) (columnsOf left) in
-    let a = answered (firstHolding (broken r ∷ (not (goodSet (schemaOf r) relation left), 4) ∷ [])) cs mask n e in
-    let b = none-holds (broken r .0) 14 ((not (goodSet (schemaOf r) relation left), 4) ∷ []) (a .0) in
+    let a = answered (firstHolding (brokenRecord r ∷ (not (goodSet (schemaOf r) relation left), 4) ∷ [])) cs mask n e in
+    let b = none-holds (brokenRecord r .0) 14 ((not (goodSet (schemaOf r) relation left), 4) ∷ []) (a .0) in
     let good : goodRecord r ≡ true = not-false (goodRecord r) (b .0) in
     let fit : goodSet (schemaOf r) relation left ≡ true =
     not-false (goodSet (schemaOf r) relation left) (none-holds (not (goodSet (schemaOf r) relation left)) 4 [] (b .1) .0)

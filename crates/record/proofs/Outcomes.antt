@@ -25,7 +25,7 @@ use Rattle.lists.specs.Tests.{between, every, isZero}
 use Rattle.query.specs.Rule.{goodSet, blankDependency, goodRelations, goodDependency, goodQuery, headSafe, noPlace}
 use Rattle.record.specs.Rule.{blankRecord, goodRecord}
 use Rattle.refusals.specs.Refusals.{firstHolding, refused, gives}
-use Rattle.record.specs.Calls.{concluded, broken, unknownPlace, vacant, filled}
+use Rattle.record.specs.Calls.{concluded, brokenRecord, unknownPlace, vacant, filled}
 use Rattle.record.specs.internal.Lookup.{placeAt, filledPlace, vacantPlace}
 use Rattle.record.specs.Calls.{withPlace, withDependency, emptyRecord, openRecord, addDependency, putQuery, dropQuery, determinedColumns}
 use Rattle.closure.specs.internal.Closure.{growMask, rightNarrow}
@@ -80,7 +80,7 @@ module _ (r : Record) (place : ℕ) where
   drop-broken e = rw e
 
   module _ (good : goodRecord r ≡ true) where
-    past : firstHolding (broken r ∷ unknownPlace place ∷ vacant r place ∷ []) ≡ firstHolding (unknownPlace place ∷ vacant r place ∷ [])
+    past : firstHolding (brokenRecord r ∷ unknownPlace place ∷ vacant r place ∷ []) ≡ firstHolding (unknownPlace place ∷ vacant r place ∷ [])
     past = first-goes (not (goodRecord r)) 14 (unknownPlace place ∷ vacant r place ∷ []) (ap not good)
 
     pub drop-refused : (n : ℕ) → filledPlace r place ≡ lookup.Refused n → concluded (some n) r r ≡ dropQuery r place

@@ -49,8 +49,8 @@ columnsReply (columns.Refused n) = refused n
 -- ---- places
 
 -- 14: the record breaks its rule
-abbrev pub broken : Record → Condition
-broken r = (not (goodRecord r), badRecord)
+abbrev pub brokenRecord : Record → Condition
+brokenRecord r = (not (goodRecord r), badRecord)
 
 -- 7: the place is above 7
 abbrev pub unknownPlace : ℕ → Condition
@@ -105,7 +105,7 @@ openRecord widths =
 
 -- What adding a dependency asks: 14; 4 unless it is good; 13 where 32 are held
 abbrev pub addConditions : Record → Dependency → List Condition
-addConditions r d = broken r ∷ (not (goodDependency (schemaOf r) d), badDependency) ∷ (eqb (r .held) 32, dependenciesFull) ∷ []
+addConditions r d = brokenRecord r ∷ (not (goodDependency (schemaOf r) d), badDependency) ∷ (eqb (r .held) 32, dependenciesFull) ∷ []
 
 -- Add a dependency after those held
 unfoldable pub addDependency : Record → Dependency → Reply (Unit {0}) × Record
@@ -114,7 +114,7 @@ addDependency r d = concluded (firstHolding (addConditions r d)) r (withDependen
 -- What putting a query asks: 14; 7; 5 unless it keeps the limits and holds nothing where it is not in use; 6 where a head variable is in no row; 12
 abbrev pub putConditions : Record → ℕ → Query → List Condition
 putConditions r place q =
-    broken r ∷ unknownPlace place ∷ (not (goodQuery (schemaOf r) q), badQuery) ∷ (not (headSafe (schemaOf r) q), unsafeHead) ∷ filled r place ∷ []
+    brokenRecord r ∷ unknownPlace place ∷ (not (goodQuery (schemaOf r) q), badQuery) ∷ (not (headSafe (schemaOf r) q), unsafeHead) ∷ filled r place ∷ []
 
 -- Put a query into a vacant place
 unfoldable pub putQuery : Record → ℕ → Query → Reply (Unit {0}) × Record
@@ -122,7 +122,7 @@ putQuery r place q = concluded (firstHolding (putConditions r place q)) r (withP
 
 -- What dropping a place asks: 14; 7; 11
 abbrev pub dropConditions : Record → ℕ → List Condition
-dropConditions r place = broken r ∷ unknownPlace place ∷ vacant r place ∷ []
+dropConditions r place = brokenRecord r ∷ unknownPlace place ∷ vacant r place ∷ []
 
 -- Drop a filled place
 unfoldable pub dropQuery : Record → ℕ → Reply (Unit {0}) × Record
@@ -130,7 +130,7 @@ dropQuery r place = concluded (firstHolding (dropConditions r place)) r (withPla
 
 -- What a question about determined columns asks: 14; 4 unless the relation is known and the set is a nonempty set of its columns
 abbrev pub determinedConditions : Record → ℕ → ℕ → List Condition
-determinedConditions r relation left = broken r ∷ (not (goodSet (schemaOf r) relation left), badDependency) ∷ []
+determinedConditions r relation left = brokenRecord r ∷ (not (goodSet (schemaOf r) relation left), badDependency) ∷ []
 
 -- The columns of a relation that a left set determines
 abbrev pub determinedAt : Record → ℕ → ℕ → List ℕ

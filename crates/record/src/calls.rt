@@ -76,7 +76,7 @@ pub fn no_place() -> Place
 }
 
 // The record with another content of one place.
-fn with_place(given: Record, place: usize, p: Place) -> Record
+pub fn with_place(given: Record, place: usize, p: Place) -> Record
     requires { ⌜ place < 8 ⌝ }
     ensures { λ r. ⌜ r ≡ withPlace given place p ⌝ }
 {

@@ -13,7 +13,7 @@ use Rattle.record.specs.View.{schemaOf, dependenciesOf}
 use Rattle.record.specs.Rule.{goodRecord}
 use Rattle.query.specs.Rule.{noCell}
 use Rattle.refusals.specs.Refusals.{Condition, firstHolding, Reply, refused, gives}
-use Rattle.record.specs.Calls.{statusReply, broken, unknownPlace, vacant, filled, withPlace, storedAt, queryAt}
+use Rattle.record.specs.Calls.{statusReply, brokenRecord, unknownPlace, vacant, filled, withPlace, storedAt, queryAt}
 use Rattle.reduction.specs.declared.Reduced.{Reduced}
 use Rattle.theory.specs.Query as theory
 use Rattle.theory.specs.Database as database
@@ -23,7 +23,7 @@ use Rattle.minimization.specs.Reduction as reduction
 
 -- What a reduction asks: 14; 7; 11 where the source is vacant; 12 where the target is filled
 abbrev pub reductionConditions : Record → ℕ → ℕ → List Condition
-reductionConditions r source target = broken r ∷ unknownPlace source ∷ unknownPlace target ∷ vacant r source ∷ filled r target ∷ []
+reductionConditions r source target = brokenRecord r ∷ unknownPlace source ∷ unknownPlace target ∷ vacant r source ∷ filled r target ∷ []
 
 -- The refusal of a reduction
 unfoldable pub reductionRefusal : Record → ℕ → ℕ → Option ℕ

@@ -8,6 +8,8 @@ use query::Query;
 use record::Lookup;
 use record::Record;
 use record::Status;
+use record::calls::stored;
+use record::calls::with_place;
 ghost use mathlib.Core.Path.{_≡_};
 ghost use mathlib.Core.Bool.{true};
 ghost use mathlib.Core.List.{List};
@@ -73,20 +75,17 @@ fn store_reduced(given: Record, source: usize, target: usize) -> Reduced
 {
     let dependencies = given.dependencies;
     let held = given.held as usize;
-    let places = given.places;
-    let place = places[source];
-    let stored = place.query;
-    let shortened = shorten(stored, dependencies, held);
-    let query = shortened.query;
+    let long = stored(given, source);
+    let shortened = shorten(long, dependencies, held);
+    let short = shortened.query;
     let images = shortened.images;
-    let mut after = given;
-    after.places[target] = Place {
+    let filled = Place {
         filled: true,
-        query: query,
+        query: short,
     };
     Reduced {
         answer: Status::Done,
-        record: after,
+        record: with_place(given, target, filled),
         count: shortened.count,
         images: images,
     }

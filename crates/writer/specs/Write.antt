@@ -6,7 +6,7 @@ use lib.Dec.{ltb}
 use lib.ListN.{length}
 use Rattle.refusals.specs.Refusals.{overUnless, Condition, firstHolding, bufferTooShort, Reply, refused, gives, reply}
 use Rattle.record.specs.declared.Record.{Record}
-use Rattle.record.specs.Calls.{broken}
+use Rattle.record.specs.Calls.{brokenRecord}
 use Rattle.format.specs.File.{fileOf}
 use Rattle.writer.specs.declared.Written.{Written}
 use Rattle.writer.specs.declared.Written.the-variants.{Length, Refused}
@@ -18,7 +18,7 @@ lengthReply (Refused n) = refused n
 
 -- What writing asks, with so much room: 14; 10 where the file is longer
 abbrev pub writeConditions : Record → ℕ → List Condition
-writeConditions r room = broken r ∷ (ltb room (length (fileOf r)), bufferTooShort) ∷ []
+writeConditions r room = brokenRecord r ∷ (ltb room (length (fileOf r)), bufferTooShort) ∷ []
 
 -- The refusal of writing
 unfoldable pub writingRefused : Record → ℕ → Option ℕ
