@@ -8,7 +8,7 @@ use mathlib.Core.Path.{_≡_, refl, sym, _∙_, ap}
 use mathlib.Core.Logic.{_↔_, _⊎_, inl, inr}
 use mathlib.Core.Bool.{Bool, true, false, cond, true≢false}
 use mathlib.Core.List.{List, [], _∷_, map, List·Memᴰ·head, List·Memᴰ·tail, Memᴰ·cast, List·Memᴰ·not-nil, cons≢nil}
-use mathlib.Core.Option.{Option, none, some, Option·none-ne-some, Option·some-ne-none, Option·some-injective, bind, bind-eq-some-iff, orElse}
+use mathlib.Core.Option.{Option, none, some, Option·none-ne-some, Option·some-ne-none, Option·some-injective, bind, bind-eq-some-iff, orElse, Option·getD}
 use Prim.Native.Nat.{ℕ, _+_, _≤_, _<_}
 use native.Mathlib.Omega.{arith}
 use lib.Dec.{eqb}
@@ -19,7 +19,7 @@ use Rattle.theory.specs.Database.{Database, Dependency}
 use Rattle.theory.specs.Chase.{chase}
 use Rattle.theory.specs.Containment.{Contained, Counterexample, frozenRows, frozenHead, ConstantsBelow}
 use Rattle.minimization.specs.Search.{Partial, lookup, assignTo, matchEntry, matchEntries, matchRow, tryRows, placeRows, placeQuery}
-use Rattle.minimization.specs.Search.{assignment, isSome, mappable, containedOn, contained}
+use Rattle.minimization.specs.Search.{isSome, mappable, containedOn, contained}
 use Rattle.theory.proofs.Entries.{sameEntry-eq, sameEntry-ne}
 use Rattle.theory.proofs.Carry.{mapping-of}
 use Rattle.theory.proofs.Containment.{contained-iff, counterexample}
@@ -35,7 +35,11 @@ row-same r s p q = λ i. record { relation = p i; values = q i }
 abbrev Fits : (ℕ → Entry) → Partial → Type 0
 Fits h bs = (v : ℕ) (e : Entry) → lookup v bs ≡ some e → h v ≡ e
 
--- A partial assignment's own assignment fits it
+-- The assignment that a partial one gives: constant 0 where nothing is chosen
+abbrev assignment : Partial → ℕ → Entry
+assignment bs v = Option·getD (lookup v bs) (constant 0)
+
+-- It fits the partial one
 fits-own : (bs : Partial) → Fits (assignment bs) bs
 fits-own bs v e chosen = rw chosen refl
 

@@ -2,7 +2,7 @@
 -- It finds a mapping exactly where there is one (`ContainmentTheorems`). The engine's own search is another, with the same meaning.
 use mathlib.Core.Bool.{Bool, true, false, cond}
 use mathlib.Core.List.{List, [], _∷_, _++_}
-use mathlib.Core.Option.{Option, none, some, bind, orElse, Option·getD}
+use mathlib.Core.Option.{Option, none, some, bind, orElse}
 use Prim.Native.Nat.{ℕ}
 use lib.Dec.{eqb}
 use Rattle.theory.specs.Query.{Entry, constant, variable, Row, Query, sameEntry}
@@ -53,10 +53,6 @@ placeRows (r ∷ rs) candidates bs = tryRows (placeRows rs candidates) r candida
 unfoldable pub placeQuery : List Entry → List (Row Entry) → Query → Option Partial
 placeQuery head [] T = none
 placeQuery head (r ∷ rs) T = bind (matchEntries head (T .head) []) (placeRows (r ∷ rs) (T .rows))
-
--- The assignment that a partial one gives: constant 0 where nothing is chosen
-abbrev pub assignment : Partial → ℕ → Entry
-assignment bs v = Option·getD (lookup v bs) (constant 0)
 
 -- Whether there is something
 abbrev pub isSome : {A : Type 0} → Option A → Bool
