@@ -7,7 +7,7 @@ ghost use Rattle.record_on_files.specs.Lent.{returned, leaves, Wrote};
 ghost use Rattle.record_on_files.specs.Records.{copied, opened, added, putIn, dropped, determinedIn};
 ghost use Rattle.reduction_on_files.specs.Shortening.{ReduceGives};
 ghost use Rattle.comparison_on_files.specs.Queries.{CompareGives, checkedIn, bit};
-ghost use Rattle.database_on_files.specs.Databases.{testedIn, evaluatedIn, answersIn};
+ghost use Rattle.database_on_files.specs.Databases.{testedIn, evaluatedIn, answersLeft};
 
 // ---- files
 
@@ -170,7 +170,7 @@ pub extern "C" fn spernevan_evaluate(
     count: &mut usize,
 ) -> u8
     ensures { λ r. ⌜ r ≡ returned (evaluatedIn (now (file .entry)) place (now (words .entry)) (length (now (answers .entry)))) ⌝ }
-    ensures { λ _. ⌜ now (answers .exit) ≡ answersIn (now (file .entry)) place (now (words .entry)) (now (answers .entry)) ⌝ }
+    ensures { λ _. ⌜ now (answers .exit) ≡ answersLeft (now (file .entry)) place (now (words .entry)) (now (answers .entry)) ⌝ }
     ensures { λ _. ⌜ now (count .exit) ≡ leaves (evaluatedIn (now (file .entry)) place (now (words .entry)) (length (now (answers .entry)))) (λ n. n) (now (count .entry)) ⌝ }
 {
     database_on_files::evaluate_in_file(file, place, words, answers, count)
