@@ -732,6 +732,19 @@ class FromPython(Data):
             self.record.test({"burst": numpy.array([1, 2, 3])})
         self.assertEqual(self.record.test({"burst": numpy.array([[1, 2], [1, 4]], dtype="uint8")}), Broken(2, 0, 1))
 
+    def test_not_even_unequal(self):
+        """pandas.NA is unequal to nothing, itself included: the comparison gives NA, which is no truth value."""
+
+        class Absent:
+            def __ne__(self, other):
+                return self
+
+            def __bool__(self):
+                raise TypeError("boolean value of NA is ambiguous")
+
+        with self.assertRaisesRegex(DataError, "burst: column height, row 1: there is no value"):
+            self.record.database({"burst": [(1, 2), (3, Absent())]})
+
     @unittest.skipUnless(installed("pandas"), "pandas is not installed")
     def test_pandas(self):
         import pandas
@@ -746,6 +759,12 @@ class FromPython(Data):
             self.record.test({"flight": times})
         data = self.record.database({"flight": times}, null=0)
         self.assertEqual(self.record.evaluate("ans(t) :- flight(f, p, t)", data), [(0,), (datetime(2026, 1, 14, 11, 45),)])
+        for kind, cells in (("string", ["a", None]), ("Int64", [1, None]), ("boolean", [True, None])):
+            absent = burst.assign(height=pandas.array(cells, dtype=kind))
+            with self.assertRaisesRegex(DataError, "burst: column height, row 1: there is no value"):
+                self.record.database({"burst": absent})
+            data = self.record.database({"burst": absent}, null="?")
+            self.assertEqual(self.record.evaluate("ans(h) :- burst('F-2', h)", data), [("?",)])
         many = pandas.DataFrame({"flight": range(70_000), "height": range(70_000)})
         self.assertEqual(len(self.record.evaluate("ans(f) :- burst(f, f)", {"burst": many})), 70_000)
 
