@@ -6,6 +6,7 @@ import argparse
 import json
 import os
 import sys
+from contextlib import nullcontext
 from typing import Callable, Dict, Iterable, List, Optional, Sequence, Tuple, Union
 
 from .data import Database, DataError, column_of
@@ -427,14 +428,17 @@ def evaluate_command(options: Options) -> int:
             f"spernevan: the text '{double}' and the number {double} are different values, and both are here; "
             "a query has the text between quotes" + (", and --text TABLE.COLUMN takes a column of CSV as text" if database.has_cells else "")
         )
-    broken = record.broken(database, relations)
+    with database.progress.during("testing the dependencies"):
+        broken = record.broken(database, relations)
     if broken is not None:
         for line in _broken(record, database, broken):
             say(line)
         said = record.consequence(broken, asked.query)
         say(f"{said[:1].upper()}{said[1:]}.")
-    answers = record.evaluate(asked.asked, database, tested=True)
-    write_answers(answers, labels(asked.query, names, asked.variables), options.format, sys.stdout)
+    with database.progress.during("looking for answers"):
+        answers = record.evaluate(asked.asked, database, tested=True)
+    with nullcontext() if sys.stdout.isatty() else database.progress.during("writing the answers"):
+        write_answers(answers, labels(asked.query, names, asked.variables), options.format, sys.stdout)
     return YES
 
 
@@ -442,7 +446,8 @@ def test_command(options: Options) -> int:
     record, _ = load(options)
     database = _data(options, record)
     _say_notes(database, [dependency.relation for dependency in record.dependencies])
-    broken = record.test(database)
+    with database.progress.during("testing the dependencies"):
+        broken = record.test(database)
     if broken is None:
         print(f"Obeys: {count(len(database), 'row')}, {count(len(record.dependencies), 'dependency')}")
         return YES

@@ -8,9 +8,11 @@ sources.py reads files.
 from __future__ import annotations
 
 import re
+import threading
 import time
 from array import array
 from bisect import bisect_right
+from contextlib import contextmanager
 from datetime import date
 from decimal import Decimal
 from functools import partial
@@ -438,6 +440,28 @@ class Progress:
         if self._stream is not None and time.monotonic() > self._next:
             self.say(f"{what}: {rows:,} rows")
             self._next = time.monotonic() + 0.2
+
+    @contextmanager
+    def during(self, what: str, every: float = 1) -> Iterator[None]:
+        """Says how long a work takes that does not tell how far it is."""
+        if self._stream is None:
+            yield
+            return
+        over = threading.Event()
+        begun = time.monotonic()
+
+        def tell() -> None:
+            while not over.wait(every):
+                self.say(f"{what}: {time.monotonic() - begun:.0f} s")
+
+        teller = threading.Thread(target=tell, daemon=True)
+        teller.start()
+        try:
+            yield
+        finally:
+            over.set()
+            teller.join()
+            self.done()
 
     def say(self, text: str) -> None:
         if self._stream is not None:

@@ -9,6 +9,7 @@ import random
 import sqlite3
 import subprocess
 import sys
+import threading
 import time
 import unittest
 import warnings
@@ -931,6 +932,28 @@ class Large(Data):
             self.assertEqual("flight: 1,200,000 rows" in stream.getvalue(), shown)
             progress.done()
             self.assertEqual(stream.getvalue().endswith("\r\033[K"), shown)
+
+    def test_progress_of_a_call(self):
+        """A call that does not tell how far it is shows how long it takes, and its line is taken away, also when it fails."""
+
+        class Terminal(io.StringIO):
+            said = threading.Event()
+
+            def isatty(self):
+                return True
+
+            def write(self, text):
+                super().write(text)
+                self.said.set()
+
+        stream = Terminal()
+        with self.assertRaises(KeyError), Progress(stream).during("testing", 0.01):
+            self.assertTrue(stream.said.wait(60))
+            raise KeyError
+        self.assertTrue(stream.getvalue().startswith("\rtesting: 0 s\033[K"))
+        self.assertTrue(stream.getvalue().endswith("\r\033[K"))
+        with Progress(Terminal()).during("testing"):
+            pass
 
 
 if __name__ == "__main__":
