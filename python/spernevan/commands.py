@@ -20,6 +20,7 @@ from .files import (
     kind_of,
     locked,
     may_be_archive,
+    may_be_encoded,
     names_path,
     read_bytes,
     read_names_beside,
@@ -482,7 +483,7 @@ def pack_command(options: Options) -> int:
     if data[1:2] == b"\0":
         raise Failure(f"{shown(options.text)} is no text; if it is an archive file, unpack makes a text of it")
     kind = kind_of(data)
-    if kind is not None or b"\0" in data[:1024] and not is_utf8(data):
+    if kind is not None or not may_be_encoded(data) and not is_utf8(data):
         raise Failure(f"{shown(options.text)} is {kind or 'no text'}, where the text of an archive was expected, as samples/flights.text is one")
     record, _ = pack(text_of(data, options.text), shown(options.text))
     if options.file == "-":
