@@ -257,6 +257,16 @@ class Database:
         for block, end in zip(self._blocks, ends):
             yield block.word, end, block.relation
 
+    def words_of(self, relations: AbstractSet[int]) -> Words:
+        """The rows of some tables, in words."""
+        if all(block.relation in relations for block in self._blocks):
+            return self.words
+        found: Words = array("I")
+        for start, end, relation in self._spans():
+            if relation in relations:
+                found.extend(self.words[start:end])
+        return found
+
     def decoded(self, answers: Words, number: int, shown: Sequence[Shown]) -> List[Tuple[Value, ...]]:
         """Answers of the engine as values, by how each column of theirs is shown: numbers ascending, then dates, then texts."""
         length = len(shown)

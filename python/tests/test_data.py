@@ -19,7 +19,7 @@ from pathlib import Path
 from unittest import mock
 
 import context
-from spernevan import Broken, Constant, DataError, Query, Record, Refused, Row, Table, pack, read_database, sources
+from spernevan import Broken, Constant, DataError, Query, Record, Refused, Row, Table, engine, pack, read_database, sources
 from spernevan.data import Cells, Form, Progress, matched, read_row_value
 from spernevan.notation import format_datum
 from spernevan.values import Values, plain, read_cell, read_cell_with_comma
@@ -917,6 +917,16 @@ class Large(Data):
             print(f"\n{kind}: {len(database)} rows in {took:.1f} s", file=sys.stderr)
             self.assertEqual(len(database), 2 * n)
             self.assertLess(took, 30)
+
+    def test_rows_that_are_not_asked_for(self):
+        """The engine gets only the tables of the query: the others change no answer."""
+        data = self.record.database({"burst": [(1, 2), (3, 4)], "flight": [(n, 5, 6) for n in range(3)]})
+        self.assertEqual(len(data.words_of({0, 1})), len(data.words))
+        with mock.patch("spernevan.record.engine.evaluate", wraps=engine.evaluate) as evaluate:
+            self.assertEqual(self.record.evaluate("ans(h) :- burst(1, h)", data), [(2,)])
+            self.assertEqual(self.record.evaluate("ans(f, h) :- flight(f, _, _), burst(f, h)", data), [(1, 2)])
+            self.assertEqual(self.record.evaluate("ans() :- never", data), [])
+        self.assertEqual([len(call.args[2]) for call in evaluate.call_args_list], [6, 18, 0])
 
     def test_progress(self):
         class Terminal(io.StringIO):
