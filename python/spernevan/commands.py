@@ -58,6 +58,9 @@ from .values import Value, read_cell, read_literal
 
 YES, NO, TROUBLE = 0, 1, 2
 
+# As many rows, of all tables of a query, the engine joins swiftly; beyond them the time grows with the square.
+SWIFT_ROWS = 98_304
+
 Options = argparse.Namespace
 
 
@@ -436,6 +439,9 @@ def evaluate_command(options: Options) -> int:
             say(line)
         said = record.consequence(broken, asked.query)
         say(f"{said[:1].upper()}{said[1:]}.")
+    rows = sum(database.tables[relation] for relation in set(relations))
+    if rows > SWIFT_ROWS and len(asked.query.rows) > 1:
+        say(f"spernevan: a join of {rows:,} rows may take very long here; define --format sql is the short form for the program that holds the data")
     with database.progress.during("looking for answers"):
         answers = record.evaluate(asked.asked, database, tested=True)
     with nullcontext() if sys.stdout.isatty() else database.progress.during("writing the answers"):

@@ -918,6 +918,15 @@ class Large(Data):
             self.assertEqual(len(database), 2 * n)
             self.assertLess(took, 30)
 
+    def test_a_large_join_is_named(self):
+        """A join of more rows than the engine is swift with is named, with the cure; other queries are not."""
+        text = self.write("a.text", "burst(flight, height)\nsite(name)\n")
+        rows = self.write("a.rows", "burst(1, 2)\nburst(3, 4)\nsite(5)\n")
+        with mock.patch("spernevan.commands.SWIFT_ROWS", 1):
+            for rule, said in (("burst(x, _), burst(x, _)", True), ("burst(x, _)", False), ("site(x), site(x)", False)):
+                _, _, err = run("evaluate", text, f"ans(x) :- {rule}", rows)
+                self.assertEqual("a join of 2 rows may take very long here; define --format sql" in err, said)
+
     def test_rows_that_are_not_asked_for(self):
         """The engine gets only the tables of the query: the others change no answer."""
         data = self.record.database({"burst": [(1, 2), (3, 4)], "flight": [(n, 5, 6) for n in range(3)]})
