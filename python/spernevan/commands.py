@@ -6,6 +6,7 @@ import argparse
 import json
 import os
 import sys
+from contextlib import nullcontext
 from typing import Callable, Dict, Iterable, List, Optional, Sequence, Tuple, Union
 
 from .data import Database, DataError, column_of
@@ -19,6 +20,7 @@ from .files import (
     kind_of,
     locked,
     may_be_archive,
+    may_be_encoded,
     names_path,
     read_bytes,
     read_names_beside,
@@ -55,6 +57,9 @@ from .text import pack, unpack
 from .values import Value, read_cell, read_literal
 
 YES, NO, TROUBLE = 0, 1, 2
+
+# As many rows, of all tables of a query, the engine joins swiftly; beyond them the time grows with the square.
+SWIFT_ROWS = 98_304
 
 Options = argparse.Namespace
 
@@ -427,14 +432,20 @@ def evaluate_command(options: Options) -> int:
             f"spernevan: the text '{double}' and the number {double} are different values, and both are here; "
             "a query has the text between quotes" + (", and --text TABLE.COLUMN takes a column of CSV as text" if database.has_cells else "")
         )
-    broken = record.broken(database, relations)
+    with database.progress.during("testing the dependencies"):
+        broken = record.broken(database, relations)
     if broken is not None:
         for line in _broken(record, database, broken):
             say(line)
         said = record.consequence(broken, asked.query)
         say(f"{said[:1].upper()}{said[1:]}.")
-    answers = record.evaluate(asked.asked, database, tested=True)
-    write_answers(answers, labels(asked.query, names, asked.variables), options.format, sys.stdout)
+    rows = sum(database.tables[relation] for relation in set(relations))
+    if rows > SWIFT_ROWS and len(asked.query.rows) > 1:
+        say(f"spernevan: a join of {rows:,} rows may take very long here; define --format sql is the short form for the program that holds the data")
+    with database.progress.during("looking for answers"):
+        answers = record.evaluate(asked.asked, database, tested=True)
+    with nullcontext() if sys.stdout.isatty() else database.progress.during("writing the answers"):
+        write_answers(answers, labels(asked.query, names, asked.variables), options.format, sys.stdout)
     return YES
 
 
@@ -442,7 +453,8 @@ def test_command(options: Options) -> int:
     record, _ = load(options)
     database = _data(options, record)
     _say_notes(database, [dependency.relation for dependency in record.dependencies])
-    broken = record.test(database)
+    with database.progress.during("testing the dependencies"):
+        broken = record.test(database)
     if broken is None:
         print(f"Obeys: {count(len(database), 'row')}, {count(len(record.dependencies), 'dependency')}")
         return YES
@@ -477,7 +489,7 @@ def pack_command(options: Options) -> int:
     if data[1:2] == b"\0":
         raise Failure(f"{shown(options.text)} is no text; if it is an archive file, unpack makes a text of it")
     kind = kind_of(data)
-    if kind is not None or b"\0" in data[:1024] and not is_utf8(data):
+    if kind is not None or not may_be_encoded(data) and not is_utf8(data):
         raise Failure(f"{shown(options.text)} is {kind or 'no text'}, where the text of an archive was expected, as samples/flights.text is one")
     record, _ = pack(text_of(data, options.text), shown(options.text))
     if options.file == "-":

@@ -8,9 +8,11 @@ sources.py reads files.
 from __future__ import annotations
 
 import re
+import threading
 import time
 from array import array
 from bisect import bisect_right
+from contextlib import contextmanager
 from datetime import date
 from decimal import Decimal
 from functools import partial
@@ -255,6 +257,16 @@ class Database:
         for block, end in zip(self._blocks, ends):
             yield block.word, end, block.relation
 
+    def words_of(self, relations: AbstractSet[int]) -> Words:
+        """The rows of some tables, in words."""
+        if all(block.relation in relations for block in self._blocks):
+            return self.words
+        found: Words = array("I")
+        for start, end, relation in self._spans():
+            if relation in relations:
+                found.extend(self.words[start:end])
+        return found
+
     def decoded(self, answers: Words, number: int, shown: Sequence[Shown]) -> List[Tuple[Value, ...]]:
         """Answers of the engine as values, by how each column of theirs is shown: numbers ascending, then dates, then texts."""
         length = len(shown)
@@ -438,6 +450,28 @@ class Progress:
         if self._stream is not None and time.monotonic() > self._next:
             self.say(f"{what}: {rows:,} rows")
             self._next = time.monotonic() + 0.2
+
+    @contextmanager
+    def during(self, what: str, every: float = 1) -> Iterator[None]:
+        """Says how long a work takes that does not tell how far it is."""
+        if self._stream is None:
+            yield
+            return
+        over = threading.Event()
+        begun = time.monotonic()
+
+        def tell() -> None:
+            while not over.wait(every):
+                self.say(f"{what}: {time.monotonic() - begun:.0f} s")
+
+        teller = threading.Thread(target=tell, daemon=True)
+        teller.start()
+        try:
+            yield
+        finally:
+            over.set()
+            teller.join()
+            self.done()
 
     def say(self, text: str) -> None:
         if self._stream is not None:

@@ -2,6 +2,7 @@
 
 from __future__ import annotations
 
+import codecs
 import fcntl
 import hashlib
 import os
@@ -109,6 +110,11 @@ def is_text(data: bytes) -> bool:
     return True
 
 
+def may_be_encoded(data: bytes) -> bool:
+    """Whether bytes may be a text, in UTF-8 or in another encoding."""
+    return b"\0" not in data[:1024] or data.startswith((codecs.BOM_UTF16_LE, codecs.BOM_UTF16_BE))
+
+
 def kind_of(data: bytes) -> Optional[str]:
     """What a file is that begins with these bytes, if it is of a kind that is given for another."""
     if data.startswith(b"SQLite format 3\0"):
@@ -138,10 +144,12 @@ _NO_ARCHIVES: Mapping[Optional[str], str] = {
 
 
 def may_be_archive(path: Path, data: bytes) -> None:
-    """Failure if a file that begins with these bytes is of a kind that is given for an archive by mistake."""
+    """Failure if a file that begins with these bytes is of a kind that is given for an archive by mistake, or a text in another encoding."""
     kind = "a CSV file" if os.fspath(path).lower().endswith(".csv") else kind_of(data)
     if kind in _NO_ARCHIVES:
         raise Failure(f"{shown(path)} is {kind}, where an archive file or the text of one was expected; {_NO_ARCHIVES[kind]}")
+    if may_be_encoded(data) and not is_text(data):
+        text_of(data, path)
 
 
 def read_names_beside(file: Path, data: bytes, given: Optional[Path] = None, codes: Iterable[int] = ()) -> Optional[NamesFile]:

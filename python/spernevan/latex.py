@@ -24,7 +24,7 @@ _SIGNS = {
     "&": r"\&",
     "#": r"\#",
     "%": r"\%",
-    "_": r"\_",
+    "_": r"\_\allowbreak{}",
     "^": r"\textasciicircum{}",
     "~": r"\textasciitilde{}",
     "<": r"\textless{}",
@@ -51,6 +51,8 @@ _SIGNS = {
     "×": r"\ensuremath{\times}",
     "±": r"\ensuremath{\pm}",
     "·": r"\ensuremath{\cdot}",
+    "²": r"\ensuremath{^2}",
+    "³": r"\ensuremath{^3}",
     "–": r"\textendash{}",
     "—": r"\textemdash{}",
     "‘": r"\textquoteleft{}",
@@ -93,9 +95,21 @@ _GREEK.update(
 )
 
 
+# More signs than this without a place to break would run off the page.
+_LONG = 24
+
+
 def escape(text: str) -> str:
-    """Text as LaTeX sets it, in ASCII."""
-    return "".join(map(_character, unicodedata.normalize("NFC", text)))
+    """Text as LaTeX sets it, in ASCII. A line may end at a space, after an underscore, and within a long word, without a hyphen."""
+    found: List[str] = []
+    since = 0
+    for one in unicodedata.normalize("NFC", text):
+        since = 0 if one in " _" else since + 1
+        if since > _LONG:
+            found.append(r"\allowbreak{}")
+            since = 1
+        found.append(_character(one))
+    return "".join(found)
 
 
 def _character(one: str) -> str:
@@ -204,15 +218,19 @@ def mapping(definition: Definition) -> str:
     return f"{images}; {rows}." if images else f"{rows}."
 
 
-def _lines(lines: Iterable[str]) -> str:
-    """Lines below each other, each wrapped with an indent where it is too long."""
-    return "\n".join(rf"\par\nobreak\noindent\hangindent=2em {line}" for line in lines)
+def _lines(lines: Iterable[str], indent: str = "2em") -> str:
+    """Lines below each other, each wrapped with an indent where it is too long; a page may end between them."""
+    return "\\par\\nobreak\n" + "\n".join(rf"\par\noindent\hangindent={indent} {line}" for line in lines)
 
 
 def _rows(rows: Sequence[Tuple[str, str]]) -> str:
-    """Numbered lines, each wrapped where it is too long."""
-    body = "\n".join(rf"{number} & \raggedright {text}\tabularnewline" for number, text in rows)
-    return f"\\par\\nobreak\\noindent\\begin{{tabular}}{{@{{}}r@{{\\quad}}p{{0.86\\linewidth}}@{{}}}}\n{body}\n\\end{{tabular}}"
+    """Numbered lines."""
+    return _lines((rf"\makebox[1.5em][r]{{{number}}}\hspace{{1em}}{text}" for number, text in rows), "2.5em")
+
+
+def ragged(body: str) -> str:
+    """Lines of uneven length, none of which ends in a hyphen: it would be read as one of the name or the value."""
+    return f"\\begingroup\\raggedright\n\\hyphenpenalty=10000\n{body}\n\\par\\endgroup\n"
 
 
 def _titled(title: str, body: str) -> str:
@@ -246,8 +264,7 @@ def fragment(definition: Definition, title: Optional[str] = None) -> str:
     parts.append(rf"\par\medskip\noindent {claim(definition)}")
     if definition.long.lone() or definition.short.lone():
         parts.append(r"A variable that stands once is written \_.")
-    body = "\n".join(parts)
-    return f"\\begingroup\\raggedright\n{body}\n\\par\\endgroup\n"
+    return ragged("\n".join(parts))
 
 
 def document(body: str) -> str:

@@ -208,7 +208,7 @@ def _json_of(definition: Definition, form: Optional[str]) -> Dict[str, object]:
 def _latex_of(definition: Definition, form: Optional[str]) -> str:
     if form is None:
         return latex.fragment(definition)
-    return latex.form(_query_of(definition, form), definition) + "\n"
+    return latex.ragged(latex.form(_query_of(definition, form), definition))
 
 
 # ---- files of definitions

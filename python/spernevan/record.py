@@ -530,7 +530,9 @@ class Record:
             if not tested:
                 self._warn(held, record.query(at))
             record, at = record._translated(at, held)
-        words = held.words if isinstance(held, Database) else held
+        asked = record.queries[at] if at < PLACES else None
+        # Other tables change no answer, and would make the engine slower.
+        words = held.words_of({row.relation for row in asked.rows} if asked else set()) if isinstance(held, Database) else held
         size = max(4096, 2 * len(words)) if room is None else room
         while True:
             try:

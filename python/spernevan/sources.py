@@ -254,7 +254,7 @@ def _read_simple_rows(text: str, source: str, database: Database) -> bool:
                 continue
             relation = numbers[name.group(1)]
             # Rows of one table that follow one another.
-            found = list(islice(iter(patterns[relation].scanner(text, at).match, None), CHUNK))
+            found: List[Any] = list(islice(iter(patterns[relation].scanner(text, at).match, None), CHUNK))
             if not found:
                 return False
             rows.add(relation, [one.groups() for one in found], range(line, line + len(found)))

@@ -76,16 +76,17 @@ def plain(value: object) -> Value:
             return int(value)
         number = Decimal(repr(float(value)))
         return number if number.is_finite() else _number(number)
-    try:
-        return operator.index(value)  # type: ignore[arg-type]
-    except TypeError:
-        pass
     item = getattr(value, "item", None)
     if callable(item):
         inner = item()
         if type(inner) is not type(value):
             return plain(inner)
-    if value != value:
+    try:
+        return operator.index(value)  # type: ignore[arg-type]
+    except TypeError:
+        pass
+    unequal: object = value != value  # of pandas.NA that is NA again, and neither true nor false
+    if unequal is value or unequal:
         raise Null()
     raise ValueError(f"a value must be a number, a text or a date, not {value!r:.40}")
 

@@ -226,7 +226,7 @@ class Messages(Command):
             if kind not in ("a CSV file", "an SQLite file"):
                 self.failed(f"{file}: this is {kind}; a database is rows of text, a CSV file or", "test", FLIGHTS, file)
         self.failed(f"{FLIGHTS}: this is an archive file; a database is rows of text", "test", FLIGHTS, FLIGHTS)
-        noise = self.write("noise", bytes(range(255, -1, -1)))
+        noise = self.write("noise", bytes(range(254, -1, -1)))
         self.failed(f"{noise} is no text, where the text of an archive was expected", "pack", noise, self.folder / "x.file")
         self.failed(f"{names} has the names", "pack", context.SAMPLES / "flights.text", context.SAMPLES / "flights.other")
 
@@ -264,6 +264,12 @@ class Messages(Command):
             path = self.write("x.text", text)
             self.failed(f"{path}:{message}", "pack", path, out)
             self.assertFalse(out.exists())
+        for encoding, place in (("latin-1", "2:15"), ("utf-16", "1:1")):
+            path = self.write("x.text", "flight(a)\n0: ans() :- 'Höhe'\n".encode(encoding))
+            for command in (["pack", path, out], ["list", path], ["drop", path, 0]):
+                self.failed(f"{path}:{place}: this byte is not UTF-8 text; save the file in UTF-8", *command)
+            with self.assertRaisesRegex(Failure, "not UTF-8 text"):
+                Record.read(path)
         self.failed("nowhere.text: No such file", "pack", "nowhere.text", out)
         good = self.write("good.text", "\ufeffflight(a)\n")
         self.failed(f"{self.folder}/none/x.file: No such file", "pack", good, self.folder / "none" / "x.file")

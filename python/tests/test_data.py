@@ -9,6 +9,7 @@ import random
 import sqlite3
 import subprocess
 import sys
+import threading
 import time
 import unittest
 import warnings
@@ -18,7 +19,7 @@ from pathlib import Path
 from unittest import mock
 
 import context
-from spernevan import Broken, Constant, DataError, Query, Record, Refused, Row, Table, pack, read_database, sources
+from spernevan import Broken, Constant, DataError, Query, Record, Refused, Row, Table, engine, pack, read_database, sources
 from spernevan.data import Cells, Form, Progress, matched, read_row_value
 from spernevan.notation import format_datum
 from spernevan.values import Values, plain, read_cell, read_cell_with_comma
@@ -732,6 +733,19 @@ class FromPython(Data):
             self.record.test({"burst": numpy.array([1, 2, 3])})
         self.assertEqual(self.record.test({"burst": numpy.array([[1, 2], [1, 4]], dtype="uint8")}), Broken(2, 0, 1))
 
+    def test_not_even_unequal(self):
+        """pandas.NA is unequal to nothing, itself included: the comparison gives NA, which is no truth value."""
+
+        class Absent:
+            def __ne__(self, other):
+                return self
+
+            def __bool__(self):
+                raise TypeError("boolean value of NA is ambiguous")
+
+        with self.assertRaisesRegex(DataError, "burst: column height, row 1: there is no value"):
+            self.record.database({"burst": [(1, 2), (3, Absent())]})
+
     @unittest.skipUnless(installed("pandas"), "pandas is not installed")
     def test_pandas(self):
         import pandas
@@ -746,6 +760,12 @@ class FromPython(Data):
             self.record.test({"flight": times})
         data = self.record.database({"flight": times}, null=0)
         self.assertEqual(self.record.evaluate("ans(t) :- flight(f, p, t)", data), [(0,), (datetime(2026, 1, 14, 11, 45),)])
+        for kind, cells in (("string", ["a", None]), ("Int64", [1, None]), ("boolean", [True, None])):
+            absent = burst.assign(height=pandas.array(cells, dtype=kind))
+            with self.assertRaisesRegex(DataError, "burst: column height, row 1: there is no value"):
+                self.record.database({"burst": absent})
+            data = self.record.database({"burst": absent}, null="?")
+            self.assertEqual(self.record.evaluate("ans(h) :- burst('F-2', h)", data), [("?",)])
         many = pandas.DataFrame({"flight": range(70_000), "height": range(70_000)})
         self.assertEqual(len(self.record.evaluate("ans(f) :- burst(f, f)", {"burst": many})), 70_000)
 
@@ -898,6 +918,25 @@ class Large(Data):
             self.assertEqual(len(database), 2 * n)
             self.assertLess(took, 30)
 
+    def test_a_large_join_is_named(self):
+        """A join of more rows than the engine is swift with is named, with the cure; other queries are not."""
+        text = self.write("a.text", "burst(flight, height)\nsite(name)\n")
+        rows = self.write("a.rows", "burst(1, 2)\nburst(3, 4)\nsite(5)\n")
+        with mock.patch("spernevan.commands.SWIFT_ROWS", 1):
+            for rule, said in (("burst(x, _), burst(x, _)", True), ("burst(x, _)", False), ("site(x), site(x)", False)):
+                _, _, err = run("evaluate", text, f"ans(x) :- {rule}", rows)
+                self.assertEqual("a join of 2 rows may take very long here; define --format sql" in err, said)
+
+    def test_rows_that_are_not_asked_for(self):
+        """The engine gets only the tables of the query: the others change no answer."""
+        data = self.record.database({"burst": [(1, 2), (3, 4)], "flight": [(n, 5, 6) for n in range(3)]})
+        self.assertEqual(len(data.words_of({0, 1})), len(data.words))
+        with mock.patch("spernevan.record.engine.evaluate", wraps=engine.evaluate) as evaluate:
+            self.assertEqual(self.record.evaluate("ans(h) :- burst(1, h)", data), [(2,)])
+            self.assertEqual(self.record.evaluate("ans(f, h) :- flight(f, _, _), burst(f, h)", data), [(1, 2)])
+            self.assertEqual(self.record.evaluate("ans() :- never", data), [])
+        self.assertEqual([len(call.args[2]) for call in evaluate.call_args_list], [6, 18, 0])
+
     def test_progress(self):
         class Terminal(io.StringIO):
             def isatty(self):
@@ -912,6 +951,28 @@ class Large(Data):
             self.assertEqual("flight: 1,200,000 rows" in stream.getvalue(), shown)
             progress.done()
             self.assertEqual(stream.getvalue().endswith("\r\033[K"), shown)
+
+    def test_progress_of_a_call(self):
+        """A call that does not tell how far it is shows how long it takes, and its line is taken away, also when it fails."""
+
+        class Terminal(io.StringIO):
+            said = threading.Event()
+
+            def isatty(self):
+                return True
+
+            def write(self, text):
+                super().write(text)
+                self.said.set()
+
+        stream = Terminal()
+        with self.assertRaises(KeyError), Progress(stream).during("testing", 0.01):
+            self.assertTrue(stream.said.wait(60))
+            raise KeyError
+        self.assertTrue(stream.getvalue().startswith("\rtesting: 0 s\033[K"))
+        self.assertTrue(stream.getvalue().endswith("\r\033[K"))
+        with Progress(Terminal()).during("testing"):
+            pass
 
 
 if __name__ == "__main__":

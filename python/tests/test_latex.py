@@ -36,7 +36,9 @@ def balanced(text):
 class Escapes(unittest.TestCase):
     def test_characters(self):
         for text, shown in [
-            ("a_b", r"a\_b"),
+            ("a_b", r"a\_\allowbreak{}b"),
+            ("W/m²", r"W/m\ensuremath{^2}"),
+            ("x" * 49, r"\allowbreak{}".join(["x" * 24, "x" * 24, "x"])),
             ("50%", r"50\%"),
             ("\\input{x}", r"\textbackslash{}input\{x\}"),
             ("--", "-{}-{}"),
@@ -73,7 +75,7 @@ class Documents(unittest.TestCase):
             "None is needed.",
             "Long form, 7 rows.",
             "Short form, 4 rows.",
-            r"1 & \raggedright \textsf{flight}(\textit{f}, \textit{s}, 7, \_),\tabularnewline",
+            r"\makebox[1.5em][r]{1}\hspace{1em}\textsf{flight}(\textit{f}, \textit{s}, 7, \_),",
             r"\textit{r}~$\mapsto$~\textit{s}",
             r"rows 1, 3~$\mapsto$~row~1",
             "On every finite database the two forms have the same answers, and every query with these answers has at least 4 rows.",
@@ -96,6 +98,29 @@ class Documents(unittest.TestCase):
         text = latex.fragment(define_query(self.record, self.names, query))
         self.assertIn(r"\textsf{ans}() never", text)
         self.assertIn("None is needed.", text)
+
+    def compiled(self, folder, name):
+        """Compiles a document; gives the words of the log."""
+        done = subprocess.run(
+            ["pdflatex", "-halt-on-error", "-interaction=nonstopmode", f"{name}.tex"],
+            cwd=folder, stdout=subprocess.PIPE, stderr=subprocess.STDOUT, stdin=subprocess.DEVNULL,
+        )
+        self.assertEqual(done.returncode, 0, done.stdout[-2000:])
+        self.assertTrue(Path(folder, f"{name}.pdf").stat().st_size > 1000)
+        return done.stdout.decode("latin-1")
+
+    @unittest.skipIf(shutil.which("pdflatex") is None, "pdflatex is not installed")
+    def test_stays_on_the_page(self):
+        long = "a_name_that_is_longer_than_a_line_of_the_page_" * 3
+        names = Names((Table(long, tuple(f"{long}{letter}" for letter in "abcdefgh")),))
+        row = ", ".join(["0", "1", "2", "0", "1", "2", "0"])
+        rows = ", ".join(f"R(v{number}, {row})" for number in range(12))
+        query = parse_query(f"ans(v0) :- {rows}", Names((Table("R", tuple("abcdefgh")),)))
+        values = ["words of a text " * 8, "x" * 150, "under_scores_" * 9]
+        one = define_query(Record.open([8]), names, query, {0: long}, values.__getitem__)
+        with tempfile.TemporaryDirectory() as folder:
+            Path(folder, "all.tex").write_text(latex.document(latex.fragment(one)))
+            self.assertNotIn("Overfull", self.compiled(folder, "all"))
 
     @unittest.skipIf(shutil.which("pdflatex") is None, "pdflatex is not installed")
     def test_compiles(self):
@@ -121,12 +146,7 @@ class Documents(unittest.TestCase):
                 "\\documentclass[twocolumn]{report}\\begin{document}Before \\input{part} after.\\end{document}"
             )
             for name in ("all", "paper"):
-                done = subprocess.run(
-                    ["pdflatex", "-halt-on-error", "-interaction=nonstopmode", f"{name}.tex"],
-                    cwd=folder, stdout=subprocess.PIPE, stderr=subprocess.STDOUT, stdin=subprocess.DEVNULL,
-                )
-                self.assertEqual(done.returncode, 0, done.stdout[-2000:])
-                self.assertTrue(Path(folder, f"{name}.pdf").stat().st_size > 1000)
+                self.compiled(folder, name)
 
 
 if __name__ == "__main__":

@@ -170,7 +170,7 @@ class Commands(Command):
         self.assertEqual(publish.render(found, Shape("sql")).count("-- Place "), 6)
         self.assertEqual(len(json.loads(publish.render(found, Shape("json")))), 6)
         self.assertEqual(publish.render(found, Shape("latex")).count("Short form"), 6)
-        self.assertEqual(publish.render(found, Shape("latex", form="short")).count("\\begin{tabular}"), 6)
+        self.assertEqual(publish.render(found, Shape("latex", form="short")).count("\\begingroup"), 6)
         self.assertEqual(publish.render(found).count("Place "), 6)
         self.assertEqual(publish.render([]), "Every place is vacant.\n")
         self.assertEqual(publish.render([], Shape("json")), "[]\n")
