@@ -922,7 +922,7 @@ class Large(Data):
         """A join of more rows than the engine is swift with is named, with the cure; other queries are not."""
         text = self.write("a.text", "burst(flight, height)\nsite(name)\n")
         rows = self.write("a.rows", "burst(1, 2)\nburst(3, 4)\nsite(5)\n")
-        with mock.patch("spernevan.commands.SWIFT_ROWS", 1):
+        with mock.patch("spernevan.commands.SWIFT_WORDS", 1):
             for rule, said in (("burst(x, _), burst(x, _)", True), ("burst(x, _)", False), ("site(x), site(x)", False)):
                 _, _, err = run("evaluate", text, f"ans(x) :- {rule}", rows)
                 self.assertEqual("a join of 2 rows may take very long here; define --format sql" in err, said)
