@@ -11,14 +11,14 @@ import unittest
 from pathlib import Path
 
 HERE = Path(__file__).resolve().parent
-TOOLS = ["bash", "sh", "dirname", "nproc", "mktemp", "rm", "cat", "sleep", "gcc"]
+TOOLS = ["bash", "sh", "dirname", "nice", "mktemp", "rm", "cat", "sleep", "gcc"]
 
 # Each stand-in says that it was called, and then does what its variable says.
 RT = """#!/bin/sh
-echo "called rt $* with RT_JOBS=$RT_JOBS" >>"$CALLS"
+echo "called rt $*${RT_JOBS:+ with RT_JOBS=$RT_JOBS}" >>"$CALLS"
 case $1 in
 fmt) eval "${FMT:-:}" ;;
-ci) eval "${CI:-echo rt: ok; echo 12 passed, 0 failed}" ;;
+ci) eval "${CI:-echo rt: must-fail a/b: refused; echo rt: ok; echo 12 passed, 0 failed}" ;;
 esac
 """
 STAND_IN = """#!/bin/sh
@@ -69,9 +69,33 @@ class Gate(unittest.TestCase):
         self.assertEqual((status, lines[-1]), (0, "12 passed, 0 failed"))
         self.assertEqual(lines.count("12 passed, 0 failed"), 1)
         self.assertNotIn("NOT RUN", "\n".join(lines))
-        jobs = f"with RT_JOBS={min(int(subprocess.check_output(['nproc'])), 4) + 1}"
-        wanted = [f"rt fmt --check {jobs}", "citations", "cargo test", f"rt ci {jobs}", "python/test"]
-        self.assertEqual(calls.splitlines(), [f"called {call}" for call in wanted])
+        wanted = ["rt fmt --check", "citations", "cargo test", "rt ci", "python/test"]
+        called = calls.splitlines()
+        self.assertEqual(sorted(called), sorted(f"called {call}" for call in wanted))
+        self.assertEqual(called[:2], ["called rt fmt --check", "called citations"])
+        self.assertLess(called.index("called rt ci"), called.index("called python/test"))
+
+    def test_python_beside_the_edits(self):
+        """The Python tests begin when the first edit is done, and the gate waits for them."""
+        ci = 'echo rt: must-fail a/b: refused; sleep 2; echo "edits done" >>"$CALLS"; echo 12 passed, 0 failed'
+        status, lines, calls = self.run_gate(CI=ci, PYTHON='sleep 3; echo "python done" >>"$CALLS"; echo said')
+        self.assertEqual((status, lines[-1]), (0, "12 passed, 0 failed"))
+        self.assertLess(calls.index("called python/test"), calls.index("edits done"))
+        self.assertIn("python done", calls)
+        self.assertIn("said", lines)
+
+    def test_no_edit(self):
+        """Without an edit the Python tests begin at the end."""
+        status, lines, calls = self.run_gate(CI="echo rt: ok; echo 12 passed, 0 failed")
+        self.assertEqual((status, lines[-1]), (0, "12 passed, 0 failed"))
+        self.assertIn("called python/test", calls)
+
+    def test_not_proved(self):
+        """Where a crate is not proved the Python tests are not run, and the gate says so."""
+        ci = "echo 'rt: record NOT PROVED (exit 1, 2 s)'; echo rt: must-fail a/b: refused; echo 11 passed, 1 failed; exit 1"
+        lines, calls = self.fails("rt ci, with status 1", CI=ci)
+        self.assertIn("NOT RUN: the Python tests, since not every crate is proved", lines)
+        self.assertNotIn("python/test", calls)
 
     def test_jobs(self):
         self.assertIn("called rt ci with RT_JOBS=7\n", self.run_gate(RT_JOBS="7")[2])
@@ -96,11 +120,16 @@ class Gate(unittest.TestCase):
         lines, _ = self.fails("the Python tests", PYTHON="echo FAILED '(failures=1)'; exit 1")
         self.assertIn("rt ci: 12 passed, 0 failed", lines)
 
+    def test_reference_fails(self):
+        lines, calls = self.fails("the tests of the reference", CARGO="echo one failed; exit 101")
+        self.assertIn("rt ci: 12 passed, 0 failed", lines)
+        self.assertIn("one failed", lines)
+        self.assertIn("called python/test", calls)
+
     def test_cheap_checks_fail(self):
         for said, variables in (
             ("the layout (rt fmt --check)", {"FMT": "exit 1"}),
             ("what the documents cite (.ci/citations)", {"CITATIONS": "exit 1"}),
-            ("the tests of the reference", {"CARGO": "exit 101"}),
             ("the layout (rt fmt --check), what the documents cite (.ci/citations)", {"FMT": "exit 1", "CITATIONS": "exit 1"}),
         ):
             with self.subTest(said=said):
@@ -110,9 +139,9 @@ class Gate(unittest.TestCase):
     def test_missing(self):
         for tool, wanted, kept in (
             ("cargo", ["NOT RUN: the tests of the reference, for want of cargo"], "called python/test"),
-            ("gcc", ["NOT RUN: the Python tests, for want of Python 3.9 or later or of gcc"], "called citations"),
+            ("gcc", ["NOT RUN: the Python tests and the vectors, for want of Python 3.9 or later or of gcc"], "called citations"),
             ("python3", ["NOT RUN: the check of what the documents cite, for want of Python 3.9 or later",
-                         "NOT RUN: the Python tests, for want of Python 3.9 or later or of gcc"], "called cargo"),
+                         "NOT RUN: the Python tests and the vectors, for want of Python 3.9 or later or of gcc"], "called cargo"),
         ):
             with self.subTest(tool=tool):
                 (self.bin / tool).rename(self.room / tool)
