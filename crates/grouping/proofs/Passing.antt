@@ -7,7 +7,7 @@ use native.Mathlib.Omega.{arith}
 use lib.Dec.{eqb, ltb}
 use borrow.Author.Tests.{eqb-true, eqb-false, ltb-true, ltb-false}
 use lib.ListN.{length, take, drop, getD, set, length-set, length-drop, drop-of-length-le}
-use lib.Seq.{getD-drop, getD-set-same, getD-set-other, drop-drop, drop-length, take-all}
+use lib.Seq.{getD-drop, drop-drop, drop-length, take-all}
 use Rattle.theory.specs.Query.{Row, column}
 use Rattle.theory.specs.Database.{Database, Agree}
 use Rattle.query.specs.View.{dependencyOf, columnsOf}
@@ -179,12 +179,9 @@ module _ (schema words : List ℕ) (d : Dependency) where
       row-room = member-room (w .row .at) (w .row .number) member
 
       -- it is in the group of leader s
-      leader : (s : ℕ) → s < w .count → Member schema words d (offsetOf N s) (numberOf N s)
-      leader s below = h .members s below
-
       grouped : (s : ℕ) → s < w .count → agrees (getD schema (d .relation) 0) words d N (w .row .at) s ≡ true
           → Agree 0 (columnsOf (d .left)) (nthRow (databaseOf schema words) (numberOf N s)) (nthRow (databaseOf schema words) (w .row .number))
-      grouped s below agree = agreed (w .row .at) (w .row .number) (offsetOf N s) (numberOf N s) member (leader s below) agree
+      grouped s below agree = agreed (w .row .at) (w .row .number) (offsetOf N s) (numberOf N s) member (h .members s below) agree
 
       -- and agrees with it on the right column
       pub walked-same : (s : ℕ) → s < w .count → d .right < getD schema (d .relation) 0
@@ -195,7 +192,7 @@ module _ (schema words : List ℕ) (d : Dependency) where
           walked-on (w .least) (h .least)
           (groups-member (dependencyOf d) (databaseOf schema words) (w .row .number) (w .least .number) (w .count) (numberOf N) (h .groups)
           (w .least .number) s (omega arith) below (grouped s below agree)
-          (λ _. member-value (offsetOf N s) (numberOf N s) (leader s below) (d .right) fits ∙ same
+          (λ _. member-value (offsetOf N s) (numberOf N s) (h .members s below) (d .right) fits ∙ same
           ∙ sym (member-value (w .row .at) (w .row .number) member (d .right) fits)))
 
       -- and may differ from it
@@ -203,14 +200,14 @@ module _ (schema words : List ℕ) (d : Dependency) where
           → (p : Position) → p ≡ earlierOf (w .least) (leaderOf N s)
           → Walked schema words d (record { row = record { at = after; number = w .row .number + 1 }; count = w .count; least = p }) H N
       walked-differ s below agree p e =
-          walked-earlier p (leaderOf N s) e (leader s below .placed)
+          walked-earlier p (leaderOf N s) e (h .members s below .placed)
           (λ low left right. groups-member (dependencyOf d) (databaseOf schema words) (w .row .number) (w .least .number) (w .count) (numberOf N) (h .groups)
           low s left below (grouped s below agree) (λ i. absurd (omega arith)))
 
       module _ (absent : (s : ℕ) → s < w .count → agrees (getD schema (d .relation) 0) words d N (w .row .at) s ≡ false) where
         alone : (s : ℕ) → s < w .count
             → Agree 0 (columnsOf (d .left)) (nthRow (databaseOf schema words) (numberOf N s)) (nthRow (databaseOf schema words) (w .row .number)) → ⊥
-        alone s below = disagreed (w .row .at) (w .row .number) (offsetOf N s) (numberOf N s) member (leader s below) (absent s below)
+        alone s below = disagreed (w .row .at) (w .row .number) (offsetOf N s) (numberOf N s) member (h .members s below) (absent s below)
 
         -- it would be a leader, and there is no room for it
         pub walked-full : (p : Position) → p ≡ earlierOf (w .least) (w .row)

@@ -1,10 +1,11 @@
 -- `compare` finds the leader of a row's group and compares their right columns. Invariant: no leader from the node on agrees with the row.
 -- Assumes nothing.
 use mathlib.Core.Path.{_≡_, refl, sym, _∙_}
+use mathlib.Core.Bool.{true}
 use Prim.Native.Nat.{suc, _≤_, _-_, _+_, _*_, _<_}
 use native.Mathlib.Omega.{arith}
 use lib.ListN.{length}
-use Rattle.grouping.specs.internal.Table.{linkOf, offsetOf}
+use Rattle.grouping.specs.internal.Table.{linkOf, offsetOf, agrees}
 use Rattle.grouping.proofs.Following.{Following, follow-start, link-le, follow-next}
 use borrow.Author.Needs.{needs}
 use Rattle.grouping.proofs.compare.Statement.{statement}
@@ -31,6 +32,13 @@ stored c = omega (arith, below c, begun (c .before) .pre .1 .1 .stored)
 fits : (c : tie.In-loop Inv-loop μ-loop) → offsetOf (begun (c .before) .args .nodes .now) (c .before .loop .node - 1) + 1 + begun (c .before) .args .sought .width
     ≤ length (begun (c .before) .args .words .now)
 fits c = begun (c .before) .pre .1 .1 .fits (c .before .loop .node - 1) (below c)
+
+-- It agrees with the row
+agreed : (c : tie.Then1 Inv-loop μ-loop) → agrees (begun (c .before .before .before .before) .args .sought .width)
+    (begun (c .before .before .before .before) .args .words .now) (begun (c .before .before .before .before) .args .d)
+    (begun (c .before .before .before .before) .args .nodes .now) (begun (c .before .before .before .before) .args .sought .at)
+    (c .before .before .before .before .loop .node - 1) ≡ true
+agreed c = sym (c .before .agrees-at .ensures) ∙ c .if1 .taken
 
 -- Its right column is in the words
 right : (c : tie.After-shared-slice-known5 Inv-loop μ-loop) → offsetOf (begun (c .before .before) .args .nodes .now) (c .before .before .loop .node - 1) + 1
@@ -108,8 +116,8 @@ shared-slice-read-if2-2 c = omega (arith, right-sought (c .before .before .befor
 
 returns : tie.Need-returns Inv-loop μ-loop
 returns c = let m = c .before .before .before .before in
-    let r = m .before .before in
-    (r .before .before .loop .node - 1, below (r .before), sym (m .before .agrees-at .ensures) ∙ m .if1 .taken, c .if2 .taken)
+    let i = m .before .before .before in
+    (i .before .loop .node - 1, below i, agreed m, c .if2 .taken)
 
 add-t23 : tie.Need-add-t23 Inv-loop μ-loop
 add-t23 c = omega (arith, stored (c .before .before .before .before .before .before .before))
@@ -126,8 +134,8 @@ cast-t30 c = let l = c .before .before .before .before .before .before .before .
 
 returns-2 : tie.Need-returns-2 Inv-loop μ-loop
 returns-2 c = let m = c .before .before .before .before .before in
-    let r = m .before .before in
-    (r .before .before .loop .node - 1, below (r .before), sym (m .before .agrees-at .ensures) ∙ m .if1 .taken, refl)
+    let i = m .before .before .before in
+    (i .before .loop .node - 1, below i, agreed m, refl)
 
 mul-node-2 : tie.Need-mul-node-2 Inv-loop μ-loop
 mul-node-2 c = omega (arith, stored (c .before .before .before))

@@ -1,7 +1,7 @@
 -- `skip` finds a row before which none is the first of a broken pair. Invariant: the rows before the walk's row are passed.
 -- Assumes nothing.
 use mathlib.Core.Path.{_≡_, _∙_}
-use Prim.Native.Nat.{_-_, _<_, _≤_}
+use Prim.Native.Nat.{_-_}
 use native.Mathlib.Omega.{arith}
 use lib.ListN.{length}
 use Rattle.grouping.specs.internal.Walked.{Walked}

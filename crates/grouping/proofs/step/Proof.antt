@@ -79,7 +79,7 @@ said c x e = let a = begun (compared c .before) .args in
     subst (λ (y : Comparison). Compared (getD (a .schema .now) (a .d .relation) 0) (a .words .now) (a .d) (a .nodes .now) (a .walk .count) (a .walk .row .at) y)
     e (c .compare .ensures)
 
--- There is no leader, and where there is room, the nodes have three more words
+-- The leaders are in the nodes, and there may be room for one more
 stored : (c : tie.After-here) → 3 * begun (compared (c .before .before .before) .before) .args .walk .count
     ≤ length (begun (compared (c .before .before .before) .before) .args .nodes .now)
 stored c = begun (compared (c .before .before .before) .before) .pre .1 .1 .table .stored
@@ -124,14 +124,15 @@ sub-if2 c = omega (arith, stored c)
 
 enter-requires : tie.Need-enter-requires
 enter-requires c κs = let t = c .before .before in
-    let h = t .before .before in
-    let e = compared (h .before .before .before) in
-    let w = begun (e .before) .pre .1 .1 in
-    let inside : begun (e .before) .args .walk .row .at < 4294967295 = ltb-true (begun (e .before) .args .walk .row .at) 4294967295 (t .if3 .taken) in
-    let counted : begun (e .before) .args .walk .row .number ≤ begun (e .before) .args .walk .row .at = w .placed .from .counted in
-    let few : begun (e .before) .args .walk .count ≤ begun (e .before) .args .walk .row .number = w .few in
+    let k = t .before .before .before .before .before in
+    let e = compared k in
+    let h = begun (e .before) .pre .1 .1 in
+    let w = begun (e .before) .args .walk in
+    let low : w .row .at < 4294967295 = ltb-true (w .row .at) 4294967295 (t .if3 .taken) in
+    let counted : w .row .number ≤ w .row .at = h .placed .from .counted in
+    let few : w .count ≤ w .row .number = h .few in
     let more = free (t .before) in
-    ((h .before .before .before .before .before .before .bucket-of .ensures .1, omega arith, more), (omega arith, omega arith, omega arith))
+    ((k .before .before .before .bucket-of .ensures .1, omega arith, more), (omega arith, omega arith, omega arith))
 
 add-t41 : tie.Need-add-t41
 add-t41 c = let t = c .before .before .before .before .before .before .before .before in
