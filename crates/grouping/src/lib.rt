@@ -3,7 +3,7 @@
 // differs from is the first row of the first broken pair.
 // The leaders stand in lent slices, as hash chains over their left values: `heads` has a word for each bucket, and `nodes` three for each leader: its
 // link, the word at which it begins, and its position among the rows. A leader is written as its number plus 1, and 0 is the end of a chain.
-// A row for which there is no room is one that may be the first of a broken pair.
+// A row for which there is no room, or whose word is beyond 32 bits, is one that may be the first of a broken pair.
 use query::Dependency;
 ghost use mathlib.Core.Path.{_≡_};
 ghost use mathlib.Core.Bool.{true};
