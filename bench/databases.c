@@ -1,10 +1,15 @@
-// Evaluation and testing of databases beside SQLite: the same rows, the same question, in memory, loading included. Prints a table of milliseconds, best of 5.
-// bench/databases builds and runs it.
+// Evaluation and testing of databases. bench/databases builds and runs it:
+//   databases            beside SQLite: the same rows, the same question, in memory, loading included, at 10 thousand, 100 thousand and 1 million rows a table
+//   databases growth     how times grow with the rows and the answers, from 15,625 to 4 million
+//   databases repeats    repeated rows, and rows of tables that the query does not name
+// A time is that of a whole call, with the working memory mapped in it and given back, in milliseconds; the best of 5 calls, or of 3 on more than a million words.
+#define _DEFAULT_SOURCE
 #include <sqlite3.h>
 #include <stdint.h>
 #include <stdio.h>
 #include <stdlib.h>
 #include <string.h>
+#include <sys/mman.h>
 #include <time.h>
 #include "spernevan.h"
 
@@ -21,9 +26,13 @@ static void fail(const char *what) {
 
 // ---- rows
 
-static uint32_t words[1 << 20];
+#define MOST ((size_t)1 << 27)
+
+static uint32_t *words, *answers, *theirs;
 static size_t word_count;
 static uint64_t state = 88172645463325252ull;
+
+static int turns(void) { return word_count > 1000000 ? 3 : 5; }
 
 static uint32_t draw(uint32_t below) {
     state ^= state << 13;
@@ -40,6 +49,7 @@ static void row(uint32_t relation, int width, const uint32_t *values) {
 // The numbers below n in random order.
 static uint32_t *shuffled(uint32_t n) {
     uint32_t *order = malloc(n * sizeof *order);
+    if (!order) fail("memory");
     for (uint32_t i = 0; i < n; i++) order[i] = i;
     for (uint32_t i = n; i > 1; i--) {
         uint32_t j = draw(i), x = order[i - 1];
@@ -51,15 +61,16 @@ static uint32_t *shuffled(uint32_t n) {
 
 // ---- the engine
 
-static uint8_t file[4420];
+static uint8_t file[SPERNEVAN_FILE];
 static size_t file_length;
+static int head, query_rows;
 
 static void open_record(const uint8_t *widths, size_t n) {
     if (spernevan_open(widths, n, file, sizeof file, &file_length)) fail("open");
 }
 
 static void add(uint8_t relation, uint8_t left, uint8_t right) {
-    uint8_t out[4420];
+    uint8_t out[SPERNEVAN_FILE];
     size_t length;
     if (spernevan_add(file, file_length, relation, left, right, out, sizeof out, &length)) fail("add");
     memcpy(file, out, length);
@@ -67,35 +78,55 @@ static void add(uint8_t relation, uint8_t left, uint8_t right) {
 }
 
 // A query part of the file from text: head entries, then rows as relation and entries; vN is a variable.
-static void put(int head, int rows, const char *text) {
-    uint8_t part[600], out[4420];
-    size_t n = 0, length;
-    part[n++] = (uint8_t)head;
-    part[n++] = (uint8_t)rows;
-    char copy[600];
+static void put(const char *text) {
+    uint8_t part[SPERNEVAN_QUERY], out[SPERNEVAN_FILE];
+    size_t n = 2, length;
+    head = query_rows = 0;
+    char copy[800];
     snprintf(copy, sizeof copy, "%s", text);
     for (char *word = strtok(copy, " "); word; word = strtok(NULL, " ")) {
         if (word[0] == 'R') {
             part[n++] = (uint8_t)atoi(word + 1);
+            query_rows++;
             continue;
         }
+        if (!query_rows) head++;
         int variable = word[0] == 'v';
         uint32_t value = (uint32_t)strtoul(word + variable, NULL, 10);
         part[n++] = (uint8_t)variable;
         for (int b = 0; b < 4; b++) part[n++] = (uint8_t)(value >> 8 * b);
     }
+    part[0] = (uint8_t)head;
+    part[1] = (uint8_t)query_rows;
     if (spernevan_put(file, file_length, 0, part, n, out, sizeof out, &length)) fail("put");
     memcpy(file, out, length);
     file_length = length;
 }
 
-static uint32_t answers[1 << 20];
+// Working memory of so many words: pages that are not touched cost nothing.
+static uint32_t *lent(size_t n) {
+    void *found = mmap(NULL, 4 * n + 4, PROT_READ | PROT_WRITE, MAP_PRIVATE | MAP_ANONYMOUS | MAP_NORESERVE, -1, 0);
+    if (found == MAP_FAILED) fail("memory");
+    return found;
+}
+
+static void returned(uint32_t *memory, size_t n) { munmap(memory, 4 * n + 4); }
 
 static double engine_evaluate(size_t *count) {
     double best = 1e9;
-    for (int k = 0; k < 5; k++) {
+    size_t index_size = 2 * word_count * (query_rows - 1) + 112, states_size = query_rows > 2 ? word_count : 0;
+    for (int k = 0; k < turns(); k++) {
+        if (answers) returned(answers, MOST);
         double t = now();
-        if (spernevan_evaluate(file, file_length, 0, words, word_count, answers, sizeof answers / 4, count)) fail("evaluate");
+        answers = lent(MOST);
+        uint32_t *index = lent(index_size), *states = lent(states_size), *batch = lent(MOST), *scratch = lent(MOST);
+        if (spernevan_evaluate_lent(file, file_length, 0, words, word_count, answers, MOST, index, index_size, states, states_size, batch, MOST,
+                                    scratch, MOST, count))
+            fail("evaluate");
+        returned(index, index_size);
+        returned(states, states_size);
+        returned(batch, MOST);
+        returned(scratch, MOST);
         t = now() - t;
         if (t < best) best = t;
     }
@@ -105,10 +136,13 @@ static double engine_evaluate(size_t *count) {
 static double engine_test(int *obeys_out) {
     double best = 1e9;
     uint8_t obeys;
-    size_t d, i, j;
-    for (int k = 0; k < 5; k++) {
+    size_t d, i, j, heads_size = word_count / 2, nodes_size = word_count * 3 / 2;
+    for (int k = 0; k < turns(); k++) {
         double t = now();
-        if (spernevan_test(file, file_length, words, word_count, &obeys, &d, &i, &j)) fail("test");
+        uint32_t *heads = lent(heads_size), *nodes = lent(nodes_size);
+        if (spernevan_test_lent(file, file_length, words, word_count, heads, heads_size, nodes, nodes_size, &obeys, &d, &i, &j)) fail("test");
+        returned(heads, heads_size);
+        returned(nodes, nodes_size);
         t = now() - t;
         if (t < best) best = t;
     }
@@ -122,15 +156,26 @@ static void run(sqlite3 *db, const char *sql) {
     if (sqlite3_exec(db, sql, NULL, NULL, NULL) != SQLITE_OK) fail(sqlite3_errmsg(db));
 }
 
-// Loads the words and runs the queries; gives the milliseconds of both and the number of result rows.
-static double sqlite_all(const char *schema, const int *widths, int relations, const char **queries, int query_count, int columns, size_t *count, uint32_t *out) {
+// Tables R0, R1, .. of columns a, b, ..; `keyed` tells whether the first column of each is its key.
+static void create(sqlite3 *db, const int *widths, int relations, int keyed) {
+    for (int r = 0; r < relations; r++) {
+        char sql[200];
+        int n = snprintf(sql, sizeof sql, "create table R%d(a integer%s", r, keyed ? " primary key" : "");
+        for (int c = 1; c < widths[r]; c++) n += snprintf(sql + n, sizeof sql - n, ", %c integer", 'a' + c);
+        snprintf(sql + n, sizeof sql - n, ")");
+        run(db, sql);
+    }
+}
+
+// Loads the words and runs the queries, separated by semicolons; gives the milliseconds of both and the number of result rows.
+static double sqlite_all(const int *widths, int relations, int keyed, const char *queries, int columns, size_t *count) {
     double best = 1e9;
-    for (int k = 0; k < 5; k++) {
+    for (int k = 0; k < turns(); k++) {
         double t = now();
         sqlite3 *db;
         sqlite3_stmt *insert[8], *query;
         if (sqlite3_open(":memory:", &db)) fail("sqlite");
-        run(db, schema);
+        create(db, widths, relations, keyed);
         run(db, "begin");
         for (int r = 0; r < relations; r++) {
             char sql[200];
@@ -148,10 +193,10 @@ static double sqlite_all(const char *schema, const int *widths, int relations, c
         }
         run(db, "commit");
         *count = 0;
-        for (int q = 0; q < query_count; q++) {
-            if (sqlite3_prepare_v2(db, queries[q], -1, &query, NULL)) fail(sqlite3_errmsg(db));
+        for (const char *rest = queries; *rest;) {
+            if (sqlite3_prepare_v2(db, rest, -1, &query, &rest)) fail(sqlite3_errmsg(db));
             while (sqlite3_step(query) == SQLITE_ROW) {
-                for (int c = 0; c < columns; c++) out[*count * columns + c] = (uint32_t)sqlite3_column_int64(query, c);
+                for (int c = 0; c < columns; c++) theirs[*count * columns + c] = (uint32_t)sqlite3_column_int64(query, c);
                 ++*count;
             }
             sqlite3_finalize(query);
@@ -164,29 +209,36 @@ static double sqlite_all(const char *schema, const int *widths, int relations, c
     return best;
 }
 
-static uint32_t theirs[1 << 20];
+// ---- beside SQLite
 
 static void line(const char *what, uint32_t n, size_t count, double engine, double plain, double keyed) {
     double sqlite = plain < keyed ? plain : keyed;
     printf("| %s | %u | %zu | %.2f | %.2f | %.2f | %.1f |\n", what, n, count, engine, plain, keyed, sqlite / engine);
+    fflush(stdout);
 }
 
-static void compare(const char *what, uint32_t n, const char *plain, const char *keyed, const int *widths, int relations, const char *query, int columns) {
-    size_t count, plain_count, keyed_count;
+static void same(size_t count, size_t found) {
+    if (found != count || memcmp(theirs, answers, count * head * 4)) fail("the answers differ");
+}
+
+// Times the query of the record, on the rows, beside the same in SQL. All tables have two columns.
+static void compare(const char *what, uint32_t n, int relations, const char *query) {
+    const int widths[] = {2, 2, 2};
+    size_t count, found;
     double engine = engine_evaluate(&count);
-    double a = sqlite_all(plain, widths, relations, &query, 1, columns, &plain_count, theirs);
-    if (plain_count != count || memcmp(theirs, answers, count * columns * 4)) fail("the answers differ");
-    double b = sqlite_all(keyed, widths, relations, &query, 1, columns, &keyed_count, theirs);
-    if (keyed_count != count || memcmp(theirs, answers, count * columns * 4)) fail("the answers differ");
-    line(what, n, count, engine, a, b);
+    double plain = sqlite_all(widths, relations, 0, query, head, &found);
+    same(count, found);
+    double keyed = sqlite_all(widths, relations, 1, query, head, &found);
+    same(count, found);
+    line(what, n, count, engine, plain, keyed);
 }
 
-// Two tables R0(k, a) and R1(k, b) with the same keys in different orders; R2(b, c) with key b.
-static void tables(uint32_t n, uint32_t a_values, uint32_t b_values, int third) {
+// Tables R0(a, b) and R1(a, b) with the same keys a in different orders, and values b below some numbers; the third table, R2, has as many keys.
+static void tables(uint32_t n, uint32_t first, uint32_t second, int third) {
     word_count = 0;
     uint32_t *p = shuffled(n), *q = shuffled(n), *s = shuffled(n);
-    for (uint32_t i = 0; i < n; i++) row(0, 2, (uint32_t[]){p[i], p[i] % a_values});
-    for (uint32_t i = 0; i < n; i++) row(1, 2, (uint32_t[]){q[i], q[i] % b_values});
+    for (uint32_t i = 0; i < n; i++) row(0, 2, (uint32_t[]){p[i], p[i] % first});
+    for (uint32_t i = 0; i < n; i++) row(1, 2, (uint32_t[]){q[i], q[i] % second});
     if (third)
         for (uint32_t i = 0; i < n; i++) row(2, 2, (uint32_t[]){s[i], s[i] * 7 + 3});
     free(p);
@@ -194,47 +246,56 @@ static void tables(uint32_t n, uint32_t a_values, uint32_t b_values, int third) 
     free(s);
 }
 
-static const char *plain2 = "create table R0(k integer, a integer); create table R1(k integer, b integer)";
-static const char *keyed2 = "create table R0(k integer primary key, a integer); create table R1(k integer primary key, b integer)";
-static const char *plain3 = "create table R0(k integer, a integer); create table R1(k integer, b integer); create table R2(b integer, c integer)";
-static const char *keyed3 = "create table R0(k integer primary key, a integer); create table R1(k integer primary key, b integer); create table R2(b integer primary key, c integer)";
-
-int main(void) {
-    int widths[] = {2, 2, 2};
-    printf("| Case | rows a table | answers | engine | SQLite | SQLite, keys declared | times faster |\n|---|---|---|---|---|---|---|\n");
-    for (uint32_t n = 1000; n <= 10000; n *= 10) {
-        open_record((uint8_t[]){2, 2}, 2);
-        put(2, 2, "v0 v2 R0 v0 7 R1 v0 v2");
-        tables(n, n / 10, n, 0);
-        compare("key join, 10 answers by a constant", n, plain2, keyed2, widths, 2, "select distinct R0.k, R1.b from R0, R1 where R0.k = R1.k and R0.a = 7 order by 1, 2", 2);
-        open_record((uint8_t[]){2, 2}, 2);
-        put(1, 2, "v2 R0 v0 v1 R1 v0 v2");
-        tables(n, n, 10, 0);
-        compare("key join, 10 answers by projection", n, plain2, keyed2, widths, 2, "select distinct R1.b from R0, R1 where R0.k = R1.k order by 1", 1);
-        open_record((uint8_t[]){2, 2}, 2);
-        put(3, 2, "v0 v1 v2 R0 v0 v1 R1 v0 v2");
-        tables(n, n, n, 0);
-        compare("key join, all rows as answers", n, plain2, keyed2, widths, 2, "select distinct R0.k, R0.a, R1.b from R0, R1 where R0.k = R1.k order by 1, 2, 3", 3);
-        open_record((uint8_t[]){2, 2, 2}, 3);
-        put(2, 3, "v0 v3 R0 v0 v1 R1 v0 v2 R2 v2 v3");
-        tables(n, n, n, 1);
-        compare("join of three tables", n, plain3, keyed3, widths, 3, "select distinct R0.k, R2.c from R0, R1, R2 where R0.k = R1.k and R1.b = R2.b order by 1, 2", 2);
-        open_record((uint8_t[]){2, 2, 2}, 3);
-        put(2, 3, "v0 v3 R0 v0 v1 R2 v2 v3 R1 v0 v2");
-        compare("the same, saved in another order", n, plain3, keyed3, widths, 3, "select distinct R0.k, R2.c from R0, R2, R1 where R0.k = R1.k and R1.b = R2.b order by 1, 2", 2);
+// One table R0(a, b): b is the key of the row after it, in cycles of some length.
+static void cycles(uint32_t n, uint32_t length) {
+    word_count = 0;
+    uint32_t *p = shuffled(n), *q = shuffled(n);
+    for (uint32_t i = 0; i < n; i++) {
+        uint32_t at = q[i], next = at % length == length - 1 || at == n - 1 ? at - at % length : at + 1;
+        row(0, 2, (uint32_t[]){p[at], p[next]});
     }
-    // Testing: one table of five columns, four dependencies, all obeyed; then the last row breaks the last one.
-    const char *plain5 = "create table R0(a integer, b integer, c integer, d integer, e integer)";
-    const char *keyed5 = "create table R0(a integer primary key, b integer, c integer, d integer, e integer)";
-    const char *tests[] = {
-        "select 1 from R0 group by a having min(b) <> max(b) limit 1",
-        "select 1 from R0 group by a having min(c) <> max(c) limit 1",
-        "select 1 from R0 group by b having min(d) <> max(d) limit 1",
-        "select 1 from R0 group by b, c having min(e) <> max(e) limit 1",
-    };
-    int five[] = {5};
+    free(p);
+    free(q);
+}
+
+static void compare_joins(uint32_t n) {
+    const uint8_t widths[] = {2, 2, 2};
+    open_record(widths, 2);
+    put("v0 v2 R0 v0 7 R1 v0 v2");
+    tables(n, n / 10, n, 0);
+    compare("key join, 10 answers by a constant", n, 2, "select distinct R0.a, R1.b from R0, R1 where R0.a = R1.a and R0.b = 7 order by 1, 2");
+    open_record(widths, 2);
+    put("v2 R0 v0 v1 R1 v0 v2");
+    tables(n, n, 10, 0);
+    compare("key join, 10 answers by projection", n, 2, "select distinct R1.b from R0, R1 where R0.a = R1.a order by 1");
+    open_record(widths, 2);
+    put("v0 v1 v2 R0 v0 v1 R1 v0 v2");
+    tables(n, n, n, 0);
+    compare("key join, all rows as answers", n, 2, "select distinct R0.a, R0.b, R1.b from R0, R1 where R0.a = R1.a order by 1, 2, 3");
+    open_record(widths, 3);
+    put("v0 v3 R0 v0 v1 R1 v0 v2 R2 v2 v3");
+    tables(n, n, n, 1);
+    compare("join of three tables", n, 3, "select distinct R0.a, R2.b from R0, R1, R2 where R0.a = R1.a and R1.b = R2.a order by 1, 2");
+    open_record(widths, 3);
+    put("v0 v3 R0 v0 v1 R2 v2 v3 R1 v0 v2");
+    compare("the same, saved in another order", n, 3, "select distinct R0.a, R2.b from R0, R2, R1 where R0.a = R1.a and R1.b = R2.a order by 1, 2");
+    open_record(widths, 3);
+    put("v0 v1 v2 v3 R0 v0 v1 R1 v0 v2 R2 v0 v3");
+    compare("star of three tables", n, 3, "select distinct R0.a, R0.b, R1.b, R2.b from R0, R1, R2 where R0.a = R1.a and R0.a = R2.a order by 1, 2, 3, 4");
+    open_record(widths, 1);
+    put("v0 v3 R0 v0 v1 R0 v1 v2 R0 v2 v3");
+    cycles(n, n);
+    compare("path of three rows", n, 1, "select distinct x.a, z.b from R0 x, R0 y, R0 z where x.b = y.a and y.b = z.a order by 1, 2");
+}
+
+// Testing: one table of five columns, four dependencies, all obeyed; then the last row breaks the last one.
+static void compare_tests(uint32_t n) {
+    const int widths[] = {5};
+    const char *tests = "select 1 from R0 group by a having min(b) <> max(b) limit 1;"
+                        "select 1 from R0 group by a having min(c) <> max(c) limit 1;"
+                        "select 1 from R0 group by b having min(d) <> max(d) limit 1;"
+                        "select 1 from R0 group by b, c having min(e) <> max(e) limit 1";
     for (int broken = 0; broken < 2; broken++) {
-        uint32_t n = 10000;
         open_record((uint8_t[]){5}, 1);
         add(0, 1, 1);
         add(0, 1, 2);
@@ -243,17 +304,190 @@ int main(void) {
         word_count = 0;
         uint32_t *p = shuffled(n);
         for (uint32_t i = 0; i < n; i++) {
-            uint32_t b = p[i] % 1000, c = p[i] % 7;
+            uint32_t b = p[i] % (n / 10), c = p[i] % 7;
             row(0, 5, (uint32_t[]){p[i], b, c, b * 3, broken && i == n - 1 ? 1 : b + c});
         }
         free(p);
         int obeys;
         size_t found;
         double engine = engine_test(&obeys);
-        double a = sqlite_all(plain5, five, 1, tests, 4, 1, &found, theirs);
+        double plain = sqlite_all(widths, 1, 0, tests, 1, &found);
         if ((found == 0) != obeys) fail("the verdicts differ");
-        double b = sqlite_all(keyed5, five, 1, tests, 4, 1, &found, theirs);
-        line(broken ? "test, 4 dependencies, the last row breaks the last" : "test, 4 dependencies obeyed", n, obeys, engine, a, b);
+        double keyed = sqlite_all(widths, 1, 1, tests, 1, &found);
+        if ((found == 0) != obeys) fail("the verdicts differ");
+        line(broken ? "test, 4 dependencies, the last row breaks the last" : "test, 4 dependencies obeyed", n, obeys, engine, plain, keyed);
     }
+}
+
+static void beside_sqlite(void) {
+    printf("| Case | rows a table | answers | engine | SQLite | SQLite, keys declared | times faster |\n|---|---|---|---|---|---|---|\n");
+    for (uint32_t n = 10000; n <= 1000000; n *= 10) {
+        compare_joins(n);
+        compare_tests(n);
+    }
+}
+
+// ---- growth
+
+enum { SIZES = 9 };
+static const uint32_t LARGEST = 4000000;
+
+// Makes n rows and sets the query of the record.
+typedef void (*Family)(uint32_t n);
+
+// So many tables with the same keys in different orders and two more columns each, n rows together.
+static void keyed_tables(uint32_t n, int relations, uint32_t values) {
+    word_count = 0;
+    for (int r = 0; r < relations; r++) {
+        uint32_t *p = shuffled(n / relations);
+        for (uint32_t i = 0; i < n / relations; i++) row(r, 3, (uint32_t[]){p[i], p[i] % values, i});
+        free(p);
+    }
+}
+
+static void key_join(uint32_t n) {
+    open_record((uint8_t[]){3, 3}, 2);
+    put("v0 v1 v3 R0 v0 v1 v2 R1 v0 v3 v4");
+    keyed_tables(n, 2, n);
+}
+
+static void projection(uint32_t n) {
+    open_record((uint8_t[]){3, 3}, 2);
+    put("v3 R0 v0 v1 v2 R1 v0 v3 v4");
+    keyed_tables(n, 2, 10);
+}
+
+static void star(uint32_t n) {
+    open_record((uint8_t[]){3, 3, 3, 3}, 4);
+    put("v0 v1 v2 v3 v4 R0 v0 v1 v5 R1 v0 v2 v6 R2 v0 v3 v7 R3 v0 v4 v8");
+    keyed_tables(n, 4, n);
+}
+
+// One table of three columns: the first is a key, the second the key of the row after it, in cycles of some length.
+static void long_cycles(uint32_t n, uint32_t length) {
+    uint32_t *pairs;
+    cycles(n, length);
+    pairs = malloc(word_count * 4);
+    if (!pairs) fail("memory");
+    memcpy(pairs, words, word_count * 4);
+    word_count = 0;
+    for (uint32_t i = 0; i < n; i++) row(0, 3, (uint32_t[]){pairs[3 * i + 1], pairs[3 * i + 2], i});
+    free(pairs);
+}
+
+static void path(uint32_t n) {
+    open_record((uint8_t[]){3}, 1);
+    put("v0 v4 R0 v0 v1 v5 R0 v1 v2 v6 R0 v2 v3 v7 R0 v3 v4 v8");
+    long_cycles(n, n);
+}
+
+static void triangles(uint32_t n) {
+    open_record((uint8_t[]){3}, 1);
+    put("v0 v1 v2 R0 v0 v1 v3 R0 v1 v2 v4 R0 v2 v0 v5");
+    long_cycles(n, 3);
+}
+
+// Rows in groups of four; the answers are the pairs of a group, four times as many as rows. At most a quarter of the rows of the others.
+static void pairs(uint32_t n) {
+    open_record((uint8_t[]){3}, 1);
+    put("v1 v4 R0 v0 v1 v2 R0 v0 v4 v5");
+    word_count = 0;
+    uint32_t *p = shuffled(n / 4);
+    for (uint32_t i = 0; i < n / 4; i++) row(0, 3, (uint32_t[]){p[i] / 4, p[i], i});
+    free(p);
+}
+
+static void grow(const char *what, Family make) {
+    double before = 0;
+    printf("| %s |", what);
+    size_t count = 0;
+    for (int k = SIZES - 1; k >= 0; k--) {
+        make(LARGEST >> k);
+        double took = engine_evaluate(&count);
+        if (before > 0)
+            printf(" %.1f (%.2f) |", took, took / before);
+        else
+            printf(" %.1f |", took);
+        fflush(stdout);
+        before = took;
+    }
+    printf(" %zu |\n", count);
+}
+
+static void grow_tests(void) {
+    double before = 0;
+    printf("| test, 4 dependencies |");
+    for (int k = SIZES - 1; k >= 0; k--) {
+        uint32_t n = LARGEST >> k;
+        int obeys;
+        open_record((uint8_t[]){3}, 1);
+        add(0, 1, 1);
+        add(0, 1, 2);
+        add(0, 2, 2);
+        add(0, 6, 0);
+        word_count = 0;
+        uint32_t *p = shuffled(n);
+        for (uint32_t i = 0; i < n; i++) row(0, 3, (uint32_t[]){p[i], p[i] ^ 1, p[i] * 7});
+        free(p);
+        double took = engine_test(&obeys);
+        if (!obeys) fail("the test");
+        if (before > 0)
+            printf(" %.1f (%.2f) |", took, took / before);
+        else
+            printf(" %.1f |", took);
+        fflush(stdout);
+        before = took;
+    }
+    printf(" – |\n");
+}
+
+static void growth(void) {
+    printf("| Query |");
+    for (int k = SIZES - 1; k >= 0; k--) printf(" %u |", LARGEST >> k);
+    printf(" answers |\n|---|---|---|---|---|---|---|---|---|---|---|\n");
+    grow("key join of two tables", key_join);
+    grow("the same, 10 answers by projection", projection);
+    grow("star of four tables", star);
+    grow("path of four rows", path);
+    grow("cycle of three rows", triangles);
+    grow("pairs of a group, of a quarter of the rows", pairs);
+    grow_tests();
+}
+
+// ---- repeats, and rows that are not asked for
+
+static void repeats(void) {
+    size_t count;
+    printf("| Case | rows | answers | engine |\n|---|---|---|---|\n");
+    for (uint32_t copies = 1; copies <= 4096; copies *= 16) {
+        open_record((uint8_t[]){1}, 1);
+        put("v0 v1 v2 v3 v4 v5 v6 v7 R0 v0 R0 v1 R0 v2 R0 v3 R0 v4 R0 v5 R0 v6 R0 v7");
+        word_count = 0;
+        for (uint32_t i = 0; i < 3 * copies; i++) row(0, 1, (uint32_t[]){i % 3});
+        double took = engine_evaluate(&count);
+        printf("| eight loose rows on three values, %u of each | %u | %zu | %.2f |\n", copies, 3 * copies, count, took);
+    }
+    for (uint32_t others = 0; others <= 1000000; others = others ? others * 10 : 10000) {
+        open_record((uint8_t[]){2, 2, 2}, 3);
+        put("v0 v1 v2 R0 v0 v1 R1 v0 v2");
+        tables(10000, 10000, 10000, 0);
+        for (uint32_t i = 0; i < others; i++) row(2, 2, (uint32_t[]){draw(1000), i});
+        double took = engine_evaluate(&count);
+        printf("| key join of 20000 rows among %u of another table | %u | %zu | %.2f |\n", others, 20000 + others, count, took);
+    }
+}
+
+int main(int arguments, char **argument) {
+    words = lent(MOST);
+    theirs = lent(MOST);
+    const char *what = arguments > 1 ? argument[1] : "";
+    if (!*what)
+        beside_sqlite();
+    else if (!strcmp(what, "growth"))
+        growth();
+    else if (!strcmp(what, "repeats"))
+        repeats();
+    else
+        fail("the argument is growth, repeats, or none");
     return 0;
 }

@@ -1,21 +1,21 @@
 #!/usr/bin/env python3
-"""Times evaluations of queries that can be carried into the database in very many ways, through the C interface.
-
-usage: bench/evaluations.py [LIBRARY]    (default: python/spernevan/libspernevan.so, which python/build makes)
+"""Times evaluations of queries that can be carried into the database in very many ways, through the package's engine, which python/build makes.
 
 Relations R and S have two columns. A database has random rows of R, over so many values, and a few of S. Reading the file is
 included. A time is the best of 3 calls. An evaluation that takes five seconds makes the exit status 1. Whether the answers are
 right is for the vectors to say.
 """
 import array
-import ctypes
-import os
 import random
 import sys
 import time
+from pathlib import Path
+
+sys.path.insert(0, str(Path(__file__).resolve().parent.parent / 'python'))
 
 from comparisons import clique, cycle, free, grid, labels, path
 from hard_queries import archive, edges, part
+from spernevan import engine
 
 LIMIT = 5000.0
 DATABASES = ((20, 100), (100, 1000), (1000, 10000))
@@ -53,31 +53,22 @@ def graph(values, rows):
 
 
 def main():
-    here = os.path.dirname(os.path.abspath(__file__))
-    default = os.path.join(here, '..', 'python', 'spernevan', 'libspernevan.so')
-    library = ctypes.CDLL(sys.argv[1] if len(sys.argv) > 1 else default)
-    library.spernevan_evaluate.restype = ctypes.c_uint8
-    n = ctypes.c_size_t
-    room = 4_000_000
-    answers = (ctypes.c_uint32 * room)()
-    count = ctypes.c_size_t()
     slow = False
     for name, head, rows in cases():
         data = archive([2, 2], [], [part(rows, ['v%d' % v for v in head])])
         cells = []
-        for values, size in DATABASES[:2] if name == 'path of 8, both ends' else DATABASES:  # a million answers there
+        for values, size in DATABASES:
             words = graph(values, size)
-            lent = (ctypes.c_uint32 * len(words)).from_buffer(words)
-            best = None
+            best, count = None, 0
             for _ in range(3):
                 start = time.perf_counter()
-                refusal = library.spernevan_evaluate(data, n(len(data)), n(0), lent, n(len(words)), answers, n(room), ctypes.byref(count))
+                count, _ = engine.evaluate(data, 0, words, engine.Size(len(rows), len(head)))
                 took = 1000 * (time.perf_counter() - start)
                 best = took if best is None else min(best, took)
                 if took > LIMIT / 2:
                     break
             slow = slow or best >= LIMIT
-            cells.append('%9.2f ms %8s' % (best, count.value if refusal == 0 else '(%d)' % refusal))
+            cells.append('%9.2f ms %8s' % (best, count))
         print('%-40s %s' % (name, '  '.join(cells)), flush=True)
     sys.exit(1 if slow else 0)
 

@@ -154,9 +154,11 @@ def usage() -> Parser:
     made = on_file("evaluate", evaluate_command, "print the answers of a query on a database")
     made.add_argument("query", metavar="QUERY", type=place_or_rule, help=query)
     with_data(made)
-    made.add_argument(
+    group = made.add_mutually_exclusive_group()
+    group.add_argument(
         "--format", choices=("rows", "csv", "json"), default="rows", help="rows such as ans(101, 31200), or CSV or JSON with the names of the columns"
     )
+    group.add_argument("--count", action="store_true", help="print how many answers there are, and nothing else")
     with_data(on_file("test", test_command, "say whether a database obeys the dependencies"))
     made = on_file("determined", determined_command, "print the columns that some columns determine")
     made.add_argument("table", metavar="TABLE", help="the name of a table")
@@ -217,8 +219,8 @@ def main(arguments: Optional[Sequence[str]] = None, build: Optional[Path] = None
         _close_output()
         where = "output" if error.filename is None else error.filename or "''"
         say(f"spernevan: {where}: {error.strerror}")
-    except MemoryError:
-        say("spernevan: there is not enough memory")
+    except MemoryError as error:
+        say(f"spernevan: {str(error) or 'there is not enough memory'}")
     except Exception as error:
         if os.environ.get("SPERNEVAN_TRACE"):
             raise

@@ -58,9 +58,6 @@ from .values import Value, read_cell, read_literal
 
 YES, NO, TROUBLE = 0, 1, 2
 
-# As many words, one a row and one a cell, the engine looks up swiftly (crates/evaluation); what comes after them it goes through each time.
-SWIFT_WORDS = 393_216
-
 Options = argparse.Namespace
 
 
@@ -439,11 +436,11 @@ def evaluate_command(options: Options) -> int:
             say(line)
         said = record.consequence(broken, asked.query)
         say(f"{said[:1].upper()}{said[1:]}.")
-    asked_of = set(relations)
-    words = sum(database.tables[relation] * (record.widths[relation] + 1) for relation in asked_of)
-    if words > SWIFT_WORDS and len(asked.query.rows) > 1:
-        rows = sum(database.tables[relation] for relation in asked_of)
-        say(f"spernevan: a join of {rows:,} rows may take very long here; define --format sql is the short form for the program that holds the data")
+    if options.count:
+        with database.progress.during("counting the answers"):
+            number = record.count(asked.asked, database, tested=True)
+        print(number)
+        return YES
     with database.progress.during("looking for answers"):
         answers = record.evaluate(asked.asked, database, tested=True)
     with nullcontext() if sys.stdout.isatty() else database.progress.during("writing the answers"):

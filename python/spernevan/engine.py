@@ -2,12 +2,14 @@
 
 Each function here lends its own buffers, raises Refused for a number other than 0, and gives back
 what the call wrote. Numbers are checked before they are passed, since ctypes would cut them. The calls
-are made on threads with a large stack of their own, whatever stack the caller has.
+are made on threads with a stack of their own, whatever stack the caller has; those on a database are
+lent working memory too, as much as makes them fast.
 """
 
 from __future__ import annotations
 
 import ctypes
+import mmap
 import os
 import signal
 import threading
@@ -15,7 +17,7 @@ from array import array
 from functools import lru_cache
 from pathlib import Path
 from queue import SimpleQueue
-from typing import Any, Callable, List, Optional, Tuple, Type, Union
+from typing import Any, Callable, List, NamedTuple, Optional, Sequence, Tuple, Type, Union
 
 from .model import BYTE, VARIABLES, Words, whole
 
@@ -84,7 +86,11 @@ _CALLS = {
     "compare": _BYTES + _PLACE * 2 + _BYTE_OUT + _WORDS + _OUT,
     "check": _BYTES + _PLACE * 2 + _WORDS + _BYTE_OUT,
     "test": _BYTES + _WORDS + _BYTE_OUT + _SIZE_OUT * 3,
-    "evaluate": _BYTES + _PLACE + _WORDS + _WORDS + _SIZE_OUT,
+    "evaluate": _BYTES + _PLACE + _WORDS * 2 + _SIZE_OUT,
+    "test_lent": _BYTES + _WORDS * 3 + _BYTE_OUT + _SIZE_OUT * 3,
+    "evaluate_lent": _BYTES + _PLACE + _WORDS * 6 + _SIZE_OUT,
+    "count": _BYTES + _PLACE + _WORDS + _SIZE_OUT,
+    "count_lent": _BYTES + _PLACE + _WORDS * 5 + _SIZE_OUT,
 }
 
 _LIBRARY = Path(__file__).with_name("libspernevan.so")
@@ -111,8 +117,8 @@ def _library() -> ctypes.CDLL:
     return library
 
 
-# The stack of a thread that calls the engine, which takes 5 MB of it at most.
-STACK_BYTES = 64 * 2**20
+# The stack of a thread that calls the engine, which takes less than 1 MB of it.
+STACK_BYTES = 16 * 2**20
 
 _starting = threading.Lock()
 
@@ -142,6 +148,7 @@ class _Worker:
                 self._numbers.put(call())
             except Exception as error:
                 self._numbers.put(error)
+            del call  # What was lent is not kept while the thread waits.
 
     def number(self, call: Callable[[], int]) -> int:
         """What the call returns. An interrupt ends the waiting at once, and the thread when its call is done."""
@@ -169,8 +176,8 @@ def _after_fork() -> None:
 os.register_at_fork(after_in_child=_after_fork)
 
 
-def _call(name: str, *arguments: Any) -> None:
-    """Calls a C function; raises Refused for a number other than 0."""
+def _number(name: str, *arguments: Any) -> int:
+    """Calls a C function; gives the number that it returns."""
     function = getattr(_library(), f"spernevan_{name}")
     try:
         worker = _idle.pop()
@@ -178,6 +185,12 @@ def _call(name: str, *arguments: Any) -> None:
         worker = _Worker()
     number = worker.number(lambda: int(function(*arguments)))
     _idle.append(worker)
+    return number
+
+
+def _call(name: str, *arguments: Any) -> None:
+    """Calls a C function; raises Refused for a number other than 0."""
+    number = _number(name, *arguments)
     if number != 0:
         raise Refused(number)
 
@@ -295,18 +308,126 @@ def check(file: bytes, p: int, q: int, mapping: Words) -> bool:
     return verdict.value == 1
 
 
+# ---- calls on a database, with working memory
+
+
+class Size(NamedTuple):
+    """How many rows a query has, and how many entries its head."""
+
+    rows: int
+    head: int
+
+
+def _memory() -> int:
+    """The bytes of memory that there are, for the machine or for the group of processes that this one is in."""
+    found = os.sysconf("SC_PHYS_PAGES") * os.sysconf("SC_PAGE_SIZE")
+    try:
+        return min(found, int(Path("/sys/fs/cgroup/memory.max").read_text()))
+    except (OSError, ValueError):
+        return found
+
+
+# As many words at most are lent for answers, and for each of the two parts in which they are gathered and sorted, before their number is known.
+# What is not touched of them costs nothing, and all three are less than a fifth of the memory.
+AMPLE_WORDS = min(2**27, _memory() // 64)
+# In more the engine makes no index.
+MOST_INDEX_WORDS = 2**32 - 2
+
+_Part = Tuple["ctypes.Array[ctypes.c_uint32]", int]
+
+
+def _map(size: int) -> mmap.mmap:
+    """So many bytes of memory, of which pages that are not touched cost nothing. OSError or ValueError if there are not as many."""
+    return mmap.mmap(-1, size, mmap.MAP_PRIVATE | mmap.MAP_ANONYMOUS)
+
+
+def _lent(words: Sequence[int]) -> List[_Part]:
+    """Memory for parts of so many words. Where the machine does not give it the largest of them have half as many, and so on: the engine is then slower."""
+    sizes = list(words)
+    while True:
+        try:
+            held = _map(4 * max(1, sum(sizes)))
+            break
+        except (OSError, ValueError, OverflowError):
+            largest = max(sizes)
+            if largest < 16:
+                raise MemoryError("there is no memory for the engine to work in") from None
+            sizes = [size // 2 if size > largest // 2 else size for size in sizes]
+    starts = [sum(sizes[:number]) for number in range(len(sizes))]
+    return [((ctypes.c_uint32 * size).from_buffer(held, 4 * start), size) for size, start in zip(sizes, starts)]
+
+
+def _flat(parts: Sequence[_Part]) -> List[Any]:
+    """Parts as C takes them, each a pointer and a length."""
+    return [one for part in parts for one in part]
+
+
+def _most_answers(words: int, size: Size) -> int:
+    """As many words as the answers of a query can take on a database of so many: a row of it has two at least."""
+    ways: int = (words // 2) ** size.rows
+    return size.head * ways
+
+
+def _for_answers(words: int, size: Size, answers: int) -> List[int]:
+    """The words of index, states, batch and scratch for answers of so many words at most, as include/spernevan.h has them."""
+    index = min(2 * words * max(0, size.rows - 1) + 112, MOST_INDEX_WORDS)
+    return [index, words if size.rows > 2 else 0, 2 * answers + 64, 2 * answers + 64]
+
+
 def test(file: bytes, words: Words) -> Optional[Tuple[int, int, int]]:
     """None if the database obeys; else the first broken dependency and its first pair of rows."""
     obeys = ctypes.c_uint8()
     found = [ctypes.c_size_t() for _ in range(3)]
-    _call("test", *_slice(file), *_words(words), ctypes.byref(obeys), *(ctypes.byref(place) for place in found))
+    outs = [ctypes.byref(obeys), *(ctypes.byref(place) for place in found)]
+    number = _number("test_lent", *_slice(file), *_words(words), *_flat(_lent([len(words) // 2, len(words) * 3 // 2])), *outs)
+    if number != 0:
+        raise Refused(number)
     if obeys.value == 1:
         return None
     return found[0].value, found[1].value, found[2].value
 
 
-def evaluate(file: bytes, place: int, words: Words, room: int) -> Tuple[int, Words]:
-    """How many answers there are, and a buffer of `room` words that begins with them."""
-    answers, count = array("I", [0]) * whole("the room for answers", room, 2**40), ctypes.c_size_t()
-    _call("evaluate", *_slice(file), _place(place), *_words(words), *_words(answers), ctypes.byref(count))
-    return count.value, answers
+def _evaluated(file: bytes, place: int, words: Words, size: Size, room: int, most: int) -> Tuple[int, int, Words, int]:
+    """An evaluation with room for so many words of answers, of which there may be `most`.
+
+    Its number, how many answers there are, their words, and for how many there was room: the machine may not give as much.
+    """
+    found = ctypes.c_size_t()
+    ((buffer, held),) = _lent([room])
+    working = _flat(_lent(_for_answers(len(words), size, most)))
+    number = _number("evaluate_lent", *_slice(file), _place(place), *_words(words), buffer, held, *working, ctypes.byref(found))
+    answers = array("I")
+    if number == 0:
+        answers.frombytes((ctypes.c_uint8 * (4 * found.value * size.head)).from_buffer(buffer))
+    return number, found.value, answers, held
+
+
+def evaluate(file: bytes, place: int, words: Words, size: Size, room: Optional[int] = None) -> Tuple[int, Words]:
+    """How many answers there are, and their words, of which there may be `room`. MemoryError if there is not enough memory for them."""
+    most = _most_answers(len(words), size)
+    asked = most if room is None else min(most, whole("the room for answers", room, 2**40))
+    number, found, answers, held = _evaluated(file, place, words, size, min(asked, AMPLE_WORDS), min(most, AMPLE_WORDS // 2))
+    if number == 10 and held < asked:
+        there = count(file, place, words, size)
+        needed = there * size.head
+        if needed <= asked:
+            scarce = 8 * needed > _memory()
+            if not scarce:
+                number, found, answers, held = _evaluated(file, place, words, size, needed, min(needed, _memory() // 64))
+            if scarce or held < needed:
+                raise MemoryError(f"there are {there:,} answers, for which there is not enough memory")
+    if number != 0:
+        raise Refused(number)
+    return found, answers
+
+
+def count(file: bytes, place: int, words: Words, size: Size) -> int:
+    """How many answers there are."""
+    found = ctypes.c_size_t()
+    most = min(_most_answers(len(words), size), AMPLE_WORDS // 2)
+    working = _flat(_lent(_for_answers(len(words), size, most)))
+    number = _number("count_lent", *_slice(file), _place(place), *_words(words), *working, ctypes.byref(found))
+    del working
+    if number != 0:
+        raise Refused(number)
+    return found.value

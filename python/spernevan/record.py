@@ -8,7 +8,7 @@ import warnings
 from array import array
 from dataclasses import dataclass
 from functools import cached_property
-from typing import Any, Dict, FrozenSet, Iterable, List, Optional, Sequence, Set, Tuple, Union
+from typing import Any, Dict, FrozenSet, Iterable, List, NamedTuple, Optional, Sequence, Set, Tuple, Union
 
 from . import engine
 from .data import Absent, Database, DataError, Needed, Shown, of_python
@@ -518,36 +518,44 @@ class Record:
         of named tables must have those of the query; it is tested first, unless it is `tested` already,
         and a dependency that it breaks is a warning.
         """
-        record, (at,) = self.placed(place)
-        needed = record.needed(at) if at < PLACES else None
-        held = record._data(database, needed, needed)
-        if isinstance(held, Database):
-            if held is not database:
-                for note in held.notes:
-                    warnings.warn(note.text, stacklevel=2)
-            if at < PLACES:
-                self.has_tables(held, [row.relation for row in record.query(at).rows], "the query asks for")
-            if not tested:
-                self._warn(held, record.query(at))
-            record, at = record._translated(at, held)
-        asked = record.queries[at] if at < PLACES else None
-        # Other tables change no answer, and would make the engine slower.
-        words = held.words_of({row.relation for row in asked.rows} if asked else set()) if isinstance(held, Database) else held
-        size = max(4096, 2 * len(words)) if room is None else room
-        while True:
-            try:
-                number, answers = engine.evaluate(record.file, at, words, size)
-                break
-            except Refused as refused:
-                if refused.number != 10 or room is not None:
-                    raise record._explained(refused, [at]) from None
-                size *= 4
-        query = record.queries[at]
-        assert query is not None
+        asked = self._asking(place, database, tested)
+        try:
+            number, answers = engine.evaluate(asked.record.file, asked.place, asked.words, asked.size, room)
+        except Refused as refused:
+            raise asked.record._explained(refused, [asked.place]) from None
+        query = asked.record.query(asked.place)
+        if asked.database is not None:
+            return asked.database.decoded(answers, number, _shown(query, asked.database))
         length = query.head_length
-        if isinstance(held, Database):
-            return held.decoded(answers[: number * length], number, _shown(query, held))
         return [tuple(answers[start * length : (start + 1) * length]) for start in range(number)]
+
+    def count(self, place: Asked, database: Any, tested: bool = False) -> int:
+        """How many answers the query at a place has. They are not written; all else is as in `evaluate`."""
+        asked = self._asking(place, database, tested)
+        try:
+            return engine.count(asked.record.file, asked.place, asked.words, asked.size)
+        except Refused as refused:
+            raise asked.record._explained(refused, [asked.place]) from None
+
+    def _asking(self, place: Asked, database: Any, tested: bool) -> _Asking:
+        """What the engine is given for `evaluate` and `count`; who called them is warned."""
+        record, (at,) = self.placed(place)
+        query = record.query(at)
+        size = engine.Size(len(query.rows), query.head_length)
+        needed = record.needed(at)
+        held = record._data(database, needed, needed)
+        if not isinstance(held, Database):
+            return _Asking(record, at, size, held, None)
+        if held is not database:
+            for note in held.notes:
+                warnings.warn(note.text, stacklevel=3)
+        relations = {row.relation for row in query.rows}
+        self.has_tables(held, relations, "the query asks for")
+        if not tested:
+            self._warn(held, query)
+        record, at = record._translated(at, held)
+        # Other tables change no answer.
+        return _Asking(record, at, size, held.words_of(relations), held)
 
     def needed(self, place: Asked) -> Needed:
         """What can change the answers of a query: by its tables, the columns in which it has a constant or a variable
@@ -580,22 +588,20 @@ class Record:
             raise DataError(f"the data has no table {', '.join(missing)}, which {why}; an empty table is {empty}")
 
     def _warn(self, database: Database, query: Query) -> None:
-        """Warnings, for who called `evaluate`, if a text and a number meet that look alike, or the database breaks a dependency."""
+        """Warnings, for who called `evaluate` or `count`, if a text and a number meet that look alike, or the database breaks a dependency."""
         double = database.text_and_number([row.relation for row in query.rows], constants(query))
         if double is not None:
-            warnings.warn(f"the text {double!r} and the number {double} are different values, and both are here", stacklevel=3)
+            warnings.warn(f"the text {double!r} and the number {double} are different values, and both are here", stacklevel=4)
         found = self.broken(database, [row.relation for row in query.rows])
         if found is not None:
             warnings.warn(
                 f"the database breaks {format_dependency(self.dependencies[found.dependency], self.names)} "
                 f"({database.say(found.first)}; {database.say(found.second)}): {self.consequence(found, query)}",
-                stacklevel=3,
+                stacklevel=4,
             )
 
     def _translated(self, place: int, database: Database) -> Tuple[Record, int]:
         """A record whose query at a place has the constants by the database's dictionary, which may have grown apart from this one."""
-        if place >= PLACES or self.queries[place] is None:
-            return self, place
         query = self.query(place)
 
         def entry(held: Entry) -> Entry:
@@ -653,6 +659,16 @@ class Record:
                     f"relation {relation} has {self.widths[relation]} columns"
                 )
         return words
+
+
+class _Asking(NamedTuple):
+    """A query and a database as the engine takes them: a record, a place and the query's size, and words; also the database, if it has names."""
+
+    record: Record
+    place: int
+    size: engine.Size
+    words: Words
+    database: Optional[Database]
 
 
 def _shown(query: Query, database: Database) -> List[Shown]:

@@ -6,9 +6,12 @@ import re
 import subprocess
 import tempfile
 import threading
+import time
 import unittest
+import weakref
 from array import array
 from pathlib import Path
+from unittest import mock
 
 import context
 from context import LONG, MANY, plain_answers, plain_obeys, random_data, random_query, random_record, rule
@@ -440,6 +443,95 @@ class Random(Calls):
         lent, length = engine._words(array("I"))
         self.assertEqual((ctypes.addressof(lent) % 4, length), (0, 0))
         self.assertEqual(record.evaluate(0, []), [])
+
+
+class Memory(Calls):
+    """Working memory is lent as there is any: with less of it the answers are the same, and what was lent is let go."""
+
+    def setUp(self):
+        record = Record.open([2, 2]).add(0, [0], 1).add(1, [0, 1], 0)
+        self.record = record.put(0, rule(record, "ans(x, z) :- R0(x, y), R1(y, z)")).put(1, rule(record, "ans() :- R1(x, x), R0(x, y)"))
+        self.rows = [(0, (n, n % 7)) for n in range(60)] + [(1, (n % 7, n)) for n in range(60)]
+        self.want = sorted((n, m) for n in range(60) for m in range(60) if n % 7 == m % 7)
+
+    def answered(self):
+        self.assertEqual(self.record.evaluate(0, self.rows), self.want)
+        self.assertEqual(self.record.evaluate(0, self.rows, 2 * len(self.want)), self.want)
+        self.refused(10, self.record.evaluate, 0, self.rows, 2 * len(self.want) - 1)
+        self.assertEqual(self.record.count(0, self.rows), len(self.want))
+        self.assertEqual((self.record.evaluate(1, self.rows), self.record.count(1, self.rows)), ([()], 1))
+        self.assertIsNone(self.record.test(self.rows))
+        self.assertEqual(self.record.test([*self.rows, (0, (5, 9))]), Broken(0, 5, 120))
+
+    def test_less_of_it(self):
+        plain = engine._map
+        for most in (2**30, 2**16, 2**13, 2**12):
+
+            def scarce(size):
+                if size > most:
+                    raise OSError(12, "Cannot allocate memory")
+                return plain(size)
+
+            with self.subTest(most=most), mock.patch.object(engine, "_map", scarce):
+                if most > 8 * len(self.want):
+                    self.answered()
+                    continue
+                self.assertEqual(self.record.count(0, self.rows), len(self.want))
+                with self.assertRaisesRegex(MemoryError, f"there are {len(self.want)} answers, for which there is not enough memory"):
+                    self.record.evaluate(0, self.rows)
+        with mock.patch.object(engine, "_map", mock.Mock(side_effect=ValueError)), self.assertRaises(MemoryError):
+            self.record.evaluate(0, self.rows)
+
+    def test_any_of_it(self):
+        """Parts of any lengths, whatever they hold."""
+        rng, plain = random.Random(12), engine._lent
+
+        def some(words):
+            sizes = [words[0]] if len(words) == 1 else [rng.choice([0, 1, 15, 16, 47, 64, 300, size]) for size in words]
+            parts = plain(sizes)
+            for part, size in parts:
+                part[:size] = [rng.choice([0, 1, 2**32 - 1, rng.randrange(2**32)])] * size
+            return parts
+
+        with mock.patch.object(engine, "AMPLE_WORDS", 10_000), mock.patch.object(engine, "_lent", some):
+            for _ in range(10 * MANY):
+                self.answered()
+
+    def test_more_answers_than_were_expected(self):
+        for ample in (0, 1, 100, 2 * len(self.want) - 1, 2 * len(self.want)):
+            with mock.patch.object(engine, "AMPLE_WORDS", ample):
+                self.answered()
+        with mock.patch.object(engine, "AMPLE_WORDS", 16), mock.patch.object(engine, "_memory", lambda: 16):
+            with self.assertRaisesRegex(MemoryError, f"there are {len(self.want)} answers"):
+                self.record.evaluate(0, self.rows)
+
+    def test_no_more_than_can_be_used(self):
+        with mock.patch.object(engine, "_lent", side_effect=engine._lent) as lent:
+            self.record.evaluate(0, [(0, (1, 2)), (1, (2, 3))])
+            self.record.test([(0, (1, 2)), (1, (2, 3))])
+        self.assertEqual([call.args[0] for call in lent.call_args_list], [[18], [124, 0, 100, 100], [3, 9]])
+        self.assertLess(engine._for_answers(2**31, engine.Size(12, 8), 1)[0], 2**32 - 1)
+
+    def test_it_is_let_go(self):
+        plain, held = engine._map, []
+
+        def noted(size):
+            found = plain(size)
+            held.append(weakref.ref(found))
+            return found
+
+        with mock.patch.object(engine, "_map", noted):
+            self.answered()
+            try:
+                self.record.evaluate(0, array("I", [0, 1]))
+            except Refused as refused:
+                kept = refused  # As a prompt of Python keeps the last error.
+        self.assertEqual(kept.number, 9)
+        until = time.monotonic() + 60
+        while any(one() is not None for one in held) and time.monotonic() < until:
+            time.sleep(0.001)
+        self.assertEqual([one() for one in held], [None] * len(held))
+        self.assertGreater(len(held), 10)
 
 
 class Listing(Calls):

@@ -152,6 +152,8 @@ class Sample(Command):
         self.assertEqual(self.done("evaluate", FLIGHTS, 6, DATA), "# 0 answers\n")
         layer = self.write("layer.data", "layer(1, 2, 3, 4)\nburst(1, 3)\n")
         self.assertEqual(self.done("evaluate", FLIGHTS, 6, layer), "ans()\n# 1 answer\n")
+        for place, number in ((0, 1), (5, 2), (6, 0)):
+            self.assertEqual(self.done("evaluate", FLIGHTS, place, DATA, "--count"), f"{number}\n")
 
     def test_test(self):
         self.assertEqual(self.done("test", FLIGHTS, DATA), "Obeys: 13 rows, 10 dependencies\n")
@@ -312,6 +314,7 @@ class Messages(Command):
             [], ["shorten"], ["list"], ["list", FLIGHTS, FLIGHTS], ["list", "--yaml", FLIGHTS], ["pack", "a"],
             ["compare", FLIGHTS, 0], ["compare", FLIGHTS, 0, "x"], ["compare", FLIGHTS, 0, -1],
             ["compare", FLIGHTS, 0, "\u0663"], ["evaluate", FLIGHTS, "", DATA], ["determined", FLIGHTS, "burst"],
+            ["evaluate", FLIGHTS, 0, DATA, "--count", "--format", "csv"],
         ):
             status, out, err = run(*arguments)
             self.assertEqual((status, out), (2, ""), arguments)

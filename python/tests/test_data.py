@@ -918,15 +918,6 @@ class Large(Data):
             self.assertEqual(len(database), 2 * n)
             self.assertLess(took, 30)
 
-    def test_a_large_join_is_named(self):
-        """A join of more rows than the engine is swift with is named, with the cure; other queries are not."""
-        text = self.write("a.text", "burst(flight, height)\nsite(name)\n")
-        rows = self.write("a.rows", "burst(1, 2)\nburst(3, 4)\nsite(5)\n")
-        with mock.patch("spernevan.commands.SWIFT_WORDS", 1):
-            for rule, said in (("burst(x, _), burst(x, _)", True), ("burst(x, _)", False), ("site(x), site(x)", False)):
-                _, _, err = run("evaluate", text, f"ans(x) :- {rule}", rows)
-                self.assertEqual("a join of 2 rows may take very long here; define --format sql" in err, said)
-
     def test_rows_that_are_not_asked_for(self):
         """The engine gets only the tables of the query: the others change no answer."""
         data = self.record.database({"burst": [(1, 2), (3, 4)], "flight": [(n, 5, 6) for n in range(3)]})
@@ -936,6 +927,20 @@ class Large(Data):
             self.assertEqual(self.record.evaluate("ans(f, h) :- flight(f, _, _), burst(f, h)", data), [(1, 2)])
             self.assertEqual(self.record.evaluate("ans() :- never", data), [])
         self.assertEqual([len(call.args[2]) for call in evaluate.call_args_list], [6, 18, 0])
+        self.assertEqual([call.args[3] for call in evaluate.call_args_list], [(1, 1), (2, 2), (0, 0)])
+
+    def test_a_count(self):
+        """As many as there are answers, with the warnings of `evaluate`."""
+        data = {"burst": [("a", 2), ("a", 3), ("b", 2)]}
+        for asked, number in (("ans(f) :- burst(f, _)", 2), ("ans(f, h) :- burst(f, h)", 3), ("ans() :- burst('c', _)", 0), ("ans() :- burst('a', _)", 1)):
+            with self.assertWarnsRegex(UserWarning, "the database breaks burst: flight -> height") as caught:
+                self.assertEqual(self.record.count(asked, data), number)
+            self.assertEqual(caught.filename, __file__)
+            self.assertEqual(self.record.count(asked, self.record.database(data), tested=True), number)
+            self.assertEqual(len(self.record.evaluate(asked, self.record.database(data), tested=True)), number)
+        self.assertEqual(self.record.count("ans() :- never", {}), 0)
+        with self.assertRaisesRegex(DataError, "the data has no table flight"):
+            self.record.count("ans(f) :- flight(f, _, _)", data)
 
     def test_progress(self):
         class Terminal(io.StringIO):

@@ -18,7 +18,7 @@ PROGRAM = r"""
 #include <string.h>
 #include "spernevan.h"
 
-/* Opens a record of one relation of two columns, saves ans(y) :- R(x, y), R(x, 7) and evaluates it on three rows. */
+/* Opens a record of one relation of two columns, saves ans(y) :- R(x, y), R(x, 7), and evaluates it on three rows, with and without working memory. */
 int main(void) {
     const uint8_t widths[] = {2};
     const uint8_t query[] = {1, 2, 1, 1, 0, 0, 0,
@@ -26,15 +26,24 @@ int main(void) {
                              0, 1, 0, 0, 0, 0, 0, 7, 0, 0, 0};
     const uint32_t words[] = {0, 1, 7, 0, 1, 9, 0, 2, 8};
     uint8_t file[SPERNEVAN_FILE], saved[SPERNEVAN_FILE];
-    uint32_t answers[3] = {5, 5, 5};
-    size_t length = 0, size = 0, count = 0;
+    uint32_t answers[3] = {5, 5, 5}, again[3] = {6, 6, 6}, lent[4][200];
+    size_t length = 0, size = 0, count = 0, counted = 0, found = 0, dependency = 9, first = 9, second = 9;
+    uint8_t obeys = 9;
     uint8_t opened = spernevan_open(widths, 1, file, sizeof file, &length);
     uint8_t put = spernevan_put(file, length, 0, query, sizeof query, saved, sizeof saved, &size);
     uint8_t done = spernevan_evaluate(saved, size, 0, words, 9, answers, 3, &count);
+    memset(lent, 77, sizeof lent);
+    uint8_t more = spernevan_evaluate_lent(saved, size, 0, words, 9, again, 3, lent[0], 200, lent[1], 9, lent[2], 200, lent[3], 200, &found);
+    uint8_t number = spernevan_count(saved, size, 0, words, 9, &counted);
+    uint8_t most = spernevan_count_lent(saved, size, 0, words, 9, lent[0], 0, lent[1], 0, lent[2], 0, lent[3], 0, &length);
+    uint8_t tested = spernevan_test_lent(saved, size, words, 9, lent[0], 5, lent[1], 14, &obeys, &dependency, &first, &second);
     printf("%d %d %d %zu %u %u %u\n", opened, put, done, count, (unsigned)answers[0], (unsigned)answers[1], (unsigned)answers[2]);
+    printf("%d %zu %u %u %u\n", more, found, (unsigned)again[0], (unsigned)again[1], (unsigned)again[2]);
+    printf("%d %zu %d %zu %d %d %zu %zu %zu\n", number, counted, most, length, tested, obeys, dependency, first, second);
     return 0;
 }
 """
+SAID = "0 0 0 2 7 9 5\n0 2 7 9 6\n0 2 0 2 0 1 0 0 0\n"
 
 
 @with_engine
@@ -108,7 +117,7 @@ class FromC(unittest.TestCase):
             source.write_text(PROGRAM)
             strict = ["gcc", "-std=c99", "-Wall", "-Wextra", "-Wpedantic", "-Werror", f"-I{context.ROOT / 'include'}"]
             subprocess.run([*strict, str(source), str(archive), "-o", str(program)], check=True)
-            self.assertEqual(subprocess.run([str(program)], check=True, capture_output=True, text=True).stdout, "0 0 0 2 7 9 5\n")
+            self.assertEqual(subprocess.run([str(program)], check=True, capture_output=True, text=True).stdout, SAID)
 
 
 if __name__ == "__main__":

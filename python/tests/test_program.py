@@ -79,6 +79,22 @@ class Program(Started):
             done = subprocess.run([*context.PROGRAM, *arguments], capture_output=True, preexec_fn=small)
             self.assertEqual((done.returncode, done.stderr), (0, b""))
 
+    def test_little_memory(self):
+        """Where the machine gives less than is asked for, all is answered with that."""
+
+        def little():
+            resource.setrlimit(resource.RLIMIT_AS, (400 * 2**20, 400 * 2**20))
+
+        data = self.folder / "many.data"
+        data.write_text("".join(f"burst({n}, {n})\n" for n in range(3000)))
+        for arguments, out in (
+            (["evaluate", FLIGHTS, "1", str(data), "--count"], b"3000\n"),
+            (["evaluate", FLIGHTS, "ans() :- burst(x, _), burst(x, x), burst(y, _), burst(_, y)", str(data)], b"ans()\n# 1 answer\n"),
+            (["test", FLIGHTS, str(data)], b""),
+        ):
+            done = subprocess.run([*context.PROGRAM, *arguments], capture_output=True, preexec_fn=little)
+            self.assertEqual((done.returncode, done.stderr, done.stdout.endswith(out)), (0, b"", True), done.stdout[-99:])
+
     def test_a_thread_with_a_small_stack(self):
         record = Record.read(FLIGHTS)
         found = []

@@ -16,7 +16,7 @@ READ, WRITE, OPEN, ADD, PUT, DROP, REDUCE, COMPARE, CHECK, DETERMINED, TEST, EVA
 BYTE, WORD, SIZE = 0xA5, 0xA5A5A5A5, 0xA5A5A5
 ROOM = 8192
 NO_MAPPING = [0] * engine.MAPPING_WORDS
-BAD_RECORD, PLACE_VACANT = 14, 11
+BAD_RECORD, PLACE_VACANT, SHORT = 14, 11, 10
 
 
 class Malformed(Exception):
@@ -251,20 +251,45 @@ def determined(line, file):
 
 def test(line, file):
     words, told = line.words(), line.number()
-    due = [BYTE, SIZE, SIZE, SIZE] if told else [line.number() for _ in range(4)]
+    due = told, [BYTE, SIZE, SIZE, SIZE] if told else [line.number() for _ in range(4)]
     line.end()
+    return all(tested(name, file, words, memory) == due for name, memory in with_memory("test", [len(words) // 2, len(words) * 3 // 2]))
+
+
+def tested(name, file, words, memory):
+    """A test: its number, and what it says."""
     obeys, places = ctypes.c_uint8(BYTE), [ctypes.c_size_t(SIZE) for _ in range(3)]
-    number = call("test", file, words_of(words), ctypes.byref(obeys), *map(ctypes.byref, places))
-    return number == told and [obeys.value, *(place.value for place in places)] == due
+    number = call(name, file, words_of(words), *memory, ctypes.byref(obeys), *map(ctypes.byref, places))
+    return number, [obeys.value, *(place.value for place in places)]
 
 
 def evaluate(line, file):
     place, words, room, told = line.number(), line.words(), line.number(), line.number()
     count, due = (SIZE, []) if told else (line.number(), line.words())
     line.end()
-    answers, counted = lent_words(room), ctypes.c_size_t(SIZE)
-    number = call("evaluate", file, place, words_of(words), answers, ctypes.byref(counted))
-    return number == told and counted.value == count and list(answers[: len(due)]) == due and untouched(answers, len(due))
+    enough = [22 * len(words) + 112, len(words), 64, 64]
+    for name, memory in with_memory("evaluate", enough):
+        answers, counted = lent_words(room), ctypes.c_size_t(SIZE)
+        number = call(name, file, place, words_of(words), answers, *memory, ctypes.byref(counted))
+        if number != told or counted.value != count or list(answers[: len(due)]) != due or not untouched(answers, len(due)):
+            return False
+    for name, memory in with_memory("count", enough):
+        counted = ctypes.c_size_t(SIZE)
+        number = call(name, file, place, words_of(words), *memory, ctypes.byref(counted))
+        if told == SHORT:
+            right = number == 0 and counted.value * part_at(file, place)[0] > room
+        else:
+            right = (number, counted.value) == (told, count)
+        if not right:
+            return False
+    return True
+
+
+def with_memory(name, enough):
+    """The name of a call, and of the one that is lent working memory, with parts of several lengths."""
+    yield name, []
+    for part in (0, 1, 2):
+        yield f"{name}_lent", [lent_words(size * part // 2) for size in enough]
 
 
 def chase(line, file):
