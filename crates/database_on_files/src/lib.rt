@@ -103,7 +103,16 @@ pub fn evaluate_in_file_lent(
     match answer {
         Status::Done => {
             let given = outcome.record;
-            let done = database::evaluate_lent(given, place, words, answers, index, states, batch, scratch);
+            let done = database::evaluate_lent(
+                given,
+                place,
+                words,
+                answers,
+                index,
+                states,
+                batch,
+                scratch,
+            );
             match done {
                 Answered::Count(n) => {
                     *count = n;
@@ -166,8 +175,8 @@ pub fn count_in_file_lent(
             let given = outcome.record;
             let done = database::count_lent(given, place, words, index, states, batch, scratch);
             match done {
-                Answered::Count(n) => {
-                    *count = n;
+                Answered::Count(k) => {
+                    *count = k;
                     0
                 }
                 Answered::Refused(n) => n,

@@ -179,7 +179,14 @@ pub extern "C" fn spernevan_test_lent(
     ensures { λ _. ⌜ now (second .exit) ≡ leaves (testedIn (now (file .entry)) (now (words .entry))) (λ t. t .second) (now (second .entry)) ⌝ }
 {
     database_on_files::test_in_file_lent(
-        file, words, heads, nodes, obeys, dependency, first, second,
+        file,
+        words,
+        heads,
+        nodes,
+        obeys,
+        dependency,
+        first,
+        second,
     )
 }
 
@@ -217,18 +224,21 @@ pub extern "C" fn spernevan_evaluate_lent(
     ensures { λ _. ⌜ now (count .exit) ≡ leaves (evaluatedIn (now (file .entry)) place (now (words .entry)) (length (now (answers .entry)))) (λ n. n) (now (count .entry)) ⌝ }
 {
     database_on_files::evaluate_in_file_lent(
-        file, place, words, answers, index, states, batch, scratch, count,
+        file,
+        place,
+        words,
+        answers,
+        index,
+        states,
+        batch,
+        scratch,
+        count,
     )
 }
 
 // Counts the answers of the query of a place on a database.
 #[no_mangle]
-pub extern "C" fn spernevan_count(
-    file: &[u8],
-    place: usize,
-    words: &[u32],
-    count: &mut usize,
-) -> u8
+pub extern "C" fn spernevan_count(file: &[u8], place: usize, words: &[u32], count: &mut usize) -> u8
     ensures { λ r. ⌜ r ≡ returned (countedIn (now (file .entry)) place (now (words .entry))) ⌝ }
     ensures { λ _. ⌜ now (count .exit) ≡ leaves (countedIn (now (file .entry)) place (now (words .entry))) (λ n. n) (now (count .entry)) ⌝ }
 {
@@ -250,7 +260,5 @@ pub extern "C" fn spernevan_count_lent(
     ensures { λ r. ⌜ r ≡ returned (countedIn (now (file .entry)) place (now (words .entry))) ⌝ }
     ensures { λ _. ⌜ now (count .exit) ≡ leaves (countedIn (now (file .entry)) place (now (words .entry))) (λ n. n) (now (count .entry)) ⌝ }
 {
-    database_on_files::count_in_file_lent(
-        file, place, words, index, states, batch, scratch, count,
-    )
+    database_on_files::count_in_file_lent(file, place, words, index, states, batch, scratch, count)
 }
