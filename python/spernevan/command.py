@@ -27,6 +27,7 @@ from .commands import (
     equivalent_command,
     evaluate_command,
     list_command,
+    output,
     pack_command,
     page_command,
     place,
@@ -90,6 +91,7 @@ def usage() -> Parser:
             "-o",
             "--output",
             metavar="OUT",
+            type=output,
             help="a file to write instead of FILE: a text if its name ends in .text or .txt, else an archive file; "
             "or - for standard output, in the form of FILE",
         )
@@ -125,7 +127,7 @@ def usage() -> Parser:
     for_programs = "print JSON, for programs"
 
     def written(made: argparse.ArgumentParser) -> None:
-        made.add_argument("-o", "--output", metavar="OUT", help="a file to write; without it, or with -, it is printed")
+        made.add_argument("-o", "--output", metavar="OUT", type=output, help="a file to write; without it, or with -, it is printed")
 
     def shaped(made: argparse.ArgumentParser, json_too: bool = False) -> None:
         group = made.add_mutually_exclusive_group()
@@ -180,9 +182,9 @@ def usage() -> Parser:
     )
     made = command("pack", pack_command, "make an archive file, and its names file, from a text")
     made.add_argument("text", metavar="TEXT", help="the text of an archive, or - for standard input")
-    made.add_argument("file", metavar="FILE", help="the archive file to write, or - for standard output, which has no names then")
+    made.add_argument("file", metavar="FILE", type=output, help="the archive file to write, or - for standard output, which has no names then")
     made = on_file("unpack", unpack_command, "print an archive file as a text; packed again it is the same file, to the byte")
-    made.add_argument("text", metavar="TEXT", nargs="?", default="-", help="a file to write the text to; without it, or with -, it is printed")
+    made.add_argument("text", metavar="TEXT", nargs="?", default="-", type=output, help="a file to write the text to; without it, or with -, it is printed")
     made = on_file("define", define_command, "print a query's definition: tables, dependencies, both forms, mapping")
     made.add_argument("query", metavar="QUERY", type=place_or_rule, help=query)
     shaped(made)

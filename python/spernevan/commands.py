@@ -184,6 +184,13 @@ def place(text: str) -> int:
     return found
 
 
+def output(text: str) -> str:
+    """The name of a file to write. An empty one, as of a variable of the shell that is not set, stands for none."""
+    if not text:
+        raise argparse.ArgumentTypeError("the name of the file is empty")
+    return text
+
+
 def separator(text: str) -> str:
     """The sign between cells on the command line."""
     sign = {"tab": "\t", "\\t": "\t"}.get(text, text)
@@ -371,6 +378,11 @@ def equivalent_command(options: Options) -> int:
 
 def _data(options: Options, record: Record, query: Optional[Asked] = None) -> Database:
     """The database of DATA; for a query, what cannot change its answers need not be sound."""
+    for column in options.text:
+        try:
+            column_of(column, record.names)
+        except DataError as error:
+            raise Failure(f"--text {column}: {error}") from None
     form = Csv(tuple(options.text), options.decimal, options.separator)
     return read_for_command(options.data, record, _nulls(options.null, record.names), form, sys.stderr, query)
 
@@ -429,6 +441,9 @@ def evaluate_command(options: Options) -> int:
             f"spernevan: the text '{double}' and the number {double} are different values, and both are here; "
             "a query has the text between quotes" + (", and --text TABLE.COLUMN takes a column of CSV as text" if database.has_cells else "")
         )
+    meant = database.text_as_variable(asked.query, asked.variables)
+    if meant is not None:
+        say(f"spernevan: {meant}; a text stands between quotes")
     with database.progress.during("testing the dependencies"):
         broken = record.broken(database, relations)
     if broken is not None:

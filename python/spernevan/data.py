@@ -21,7 +21,7 @@ from operator import itemgetter
 from typing import AbstractSet, Any, Callable, Dict, Iterable, Iterator, List, Mapping, NamedTuple, Optional, Sequence, Set, TextIO, Tuple, Union
 
 from .files import Failure
-from .model import Words
+from .model import Constant, Query, Words
 from .notation import Names, Table, count, format_datum
 from .values import FIRST_CODE, Null, Value, Values, bare, doubt, plain, read_cell, read_cell_with_comma, read_literal
 
@@ -250,6 +250,21 @@ class Database:
             for column in range(1, width):
                 found |= set(numbers).intersection(self.words[start + column : end : width])
         return numbers[min(found)] if found else None
+
+    def text_as_variable(self, query: Query, variables: Mapping[int, str]) -> Optional[str]:
+        """A note on a variable that the head does not show and whose name is a text in a column where it stands: the text may be meant."""
+        for row in query.rows:
+            table = self.names.tables[row.relation]
+            for column, entry in enumerate(row.entries):
+                name = None if entry in query.head or isinstance(entry, Constant) else variables.get(entry.number)
+                if name is not None and self.values.known(name) and self._has(row.relation, column, self.values.encode(name)):
+                    return f"{name} is a variable of the query, which any value goes with, and {table.name}.{table.columns[column]} has the text '{name}'"
+        return None
+
+    def _has(self, relation: int, column: int, word: int) -> bool:
+        """Whether a column has a word."""
+        width = len(self.names.tables[relation].columns) + 1
+        return any(word in self.words[start + 1 + column : end : width] for start, end, held in self._spans() if held == relation)
 
     def _spans(self) -> Iterator[Tuple[int, int, int]]:
         """The words of each block, from one to before the other, and its relation."""

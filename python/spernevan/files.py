@@ -125,6 +125,10 @@ def kind_of(data: bytes) -> Optional[str]:
         return "a ZIP file, as those of Excel are"
     if data.startswith(b"archive '"):
         return "a names file"
+    if data[:15].lower().startswith((b"<!doctype html", b"<html")):
+        return "an HTML page"
+    if data.startswith((b"\\documentclass", b"\\begingroup")):
+        return "LaTeX"
     # The count of the parts, the first of which begins behind the directory.
     if len(data) > 3 and data[1] == 0 and 2 <= data[0] <= 10 and data[2] == 2 + 4 * data[0]:
         return "an archive file"
@@ -132,14 +136,17 @@ def kind_of(data: bytes) -> Optional[str]:
 
 
 _DATA = "test and evaluate take it as data, after the archive"
+_PACK = "pack makes an archive file from a text"
 
 # What is given where an archive should be, and what to do about it.
 _NO_ARCHIVES: Mapping[Optional[str], str] = {
     "a CSV file": _DATA,
     "an SQLite file": _DATA,
     "a names file": "give the archive file beside it, whose names these are",
-    "a program": "pack makes an archive file from a text",
-    "a ZIP file, as those of Excel are": "pack makes an archive file from a text, and data is saved as CSV",
+    "a program": _PACK,
+    "an HTML page": _PACK,
+    "LaTeX": _PACK,
+    "a ZIP file, as those of Excel are": f"{_PACK}, and data is saved as CSV",
 }
 
 
@@ -160,7 +167,11 @@ def read_names_beside(file: Path, data: bytes, given: Optional[Path] = None, cod
     path = names_path(file) if given is None else os.fspath(given)
     if given is None and not os.path.exists(path):
         return None
-    found = read_names_file(read_text(path), path)
+    text = read_bytes(path)
+    kind = kind_of(text)
+    if kind not in (None, "a names file"):
+        raise Failure(f"{path} is {kind}, where a names file was expected; --names NAMES takes another, and --plain goes without names")
+    found = read_names_file(text_of(text, path), path)
     if found.checksum is not None and found.checksum != checksum(data):
         raise Failure(
             f"{path}: these names were written for another state of {shown(file)}: its checksum is not the one in the line archive. "

@@ -325,6 +325,10 @@ def read_rule(reader: Reader, names: Names, given: Optional[Dict[int, str]] = No
     rows: List[Tuple[int, List[_Term]]] = []
     while True:
         token = reader.next
+        if reader.then.kind == "=":
+            raise reader.error(token, f"a rule has no =: write the value, or another variable, in the place of {token.text:.40} in its row")
+        if token.text.lower() == "not" and reader.then.kind == "name":
+            raise reader.error(token, f"a rule has no {token.text}: it asks for rows that are there")
         relation = names.relation(reader)
         row = reader.listed(term)
         if len(row) != len(names.tables[relation].columns):

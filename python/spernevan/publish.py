@@ -214,31 +214,29 @@ def _latex_of(definition: Definition, form: Optional[str]) -> str:
 # ---- files of definitions
 
 
-# How what `define` and `list` write begins, in its formats and forms, and how a page does.
-_WRITTEN = re.compile(
-    r"""(?:Place\ [0-7]|Query)\n\ \ (?:Tables|Dependencies\ needed|Long\ form)
-    |Every\ place\ is\ vacant\.\n
-    |ans\(
-    |(?:\\documentclass\{article\}\n\\begin\{document\}\n)?(?:\\(?:begingroup\\raggedright\n|par\\nobreak\\noindent)|Every\ place)
-    |SELECT\ (?:DISTINCT|1\ AS|NULL\ AS)\ 
-    |--\ Place\ [0-7],\ 
-    |(?:\[\n\ \ )?\{\n\ +"(?:place|rule)":\ 
-    |\[\]\n\Z
-    |<!DOCTYPE\ html>\n.*:\ saved\ queries\ and\ their\ short\ forms</title>""",
-    re.DOTALL | re.VERBOSE,
-)
+# How what `define`, `list` and `page` write begins, by kinds; what says that there is no query is of any kind.
+_WRITTEN = {
+    kind: re.compile(rf"{pattern}|Every\ place|\[\]\n\Z", re.DOTALL | re.VERBOSE)
+    for kind, pattern in (
+        ("a definition in text", r"(?:Place\ [0-7]|Query)\n\ \ (?:Tables|Dependencies\ needed|Long\ form)|ans\("),
+        ("LaTeX", r"(?:\\documentclass\{article\}\n\\begin\{document\}\n)?(?:\\(?:begingroup\\raggedright\n|par\\nobreak\\noindent)|Every\ place)"),
+        ("SQL", r"SELECT\ (?:DISTINCT|1\ AS|NULL\ AS)\ |--\ Place\ [0-7],\ "),
+        ("JSON", r"(?:\[\n\ \ )?\{\n\ +\"(?:place|rule)\":\ "),
+        ("a page", r"<!DOCTYPE\ html>\n.*:\ saved\ queries\ and\ their\ short\ forms</title>"),
+    )
+}
 
 
 def write_definition(text: str, path: Optional[str]) -> None:
     """Prints the text; to a file if a path other than `-` is given, which is replaced only by the whole text.
 
-    Failure if the file is there and does not begin as a definition or a page does.
+    Failure if the file is there and does not begin as one of the same kind does.
     """
     if path is None or path == "-":
         sys.stdout.write(text)
         return
-    if os.path.isfile(path):
-        before = read_bytes(path, FILE_BYTES).decode("utf-8", "replace")
-        if before and not _WRITTEN.match(before):
-            raise Failure(f"{path} is there already, and is no definition or page that could be replaced: write elsewhere, or remove it first")
+    before = read_bytes(path, FILE_BYTES).decode("utf-8", "replace") if os.path.isfile(path) else ""
+    if before and not any(pattern.match(before) and pattern.match(text) for pattern in _WRITTEN.values()):
+        held = next((kind for kind, pattern in _WRITTEN.items() if pattern.match(before)), "no definition or page that could be replaced")
+        raise Failure(f"{path} is there already, and is {held}: write elsewhere, or remove it first")
     write_files([(path, text.encode())])

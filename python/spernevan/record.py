@@ -552,7 +552,7 @@ class Record:
         relations = {row.relation for row in query.rows}
         self.has_tables(held, relations, "the query asks for")
         if not tested:
-            self._warn(held, query)
+            self._warn(held, query, record.names.variables.get(at, {}))
         record, at = record._translated(at, held)
         # Other tables change no answer.
         return _Asking(record, at, size, held.words_of(relations), held)
@@ -587,8 +587,11 @@ class Record:
             empty = "a CSV file with its header line alone" if database.from_files else f"{{{missing[0]!r}: []}}"
             raise DataError(f"the data has no table {', '.join(missing)}, which {why}; an empty table is {empty}")
 
-    def _warn(self, database: Database, query: Query) -> None:
-        """Warnings, for who called `evaluate` or `count`, if a text and a number meet that look alike, or the database breaks a dependency."""
+    def _warn(self, database: Database, query: Query, variables: Dict[int, str]) -> None:
+        """Warnings, for who called `evaluate` or `count`, of what may be meant otherwise, and of a dependency that the database breaks."""
+        meant = database.text_as_variable(query, variables)
+        if meant is not None:
+            warnings.warn(f"{meant}; a text stands between quotes", stacklevel=4)
         double = database.text_and_number([row.relation for row in query.rows], constants(query))
         if double is not None:
             warnings.warn(f"the text {double!r} and the number {double} are different values, and both are here", stacklevel=4)

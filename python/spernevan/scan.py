@@ -66,7 +66,7 @@ class Reader:
             found = _PATTERN.match(text, position)
             column = position - start + 1
             if found is None:
-                raise NotationError(self.source, line, column, _strange(text[position]))
+                raise NotationError(self.source, line, column, _strange(text, position))
             kind, word = str(found.lastgroup), found.group()
             position = found.end()
             if kind == "sign":
@@ -138,11 +138,15 @@ class Reader:
         return found
 
     def _joined(self) -> Optional[NotationError]:
-        """The error of a word that begins as a number or a date and goes on otherwise, as 2026-1-14 or 5a; None if there is a space."""
+        """The error of a word that begins as a name, a number or a date and goes on otherwise, as F-101, 2026-1-14 or 5a; None if there is a space."""
         last, token = self.last, self.next
-        if last.kind not in ("number", "decimal", "date") or (token.line, token.column) != (last.line, last.column + len(last.text)):
+        if last.kind == "date" and token.kind == "number" and self.then.kind == ":":
+            return self.error(last, f"{last.text} goes on with a time; a date with a time is a text between quotes")
+        if last.kind not in ("name", "number", "decimal", "date") or (token.line, token.column) != (last.line, last.column + len(last.text)):
             return None
         word = f"{last.text}{token.text}"[:40]
+        if last.kind == "name":
+            return self.error(last, f"{word} is no variable; a text stands between quotes")
         if last.kind == "number" and token.text.startswith("-"):
             word += self.then.text if self.then.kind == "decimal" else ""
             return self.error(last, f"{word:.40} is no date; a date is written 2026-01-14, with two digits for the month and the day")
@@ -152,6 +156,8 @@ class Reader:
 
     def line_ends(self) -> None:
         """The statement must end with its line."""
+        if self.next.kind == ",":
+            raise self.error(self.next, "the end of the line was expected, not ','; what follows goes on a line of its own")
         if self.next.kind != "end":
             self.take("newline", "the end of the line")
 
@@ -162,14 +168,29 @@ class Reader:
         return self.next.kind == "end"
 
 
-def _strange(character: str) -> str:
-    """What to say of a character that begins no word."""
+# What goes with signs that begin no word, by how the text goes on from there.
+_CURES = [
+    (re.compile(pattern), cure)
+    for pattern, cure in (
+        (r"\.[^\S\n]*(?:#|\n|\Z)", "a line ends without one"),
+        (r"\.", "a decimal has digits before and after its point"),
+        (r"(?<==)>", "'->' goes between the columns of a dependency"),
+        (r"<-", "':-' goes between the head of a rule and its rows"),
+        (r"[<>!\u2260\u2264\u2265]", "a rule has rows alone, joined by equal values, and no comparisons"),
+        (r";", "',' goes between the rows of a rule, and each row of a database has its own line"),
+        (r"(?<=\w)-(?=\w)", "a text, such as 'F-101', stands between quotes"),
+        (r"[%/]", "'#' begins a comment"),
+        (r"\0", "is this a text at all?"),
+    )
+]
+
+
+def _strange(text: str, position: int) -> str:
+    """What to say of the character at a position, which begins no word."""
+    character = text[position]
     if character in "'\"":
         return f"the quote {character} that begins here does not end on this line"
     if character in "\u2018\u2019\u201a\u201b\u201c\u201d\u201e\u201f\u00ab\u00bb\u2039\u203a\u0060\u00b4":
         return f"{character!r} is no quote of a rule; a text stands between straight quotes, as in 'De Bilt'"
-    if character == ".":
-        return "'.' has no meaning here; a decimal has digits before and after its point"
-    if character == "\0":
-        return "'\\x00' has no meaning here; is this a text at all?"
-    return f"{character!r} has no meaning here"
+    cure = next((f"; {cure}" for pattern, cure in _CURES if pattern.match(text, position)), "")
+    return f"{character!r} has no meaning here{cure}"

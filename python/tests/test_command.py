@@ -216,6 +216,8 @@ class Messages(Command):
             (self.write("a.db", b"SQLite format 3\0\x10\0"), "an SQLite file", data),
             (self.write("flight.csv", "number,site\n"), "a CSV file", data),
             ("/bin/sh", "a program", pack),
+            (self.write("a.html", b"<!DOCTYPE html>\n<title>"), "an HTML page", pack),
+            (self.write("a.tex", b"\\documentclass{article}\n"), "LaTeX", pack),
             (self.write("a.xlsx", b"PK\x03\x04\x14\0"), "a ZIP file, as those of Excel are", f"{pack}, and data is saved as CSV"),
         ):
             for command in (["list", file], ["evaluate", file, 0, DATA], ["drop", file, 0]):
@@ -225,6 +227,8 @@ class Messages(Command):
             if kind != "a CSV file":
                 text = f"{file} is {kind}, where the text of an archive was expected, as samples/flights.text is one\n"
                 self.failed(text, "pack", file, self.folder / "x.file")
+            if kind not in ("a CSV file", "a names file"):
+                self.failed(f"{file} is {kind}, where a names file was expected; --names NAMES takes another", "list", FLIGHTS, "--names", file)
             if kind not in ("a CSV file", "an SQLite file"):
                 self.failed(f"{file}: this is {kind}; a database is rows of text, a CSV file or", "test", FLIGHTS, file)
         self.failed(f"{FLIGHTS}: this is an archive file; a database is rows of text", "test", FLIGHTS, FLIGHTS)
@@ -314,7 +318,8 @@ class Messages(Command):
             [], ["shorten"], ["list"], ["list", FLIGHTS, FLIGHTS], ["list", "--yaml", FLIGHTS], ["pack", "a"],
             ["compare", FLIGHTS, 0], ["compare", FLIGHTS, 0, "x"], ["compare", FLIGHTS, 0, -1],
             ["compare", FLIGHTS, 0, "\u0663"], ["evaluate", FLIGHTS, "", DATA], ["determined", FLIGHTS, "burst"],
-            ["evaluate", FLIGHTS, 0, DATA, "--count", "--format", "csv"],
+            ["evaluate", FLIGHTS, 0, DATA, "--count", "--format", "csv"], ["drop", FLIGHTS, 0, "-o", ""], ["page", FLIGHTS, "-o", ""],
+            ["pack", FLIGHTS, ""], ["unpack", FLIGHTS, ""],
         ):
             status, out, err = run(*arguments)
             self.assertEqual((status, out), (2, ""), arguments)

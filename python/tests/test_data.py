@@ -241,7 +241,7 @@ class Files(Data):
         both = self.csv()
         (both / "FLIGHT.csv").write_text(header)
         self.failed(f"{both}: FLIGHT.csv and flight.csv are both for the table flight", "test", self.text, both)
-        self.failed("sonde.version is no TABLE.COLUMN of the archive", "test", self.text, self.csv(), "--text", "sonde.version")
+        self.failed("--text sonde.version: sonde.version is no TABLE.COLUMN of the archive", "test", self.text, self.csv(), "--text", "sonde.version")
         self.failed(f"{self.folder}/none: No such file", "test", self.text, self.folder / "none")
         picture = self.write("a.png", b"\x89PNG\r\n\x1a\n\0\0\0\rIHDR")
         self.failed(f"{picture}: these are neither rows of text, nor CSV, nor an SQLite file", "test", self.text, picture)
@@ -636,6 +636,21 @@ class FromPython(Data):
                 self.record.evaluate(place, data)
         with self.assertRaisesRegex(DataError, "the table burst is there twice, the second time as 'Burst'"):
             self.record.evaluate(1, {"flight": [], "burst": [(1, 2)], "Burst": [(3, 4)]})
+
+    def test_a_text_without_its_quotes(self):
+        """It is a variable: what the data has under its name, in a column where it stands and that is not shown, is named."""
+        data = {"flight": [("F-1", "Payerne", 3), ("F-2", "x", 4)], "burst": [("F-1", 2), ("F-2", 7)]}
+        said = "Payerne is a variable of the query, which any value goes with, and flight.site has the text 'Payerne'; a text stands between quotes"
+        with self.assertWarnsRegex(UserWarning, said) as seen:
+            self.assertEqual(self.record.evaluate("ans(f) :- flight(f, Payerne, _)", data), [("F-1",), ("F-2",)])
+        self.assertEqual(seen.filename, __file__)
+        with warnings.catch_warnings():
+            warnings.simplefilter("error")
+            for quiet in ("ans(f) :- flight(f, 'Payerne', _)", "ans(Payerne) :- flight(f, Payerne, _)", "ans(f) :- flight(f, _, Payerne)", "ans(f) :- burst(f, x)"):
+                self.record.evaluate(quiet, data)
+        cells = self.csv("number,site,launch\nF-1,Payerne,3\n")
+        self.assertEqual(run("evaluate", self.text, "ans(f) :- flight(f, Payerne, _)", cells), (0, "ans('F-1')\n# 1 answer\n", f"spernevan: {said}\n"))
+        self.failed("--text flight: flight is no TABLE.COLUMN of the archive", "evaluate", self.text, 1, cells, "--text", "flight")
 
     def test_a_broken_dependency_is_a_warning(self):
         data = {"flight": [], "burst": [("F-1", 2), ("F-1", 3)]}

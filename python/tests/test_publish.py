@@ -207,13 +207,13 @@ class Commands(Command):
         self.assertIn("<h1>A &amp; B</h1>", self.done("page", FLIGHTS, "--title", "A & B"))
         self.assertEqual(out.stat().st_mode & 0o777, 0o666 & ~self.umask())
         os.chmod(out, 0o640)
-        self.done("define", FLIGHTS, 0, "-o", out)
+        self.done("page", FLIGHTS, "--title", "B", "-o", out)
         self.assertEqual(out.stat().st_mode & 0o777, 0o640)
-        self.assertIn("Place 0", out.read_text())
+        self.assertIn("<h1>B</h1>", out.read_text())
         # What fails leaves the old file, and nothing else.
         before = out.read_bytes()
         with mock.patch("os.fsync", side_effect=OSError(28, "No space left on device")):
-            self.assertNotEqual(run("define", FLIGHTS, 1, "-o", out)[0], 0)
+            self.assertNotEqual(run("page", FLIGHTS, "-o", out)[0], 0)
         self.assertEqual(out.read_bytes(), before)
         self.assertEqual(os.listdir(self.folder), ["page.html"])
         self.assertNotEqual(run("page", FLIGHTS, "-o", self.folder / "none" / "x.html")[0], 0)
@@ -232,6 +232,7 @@ class Commands(Command):
                 for _ in range(2):
                     self.assertEqual(self.done("list", source, *kind, "-o", out), "")
                     self.assertEqual(out.read_text(), printed)
+                out.unlink()
 
     def test_files_of_others_are_not_replaced(self):
         out = self.folder / "out"
@@ -240,6 +241,8 @@ class Commands(Command):
                 for form in ([], ["--form", "long"]):
                     arguments = ["define", FLIGHTS, query, *kind, *form, "-o", out]
                     self.assertEqual((self.done(*arguments), self.done(*arguments)), ("", ""))
+            self.failed(f"{out} is there already, and is ", "page", FLIGHTS, "-o", out)
+            out.unlink()
         archive = self.folder / "a.file"
         Record.read(FLIGHTS).write(archive)
         for name, text in (("a.text", "flight(a)\n"), ("a.csv", "a,b\n"), ("a.html", "<!DOCTYPE html>\n<title>Mine</title>\n")):
