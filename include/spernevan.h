@@ -34,7 +34,7 @@
  * for some ten thousand rows. For a database of n words:
  *   heads     n / 2 words, and nodes 3 n / 2: then a test takes time in proportion to n
  *   index     2 n words for each row of the query but the first, and 112 more
- *   states    n words, if the query has more than two rows; else none
+ *   states    n words and 65536 more, if the query has more than two rows; else none
  *   batch     twice the words of the answers, and 64 more: with fewer the database is searched again for each batch
  *   scratch   as many as batch
  *

@@ -371,7 +371,7 @@ def _most_answers(words: int, size: Size) -> int:
 def _for_answers(words: int, size: Size, answers: int) -> List[int]:
     """The words of index, states, batch and scratch for answers of so many words at most, as include/spernevan.h has them."""
     index = min(2 * words * max(0, size.rows - 1) + 112, MOST_INDEX_WORDS)
-    return [index, words if size.rows > 2 else 0, 2 * answers + 64, 2 * answers + 64]
+    return [index, words + 65536 if size.rows > 2 else 0, 2 * answers + 64, 2 * answers + 64]
 
 
 def test(file: bytes, words: Words) -> Optional[Tuple[int, int, int]]:

@@ -121,6 +121,15 @@ def part_at(file, place):
     return None if place >= len(parts) or parts[place] == b"\xff" else parts[place]
 
 
+def rows_at(file, place):
+    """How many rows the query of a place has, 0 where there is none."""
+    try:
+        part = part_at(file, place)
+    except (IndexError, ValueError):
+        return 0
+    return part[1] if part and len(part) > 1 else 0
+
+
 def rows_of(widths, part):
     """The head of a query part, and its rows."""
     arity, size = part[0], part[1]
@@ -267,13 +276,14 @@ def evaluate(line, file):
     place, words, room, told = line.number(), line.words(), line.number(), line.number()
     count, due = (SIZE, []) if told else (line.number(), line.words())
     line.end()
-    enough = [22 * len(words) + 112, len(words), 64, 64]
-    for name, memory in with_memory("evaluate", enough):
+    enough = [22 * len(words) + 112, len(words) + 65536, 64, 64]
+    least = 0 if rows_at(file, place) <= 3 else 2  # a query of more rows may take very long in little memory
+    for name, memory in with_memory("evaluate", enough, least):
         answers, counted = lent_words(room), ctypes.c_size_t(SIZE)
         number = call(name, file, place, words_of(words), answers, *memory, ctypes.byref(counted))
         if number != told or counted.value != count or list(answers[: len(due)]) != due or not untouched(answers, len(due)):
             return False
-    for name, memory in with_memory("count", enough):
+    for name, memory in with_memory("count", enough, least):
         counted = ctypes.c_size_t(SIZE)
         number = call(name, file, place, words_of(words), *memory, ctypes.byref(counted))
         if told == SHORT:
@@ -285,10 +295,10 @@ def evaluate(line, file):
     return True
 
 
-def with_memory(name, enough):
-    """The name of a call, and of the one that is lent working memory, with parts of several lengths."""
+def with_memory(name, enough, least=0):
+    """The name of a call, and of the one that is lent working memory, with parts of several lengths: `least` halves of enough, and more."""
     yield name, []
-    for part in (0, 1, 2):
+    for part in range(least, 3):
         yield f"{name}_lent", [lent_words(size * part // 2) for size in enough]
 
 

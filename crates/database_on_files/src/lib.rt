@@ -138,7 +138,7 @@ pub fn evaluate_in_file(
     ensures { λ _. ⌜ now (count .exit) ≡ leaves (evaluatedIn (now (file .entry)) place (now (words .entry)) (length (now (answers .entry)))) (λ n. n) (now (count .entry)) ⌝ }
 {
     let mut index = [0u32; 65536];
-    let mut states = [0u32; 8192];
+    let mut states = [0u32; 32768];
     let mut batch = [0u32; 16384];
     let mut scratch = [0u32; 16384];
     evaluate_in_file_lent(
@@ -192,7 +192,7 @@ pub fn count_in_file(file: &[u8], place: usize, words: &[u32], count: &mut usize
     ensures { λ _. ⌜ now (count .exit) ≡ leaves (countedIn (now (file .entry)) place (now (words .entry))) (λ n. n) (now (count .entry)) ⌝ }
 {
     let mut index = [0u32; 65536];
-    let mut states = [0u32; 8192];
+    let mut states = [0u32; 32768];
     let mut batch = [0u32; 16384];
     let mut scratch = [0u32; 16384];
     count_in_file_lent(
