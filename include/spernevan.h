@@ -19,7 +19,7 @@
  *  12  a query is already in the place to be filled
  *  13  the record has its 32 dependencies already
  * A file that cannot be read is refused with 1 to 6 before anything else, and 10 comes last of all.
- * A refusal leaves every buffer and every number as it was.
+ * A refusal leaves every buffer and every number as it was; working memory too, unless the number is 10.
  *
  * A pointer is never null, also where the length beside it is 0: any address that is aligned for its type will do then.
  * Lengths count elements, not bytes: a uint32_t buffer of n words is n. What a function writes to overlaps nothing else that it is given.
@@ -29,9 +29,9 @@
  *
  * For 64-bit x86 Linux only. Every call uses less than 1 MB of stack: a thread whose stack is smaller must not make it.
  *
- * Calls whose names end in _lent are lent working memory too. They answer as the calls without it do, whatever it holds before, and the more of it there is the sooner
- * on a large database; it may be of any length, 0 too. What it holds afterwards is not said, also where a call is refused. The calls without it have enough of their own
- * for some ten thousand rows. For a database of n words:
+ * Calls whose names end in _lent are lent working memory too. They answer as the calls without it do, whatever it holds before, and the more of it there is the
+ * sooner on a large database; it may be of any length, 0 too. Where a call is refused with another number than 10 it is as it was, and otherwise it may hold
+ * anything. The calls without it have enough of their own for some ten thousand rows. For a database of n words:
  *   heads     n / 2 words, and nodes 3 n / 2: then a test takes time in proportion to n
  *   index     2 n words for each row of the query but the first, and 112 more
  *   states    n words and 65536 more, if the query has more than two rows; else none

@@ -1,7 +1,10 @@
 -- Testing a database and evaluating a place on it, on files.
+use mathlib.Core.Path.{_≡_}
 use mathlib.Core.List.{List}
+use mathlib.Core.Option.{some}
 use Prim.Native.Nat.{ℕ}
-use Rattle.refusals.specs.Refusals.{Reply, gives, _>>=_}
+use Rattle.record.specs.declared.Record.{Record}
+use Rattle.refusals.specs.Refusals.{Condition, firstHolding, Reply, gives, reply, refusalIn, _>>=_}
 use Rattle.format.specs.File.{readFile}
 use Rattle.words.specs.declared.Violation.{Violation}
 use Rattle.words.specs.declared.Violation.the-variants as violation
@@ -35,3 +38,9 @@ answersLeft file place words buffer = leaves (readFile file) (λ r. bufferThen r
 -- The count of the answers of a place of the record of a file
 abbrev pub countedIn : List ℕ → ℕ → List ℕ → Reply ℕ
 countedIn file place words = readFile file >>= λ r. counted r place words
+
+-- Working memory lent to a call on a file: where the file is refused, or the call by one of these conditions on its record, it is as it was.
+-- What it holds after another call is free
+abbrev pub UnusedInFile : List ℕ → (Record → List Condition) → List ℕ → List ℕ → Type 0
+UnusedInFile file conditions before after =
+    (n : ℕ) → refusalIn (readFile file >>= λ r. reply (firstHolding (conditions r)) r) ≡ some n → after ≡ before

@@ -1,12 +1,13 @@
-// Testing a database, evaluating a place on it and counting its answers, on files. Each returns 0, or the number of the refusal, which leaves every buffer and number
-// that it is lent as it was, but for working memory.
+// Testing a database, evaluating a place on it and counting its answers, on files. Each returns 0, or the number of the refusal, which leaves every buffer
+// and number that it is lent as it was; working memory too, unless the number is 10.
 use database::Answered;
 use database::Conformance;
 use record::Status;
 ghost use mathlib.Core.Path.{_≡_};
 ghost use lib.ListN.{length};
+ghost use Rattle.database.specs.Calls.{testConditions, searchConditions};
 ghost use Rattle.record_on_files.specs.Lent.{returned, leaves};
-ghost use Rattle.database_on_files.specs.Databases.{testedIn, evaluatedIn, answersLeft, countedIn};
+ghost use Rattle.database_on_files.specs.Databases.{testedIn, evaluatedIn, answersLeft, countedIn, UnusedInFile};
 
 // Tests a database against the dependencies. Working memory is lent for the tables.
 pub fn test_in_file_lent(
@@ -24,6 +25,8 @@ pub fn test_in_file_lent(
     ensures { λ _. ⌜ now (dependency .exit) ≡ leaves (testedIn (now (file .entry)) (now (words .entry))) (λ t. t .dependency) (now (dependency .entry)) ⌝ }
     ensures { λ _. ⌜ now (first .exit) ≡ leaves (testedIn (now (file .entry)) (now (words .entry))) (λ t. t .first) (now (first .entry)) ⌝ }
     ensures { λ _. ⌜ now (second .exit) ≡ leaves (testedIn (now (file .entry)) (now (words .entry))) (λ t. t .second) (now (second .entry)) ⌝ }
+    ensures { λ _. ⌜ UnusedInFile (now (file .entry)) (λ r. testConditions r (now (words .entry))) (now (heads .entry)) (now (heads .exit)) ⌝ }
+    ensures { λ _. ⌜ UnusedInFile (now (file .entry)) (λ r. testConditions r (now (words .entry))) (now (nodes .entry)) (now (nodes .exit)) ⌝ }
 {
     let outcome = file::read(file);
     let answer = outcome.answer;
@@ -97,6 +100,10 @@ pub fn evaluate_in_file_lent(
     ensures { λ r. ⌜ r ≡ returned (evaluatedIn (now (file .entry)) place (now (words .entry)) (length (now (answers .entry)))) ⌝ }
     ensures { λ _. ⌜ now (answers .exit) ≡ answersLeft (now (file .entry)) place (now (words .entry)) (now (answers .entry)) ⌝ }
     ensures { λ _. ⌜ now (count .exit) ≡ leaves (evaluatedIn (now (file .entry)) place (now (words .entry)) (length (now (answers .entry)))) (λ n. n) (now (count .entry)) ⌝ }
+    ensures { λ _. ⌜ UnusedInFile (now (file .entry)) (λ r. searchConditions r place (now (words .entry))) (now (index .entry)) (now (index .exit)) ⌝ }
+    ensures { λ _. ⌜ UnusedInFile (now (file .entry)) (λ r. searchConditions r place (now (words .entry))) (now (states .entry)) (now (states .exit)) ⌝ }
+    ensures { λ _. ⌜ UnusedInFile (now (file .entry)) (λ r. searchConditions r place (now (words .entry))) (now (batch .entry)) (now (batch .exit)) ⌝ }
+    ensures { λ _. ⌜ UnusedInFile (now (file .entry)) (λ r. searchConditions r place (now (words .entry))) (now (scratch .entry)) (now (scratch .exit)) ⌝ }
 {
     let outcome = file::read(file);
     let answer = outcome.answer;
@@ -167,6 +174,10 @@ pub fn count_in_file_lent(
 ) -> u8
     ensures { λ r. ⌜ r ≡ returned (countedIn (now (file .entry)) place (now (words .entry))) ⌝ }
     ensures { λ _. ⌜ now (count .exit) ≡ leaves (countedIn (now (file .entry)) place (now (words .entry))) (λ n. n) (now (count .entry)) ⌝ }
+    ensures { λ _. ⌜ UnusedInFile (now (file .entry)) (λ r. searchConditions r place (now (words .entry))) (now (index .entry)) (now (index .exit)) ⌝ }
+    ensures { λ _. ⌜ UnusedInFile (now (file .entry)) (λ r. searchConditions r place (now (words .entry))) (now (states .entry)) (now (states .exit)) ⌝ }
+    ensures { λ _. ⌜ UnusedInFile (now (file .entry)) (λ r. searchConditions r place (now (words .entry))) (now (batch .entry)) (now (batch .exit)) ⌝ }
+    ensures { λ _. ⌜ UnusedInFile (now (file .entry)) (λ r. searchConditions r place (now (words .entry))) (now (scratch .entry)) (now (scratch .exit)) ⌝ }
 {
     let outcome = file::read(file);
     let answer = outcome.answer;

@@ -1,5 +1,5 @@
 // The calls of SPECIFICATION for programs in other languages, on numbers, bytes and words: a record is the bytes of its file, in and out.
-// Each returns 0, or the number of the refusal, which leaves every buffer and number that it is lent as it was.
+// Each returns 0, or the number of the refusal, which leaves every buffer and number that it is lent as it was; working memory too, unless the number is 10.
 ghost use mathlib.Core.Path.{_≡_};
 ghost use lib.ListN.{length};
 ghost use Rattle.format.specs.File.{readFile};
@@ -7,7 +7,8 @@ ghost use Rattle.record_on_files.specs.Lent.{returned, leaves, Wrote};
 ghost use Rattle.record_on_files.specs.Records.{copied, opened, added, putIn, dropped, determinedIn};
 ghost use Rattle.reduction_on_files.specs.Shortening.{ReduceGives};
 ghost use Rattle.comparison_on_files.specs.Queries.{CompareGives, checkedIn, bit};
-ghost use Rattle.database_on_files.specs.Databases.{testedIn, evaluatedIn, answersLeft, countedIn};
+ghost use Rattle.database.specs.Calls.{testConditions, searchConditions};
+ghost use Rattle.database_on_files.specs.Databases.{testedIn, evaluatedIn, answersLeft, countedIn, UnusedInFile};
 
 // ---- files
 
@@ -177,6 +178,8 @@ pub extern "C" fn spernevan_test_lent(
     ensures { λ _. ⌜ now (dependency .exit) ≡ leaves (testedIn (now (file .entry)) (now (words .entry))) (λ t. t .dependency) (now (dependency .entry)) ⌝ }
     ensures { λ _. ⌜ now (first .exit) ≡ leaves (testedIn (now (file .entry)) (now (words .entry))) (λ t. t .first) (now (first .entry)) ⌝ }
     ensures { λ _. ⌜ now (second .exit) ≡ leaves (testedIn (now (file .entry)) (now (words .entry))) (λ t. t .second) (now (second .entry)) ⌝ }
+    ensures { λ _. ⌜ UnusedInFile (now (file .entry)) (λ r. testConditions r (now (words .entry))) (now (heads .entry)) (now (heads .exit)) ⌝ }
+    ensures { λ _. ⌜ UnusedInFile (now (file .entry)) (λ r. testConditions r (now (words .entry))) (now (nodes .entry)) (now (nodes .exit)) ⌝ }
 {
     database_on_files::test_in_file_lent(
         file,
@@ -222,6 +225,10 @@ pub extern "C" fn spernevan_evaluate_lent(
     ensures { λ r. ⌜ r ≡ returned (evaluatedIn (now (file .entry)) place (now (words .entry)) (length (now (answers .entry)))) ⌝ }
     ensures { λ _. ⌜ now (answers .exit) ≡ answersLeft (now (file .entry)) place (now (words .entry)) (now (answers .entry)) ⌝ }
     ensures { λ _. ⌜ now (count .exit) ≡ leaves (evaluatedIn (now (file .entry)) place (now (words .entry)) (length (now (answers .entry)))) (λ n. n) (now (count .entry)) ⌝ }
+    ensures { λ _. ⌜ UnusedInFile (now (file .entry)) (λ r. searchConditions r place (now (words .entry))) (now (index .entry)) (now (index .exit)) ⌝ }
+    ensures { λ _. ⌜ UnusedInFile (now (file .entry)) (λ r. searchConditions r place (now (words .entry))) (now (states .entry)) (now (states .exit)) ⌝ }
+    ensures { λ _. ⌜ UnusedInFile (now (file .entry)) (λ r. searchConditions r place (now (words .entry))) (now (batch .entry)) (now (batch .exit)) ⌝ }
+    ensures { λ _. ⌜ UnusedInFile (now (file .entry)) (λ r. searchConditions r place (now (words .entry))) (now (scratch .entry)) (now (scratch .exit)) ⌝ }
 {
     database_on_files::evaluate_in_file_lent(
         file,
@@ -259,6 +266,10 @@ pub extern "C" fn spernevan_count_lent(
 ) -> u8
     ensures { λ r. ⌜ r ≡ returned (countedIn (now (file .entry)) place (now (words .entry))) ⌝ }
     ensures { λ _. ⌜ now (count .exit) ≡ leaves (countedIn (now (file .entry)) place (now (words .entry))) (λ n. n) (now (count .entry)) ⌝ }
+    ensures { λ _. ⌜ UnusedInFile (now (file .entry)) (λ r. searchConditions r place (now (words .entry))) (now (index .entry)) (now (index .exit)) ⌝ }
+    ensures { λ _. ⌜ UnusedInFile (now (file .entry)) (λ r. searchConditions r place (now (words .entry))) (now (states .entry)) (now (states .exit)) ⌝ }
+    ensures { λ _. ⌜ UnusedInFile (now (file .entry)) (λ r. searchConditions r place (now (words .entry))) (now (batch .entry)) (now (batch .exit)) ⌝ }
+    ensures { λ _. ⌜ UnusedInFile (now (file .entry)) (λ r. searchConditions r place (now (words .entry))) (now (scratch .entry)) (now (scratch .exit)) ⌝ }
 {
     database_on_files::count_in_file_lent(file, place, words, index, states, batch, scratch, count)
 }

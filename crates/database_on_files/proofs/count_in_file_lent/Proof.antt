@@ -1,10 +1,12 @@
 -- `count_in_file_lent` gives the count of the answers, once the file is read. Assumes nothing.
-use mathlib.Core.Path.{_≡_, sym, ap, _∙_}
+use mathlib.Core.Path.{_≡_, refl, sym, ap, _∙_}
+use mathlib.Core.List.{List}
 use Prim.Native.Nat.{ℕ}
-use Rattle.database.specs.Calls.{countReply, counted}
-use Rattle.database_on_files.specs.Databases.{countedIn}
+use Rattle.database.specs.Calls.{countReply, counted, searchConditions, UnusedIfRefused}
+use Rattle.database_on_files.specs.Databases.{countedIn, UnusedInFile}
 use Rattle.refusals.specs.Refusals.{Reply, gives, refused}
 use Rattle.record_on_files.proofs.Files.{read-done, read-refused, done-number, done-leaves, refused-number, refused-leaves}
+use Rattle.database_on_files.proofs.Memory.{unused-read}
 use borrow.Author.Needs.{needs}
 use Rattle.database_on_files.proofs.count_in_file_lent.Statement.{statement}
 use Rattle.database_on_files.proofs.count_in_file_lent.Tie as tie
@@ -13,17 +15,31 @@ use Rattle.database_on_files.proofs.count_in_file_lent.Tie as tie
 abbrev begun : tie.After-read → tie.Start
 begun c = c .before .before .before .before .before .before .before
 
+-- The reading of the file before the call on its record
+abbrev passed : tie.After-count-lent → tie.After-read
+passed c = c .before .before .before .before .before .before .before .before
+
 abbrev start : tie.After-count-lent → tie.Start
-start c = begun (c .before .before .before .before .before .before .before .before)
+start c = begun (passed c)
 
 -- Once the file is read the count is that of its record
 of-record : (c : tie.After-count-lent) (said : Reply ℕ) → countReply (c .count-lent .result) ≡ said
     → countedIn (start c .args .file .now) (start c .args .place) (start c .args .words .now) ≡ said
 of-record c said e =
     let s = start c .args in
-    let o = c .before .before .before .before .before .before .before .before .read in
+    let o = passed c .read in
     read-done (s .file .now) (o .result) (o .ensures) (λ r. counted r (s .place) (s .words .now)) (c .before .before .before .before .before .before .enum-told .given .1)
     ∙ sym (c .count-lent .ensures .0) ∙ e
+
+-- Working memory is as the call on its record leaves it
+unused : (c : tie.After-count-lent) (before after : List ℕ)
+    → UnusedIfRefused (searchConditions (passed c .read .result .«record») (start c .args .place) (start c .args .words .now)) before after
+    → UnusedInFile (start c .args .file .now) (λ r. searchConditions r (start c .args .place) (start c .args .words .now)) before after
+unused c before after =
+    let s = start c .args in
+    let o = passed c .read in
+    unused-read (s .file .now) (o .result) (o .ensures) (c .before .before .before .before .before .before .enum-told .given .1)
+    (λ r. searchConditions r (s .place) (s .words .now)) before after
 
 read-requires : tie.Need-read-requires
 read-requires c κs = search needs
@@ -61,7 +77,10 @@ returns c =
     let s = start k .args in
     let f = c .before .done .given in
     let p : countedIn (s .file .now) (s .place) (s .words .now) ≡ gives (f .0 .0) = of-record k (gives (f .0 .0)) (ap countReply (f .1)) in
-    (done-number p, done-leaves p (λ n. n) (s .count .now))
+    let m = k .count-lent .ensures .1 in (
+      done-number p,
+      (done-leaves p (λ n. n) (s .count .now), (unused k _ _ (m .0), (unused k _ _ (m .1 .0), (unused k _ _ (m .1 .1 .0), unused k _ _ (m .1 .1 .1))))),
+    )
 
 same-length-5 : tie.Need-same-length-5
 same-length-5 c = search needs
@@ -81,7 +100,10 @@ returns-2 c =
     let s = start k .args in
     let f = c .before .done2 .given in
     let p : countedIn (s .file .now) (s .place) (s .words .now) ≡ refused (f .0 .0) = of-record k (refused (f .0 .0)) (ap countReply (f .1)) in
-    (refused-number p, refused-leaves p (λ n. n) (s .count .now))
+    let m = k .count-lent .ensures .1 in (
+      refused-number p,
+      (refused-leaves p (λ n. n) (s .count .now), (unused k _ _ (m .0), (unused k _ _ (m .1 .0), (unused k _ _ (m .1 .1 .0), unused k _ _ (m .1 .1 .1))))),
+    )
 
 returns-3 : tie.Need-returns-3
 returns-3 c =
@@ -90,7 +112,7 @@ returns-3 c =
     let p : countedIn (s .file .now) (s .place) (s .words .now) ≡ refused (c .before .answer .given .0 .0) =
     read-refused (s .file .now) (o .result) (o .ensures) (λ r. counted r (s .place) (s .words .now)) _ (c .before .answer .given .1) in (
       refused-number p,
-      refused-leaves p (λ n. n) (s .count .now),
+      (refused-leaves p (λ n. n) (s .count .now), (λ n r. refl, (λ n r. refl, (λ n r. refl, λ n r. refl)))),
     )
 
 pub count-in-file-lent-spec : {M : Type 1} → statement M

@@ -1,13 +1,15 @@
 -- `evaluate_in_file_lent` gives the answers and their count, once the file is read. Assumes nothing.
-use mathlib.Core.Path.{_≡_, sym, ap, _∙_}
+use mathlib.Core.Path.{_≡_, refl, sym, ap, _∙_}
+use mathlib.Core.List.{List}
 use lib.ListN.{length}
 use Prim.Native.Nat.{ℕ}
-use Rattle.database.specs.Calls.{countReply, evaluated, bufferThen}
-use Rattle.database_on_files.specs.Databases.{evaluatedIn, answersLeft}
+use Rattle.database.specs.Calls.{countReply, evaluated, bufferThen, searchConditions, UnusedIfRefused}
+use Rattle.database_on_files.specs.Databases.{evaluatedIn, answersLeft, UnusedInFile}
 use Rattle.refusals.specs.Refusals.{Reply, gives, refused}
 use Rattle.format.specs.File.{readFile}
 use Rattle.record_on_files.proofs.Files.{read-done, read-refused, done-number, done-leaves, refused-number, refused-leaves}
 use Rattle.format.proofs.Results.{outcome-done, outcome-refused}
+use Rattle.database_on_files.proofs.Memory.{unused-read}
 use borrow.Author.Needs.{needs}
 use Rattle.database_on_files.proofs.evaluate_in_file_lent.Statement.{statement}
 use Rattle.database_on_files.proofs.evaluate_in_file_lent.Tie as tie
@@ -16,26 +18,41 @@ use Rattle.database_on_files.proofs.evaluate_in_file_lent.Tie as tie
 abbrev begun : tie.After-read → tie.Start
 begun c = c .before .before .before .before .before .before .before .before
 
+-- The reading of the file before the call on its record
+abbrev passed : tie.After-evaluate-lent → tie.After-read
+passed c = c .before .before .before .before .before .before .before .before .before
+
 abbrev start : tie.After-evaluate-lent → tie.Start
-start c = begun (c .before .before .before .before .before .before .before .before .before)
+start c = begun (passed c)
 
 -- Once the file is read the count is that of its record
 of-record : (c : tie.After-evaluate-lent) (said : Reply ℕ) → countReply (c .evaluate-lent .result) ≡ said
     → evaluatedIn (start c .args .file .now) (start c .args .place) (start c .args .words .now) (length (start c .args .answers .now)) ≡ said
 of-record c said e =
     let s = start c .args in
-    let o = c .before .before .before .before .before .before .before .before .before .read in
+    let o = passed c .read in
     read-done (s .file .now) (o .result) (o .ensures) (λ r. evaluated r (s .place) (s .words .now) (length (s .answers .now))) (c .before .before .before .before .before .before .before .enum-told .given .1)
     ∙ sym (c .evaluate-lent .ensures .0) ∙ e
 
 -- And the answers are those of its place
-written : (c : tie.After-evaluate-lent) → bufferThen (c .before .before .before .before .before .before .before .before .before .read .result .«record») (start c .args .place) (start c .args .words .now) (start c .args .answers .now)
+written : (c : tie.After-evaluate-lent)
+    → bufferThen (passed c .read .result .«record») (start c .args .place) (start c .args .words .now) (start c .args .answers .now)
     ≡ answersLeft (start c .args .file .now) (start c .args .place) (start c .args .words .now) (start c .args .answers .now)
 written c =
     let s = start c .args in
-    let o = c .before .before .before .before .before .before .before .before .before .read in
+    let o = passed c .read in
     done-leaves (outcome-done (readFile (s .file .now)) (o .result) (o .ensures) (c .before .before .before .before .before .before .before .enum-told .given .1))
     (λ r. bufferThen r (s .place) (s .words .now) (s .answers .now)) (s .answers .now)
+
+-- Working memory is as the call on its record leaves it
+unused : (c : tie.After-evaluate-lent) (before after : List ℕ)
+    → UnusedIfRefused (searchConditions (passed c .read .result .«record») (start c .args .place) (start c .args .words .now)) before after
+    → UnusedInFile (start c .args .file .now) (λ r. searchConditions r (start c .args .place) (start c .args .words .now)) before after
+unused c before after =
+    let s = start c .args in
+    let o = passed c .read in
+    unused-read (s .file .now) (o .result) (o .ensures) (c .before .before .before .before .before .before .before .enum-told .given .1)
+    (λ r. searchConditions r (s .place) (s .words .now)) before after
 
 read-requires : tie.Need-read-requires
 read-requires c κs = search needs
@@ -76,7 +93,13 @@ returns c =
     let s = start k .args in
     let f = c .before .done .given in
     let p : evaluatedIn (s .file .now) (s .place) (s .words .now) (length (s .answers .now)) ≡ gives (f .0 .0) = of-record k (gives (f .0 .0)) (ap countReply (f .1)) in
-    (done-number p, (k .evaluate-lent .ensures .1 .0 ∙ written k, done-leaves p (λ n. n) (s .count .now)))
+    let m = k .evaluate-lent .ensures .1 .1 in (
+      done-number p,
+      (
+        k .evaluate-lent .ensures .1 .0 ∙ written k,
+        (done-leaves p (λ n. n) (s .count .now), (unused k _ _ (m .0), (unused k _ _ (m .1 .0), (unused k _ _ (m .1 .1 .0), unused k _ _ (m .1 .1 .1))))),
+      ),
+    )
 
 same-length-6 : tie.Need-same-length-6
 same-length-6 c = search needs
@@ -99,7 +122,13 @@ returns-2 c =
     let s = start k .args in
     let f = c .before .done2 .given in
     let p : evaluatedIn (s .file .now) (s .place) (s .words .now) (length (s .answers .now)) ≡ refused (f .0 .0) = of-record k (refused (f .0 .0)) (ap countReply (f .1)) in
-    (refused-number p, (k .evaluate-lent .ensures .1 .0 ∙ written k, refused-leaves p (λ n. n) (s .count .now)))
+    let m = k .evaluate-lent .ensures .1 .1 in (
+      refused-number p,
+      (
+        k .evaluate-lent .ensures .1 .0 ∙ written k,
+        (refused-leaves p (λ n. n) (s .count .now), (unused k _ _ (m .0), (unused k _ _ (m .1 .0), (unused k _ _ (m .1 .1 .0), unused k _ _ (m .1 .1 .1))))),
+      ),
+    )
 
 returns-3 : tie.Need-returns-3
 returns-3 c =
@@ -111,7 +140,7 @@ returns-3 c =
       (
         refused-leaves (outcome-refused (readFile (s .file .now)) (o .result) _ (o .ensures) (c .before .answer .given .1))
             (λ r. bufferThen r (s .place) (s .words .now) (s .answers .now)) (s .answers .now),
-        refused-leaves p (λ n. n) (s .count .now),
+        (refused-leaves p (λ n. n) (s .count .now), (λ n r. refl, (λ n r. refl, (λ n r. refl, λ n r. refl)))),
       ),
     )
 

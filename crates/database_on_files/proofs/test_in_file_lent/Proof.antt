@@ -1,11 +1,14 @@
 -- `test_in_file_lent` gives what the test says, once the file is read. Assumes nothing.
-use mathlib.Core.Path.{_≡_, sym, ap, _∙_}
-use Rattle.database.specs.Calls.{testReply, tested}
-use Rattle.database_on_files.specs.Databases.{testNumbers, testedIn}
+use mathlib.Core.Path.{_≡_, refl, sym, ap, _∙_}
+use mathlib.Core.List.{List}
+use Prim.Native.Nat.{ℕ}
+use Rattle.database.specs.Calls.{testReply, tested, testConditions, UnusedIfRefused}
+use Rattle.database_on_files.specs.Databases.{testNumbers, testedIn, UnusedInFile}
 use Rattle.refusals.specs.Refusals.{Reply, gives, refused, _>>=_}
 use Rattle.words.specs.declared.Violation.{Violation}
 use Rattle.words.specs.declared.Violation.the-variants as violation
 use Rattle.record_on_files.proofs.Files.{read-done, read-refused, done-number, done-leaves, refused-number, refused-leaves}
+use Rattle.database_on_files.proofs.Memory.{unused-read}
 use borrow.Author.Needs.{needs}
 use Rattle.database_on_files.proofs.test_in_file_lent.Statement.{statement}
 use Rattle.database_on_files.proofs.test_in_file_lent.Tie as tie
@@ -14,17 +17,31 @@ use Rattle.database_on_files.proofs.test_in_file_lent.Tie as tie
 abbrev begun : tie.After-read → tie.Start
 begun c = c .before .before .before .before .before
 
+-- The reading of the file before the test on its record
+abbrev passed : tie.After-test-lent → tie.After-read
+passed c = c .before .before .before .before .before .before
+
 abbrev start : tie.After-test-lent → tie.Start
-start c = begun (c .before .before .before .before .before .before)
+start c = begun (passed c)
 
 -- Once the file is read the test is that of its record
 of-record : (c : tie.After-test-lent) (said : Reply Violation) → testReply (c .test-lent .result) ≡ said
     → (testedIn (start c .args .file .now) (start c .args .words .now) ≡ (said >>= λ v. gives (testNumbers v)))
 of-record c said e =
     let s = start c .args in
-    let o = c .before .before .before .before .before .before .read in
+    let o = passed c .read in
     read-done (s .file .now) (o .result) (o .ensures) (λ r. tested r (s .words .now) >>= λ v. gives (testNumbers v)) (c .before .before .before .before .enum-told .given .1)
     ∙ ap (λ (x : Reply Violation). x >>= λ v. gives (testNumbers v)) (sym (c .test-lent .ensures .0) ∙ e)
+
+-- Working memory is as the test on its record leaves it
+unused : (c : tie.After-test-lent) (before after : List ℕ)
+    → UnusedIfRefused (testConditions (passed c .read .result .«record») (start c .args .words .now)) before after
+    → UnusedInFile (start c .args .file .now) (λ r. testConditions r (start c .args .words .now)) before after
+unused c before after =
+    let s = start c .args in
+    let o = passed c .read in
+    unused-read (s .file .now) (o .result) (o .ensures) (c .before .before .before .before .enum-told .given .1)
+    (λ r. testConditions r (s .words .now)) before after
 
 read-requires : tie.Need-read-requires
 read-requires c κs = search needs
@@ -56,15 +73,20 @@ same-length-2 c = search needs
 returns : tie.Need-returns
 unfolding _>>=_
 returns c =
-    let s = start (c .before .before .before .before .before .before) in
+    let k = c .before .before .before .before .before .before in
+    let s = start k in
+    let m = k .test-lent .ensures .1 in
     let p : testedIn (s .args .file .now) (s .args .words .now) ≡ gives (record { obeys = 1; dependency = 0; first = 0; second = 0 }) =
-    of-record (c .before .before .before .before .before .before) (gives violation.Absent) (ap testReply (c .enum-told2 .given .1)) in (
+    of-record k (gives violation.Absent) (ap testReply (c .enum-told2 .given .1)) in (
       done-number p,
       (
         done-leaves p (λ t. t .obeys) (s .args .obeys .now),
         (
           done-leaves p (λ t. t .dependency) (s .args .dependency .now),
-          (done-leaves p (λ t. t .first) (s .args .first .now), done-leaves p (λ t. t .second) (s .args .second .now)),
+          (
+            done-leaves p (λ t. t .first) (s .args .first .now),
+            (done-leaves p (λ t. t .second) (s .args .second .now), (unused k _ _ (m .0), unused k _ _ (m .1))),
+          ),
         ),
       ),
     )
@@ -78,17 +100,22 @@ same-length-4 c = search needs
 returns-2 : tie.Need-returns-2
 unfolding _>>=_
 returns-2 c =
-    let s = start (c .before .before .before .before .before .before .before) in
+    let k = c .before .before .before .before .before .before .before in
+    let s = start k in
+    let m = k .test-lent .ensures .1 in
     let f = c .before .found .given in
     let p : testedIn (s .args .file .now) (s .args .words .now)
     ≡ gives (record { obeys = 0; dependency = f .0 .0; first = f .0 .1 .0; second = f .0 .1 .1 .0 }) =
-    of-record (c .before .before .before .before .before .before .before) (gives (violation.At (f .0 .0) (f .0 .1 .0) (f .0 .1 .1 .0))) (ap testReply (f .1)) in (
+    of-record k (gives (violation.At (f .0 .0) (f .0 .1 .0) (f .0 .1 .1 .0))) (ap testReply (f .1)) in (
       done-number p,
       (
         done-leaves p (λ t. t .obeys) (s .args .obeys .now),
         (
           done-leaves p (λ t. t .dependency) (s .args .dependency .now),
-          (done-leaves p (λ t. t .first) (s .args .first .now), done-leaves p (λ t. t .second) (s .args .second .now)),
+          (
+            done-leaves p (λ t. t .first) (s .args .first .now),
+            (done-leaves p (λ t. t .second) (s .args .second .now), (unused k _ _ (m .0), unused k _ _ (m .1))),
+          ),
         ),
       ),
     )
@@ -102,15 +129,20 @@ same-length-6 c = search needs
 returns-3 : tie.Need-returns-3
 unfolding _>>=_
 returns-3 c =
-    let s = start (c .before .before .before .before .before .before .before) in
+    let k = c .before .before .before .before .before .before .before in
+    let s = start k in
+    let m = k .test-lent .ensures .1 in
     let f = c .before .found2 .given in
-    let p : testedIn (s .args .file .now) (s .args .words .now) ≡ refused (f .0 .0) = of-record (c .before .before .before .before .before .before .before) (refused (f .0 .0)) (ap testReply (f .1)) in (
+    let p : testedIn (s .args .file .now) (s .args .words .now) ≡ refused (f .0 .0) = of-record k (refused (f .0 .0)) (ap testReply (f .1)) in (
       refused-number p,
       (
         refused-leaves p (λ t. t .obeys) (s .args .obeys .now),
         (
           refused-leaves p (λ t. t .dependency) (s .args .dependency .now),
-          (refused-leaves p (λ t. t .first) (s .args .first .now), refused-leaves p (λ t. t .second) (s .args .second .now)),
+          (
+            refused-leaves p (λ t. t .first) (s .args .first .now),
+            (refused-leaves p (λ t. t .second) (s .args .second .now), (unused k _ _ (m .0), unused k _ _ (m .1))),
+          ),
         ),
       ),
     )
@@ -127,7 +159,10 @@ returns-4 c =
         refused-leaves p (λ t. t .obeys) (s .args .obeys .now),
         (
           refused-leaves p (λ t. t .dependency) (s .args .dependency .now),
-          (refused-leaves p (λ t. t .first) (s .args .first .now), refused-leaves p (λ t. t .second) (s .args .second .now)),
+          (
+            refused-leaves p (λ t. t .first) (s .args .first .now),
+            (refused-leaves p (λ t. t .second) (s .args .second .now), (λ n r. refl, λ n r. refl)),
+          ),
         ),
       ),
     )
