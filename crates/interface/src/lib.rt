@@ -1,5 +1,5 @@
 // The calls of SPECIFICATION for programs in other languages, on numbers, bytes and words: a record is the bytes of its file, in and out.
-// Each returns 0, or the number of the refusal, which leaves every buffer and number that it is lent as it was.
+// Each returns 0, or the number of the refusal, which leaves every buffer and number that it is lent as it was, but for working memory.
 ghost use mathlib.Core.Path.{_≡_};
 ghost use lib.ListN.{length};
 ghost use Rattle.format.specs.File.{readFile};
