@@ -29,7 +29,9 @@ of-record c said e =
     ∙ sym (c .evaluate-lent .ensures .0) ∙ e
 
 -- And the answers are those of its place
-written : (c : tie.After-evaluate-lent) → bufferThen (c .before .before .before .before .before .before .before .before .before .read .result .«record») (start c .args .place) (start c .args .words .now) (start c .args .answers .now)
+written : (c : tie.After-evaluate-lent)
+    → bufferThen (c .before .before .before .before .before .before .before .before .before .read .result .«record») (start c .args .place) (start c .args .words .now)
+    (start c .args .answers .now)
     ≡ answersLeft (start c .args .file .now) (start c .args .place) (start c .args .words .now) (start c .args .answers .now)
 written c =
     let s = start c .args in
@@ -75,7 +77,8 @@ returns c =
     let k = c .before .before .before .before .before .before .before .before .before .before .before .before .before in
     let s = start k .args in
     let f = c .before .done .given in
-    let p : evaluatedIn (s .file .now) (s .place) (s .words .now) (length (s .answers .now)) ≡ gives (f .0 .0) = of-record k (gives (f .0 .0)) (ap countReply (f .1)) in
+    let p : evaluatedIn (s .file .now) (s .place) (s .words .now) (length (s .answers .now)) ≡ gives (f .0 .0) =
+    of-record k (gives (f .0 .0)) (ap countReply (f .1)) in
     (done-number p, (k .evaluate-lent .ensures .1 .0 ∙ written k, done-leaves p (λ n. n) (s .count .now)))
 
 same-length-6 : tie.Need-same-length-6
@@ -98,7 +101,8 @@ returns-2 c =
     let k = c .before .before .before .before .before .before .before .before .before .before .before .before .before in
     let s = start k .args in
     let f = c .before .done2 .given in
-    let p : evaluatedIn (s .file .now) (s .place) (s .words .now) (length (s .answers .now)) ≡ refused (f .0 .0) = of-record k (refused (f .0 .0)) (ap countReply (f .1)) in
+    let p : evaluatedIn (s .file .now) (s .place) (s .words .now) (length (s .answers .now)) ≡ refused (f .0 .0) =
+    of-record k (refused (f .0 .0)) (ap countReply (f .1)) in
     (refused-number p, (k .evaluate-lent .ensures .1 .0 ∙ written k, refused-leaves p (λ n. n) (s .count .now)))
 
 returns-3 : tie.Need-returns-3

@@ -78,11 +78,12 @@ same-length-4 c = search needs
 returns-2 : tie.Need-returns-2
 unfolding _>>=_
 returns-2 c =
-    let s = start (c .before .before .before .before .before .before .before) in
+    let k = c .before .before .before .before .before .before .before in
+    let s = start k in
     let f = c .before .found .given in
     let p : testedIn (s .args .file .now) (s .args .words .now)
     ≡ gives (record { obeys = 0; dependency = f .0 .0; first = f .0 .1 .0; second = f .0 .1 .1 .0 }) =
-    of-record (c .before .before .before .before .before .before .before) (gives (violation.At (f .0 .0) (f .0 .1 .0) (f .0 .1 .1 .0))) (ap testReply (f .1)) in (
+    of-record k (gives (violation.At (f .0 .0) (f .0 .1 .0) (f .0 .1 .1 .0))) (ap testReply (f .1)) in (
       done-number p,
       (
         done-leaves p (λ t. t .obeys) (s .args .obeys .now),
@@ -104,7 +105,8 @@ unfolding _>>=_
 returns-3 c =
     let s = start (c .before .before .before .before .before .before .before) in
     let f = c .before .found2 .given in
-    let p : testedIn (s .args .file .now) (s .args .words .now) ≡ refused (f .0 .0) = of-record (c .before .before .before .before .before .before .before) (refused (f .0 .0)) (ap testReply (f .1)) in (
+    let p : testedIn (s .args .file .now) (s .args .words .now) ≡ refused (f .0 .0) =
+    of-record (c .before .before .before .before .before .before .before) (refused (f .0 .0)) (ap testReply (f .1)) in (
       refused-number p,
       (
         refused-leaves p (λ t. t .obeys) (s .args .obeys .now),
