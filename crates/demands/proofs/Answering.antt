@@ -1,29 +1,27 @@
 -- Demand 2 from the calls' own contracts. Assumes nothing.
 use mathlib.Core.Path.{_≡_, refl, sym, ap, _∙_}
 use mathlib.Core.Logic.{⊎-elim}
-use mathlib.Core.Bool.{true, false, not}
+use mathlib.Core.Bool.{true, false}
 use mathlib.Core.List.{List, [], _∷_, _++_}
 use mathlib.Core.Option.{Option, none}
 use Prim.Native.Nat.{ℕ, _≤_, _<_}
-use lib.Dec.{ltb}
 use lib.ListN.{length, take, drop, take-append-drop, List·getD-eq-default}
-use borrow.Author.Tests.{ltb-true, not-false}
 use native.Mathlib.Omega.{arith}
 use Rattle.record.specs.declared.Record.{Record}
-use Rattle.record.specs.Calls.{statusReply, outcomeReply, isFilled, queryAt, unknownPlace, vacant}
+use Rattle.record.specs.Calls.{statusReply, outcomeReply, isFilled, queryAt}
 use Rattle.comparison.specs.declared.Comparison.{Comparison}
 use Rattle.comparison.specs.declared.Verdict.{Verdict}
 use Rattle.comparison.specs.declared.Verdict.the-variants.{Never, Contained, Apart, Refused}
 use Rattle.comparison.specs.Comparison.{pairRefusal, verdictReply, verdictOn, chasedAt, SaysContained, Compared}
-use Rattle.refusals.specs.Refusals.{overUnless, badRecord, noSuchPlace, placeVacant, Reply, refused, gives, reply}
-use Rattle.refusals.proofs.Refusals.{none-holds, refused-gives}
+use Rattle.refusals.specs.Refusals.{overUnless, Reply, refused, gives, reply}
+use Rattle.refusals.proofs.Refusals.{refused-gives}
 use Rattle.query.specs.declared.Place.{Place}
 use Rattle.query.specs.Rule.{noPlace}
-use Rattle.record.specs.Rule.{goodRecord}
 use Rattle.lists.proofs.Tests.{below-or-past}
 use Rattle.evaluation.specs.Evaluated.{answerWords}
 use Rattle.database.specs.declared.Answered.{Answered}
-use Rattle.database.specs.Calls.{unspelled, tooLong, evaluationRefused, placeAnswers, countReply, evaluated, bufferThen}
+use Rattle.database.specs.Calls.{tooLong, evaluationRefused, placeAnswers, countReply, evaluated, bufferThen}
+use Rattle.database.proofs.Evaluations.{none-asked}
 use Rattle.database.proofs.Meaning.{place-ascending, place-answers}
 use Rattle.minimization.specs.Search as search
 use Rattle.record.specs.declared.Outcome.{Outcome}
@@ -74,17 +72,6 @@ module _ (r : Record) (p q : ℕ) (c : Comparison) (compared : Compared r p q c)
 true-false : true ≡ false → ⊥
 true-false e = let z : _≡_ {A = ℕ} 0 1 = cc in omega arith
 
--- What an evaluation that is not refused stands on
-accepted-place : (r : Record) (place : ℕ) (words : List ℕ) (room : ℕ) → evaluationRefused r place words room ≡ none
-    → (goodRecord r ≡ true) × (place < 8) × (isFilled r place ≡ true)
-unfolding evaluationRefused
-accepted-place r place words room e =
-    let later = unspelled r words ∷ tooLong r place words room ∷ [] in
-    let a = none-holds (not (goodRecord r)) badRecord (unknownPlace place ∷ vacant r place ∷ later) e in
-    let b = none-holds (not (ltb place 8)) noSuchPlace (vacant r place ∷ later) (a .1) in
-    let c = none-holds (not (isFilled r place)) placeVacant later (b .1) in
-    (not-false (goodRecord r) (a .0), ltb-true place 8 (not-false (ltb place 8) (b .0)), not-false (isFilled r place) (c .0))
-
 -- A filled place is one of the places
 filled-inside : (r : Record) (place : ℕ) → isFilled r place ≡ true → place < length (r .places)
 filled-inside r place e = ⊎-elim (λ h. h) past (below-or-past place (length (r .places)))
@@ -96,7 +83,7 @@ filled-inside r place e = ⊎-elim (λ h. h) past (below-or-past place (length (
 
 pub evaluates : (r : Record) (place : ℕ) (words before after : List ℕ) (a : Answered)
     → countReply a ≡ evaluated r place words (length before) → after ≡ bufferThen r place words before → Evaluates r place words before after a
-unfolding evaluated bufferThen
+unfolding evaluated bufferThen evaluationRefused
 evaluates r place words before after a is-a is-after =
     let n = length (placeAnswers r place words) in
     let found = answerWords (placeAnswers r place words) in
@@ -105,7 +92,7 @@ evaluates r place words before after a is-a is-after =
       written = λ e. is-after ∙ ap (λ (o : Option ℕ). overUnless o found before) e;
       ascends = place-ascending r place words;
       exactly = λ e.
-          let k = accepted-place r place words (length before) e in
+          let k = none-asked r place words (tooLong r place words (length before) ∷ []) e in
           place-answers r place words (k .0) (filled-inside r place (k .2)) (k .2);
     }
 

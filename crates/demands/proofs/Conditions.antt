@@ -24,7 +24,7 @@ use Rattle.reduction.specs.declared.Reduced.{Reduced}
 use Rattle.reduction.specs.Reduced.{reductionRefusal, reductionConditions, IsReduced}
 use Rattle.database.specs.declared.Conformance.{Conformance}
 use Rattle.database.specs.declared.Answered.{Answered}
-use Rattle.database.specs.Calls.{testReply, tested, evaluationRefused, countReply, evaluated, bufferThen, placeAnswers}
+use Rattle.database.specs.Calls.{testReply, tested, evaluationRefused, countReply, evaluated, bufferThen, counted, placeAnswers}
 use Rattle.evaluation.specs.Evaluated.{answerWords}
 use Rattle.minimization.specs.Search as search
 use Rattle.record.specs.Rule.{blankRecord}
@@ -36,7 +36,7 @@ use Rattle.format.proofs.Stretches.{length-stretches}
 use Rattle.writer.specs.declared.Written.{Written}
 use Rattle.writer.specs.Write.{lengthReply, writingRefused, written, afterWriting}
 use Rattle.demands.specs.Demand1.{Meets, Nothing, OpenMeets, AddMeets, PutMeets, DropMeets, DeterminedMeets, CompareMeets, CheckMeets}
-use Rattle.demands.specs.Demand1.{ReduceMeets, TestMeets, EvaluateMeets, partsAsk, readAsks, AsksInOrder, ReadMeets, WriteMeets}
+use Rattle.demands.specs.Demand1.{ReduceMeets, TestMeets, EvaluateMeets, CountMeets, partsAsk, readAsks, AsksInOrder, ReadMeets, WriteMeets}
 
 -- ---- every call
 
@@ -144,6 +144,10 @@ evaluate-meets r place words before after a is-a is-after =
     (λ n f. is-after ∙ ap (λ (y : Option ℕ). overUnless y found before) f)
     (λ f.
     (is-a ∙ ap (λ (y : Option ℕ). reply y (length (placeAnswers r place words))) f, is-after ∙ ap (λ (y : Option ℕ). overUnless y found before) f))
+
+pub count-meets : (r : Record) (place : ℕ) (words : List ℕ) (a : Answered) → countReply a ≡ counted r place words → CountMeets r place words a
+unfolding evaluated evaluationRefused
+count-meets r place words a e = reply-meets _ _ refl (countReply a) _ e
 
 -- ---- files
 

@@ -1,6 +1,6 @@
 -- Demand 1: what every public call meets, whatever it is given. A call asks conditions, which its own specs define; the table below has their numbers. It is
 -- refused exactly when one of them holds, with the number of the first, and then hands back the record it was given and leaves every buffer as it was;
--- otherwise it answers and leaves what is due. That a call ends is part of every proved contract.
+-- otherwise it answers and leaves what is due. Of lent working memory nothing is said here. That a call ends is part of every proved contract.
 use mathlib.Core.Path.{_≡_}
 use mathlib.Core.Bool.{true}
 use mathlib.Core.List.{List, [], _∷_, _++_, map}
@@ -29,7 +29,7 @@ use Rattle.reduction.specs.declared.Reduced.{Reduced}
 use Rattle.reduction.specs.Reduced.{reductionConditions, IsReduced}
 use Rattle.database.specs.declared.Conformance.{Conformance}
 use Rattle.database.specs.declared.Answered.{Answered}
-use Rattle.database.specs.Calls.{testReply, testConditions, countReply, evaluationConditions, placeAnswers}
+use Rattle.database.specs.Calls.{testReply, testConditions, countReply, evaluationConditions, placeAnswers, longestBuffer}
 use Rattle.words.specs.Words.{databaseOf}
 use Rattle.words.specs.Testing.{firstBrokenFrom}
 use Rattle.words.specs.Broken.{violationOf}
@@ -77,7 +77,7 @@ reduceAsks = badRecord ∷ noSuchPlace ∷ noSuchPlace ∷ placeVacant ∷ place
 abbrev pub testAsks : List ℕ
 testAsks = badRecord ∷ badDatabase ∷ []
 
--- Evaluating a place
+-- Evaluating a place, and counting its answers
 abbrev pub evaluateAsks : List ℕ
 evaluateAsks = badRecord ∷ noSuchPlace ∷ placeVacant ∷ badDatabase ∷ bufferTooShort ∷ []
 
@@ -177,6 +177,12 @@ EvaluateMeets r place words before after a =
     Meets (evaluationConditions r place words (length before)) evaluateAsks (refusalIn (countReply a)) (after ≡ before)
     ((countReply a ≡ gives (length (placeAnswers r place words)))
     × (after ≡ over before 0 (answerWords (placeAnswers r place words))))
+
+-- Counting the answers of a place: it asks what an evaluation with the longest buffer asks
+abbrev pub CountMeets : Record → ℕ → List ℕ → Answered → Type 0
+CountMeets r place words a =
+    Meets (evaluationConditions r place words longestBuffer) evaluateAsks (refusalIn (countReply a)) Nothing
+    (countReply a ≡ gives (length (placeAnswers r place words)))
 
 -- ---- files
 

@@ -11,7 +11,7 @@ use record::Columns;
 use record::Outcome;
 use record::Record;
 use reduction::Reduced;
-ghost use Rattle.demands.specs.Demand1.{OpenMeets, AddMeets, PutMeets, DropMeets, DeterminedMeets, CompareMeets, CheckMeets, ReduceMeets, TestMeets, EvaluateMeets, ReadMeets, WriteMeets};
+ghost use Rattle.demands.specs.Demand1.{OpenMeets, AddMeets, PutMeets, DropMeets, DeterminedMeets, CompareMeets, CheckMeets, ReduceMeets, TestMeets, EvaluateMeets, CountMeets, ReadMeets, WriteMeets};
 
 // ---- the record
 
@@ -82,11 +82,56 @@ pub fn test(given: Record, words: &[u32]) -> Conformance
     database::test(given, words)
 }
 
+// The same in lent tables.
+pub fn test_lent(given: Record, words: &[u32], heads: &mut [u32], nodes: &mut [u32]) -> Conformance
+    ensures { λ v. ⌜ TestMeets given (now (words .entry)) v ⌝ }
+{
+    database::test_lent(given, words, heads, nodes)
+}
+
 // Evaluates the query of a place on a database.
 pub fn evaluate(given: Record, place: usize, words: &[u32], buffer: &mut [u32]) -> Answered
     ensures { λ a. ⌜ EvaluateMeets given place (now (words .entry)) (now (buffer .entry)) (now (buffer .exit)) a ⌝ }
 {
     database::evaluate(given, place, words, buffer)
+}
+
+// The same in lent memory.
+pub fn evaluate_lent(
+    given: Record,
+    place: usize,
+    words: &[u32],
+    buffer: &mut [u32],
+    index: &mut [u32],
+    states: &mut [u32],
+    batch: &mut [u32],
+    scratch: &mut [u32],
+) -> Answered
+    ensures { λ a. ⌜ EvaluateMeets given place (now (words .entry)) (now (buffer .entry)) (now (buffer .exit)) a ⌝ }
+{
+    database::evaluate_lent(given, place, words, buffer, index, states, batch, scratch)
+}
+
+// Counts the answers of the query of a place on a database.
+pub fn count(given: Record, place: usize, words: &[u32]) -> Answered
+    ensures { λ a. ⌜ CountMeets given place (now (words .entry)) a ⌝ }
+{
+    database::count(given, place, words)
+}
+
+// The same in lent memory.
+pub fn count_lent(
+    given: Record,
+    place: usize,
+    words: &[u32],
+    index: &mut [u32],
+    states: &mut [u32],
+    batch: &mut [u32],
+    scratch: &mut [u32],
+) -> Answered
+    ensures { λ a. ⌜ CountMeets given place (now (words .entry)) a ⌝ }
+{
+    database::count_lent(given, place, words, index, states, batch, scratch)
 }
 
 // ---- files

@@ -21,6 +21,22 @@ pub fn evaluate(given: Record, place: usize, words: &[u32], buffer: &mut [u32]) 
     database::evaluate(given, place, words, buffer)
 }
 
+// The same in lent memory.
+pub fn evaluate_lent(
+    given: Record,
+    place: usize,
+    words: &[u32],
+    buffer: &mut [u32],
+    index: &mut [u32],
+    states: &mut [u32],
+    batch: &mut [u32],
+    scratch: &mut [u32],
+) -> Answered
+    ensures { λ a. ⌜ Evaluates given place (now (words .entry)) (now (buffer .entry)) (now (buffer .exit)) a ⌝ }
+{
+    database::evaluate_lent(given, place, words, buffer, index, states, batch, scratch)
+}
+
 // A file that is read, and its record written: the same bytes.
 pub fn write_back(file: &[u8], buffer: &mut [u8]) -> Written
     ensures { λ w. ⌜ FileComesBack (now (file .entry)) (now (buffer .entry)) (now (buffer .exit)) w ⌝ }
