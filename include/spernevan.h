@@ -27,8 +27,16 @@
  *
  * No file is longer than 4420 bytes and no query part than 534, so buffers of SPERNEVAN_FILE and SPERNEVAN_QUERY bytes are never too short.
  *
- * For 64-bit x86 Linux only. spernevan_evaluate, and spernevan_test on more than 16384 words, use up to 5 MB of stack, every other call under 1 MB:
- * a thread whose stack is smaller must not make them.
+ * For 64-bit x86 Linux only. Every call uses less than 1 MB of stack: a thread whose stack is smaller must not make it.
+ *
+ * Calls whose names end in _lent are lent working memory too. They answer as the calls without it do, whatever it holds before, and the more of it there is the sooner
+ * on a large database; it may be of any length, 0 too. What it holds afterwards is not said, also where a call is refused. The calls without it have enough of their own
+ * for some ten thousand rows. For a database of n words:
+ *   heads     n / 2 words, and nodes 3 n / 2: then a test takes time in proportion to n
+ *   index     2 n words for each row of the query but the first, and 112 more
+ *   states    n words, if the query has more than two rows; else none
+ *   batch     twice the words of the answers, and 64 more: with fewer the database is searched again for each batch
+ *   scratch   as many as batch
  *
  * A query part is the query as a file has it: head length, row count, head entries, then the rows, each a relation byte and its entries;
  * an entry is a byte (0 constant, 1 variable) and 32 bits, little-endian. Without rows it is the first two bytes alone, the query that has no answers.
@@ -141,6 +149,32 @@ uint8_t spernevan_test(const uint8_t *file, size_t file_length, const uint32_t *
  */
 uint8_t spernevan_evaluate(const uint8_t *file, size_t file_length, size_t place, const uint32_t *words, size_t words_length,
                            uint32_t *answers, size_t answers_length, size_t *count);
+
+/*
+ * As spernevan_test, with working memory.
+ */
+uint8_t spernevan_test_lent(const uint8_t *file, size_t file_length, const uint32_t *words, size_t words_length, uint32_t *heads, size_t heads_length,
+                            uint32_t *nodes, size_t nodes_length, uint8_t *obeys, size_t *dependency, size_t *first, size_t *second);
+
+/*
+ * As spernevan_evaluate, with working memory.
+ */
+uint8_t spernevan_evaluate_lent(const uint8_t *file, size_t file_length, size_t place, const uint32_t *words, size_t words_length,
+                                uint32_t *answers, size_t answers_length, uint32_t *index, size_t index_length, uint32_t *states, size_t states_length,
+                                uint32_t *batch, size_t batch_length, uint32_t *scratch, size_t scratch_length, size_t *count);
+
+/*
+ * Counts the answers of the query of a place on a database.
+ * Takes a file, a place and the database. Returns 0 with their number in `*count`; or 1 to 6, then 7, 11, 9, or 10 for answers that no buffer can hold.
+ */
+uint8_t spernevan_count(const uint8_t *file, size_t file_length, size_t place, const uint32_t *words, size_t words_length, size_t *count);
+
+/*
+ * As spernevan_count, with working memory.
+ */
+uint8_t spernevan_count_lent(const uint8_t *file, size_t file_length, size_t place, const uint32_t *words, size_t words_length,
+                             uint32_t *index, size_t index_length, uint32_t *states, size_t states_length, uint32_t *batch, size_t batch_length,
+                             uint32_t *scratch, size_t scratch_length, size_t *count);
 
 #ifdef __cplusplus
 }

@@ -5,7 +5,7 @@ use Rattle.refusals.specs.Refusals.{Reply, gives, _>>=_}
 use Rattle.format.specs.File.{readFile}
 use Rattle.words.specs.declared.Violation.{Violation}
 use Rattle.words.specs.declared.Violation.the-variants as violation
-use Rattle.database.specs.Calls.{tested, evaluated, bufferThen}
+use Rattle.database.specs.Calls.{tested, evaluated, bufferThen, counted}
 use Rattle.record_on_files.specs.Lent.{leaves}
 
 -- What a test leaves: 1 where the database obeys, the rest 0; or 0, the dependency and its pair of rows
@@ -31,3 +31,7 @@ evaluatedIn file place words room = readFile file >>= λ r. evaluated r place wo
 -- The buffer after it: a refused file leaves it as it was
 abbrev pub answersLeft : List ℕ → ℕ → List ℕ → List ℕ → List ℕ
 answersLeft file place words buffer = leaves (readFile file) (λ r. bufferThen r place words buffer) buffer
+
+-- The count of the answers of a place of the record of a file
+abbrev pub countedIn : List ℕ → ℕ → List ℕ → Reply ℕ
+countedIn file place words = readFile file >>= λ r. counted r place words

@@ -1,17 +1,19 @@
-// Testing a database and evaluating a place on it, on files. Each returns 0, or the number of the refusal, which leaves every buffer and number that it is
-// lent as it was.
+// Testing a database, evaluating a place on it and counting its answers, on files. Each returns 0, or the number of the refusal, which leaves every buffer and number
+// that it is lent as it was, but for working memory.
 use database::Answered;
 use database::Conformance;
 use record::Status;
 ghost use mathlib.Core.Path.{_≡_};
 ghost use lib.ListN.{length};
 ghost use Rattle.record_on_files.specs.Lent.{returned, leaves};
-ghost use Rattle.database_on_files.specs.Databases.{testedIn, evaluatedIn, answersLeft};
+ghost use Rattle.database_on_files.specs.Databases.{testedIn, evaluatedIn, answersLeft, countedIn};
 
-// Tests a database against the dependencies.
-pub fn test_in_file(
+// Tests a database against the dependencies. Working memory is lent for the tables.
+pub fn test_in_file_lent(
     file: &[u8],
     words: &[u32],
+    heads: &mut [u32],
+    nodes: &mut [u32],
     obeys: &mut u8,
     dependency: &mut usize,
     first: &mut usize,
@@ -28,7 +30,7 @@ pub fn test_in_file(
     match answer {
         Status::Done => {
             let given = outcome.record;
-            let found = database::test(given, words);
+            let found = database::test_lent(given, words, heads, nodes);
             match found {
                 Conformance::Obeys => {
                     *obeys = 1;
@@ -51,12 +53,45 @@ pub fn test_in_file(
     }
 }
 
-// Evaluates the query of a place on a database.
-pub fn evaluate_in_file(
+// As `test_in_file_lent`, with working memory of its own.
+pub fn test_in_file(
+    file: &[u8],
+    words: &[u32],
+    obeys: &mut u8,
+    dependency: &mut usize,
+    first: &mut usize,
+    second: &mut usize,
+) -> u8
+    ensures { λ r. ⌜ r ≡ returned (testedIn (now (file .entry)) (now (words .entry))) ⌝ }
+    ensures { λ _. ⌜ now (obeys .exit) ≡ leaves (testedIn (now (file .entry)) (now (words .entry))) (λ t. t .obeys) (now (obeys .entry)) ⌝ }
+    ensures { λ _. ⌜ now (dependency .exit) ≡ leaves (testedIn (now (file .entry)) (now (words .entry))) (λ t. t .dependency) (now (dependency .entry)) ⌝ }
+    ensures { λ _. ⌜ now (first .exit) ≡ leaves (testedIn (now (file .entry)) (now (words .entry))) (λ t. t .first) (now (first .entry)) ⌝ }
+    ensures { λ _. ⌜ now (second .exit) ≡ leaves (testedIn (now (file .entry)) (now (words .entry))) (λ t. t .second) (now (second .entry)) ⌝ }
+{
+    let mut heads = [0u32; 16384];
+    let mut nodes = [0u32; 49152];
+    test_in_file_lent(
+        file,
+        words,
+        &mut heads,
+        &mut nodes,
+        obeys,
+        dependency,
+        first,
+        second,
+    )
+}
+
+// Evaluates the query of a place on a database. Working memory is lent for the index, the states of the search, a batch of answers and its sorting.
+pub fn evaluate_in_file_lent(
     file: &[u8],
     place: usize,
     words: &[u32],
     answers: &mut [u32],
+    index: &mut [u32],
+    states: &mut [u32],
+    batch: &mut [u32],
+    scratch: &mut [u32],
     count: &mut usize,
 ) -> u8
     ensures { λ r. ⌜ r ≡ returned (evaluatedIn (now (file .entry)) place (now (words .entry)) (length (now (answers .entry)))) ⌝ }
@@ -68,7 +103,16 @@ pub fn evaluate_in_file(
     match answer {
         Status::Done => {
             let given = outcome.record;
-            let done = database::evaluate(given, place, words, answers);
+            let done = database::evaluate_lent(
+                given,
+                place,
+                words,
+                answers,
+                index,
+                states,
+                batch,
+                scratch,
+            );
             match done {
                 Answered::Count(n) => {
                     *count = n;
@@ -79,4 +123,86 @@ pub fn evaluate_in_file(
         }
         Status::Refused(n) => n,
     }
+}
+
+// As `evaluate_in_file_lent`, with working memory of its own.
+pub fn evaluate_in_file(
+    file: &[u8],
+    place: usize,
+    words: &[u32],
+    answers: &mut [u32],
+    count: &mut usize,
+) -> u8
+    ensures { λ r. ⌜ r ≡ returned (evaluatedIn (now (file .entry)) place (now (words .entry)) (length (now (answers .entry)))) ⌝ }
+    ensures { λ _. ⌜ now (answers .exit) ≡ answersLeft (now (file .entry)) place (now (words .entry)) (now (answers .entry)) ⌝ }
+    ensures { λ _. ⌜ now (count .exit) ≡ leaves (evaluatedIn (now (file .entry)) place (now (words .entry)) (length (now (answers .entry)))) (λ n. n) (now (count .entry)) ⌝ }
+{
+    let mut index = [0u32; 65536];
+    let mut states = [0u32; 8192];
+    let mut batch = [0u32; 16384];
+    let mut scratch = [0u32; 16384];
+    evaluate_in_file_lent(
+        file,
+        place,
+        words,
+        answers,
+        &mut index,
+        &mut states,
+        &mut batch,
+        &mut scratch,
+        count,
+    )
+}
+
+// Counts the answers of the query of a place on a database. Working memory is lent as for an evaluation.
+pub fn count_in_file_lent(
+    file: &[u8],
+    place: usize,
+    words: &[u32],
+    index: &mut [u32],
+    states: &mut [u32],
+    batch: &mut [u32],
+    scratch: &mut [u32],
+    count: &mut usize,
+) -> u8
+    ensures { λ r. ⌜ r ≡ returned (countedIn (now (file .entry)) place (now (words .entry))) ⌝ }
+    ensures { λ _. ⌜ now (count .exit) ≡ leaves (countedIn (now (file .entry)) place (now (words .entry))) (λ n. n) (now (count .entry)) ⌝ }
+{
+    let outcome = file::read(file);
+    let answer = outcome.answer;
+    match answer {
+        Status::Done => {
+            let given = outcome.record;
+            let done = database::count_lent(given, place, words, index, states, batch, scratch);
+            match done {
+                Answered::Count(k) => {
+                    *count = k;
+                    0
+                }
+                Answered::Refused(n) => n,
+            }
+        }
+        Status::Refused(n) => n,
+    }
+}
+
+// As `count_in_file_lent`, with working memory of its own.
+pub fn count_in_file(file: &[u8], place: usize, words: &[u32], count: &mut usize) -> u8
+    ensures { λ r. ⌜ r ≡ returned (countedIn (now (file .entry)) place (now (words .entry))) ⌝ }
+    ensures { λ _. ⌜ now (count .exit) ≡ leaves (countedIn (now (file .entry)) place (now (words .entry))) (λ n. n) (now (count .entry)) ⌝ }
+{
+    let mut index = [0u32; 65536];
+    let mut states = [0u32; 8192];
+    let mut batch = [0u32; 16384];
+    let mut scratch = [0u32; 16384];
+    count_in_file_lent(
+        file,
+        place,
+        words,
+        &mut index,
+        &mut states,
+        &mut batch,
+        &mut scratch,
+        count,
+    )
 }

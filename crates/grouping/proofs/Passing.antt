@@ -2,18 +2,16 @@
 use mathlib.Core.Path.{_≡_, refl, ap, ap₂, sym, subst, _∙_}
 use mathlib.Core.Bool.{Bool, true, false, cond, false≢true}
 use mathlib.Core.List.{List, [], _∷_}
-use Prim.Native.Nat.{ℕ, zero, suc, _+_, _-_, _≤_, _<_}
+use Prim.Native.Nat.{ℕ, zero, suc, _+_, _-_, _*_, _≤_, _<_}
 use native.Mathlib.Omega.{arith}
 use lib.Dec.{eqb, ltb}
 use borrow.Author.Tests.{eqb-true, eqb-false, ltb-true, ltb-false}
 use lib.ListN.{length, take, drop, getD, set, length-set, length-drop, drop-of-length-le}
-use lib.Seq.{getD-drop, getD-set-same, getD-set-other, drop-drop, drop-length, take-all}
+use lib.Seq.{getD-drop, drop-drop, drop-length, take-all}
 use Rattle.theory.specs.Query.{Row, column}
 use Rattle.theory.specs.Database.{Database, Agree}
 use Rattle.query.specs.View.{dependencyOf, columnsOf}
 use Rattle.query.specs.declared.Dependency.{Dependency}
-use Rattle.chains.specs.internal.Chains.{Chained}
-use Rattle.chains.proofs.Chains.{chained-agree}
 use Rattle.words.specs.Words.{spellsRows, rowsFrom, databaseOf, spellsRowsFrom}
 use Rattle.words.specs.internal.Rows.{spanAt, rowAt, Next, agreeRows}
 use Rattle.words.specs.Testing.{firstPairFrom}
@@ -21,12 +19,16 @@ use Rattle.words.specs.internal.Found.{From}
 use Rattle.words.proofs.Spelling.{next-row}
 use Rattle.words.proofs.Obeys.{agree-true, agree-all}
 use Rattle.grouping.specs.internal.Hash.{bucketOf}
-use Rattle.grouping.specs.internal.Table.{keyOf}
+use Rattle.grouping.specs.internal.Chains.{Chained}
+use Rattle.grouping.specs.internal.Table.{linkOf, offsetOf, numberOf, leaderOf, withLeader, keyOf, agrees}
+use Rattle.grouping.specs.internal.Groups.{Groups}
 use Rattle.words.specs.Broken.{nthRow}
-use Rattle.grouping.specs.internal.Walked.{Placed, Member, Room, Walked, earlierOf, Skips}
+use Rattle.grouping.specs.internal.Walked.{Placed, Member, Walked, earlierOf, Skips}
 use Rattle.grouping.specs.declared.Position.{Position}
 use Rattle.grouping.specs.declared.Walk.{Walk}
 use Rattle.grouping.proofs.Hashes.{span-value}
+use Rattle.grouping.proofs.Entering.{enter-length, enter-below, enter-link, enter-offset, enter-number}
+use Rattle.grouping.proofs.Chains.{chained-none, chained-agree, chained-more}
 use Rattle.grouping.proofs.Leading.{groups-start, groups-other, groups-member, groups-full, groups-new, pairs-skip}
 
 -- there are no more rows than words
@@ -135,176 +137,188 @@ module _ (schema words : List ℕ) (d : Dependency) where
 
   -- ---- one more row
 
-  module _ (n : ℕ) (w : Walk) (H L O N : List ℕ) (h : Walked schema words d n w H L O N) where
-    -- it is of another relation
-    pub walked-other : (at after : ℕ) → Placed schema words at n → Next schema words at after → (getD words at 0 ≡ d .relation → ⊥)
-        → Walked schema words d (n + 1) w H L O N
-    walked-other at after p next other =
+  module _ (w : Walk) (H N : List ℕ) (h : Walked schema words d w H N) (after : ℕ) (next : Next schema words (w .row .at) after) where
+    -- no leader is new
+    walked-on : (p : Position) → Placed schema words (p .at) (p .number)
+        → Groups (dependencyOf d) (databaseOf schema words) (w .row .number + 1) (p .number) (w .count) (numberOf N)
+        → Walked schema words d (record { row = record { at = after; number = w .row .number + 1 }; count = w .count; least = p }) H N
+    walked-on p placed groups =
         record {
-          room = h .room;
+          bucket = h .bucket;
+          placed = placed-next (w .row .at) after (w .row .number) (h .placed) next;
+          few = omega (arith, h .few);
           table = h .table;
           members = h .members;
-          groups = groups-other (dependencyOf d) (databaseOf schema words) n (w .least .number) (w .count) (λ s. getD N s 0) (h .groups)
-              (λ e. other (sym (ap (λ (r : Row ℕ). r .relation) (placed-row at after n p next)) ∙ e));
-          least = h .least;
+          groups = groups;
+          least = placed;
         }
 
-    module _ (at : ℕ) (m : Member schema words d at n) where
-      -- it is in the group of leader s, and agrees with it on the right column
+    -- no leader is new, and a row may be the first of a broken pair
+    walked-earlier : (p q : Position) → p ≡ earlierOf (w .least) q → Placed schema words (q .at) (q .number)
+        → ((low : ℕ) → low ≤ w .least .number → low ≤ q .number
+        → Groups (dependencyOf d) (databaseOf schema words) (w .row .number + 1) low (w .count) (numberOf N))
+        → Walked schema words d (record { row = record { at = after; number = w .row .number + 1 }; count = w .count; least = p }) H N
+    walked-earlier p q e placed groups =
+        walked-on p (subst (λ (x : Position). Placed schema words (x .at) (x .number)) (sym e) (earlier-placed schema words (w .least) q (h .least) placed))
+        (groups (p .number) (subst (λ (x : Position). x .number ≤ w .least .number) (sym e) (earlier-left (w .least) q))
+        (subst (λ (x : Position). x .number ≤ q .number) (sym e) (earlier-right (w .least) q)))
+
+    -- the row is of another relation
+    pub walked-other : (getD words (w .row .at) 0 ≡ d .relation → ⊥)
+        → Walked schema words d (record { row = record { at = after; number = w .row .number + 1 }; count = w .count; least = w .least }) H N
+    walked-other other =
+        walked-on (w .least) (h .least)
+        (groups-other (dependencyOf d) (databaseOf schema words) (w .row .number) (w .least .number) (w .count) (numberOf N) (h .groups)
+        (λ e. other (sym (ap (λ (r : Row ℕ). r .relation) (placed-row (w .row .at) after (w .row .number) (h .placed) next)) ∙ e)))
+
+    module _ (relation : getD words (w .row .at) 0 ≡ d .relation) where
+      member : Member schema words d (w .row .at) (w .row .number)
+      member = record { placed = h .placed; inside = omega (arith, next .place, next .fits); relation = relation }
+
+      pub row-room : w .row .at + 1 + getD schema (d .relation) 0 ≤ length words
+      row-room = member-room (w .row .at) (w .row .number) member
+
+      -- it is in the group of leader s
+      grouped : (s : ℕ) → s < w .count → agrees (getD schema (d .relation) 0) words d N (w .row .at) s ≡ true
+          → Agree 0 (columnsOf (d .left)) (nthRow (databaseOf schema words) (numberOf N s)) (nthRow (databaseOf schema words) (w .row .number))
+      grouped s below agree = agreed (w .row .at) (w .row .number) (offsetOf N s) (numberOf N s) member (h .members s below) agree
+
+      -- and agrees with it on the right column
       pub walked-same : (s : ℕ) → s < w .count → d .right < getD schema (d .relation) 0
-          → agreeRows (dependencyOf d) (spanAt (getD schema (d .relation) 0) words (getD O s 0)) (spanAt (getD schema (d .relation) 0) words at) ≡ true
-          → getD words (getD O s 0 + 1 + d .right) 0 ≡ getD words (at + 1 + d .right) 0 → Walked schema words d (n + 1) w H L O N
+          → agrees (getD schema (d .relation) 0) words d N (w .row .at) s ≡ true
+          → getD words (offsetOf N s + 1 + d .right) 0 ≡ getD words (w .row .at + 1 + d .right) 0
+          → Walked schema words d (record { row = record { at = after; number = w .row .number + 1 }; count = w .count; least = w .least }) H N
       walked-same s below fits agree same =
-          let l : Member schema words d (getD O s 0) (getD N s 0) = h .members s below in
-          record {
-            room = h .room;
-            table = h .table;
-            members = h .members;
-            groups = groups-member (dependencyOf d) (databaseOf schema words) n (w .least .number) (w .count) (λ t. getD N t 0) (h .groups) (w .least .number) s
-                (omega arith) below (agreed at n (getD O s 0) (getD N s 0) m l agree)
-                (λ _. member-value (getD O s 0) (getD N s 0) l (d .right) fits ∙ same ∙ sym (member-value at n m (d .right) fits));
-            least = h .least;
-          }
+          walked-on (w .least) (h .least)
+          (groups-member (dependencyOf d) (databaseOf schema words) (w .row .number) (w .least .number) (w .count) (numberOf N) (h .groups)
+          (w .least .number) s (omega arith) below (grouped s below agree)
+          (λ _. member-value (offsetOf N s) (numberOf N s) (h .members s below) (d .right) fits ∙ same
+          ∙ sym (member-value (w .row .at) (w .row .number) member (d .right) fits)))
 
-      -- it is in the group of leader s, which may be the first of a broken pair
-      pub walked-differ : (s : ℕ) → s < w .count
-          → agreeRows (dependencyOf d) (spanAt (getD schema (d .relation) 0) words (getD O s 0)) (spanAt (getD schema (d .relation) 0) words at) ≡ true
-          → (p : Position) → p ≡ earlierOf (w .least) (record { at = getD O s 0; number = getD N s 0 })
-          → Walked schema words d (n + 1) (record { count = w .count; least = p }) H L O N
+      -- and may differ from it
+      pub walked-differ : (s : ℕ) → s < w .count → agrees (getD schema (d .relation) 0) words d N (w .row .at) s ≡ true
+          → (p : Position) → p ≡ earlierOf (w .least) (leaderOf N s)
+          → Walked schema words d (record { row = record { at = after; number = w .row .number + 1 }; count = w .count; least = p }) H N
       walked-differ s below agree p e =
-          let l : Member schema words d (getD O s 0) (getD N s 0) = h .members s below in
-          let q : Position = record { at = getD O s 0; number = getD N s 0 } in
-          let left : p .number ≤ w .least .number = subst (λ (x : Position). x .number ≤ w .least .number) (sym e) (earlier-left (w .least) q) in
-          let right : p .number ≤ getD N s 0 = subst (λ (x : Position). x .number ≤ getD N s 0) (sym e) (earlier-right (w .least) q) in
-          record {
-            room = h .room;
-            table = h .table;
-            members = h .members;
-            groups = groups-member (dependencyOf d) (databaseOf schema words) n (w .least .number) (w .count) (λ t. getD N t 0) (h .groups) (p .number) s
-                left below (agreed at n (getD O s 0) (getD N s 0) m l agree) (λ i. absurd (omega arith));
-            least = subst (λ (x : Position). Placed schema words (x .at) (x .number)) (sym e) (earlier-placed schema words (w .least) q (h .least) (l .placed));
-          }
+          walked-earlier p (leaderOf N s) e (h .members s below .placed)
+          (λ low left right. groups-member (dependencyOf d) (databaseOf schema words) (w .row .number) (w .least .number) (w .count) (numberOf N) (h .groups)
+          low s left below (grouped s below agree) (λ i. absurd (omega arith)))
 
-      module _
-          (absent : (s : ℕ) → s < w .count
-          → agreeRows (dependencyOf d) (spanAt (getD schema (d .relation) 0) words (getD O s 0)) (spanAt (getD schema (d .relation) 0) words at) ≡ false) where
-        alone : (s : ℕ) → s < w .count → Agree 0 (columnsOf (d .left)) (nthRow (databaseOf schema words) (getD N s 0)) (nthRow (databaseOf schema words) n) → ⊥
-        alone s below = disagreed at n (getD O s 0) (getD N s 0) m (h .members s below) (absent s below)
+      module _ (absent : (s : ℕ) → s < w .count → agrees (getD schema (d .relation) 0) words d N (w .row .at) s ≡ false) where
+        alone : (s : ℕ) → s < w .count
+            → Agree 0 (columnsOf (d .left)) (nthRow (databaseOf schema words) (numberOf N s)) (nthRow (databaseOf schema words) (w .row .number)) → ⊥
+        alone s below = disagreed (w .row .at) (w .row .number) (offsetOf N s) (numberOf N s) member (h .members s below) (absent s below)
 
         -- it would be a leader, and there is no room for it
-        pub walked-full : (p : Position) → p ≡ earlierOf (w .least) (record { at = at; number = n })
-            → Walked schema words d (n + 1) (record { count = w .count; least = p }) H L O N
+        pub walked-full : (p : Position) → p ≡ earlierOf (w .least) (w .row)
+            → Walked schema words d (record { row = record { at = after; number = w .row .number + 1 }; count = w .count; least = p }) H N
         walked-full p e =
-            let q : Position = record { at = at; number = n } in
-            let left : p .number ≤ w .least .number = subst (λ (x : Position). x .number ≤ w .least .number) (sym e) (earlier-left (w .least) q) in
-            let right : p .number ≤ n = subst (λ (x : Position). x .number ≤ n) (sym e) (earlier-right (w .least) q) in
-            record {
-              room = h .room;
-              table = h .table;
-              members = h .members;
-              groups = groups-full (dependencyOf d) (databaseOf schema words) n (w .least .number) (w .count) (λ t. getD N t 0) (h .groups)
-                  (p .number) left right alone;
-              least = subst (λ (x : Position). Placed schema words (x .at) (x .number)) (sym e)
-                  (earlier-placed schema words (w .least) q (h .least) (m .placed));
-            }
+            walked-earlier p (w .row) e (h .placed)
+            (λ low left right. groups-full (dependencyOf d) (databaseOf schema words) (w .row .number) (w .least .number) (w .count) (numberOf N) (h .groups)
+            low left right alone)
 
         -- it is a leader
-        module _ (b : ℕ) (H' L' : List ℕ) (room : w .count < length O)
-            (bucket : b ≡ bucketOf (length H) (dependencyOf d) (spanAt (getD schema (d .relation) 0) words at))
-            (sizeH : length H' ≡ length H) (sizeL : length L' ≡ length L)
-            (pushed : (key : ℕ → ℕ) → Chained key H L (w .count) → key (w .count) ≡ b → Chained key H' L' (w .count + 1)) where
-          new-offset : getD (set O (w .count) at) (w .count) 0 ≡ at
-          new-offset = getD-set-same O (w .count) at 0 room
+        module _ (b : ℕ) (inside : b < length H) (room : 3 * w .count + 2 < length N)
+            (bucket : b ≡ bucketOf (length H) (dependencyOf d) (spanAt (getD schema (d .relation) 0) words (w .row .at))) where
+          heads : List ℕ
+          heads = set H b (w .count + 1)
 
-          new-number : getD (set N (w .count) n) (w .count) 0 ≡ n
-          new-number = let e : length N ≡ length O = h .room .numbered in getD-set-same N (w .count) n 0 (omega arith)
+          nodes : List ℕ
+          nodes = withLeader N (w .count) (getD H b 0) (w .row .at) (w .row .number)
 
-          old-offset : (s : ℕ) → s < w .count → getD (set O (w .count) at) s 0 ≡ getD O s 0
-          old-offset s below = getD-set-other O (w .count) s at 0 (λ (e : s ≡ w .count). absurd (omega arith))
+          old-offset : (s : ℕ) → s < w .count → offsetOf nodes s ≡ offsetOf N s
+          unfolding nodes
+          old-offset s low = enter-below N (w .count) (getD H b 0) (w .row .at) (w .row .number) (3 * s + 1) (omega arith)
 
-          old-number : (s : ℕ) → s < w .count → getD (set N (w .count) n) s 0 ≡ getD N s 0
-          old-number s below = getD-set-other N (w .count) s n 0 (λ (e : s ≡ w .count). absurd (omega arith))
+          old-number : (s : ℕ) → s < w .count → numberOf nodes s ≡ numberOf N s
+          unfolding nodes
+          old-number s low = enter-below N (w .count) (getD H b 0) (w .row .at) (w .row .number) (3 * s + 2) (omega arith)
 
-          new-member : (s : ℕ) → s < w .count + 1 → (t : Bool) → eqb s (w .count) ≡ t
-              → Member schema words d (getD (set O (w .count) at) s 0) (getD (set N (w .count) n) s 0)
+          new-offset : offsetOf nodes (w .count) ≡ w .row .at
+          unfolding nodes
+          new-offset = enter-offset N (w .count) (getD H b 0) (w .row .at) (w .row .number) room
+
+          new-number : numberOf nodes (w .count) ≡ w .row .number
+          unfolding nodes
+          new-number = enter-number N (w .count) (getD H b 0) (w .row .at) (w .row .number) room
+
+          new-member : (s : ℕ) → s < w .count + 1 → (t : Bool) → eqb s (w .count) ≡ t → Member schema words d (offsetOf nodes s) (numberOf nodes s)
           new-member s below true e =
               let here : s ≡ w .count = eqb-true s (w .count) e in
-              let o : getD (set O (w .count) at) s 0 ≡ at = ap (λ (t : ℕ). getD (set O (w .count) at) t 0) here ∙ new-offset in
-              let k : getD (set N (w .count) n) s 0 ≡ n = ap (λ (t : ℕ). getD (set N (w .count) n) t 0) here ∙ new-number in
-              subst (λ (x : ℕ). Member schema words d x (getD (set N (w .count) n) s 0)) (sym o) (subst (λ (x : ℕ). Member schema words d at x) (sym k) m)
+              subst (λ (x : ℕ). Member schema words d (offsetOf nodes x) (numberOf nodes x)) (sym here)
+              (subst (λ (x : ℕ). Member schema words d x (numberOf nodes (w .count))) (sym new-offset)
+              (subst (λ (x : ℕ). Member schema words d (w .row .at) x) (sym new-number) member))
           new-member s below false e =
               let apart : s ≡ w .count → ⊥ = eqb-false s (w .count) e in
               let low : s < w .count = omega arith in
-              subst (λ (x : ℕ). Member schema words d x (getD (set N (w .count) n) s 0)) (sym (old-offset s low))
-              (subst (λ (x : ℕ). Member schema words d (getD O s 0) x) (sym (old-number s low)) (h .members s low))
+              subst (λ (x : ℕ). Member schema words d x (numberOf nodes s)) (sym (old-offset s low))
+              (subst (λ (x : ℕ). Member schema words d (offsetOf N s) x) (sym (old-number s low)) (h .members s low))
 
-          new-chained : Chained (keyOf (getD schema (d .relation) 0) words d (length H') (set O (w .count) at)) H' L' (w .count + 1)
+          new-chained : Chained (keyOf (getD schema (d .relation) 0) words d (length heads) nodes) heads (linkOf nodes) (w .count + 1)
+          unfolding heads nodes
           new-chained =
               let W : ℕ = getD schema (d .relation) 0 in
-              pushed (keyOf W words d (length H') (set O (w .count) at))
-              (chained-agree (keyOf W words d (length H) O) (keyOf W words d (length H') (set O (w .count) at)) H L (w .count)
-              (λ s low. ap₂ {C = ℕ} (λ (x y : ℕ). bucketOf x (dependencyOf d) (spanAt W words y)) (sym sizeH) (sym (old-offset s low))) (h .table .chained))
-              (ap₂ {C = ℕ} (λ (x y : ℕ). bucketOf x (dependencyOf d) (spanAt W words y)) sizeH new-offset ∙ sym bucket)
+              let size : length heads ≡ length H = length-set H b (w .count + 1) in
+              let K : ℕ → ℕ = keyOf W words d (length H) N in
+              let K' : ℕ → ℕ = keyOf W words d (length heads) nodes in
+              chained-more K' H (linkOf N) (w .count)
+              (chained-agree K H (linkOf N) (w .count) (h .table .chained) K'
+              (λ s low. ap₂ {C = ℕ} (λ (x y : ℕ). bucketOf x (dependencyOf d) (spanAt W words y)) (sym size) (sym (old-offset s low))))
+              b inside (ap₂ {C = ℕ} (λ (x y : ℕ). bucketOf x (dependencyOf d) (spanAt W words y)) size new-offset ∙ sym bucket) (linkOf nodes)
+              (λ s low. enter-below N (w .count) (getD H b 0) (w .row .at) (w .row .number) (3 * s) (omega arith))
+              (enter-link N (w .count) (getD H b 0) (w .row .at) (w .row .number) room)
 
-          pub walked-new : Walked schema words d (n + 1) (record { count = w .count + 1; least = w .least }) H' L' (set O (w .count) at) (set N (w .count) n)
+          pub walked-new : Walked schema words d
+              (record { row = record { at = after; number = w .row .number + 1 }; count = w .count + 1; least = w .least })
+              (set H b (w .count + 1)) (withLeader N (w .count) (getD H b 0) (w .row .at) (w .row .number))
+          unfolding heads nodes
           walked-new =
-              let r = h .room in
-              let bucketed : 0 < length H = r .bucket in
-              let linked : length L ≡ length O = r .linked in
-              let numbered : length N ≡ length O = r .numbered in
-              let small : length O < 4294967296 = r .small in
-              let sizeO : length (set O (w .count) at) ≡ length O = length-set O (w .count) at in
-              let sizeN : length (set N (w .count) n) ≡ length N = length-set N (w .count) n in
+              let some : 0 < length H = h .bucket in
+              let sizeH : length heads ≡ length H = length-set H b (w .count + 1) in
+              let sizeN : length nodes ≡ length N = enter-length N (w .count) (getD H b 0) (w .row .at) (w .row .number) in
               record {
-                room = record { bucket = omega arith; linked = omega arith; numbered = omega arith; small = omega arith };
+                bucket = omega arith;
+                placed = placed-next (w .row .at) after (w .row .number) (h .placed) next;
+                few = omega (arith, h .few);
                 table = record {
-                  linked = omega arith;
                   stored = omega arith;
-                  fits = λ s low. member-room (getD (set O (w .count) at) s 0) (getD (set N (w .count) n) s 0) (new-member s low (eqb s (w .count)) refl);
+                  fits = λ s low. member-room (offsetOf nodes s) (numberOf nodes s) (new-member s low (eqb s (w .count)) refl);
                   chained = new-chained;
                 };
                 members = λ s low. new-member s low (eqb s (w .count)) refl;
-                groups = groups-new (dependencyOf d) (databaseOf schema words) n (w .least .number) (w .count) (λ t. getD N t 0) (h .groups)
-                    (λ t. getD (set N (w .count) n) t 0)
-                    old-number new-number (member-relation at n m) alone;
+                groups = groups-new (dependencyOf d) (databaseOf schema words) (w .row .number) (w .least .number) (w .count) (numberOf N) (h .groups)
+                    (numberOf nodes) old-number new-number (member-relation (w .row .at) (w .row .number) member) alone;
                 least = h .least;
               }
 
   -- ---- from the first row to the last
 
   -- no row is passed
-  pub walked-start : (H L O N : List ℕ) → Room H L O N → ((key : ℕ → ℕ) (links : List ℕ) → Chained key H links 0)
-      → Walked schema words d 0 (record { count = 0; least = record { at = length words; number = length words } }) H L O N
-  walked-start H L O N room clear =
+  pub walked-start : (H N : List ℕ) → spellsRows schema words ≡ true → 0 < length H → ((b : ℕ) → b < length H → getD H b 0 ≡ 0)
+      → Walked schema words d
+      (record { row = record { at = 0; number = 0 }; count = 0; least = record { at = length words; number = length words } }) H N
+  walked-start H N good bucket clear =
       record {
-        room = room;
+        bucket = bucket;
+        placed = placed-start good;
+        few = omega arith;
         table = record {
-          linked = omega arith;
           stored = omega arith;
           fits = λ s low. absurd (omega arith);
-          chained = clear (keyOf (getD schema (d .relation) 0) words d (length H) O) L;
+          chained = chained-none (keyOf (getD schema (d .relation) 0) words d (length H) N) H (linkOf N) clear;
         };
         members = λ s low. absurd (omega arith);
-        groups = groups-start (dependencyOf d) (databaseOf schema words) (length words) (λ s. getD N s 0);
+        groups = groups-start (dependencyOf d) (databaseOf schema words) (length words) (numberOf N);
         least = placed-end;
       }
 
-  -- the same walk in equal slices
-  pub walked-cast : (n : ℕ) (w w' : Walk) (H H' L L' O O' N N' : List ℕ) → w' ≡ w → H' ≡ H → L' ≡ L → O' ≡ O → N' ≡ N
-      → Walked schema words d n w H L O N → Walked schema words d n w' H' L' O' N'
-  walked-cast n w w' H H' L L' O O' N N' ew eH eL eO eN h =
-      subst (λ (x : Walk). Walked schema words d n x H' L' O' N') (sym ew)
-      (subst (λ (x : List ℕ). Walked schema words d n w x L' O' N') (sym eH)
-      (subst (λ (x : List ℕ). Walked schema words d n w H x O' N') (sym eL)
-      (subst (λ (x : List ℕ). Walked schema words d n w H L x N') (sym eO)
-      (subst (λ (x : List ℕ). Walked schema words d n w H L O x) (sym eN) h))))
-
   -- all rows are passed
-  pub walked-end : (at n : ℕ) (w : Walk) (H L O N : List ℕ) → Walked schema words d n w H L O N → Placed schema words at n → length words ≤ at
-      → Skips schema words d (w .least)
+  pub walked-end : (w : Walk) (H N : List ℕ) → Walked schema words d w H N → length words ≤ w .row .at → Skips schema words d (w .least)
   unfolding rowsFrom
-  walked-end at n w H L O N h p end =
-      let none : drop n (databaseOf schema words) ≡ [] = p .read ∙ ap (λ (l : List ℕ). databaseOf schema l) (drop-of-length-le words {i = at} end) in
+  walked-end w H N h end =
+      let n : ℕ = w .row .number in
+      let none : drop n (databaseOf schema words) ≡ [] =
+      h .placed .read ∙ ap (λ (l : List ℕ). databaseOf schema l) (drop-of-length-le words {i = w .row .at} end) in
       let size : length (drop n (databaseOf schema words)) ≡ length (databaseOf schema words) - n = length-drop n (databaseOf schema words) in
       let zero-size : length (drop n (databaseOf schema words)) ≡ 0 = ap (λ (l : Database). length l) none in
       record {
@@ -313,6 +327,14 @@ module _ (schema words : List ℕ) (d : Dependency) where
             pairs-skip (dependencyOf d) m (w .least .number) (databaseOf schema words)
             (λ k j before below low. h .groups .kept k j before (omega arith) low)
             ∙ ap (λ (l : Database). firstPairFrom (dependencyOf d) (m + w .least .number) l) (h .least .read);
+      }
+
+  -- no row is skipped
+  pub skips-none : spellsRows schema words ≡ true → Skips schema words d (record { at = 0; number = 0 })
+  skips-none good =
+      record {
+        from = placed-start good .from;
+        same = λ m. let e : m ≡ m + 0 = omega arith in ap (λ (x : ℕ). firstPairFrom (dependencyOf d) x (databaseOf schema words)) e;
       }
 
 -- the words from `at` on

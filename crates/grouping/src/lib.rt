@@ -1,20 +1,21 @@
 // Groups of rows and their leaders, by hashing. A group is the rows of a dependency's relation that agree on its left columns; its leader is its
 // first row. If two rows of a group differ on the right column, one of them differs from the leader: so the first leader that a row of its group
 // differs from is the first row of the first broken pair.
-// The leaders stand in lent slices: `offsets` has the word at which each begins, `numbers` its position among the rows, and `heads` and
-// `links` are hash chains over their left values. A row for which there is no room is one that may be the first of a broken pair.
+// The leaders stand in lent slices, as hash chains over their left values: `heads` has a word for each bucket, and `nodes` three for each leader: its
+// link, the word at which it begins, and its position among the rows. A leader is written as its number plus 1, and 0 is the end of a chain.
+// A row for which there is no room, or whose word is beyond 32 bits, is one that may be the first of a broken pair.
 use query::Dependency;
 ghost use mathlib.Core.Path.{_≡_};
 ghost use mathlib.Core.Bool.{true};
-ghost use Prim.Native.Nat.{_+_, _^_, _≤_, _<_};
-ghost use lib.ListN.{length};
+ghost use Prim.Native.Nat.{ℕ, _+_, _*_, _^_, _≤_, _<_};
+ghost use lib.ListN.{length, getD, set};
 ghost use Rattle.query.specs.View.{dependencyOf};
 ghost use Rattle.words.specs.Words.{spellsRows};
 ghost use Rattle.words.specs.internal.Rows.{spanAt};
 ghost use Rattle.words.specs.internal.Found.{Testable};
 ghost use Rattle.grouping.specs.internal.Hash.{bucketOf};
-ghost use Rattle.grouping.specs.internal.Table.{Table, Led};
-ghost use Rattle.grouping.specs.internal.Walked.{Member, Room, Walked, earlierOf, Skips};
+ghost use Rattle.grouping.specs.internal.Table.{Table, Compared, withLeader};
+ghost use Rattle.grouping.specs.internal.Walked.{Walked, earlierOf, Skips};
 
 // A row: the word at which it begins, and its position among the rows.
 pub struct Position {
@@ -22,19 +23,40 @@ pub struct Position {
     pub number: usize,
 }
 
-// How far a walk is: how many leaders are entered, and the first row known that may be the first of a broken pair.
-pub struct Walk {
-    pub count: usize,
-    pub least: Position,
+// How far a walk is: the row that comes next, how many leaders are entered, and the first row known that may be the first of a broken pair.
+struct Walk {
+    row: Position,
+    count: usize,
+    least: Position,
 }
 
-// The leader of a row's group, by its place in the table.
-pub enum Leader {
-    At(usize),
-    Absent,
+// A row that is compared with the leaders: the width of its relation, the word at which it begins, and its bucket.
+struct Sought {
+    width: usize,
+    at: usize,
+    bucket: usize,
 }
 
-// The bucket of the row at `a`, by its left values.
+// A row beside the leader of its group: it has the leader's value in the right column, or another, or there is no such leader.
+enum Comparison {
+    Same,
+    Differs(Position),
+    Alone,
+}
+
+// Makes all chains empty.
+fn clear(heads: &mut [u32])
+    ensures { λ _. ⌜ length (now (heads .exit)) ≡ length (now (heads .entry)) ⌝ }
+    ensures { λ _. ⌜ ((b : ℕ) → b < length (now (heads .exit)) → getD (now (heads .exit)) b 0 ≡ 0) ⌝ }
+{
+    let mut b: usize = 0;
+    while b < heads.len() {
+        heads[b] = 0;
+        b += 1;
+    }
+}
+
+// The bucket of the row at `a`, by its left values. Neighbouring values of one column are in neighbouring buckets.
 fn bucket_of(words: &[u32], width: usize, d: Dependency, a: usize, buckets: usize) -> usize
     requires { ⌜ a + 1 + width ≤ length (now words) ⌝ }
     requires { ⌜ (width ≤ 8) × (d .left < 2 ^ width) × (0 < buckets) ⌝ }
@@ -51,35 +73,60 @@ fn bucket_of(words: &[u32], width: usize, d: Dependency, a: usize, buckets: usiz
         left = left / 2;
         c += 1;
     }
-    (h % buckets as u64) as usize
+    let n = buckets as u64;
+    ((h + h / n * 2654435761) % n) as usize
 }
 
-// The leader of the group of the row at `at`, whose bucket is `b`, among the first `count`.
-fn leader_of(
+// Compares a row with the leader of its group, if that is among the first `count` leaders.
+fn compare(
     words: &[u32],
-    width: usize,
     d: Dependency,
-    at: usize,
-    b: usize,
+    sought: Sought,
     heads: &[u32],
-    links: &[u32],
-    offsets: &[usize],
+    nodes: &[u32],
     count: usize,
-) -> Leader
-    requires { ⌜ (at + 1 + width ≤ length (now words)) × (width ≤ 8) × (d .left < 2 ^ width) ⌝ }
-    requires { ⌜ (b ≡ bucketOf (length (now heads)) (dependencyOf d) (spanAt width (now words) at)) × (b < length (now heads)) ⌝ }
-    requires { ⌜ Table width (now words) d (now heads) (now links) (now offsets) count ⌝ }
-    ensures { λ r. ⌜ Led width (now (words .entry)) d (now (offsets .entry)) count at r ⌝ }
+) -> Comparison
+    requires { ⌜ (sought .at + 1 + sought .width ≤ length (now words)) × (sought .width ≤ 8) × (d .left < 2 ^ sought .width) × (d .right < sought .width) ⌝ }
+    requires { ⌜ (sought .bucket ≡ bucketOf (length (now heads)) (dependencyOf d) (spanAt (sought .width) (now words) (sought .at))) × (sought .bucket < length (now heads)) ⌝ }
+    requires { ⌜ Table (sought .width) (now words) d (now heads) (now nodes) count ⌝ }
+    ensures { λ r. ⌜ Compared (sought .width) (now (words .entry)) d (now (nodes .entry)) count (sought .at) r ⌝ }
 {
-    let mut node = heads[b] as usize;
+    let width = sought.width;
+    let at = sought.at;
+    let bucket = sought.bucket;
+    let mut node = heads[bucket] as usize;
     while node != 0 {
-        let s = node - 1;
-        if words::agrees_at(words, width, d, offsets[s], at) {
-            return Leader::At(s);
+        let s = 3 * (node - 1);
+        let leader = nodes[s + 1] as usize;
+        if words::agrees_at(words, width, d, leader, at) {
+            let right = d.right as usize;
+            if words[leader + 1 + right] == words[at + 1 + right] {
+                return Comparison::Same;
+            }
+            return Comparison::Differs(Position {
+                at: leader,
+                number: nodes[s + 2] as usize,
+            });
         }
-        node = links[s] as usize;
+        node = nodes[s] as usize;
     }
-    Leader::Absent
+    Comparison::Alone
+}
+
+// Enters a row as leader number `count`, at the head of the chain of its bucket.
+fn enter(heads: &mut [u32], nodes: &mut [u32], count: usize, bucket: usize, row: Position)
+    requires { ⌜ (bucket < length (now heads)) × (3 * count + 1 < length (now nodes)) × (3 * count + 2 < length (now nodes)) ⌝ }
+    requires { ⌜ (count + 1 < 4294967296) × (row .at < 4294967296) × (row .number < 4294967296) ⌝ }
+    ensures { λ _. ⌜ now (heads .exit) ≡ set (now (heads .entry)) bucket (count + 1) ⌝ }
+    ensures { λ _. ⌜ now (nodes .exit) ≡ withLeader (now (nodes .entry)) count (getD (now (heads .entry)) bucket 0) (row .at) (row .number) ⌝ }
+{
+    let at = row.at as u32;
+    let number = row.number as u32;
+    let s = 3 * count;
+    nodes[s] = heads[bucket];
+    nodes[s + 1] = at;
+    nodes[s + 2] = number;
+    heads[bucket] = (count + 1) as u32;
 }
 
 // The position of the two that comes first.
@@ -89,107 +136,89 @@ fn earlier(p: Position, q: Position) -> Position
     if q.number < p.number { q } else { p }
 }
 
-// Passes the row at `at`, of the dependency's relation and at position `n`: it is a leader, or it is compared with the leader of its group.
-fn pass_row(
+// Passes one row. If it is of the dependency's relation, it is compared with the leader of its group, or is a leader.
+fn step(
     schema: &[u8],
     words: &[u32],
     d: Dependency,
-    at: usize,
-    n: usize,
     walk: Walk,
     heads: &mut [u32],
-    links: &mut [u32],
-    offsets: &mut [usize],
-    numbers: &mut [usize],
+    nodes: &mut [u32],
 ) -> Walk
     requires { ⌜ Testable (now schema) d ⌝ }
-    requires { ⌜ Member (now schema) (now words) d at n ⌝ }
-    requires { ⌜ Walked (now schema) (now words) d n walk (now heads) (now links) (now offsets) (now numbers) ⌝ }
-    ensures { λ r. ⌜ Walked (now (schema .entry)) (now (words .entry)) d (n + 1) r (now (heads .exit)) (now (links .exit)) (now (offsets .exit)) (now (numbers .exit)) ⌝ }
+    requires { ⌜ walk .row .at < length (now words) ⌝ }
+    requires { ⌜ Walked (now schema) (now words) d walk (now heads) (now nodes) ⌝ }
+    ensures { λ r. ⌜ Walked (now (schema .entry)) (now (words .entry)) d r (now (heads .exit)) (now (nodes .exit)) ⌝ }
+    ensures { λ r. ⌜ walk .row .at < r .row .at ⌝ }
 {
-    let index = d.relation as usize;
-    let width = schema[index] as usize;
+    let at = walk.row.at;
+    let row = Position {
+        at: words::next(schema, words, at),
+        number: walk.row.number + 1,
+    };
     let count = walk.count;
     let least = walk.least;
-    let b = bucket_of(words, width, d, at, heads.len());
-    let found = leader_of(words, width, d, at, b, heads, links, offsets, count);
-    if let Leader::At(s) = found {
-        let right = d.right as usize;
-        let leader = offsets[s];
-        if words[leader + 1 + right] == words[at + 1 + right] {
-            return walk;
+    let index = d.relation as usize;
+    if words[at] as usize != index {
+        return Walk { row, count, least };
+    }
+    let width = schema[index] as usize;
+    let bucket = bucket_of(words, width, d, at, heads.len());
+    let found = compare(words, d, Sought { width, at, bucket }, heads, nodes, count);
+    match found {
+        Comparison::Same => Walk { row, count, least },
+        Comparison::Differs(p) => Walk {
+            row,
+            count,
+            least: earlier(least, p),
+        },
+        Comparison::Alone => {
+            let here = walk.row;
+            if 3 <= nodes.len() - 3 * count && at < 4294967295 {
+                enter(heads, nodes, count, bucket, here);
+                return Walk {
+                    row,
+                    count: count + 1,
+                    least,
+                };
+            }
+            Walk {
+                row,
+                count,
+                least: earlier(least, here),
+            }
         }
-        let p = Position {
-            at: leader,
-            number: numbers[s],
-        };
-        return Walk {
-            count,
-            least: earlier(least, p),
-        };
-    }
-    if count == offsets.len() {
-        let p = Position { at, number: n };
-        return Walk {
-            count,
-            least: earlier(least, p),
-        };
-    }
-    chains::push(heads, links, count, b);
-    offsets[count] = at;
-    numbers[count] = n;
-    Walk {
-        count: count + 1,
-        least,
     }
 }
 
 // A row before which none is the first of a broken pair, or the end of the words. With room for all leaders it is the first row of the first
-// broken pair.
+// broken pair; without a bucket it is the first row.
 pub fn skip(
     schema: &[u8],
     words: &[u32],
     d: Dependency,
     heads: &mut [u32],
-    links: &mut [u32],
-    offsets: &mut [usize],
-    numbers: &mut [usize],
+    nodes: &mut [u32],
 ) -> Position
     requires { ⌜ Testable (now schema) d ⌝ }
     requires { ⌜ spellsRows (now schema) (now words) ≡ true ⌝ }
-    requires { ⌜ Room (now heads) (now links) (now offsets) (now numbers) ⌝ }
     ensures { λ r. ⌜ Skips (now (schema .entry)) (now (words .entry)) d r ⌝ }
-    ensures { λ _. ⌜ Room (now (heads .exit)) (now (links .exit)) (now (offsets .exit)) (now (numbers .exit)) ⌝ }
 {
-    chains::clear(heads);
-    let relation = d.relation as u32;
+    let first = Position { at: 0, number: 0 };
+    if heads.len() == 0 {
+        return first;
+    }
+    clear(heads);
     let mut walk = Walk {
+        row: first,
         count: 0,
         least: Position {
             at: words.len(),
             number: words.len(),
         },
     };
-    let mut at: usize = 0;
-    let mut n: usize = 0;
-    while at < words.len() {
-        let after = words::next(schema, words, at);
-        if words[at] == relation {
-            walk = pass_row(
-                schema,
-                words,
-                d,
-                at,
-                n,
-                walk,
-                heads,
-                links,
-                offsets,
-                numbers,
-            );
-        }
-        at = after;
-        n += 1;
+    while walk.row.at < words.len() {
+        walk = step(schema, words, d, walk, heads, nodes);
     }
     walk.least
 }

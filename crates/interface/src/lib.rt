@@ -7,7 +7,7 @@ ghost use Rattle.record_on_files.specs.Lent.{returned, leaves, Wrote};
 ghost use Rattle.record_on_files.specs.Records.{copied, opened, added, putIn, dropped, determinedIn};
 ghost use Rattle.reduction_on_files.specs.Shortening.{ReduceGives};
 ghost use Rattle.comparison_on_files.specs.Queries.{CompareGives, checkedIn, bit};
-ghost use Rattle.database_on_files.specs.Databases.{testedIn, evaluatedIn, answersLeft};
+ghost use Rattle.database_on_files.specs.Databases.{testedIn, evaluatedIn, answersLeft, countedIn};
 
 // ---- files
 
@@ -160,6 +160,36 @@ pub extern "C" fn spernevan_test(
     database_on_files::test_in_file(file, words, obeys, dependency, first, second)
 }
 
+// Tests a database against the dependencies, with lent working memory.
+#[no_mangle]
+pub extern "C" fn spernevan_test_lent(
+    file: &[u8],
+    words: &[u32],
+    heads: &mut [u32],
+    nodes: &mut [u32],
+    obeys: &mut u8,
+    dependency: &mut usize,
+    first: &mut usize,
+    second: &mut usize,
+) -> u8
+    ensures { λ r. ⌜ r ≡ returned (testedIn (now (file .entry)) (now (words .entry))) ⌝ }
+    ensures { λ _. ⌜ now (obeys .exit) ≡ leaves (testedIn (now (file .entry)) (now (words .entry))) (λ t. t .obeys) (now (obeys .entry)) ⌝ }
+    ensures { λ _. ⌜ now (dependency .exit) ≡ leaves (testedIn (now (file .entry)) (now (words .entry))) (λ t. t .dependency) (now (dependency .entry)) ⌝ }
+    ensures { λ _. ⌜ now (first .exit) ≡ leaves (testedIn (now (file .entry)) (now (words .entry))) (λ t. t .first) (now (first .entry)) ⌝ }
+    ensures { λ _. ⌜ now (second .exit) ≡ leaves (testedIn (now (file .entry)) (now (words .entry))) (λ t. t .second) (now (second .entry)) ⌝ }
+{
+    database_on_files::test_in_file_lent(
+        file,
+        words,
+        heads,
+        nodes,
+        obeys,
+        dependency,
+        first,
+        second,
+    )
+}
+
 // Evaluates the query of a place on a database.
 #[no_mangle]
 pub extern "C" fn spernevan_evaluate(
@@ -174,4 +204,61 @@ pub extern "C" fn spernevan_evaluate(
     ensures { λ _. ⌜ now (count .exit) ≡ leaves (evaluatedIn (now (file .entry)) place (now (words .entry)) (length (now (answers .entry)))) (λ n. n) (now (count .entry)) ⌝ }
 {
     database_on_files::evaluate_in_file(file, place, words, answers, count)
+}
+
+// Evaluates the query of a place on a database, with lent working memory.
+#[no_mangle]
+pub extern "C" fn spernevan_evaluate_lent(
+    file: &[u8],
+    place: usize,
+    words: &[u32],
+    answers: &mut [u32],
+    index: &mut [u32],
+    states: &mut [u32],
+    batch: &mut [u32],
+    scratch: &mut [u32],
+    count: &mut usize,
+) -> u8
+    ensures { λ r. ⌜ r ≡ returned (evaluatedIn (now (file .entry)) place (now (words .entry)) (length (now (answers .entry)))) ⌝ }
+    ensures { λ _. ⌜ now (answers .exit) ≡ answersLeft (now (file .entry)) place (now (words .entry)) (now (answers .entry)) ⌝ }
+    ensures { λ _. ⌜ now (count .exit) ≡ leaves (evaluatedIn (now (file .entry)) place (now (words .entry)) (length (now (answers .entry)))) (λ n. n) (now (count .entry)) ⌝ }
+{
+    database_on_files::evaluate_in_file_lent(
+        file,
+        place,
+        words,
+        answers,
+        index,
+        states,
+        batch,
+        scratch,
+        count,
+    )
+}
+
+// Counts the answers of the query of a place on a database.
+#[no_mangle]
+pub extern "C" fn spernevan_count(file: &[u8], place: usize, words: &[u32], count: &mut usize) -> u8
+    ensures { λ r. ⌜ r ≡ returned (countedIn (now (file .entry)) place (now (words .entry))) ⌝ }
+    ensures { λ _. ⌜ now (count .exit) ≡ leaves (countedIn (now (file .entry)) place (now (words .entry))) (λ n. n) (now (count .entry)) ⌝ }
+{
+    database_on_files::count_in_file(file, place, words, count)
+}
+
+// Counts the answers of the query of a place on a database, with lent working memory.
+#[no_mangle]
+pub extern "C" fn spernevan_count_lent(
+    file: &[u8],
+    place: usize,
+    words: &[u32],
+    index: &mut [u32],
+    states: &mut [u32],
+    batch: &mut [u32],
+    scratch: &mut [u32],
+    count: &mut usize,
+) -> u8
+    ensures { λ r. ⌜ r ≡ returned (countedIn (now (file .entry)) place (now (words .entry))) ⌝ }
+    ensures { λ _. ⌜ now (count .exit) ≡ leaves (countedIn (now (file .entry)) place (now (words .entry))) (λ n. n) (now (count .entry)) ⌝ }
+{
+    database_on_files::count_in_file_lent(file, place, words, index, states, batch, scratch, count)
 }

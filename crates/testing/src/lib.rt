@@ -1,5 +1,5 @@
 // The first of some dependencies that rows break, with its first pair of rows: one walk over the rows for each dependency, which skips to a row that
-// may be the first of a pair.
+// may be the first of a pair. The lent slices hold tables of `grouping`: the larger they are, the fewer walks. What they hold before does not matter.
 use query::Dependency;
 use words::Partner;
 use words::RowPair;
@@ -16,7 +16,6 @@ ghost use Rattle.words.specs.Testing.{firstPairFrom, firstBrokenFrom};
 ghost use Rattle.words.specs.Broken.{violationOf};
 ghost use Rattle.words.specs.internal.Found.{pairOf, Testable};
 ghost use Rattle.query.specs.Rule.{noDependency};
-ghost use Rattle.grouping.specs.internal.Walked.{Room};
 
 // The first pair of rows that break the dependency.
 fn first_pair(
@@ -24,22 +23,18 @@ fn first_pair(
     words: &[u32],
     d: Dependency,
     heads: &mut [u32],
-    links: &mut [u32],
-    offsets: &mut [usize],
-    numbers: &mut [usize],
+    nodes: &mut [u32],
 ) -> RowPair
     requires { ⌜ Testable (now schema) d ⌝ }
     requires { ⌜ spellsRows (now schema) (now words) ≡ true ⌝ }
-    requires { ⌜ Room (now heads) (now links) (now offsets) (now numbers) ⌝ }
     ensures { λ r. ⌜ r ≡ pairOf (firstPairFrom (dependencyOf d) 0 (databaseOf (now (schema .entry)) (now (words .entry)))) ⌝ }
-    ensures { λ _. ⌜ Room (now (heads .exit)) (now (links .exit)) (now (offsets .exit)) (now (numbers .exit)) ⌝ }
 {
     let relation = d.relation as u32;
     let mut at: usize = 0;
     let mut i: usize = 0;
     while at < words.len() {
         let rest = &words[at..];
-        let p = grouping::skip(schema, rest, d, heads, links, offsets, numbers);
+        let p = grouping::skip(schema, rest, d, heads, nodes);
         let first = at + p.at;
         let n = i + p.number;
         if first == words.len() {
@@ -59,144 +54,33 @@ fn first_pair(
 }
 
 // The first of the held dependencies that the rows break, with its first pair of rows.
-fn violation_in(
+pub fn first_violation(
     schema: &[u8],
     words: &[u32],
     dependencies: [Dependency; 32],
     held: usize,
     heads: &mut [u32],
-    links: &mut [u32],
-    offsets: &mut [usize],
-    numbers: &mut [usize],
+    nodes: &mut [u32],
 ) -> Violation
     requires { ⌜ held ≤ 32 ⌝ }
     requires { ⌜ ((k : ℕ) → k < held → Testable (now schema) (getD dependencies k noDependency)) ⌝ }
     requires { ⌜ spellsRows (now schema) (now words) ≡ true ⌝ }
-    requires { ⌜ Room (now heads) (now links) (now offsets) (now numbers) ⌝ }
     ensures { λ r. ⌜ r ≡ violationOf (firstBrokenFrom 0 (map dependencyOf (take held dependencies)) (databaseOf (now (schema .entry)) (now (words .entry)))) ⌝ }
 {
+    let mut buckets = heads.len();
+    if words.len() < buckets {
+        // few rows need few buckets, which are cleared for each dependency
+        buckets = words.len();
+    }
+    let used = &mut heads[..buckets];
     let mut k: usize = 0;
     while k < held {
         let d = dependencies[k];
-        let found = first_pair(schema, words, d, heads, links, offsets, numbers);
+        let found = first_pair(schema, words, d, used, nodes);
         if let RowPair::At(i, j) = found {
             return Violation::At(k, i, j);
         }
         k += 1;
     }
     Violation::Absent
-}
-
-// The search with room for the leaders of few rows.
-fn violation_few(
-    schema: &[u8],
-    words: &[u32],
-    dependencies: [Dependency; 32],
-    held: usize,
-) -> Violation
-    requires { ⌜ held ≤ 32 ⌝ }
-    requires { ⌜ ((k : ℕ) → k < held → Testable (now schema) (getD dependencies k noDependency)) ⌝ }
-    requires { ⌜ spellsRows (now schema) (now words) ≡ true ⌝ }
-    ensures { λ r. ⌜ r ≡ violationOf (firstBrokenFrom 0 (map dependencyOf (take held dependencies)) (databaseOf (now (schema .entry)) (now (words .entry)))) ⌝ }
-{
-    let mut heads = [0u32; 251];
-    let mut links = [0u32; 256];
-    let mut offsets = [0usize; 256];
-    let mut numbers = [0usize; 256];
-    violation_in(
-        schema,
-        words,
-        dependencies,
-        held,
-        &mut heads,
-        &mut links,
-        &mut offsets,
-        &mut numbers,
-    )
-}
-
-// The search with room for the leaders of some thousand rows. It is compiled apart, since it calls itself: else each search, however small, would
-// touch the stack of its arrays. That call is never made.
-fn violation_some(
-    schema: &[u8],
-    words: &[u32],
-    dependencies: [Dependency; 32],
-    held: usize,
-) -> Violation
-    requires { ⌜ held ≤ 32 ⌝ }
-    requires { ⌜ ((k : ℕ) → k < held → Testable (now schema) (getD dependencies k noDependency)) ⌝ }
-    requires { ⌜ spellsRows (now schema) (now words) ≡ true ⌝ }
-    ensures { λ r. ⌜ r ≡ violationOf (firstBrokenFrom 0 (map dependencyOf (take held dependencies)) (databaseOf (now (schema .entry)) (now (words .entry)))) ⌝ }
-{
-    let mut heads = [0u32; 4093];
-    let mut links = [0u32; 4096];
-    let mut offsets = [0usize; 4096];
-    let mut numbers = [0usize; 4096];
-    let found = violation_in(
-        schema,
-        words,
-        dependencies,
-        held,
-        &mut heads,
-        &mut links,
-        &mut offsets,
-        &mut numbers,
-    );
-    if 32 < held {
-        return violation_some(schema, words, dependencies, 32);
-    }
-    found
-}
-
-// The search with room for many leaders, compiled apart in the same way.
-fn violation_many(
-    schema: &[u8],
-    words: &[u32],
-    dependencies: [Dependency; 32],
-    held: usize,
-) -> Violation
-    requires { ⌜ held ≤ 32 ⌝ }
-    requires { ⌜ ((k : ℕ) → k < held → Testable (now schema) (getD dependencies k noDependency)) ⌝ }
-    requires { ⌜ spellsRows (now schema) (now words) ≡ true ⌝ }
-    ensures { λ r. ⌜ r ≡ violationOf (firstBrokenFrom 0 (map dependencyOf (take held dependencies)) (databaseOf (now (schema .entry)) (now (words .entry)))) ⌝ }
-{
-    let mut heads = [0u32; 65521];
-    let mut links = [0u32; 131072];
-    let mut offsets = [0usize; 131072];
-    let mut numbers = [0usize; 131072];
-    let found = violation_in(
-        schema,
-        words,
-        dependencies,
-        held,
-        &mut heads,
-        &mut links,
-        &mut offsets,
-        &mut numbers,
-    );
-    if 32 < held {
-        return violation_many(schema, words, dependencies, 32);
-    }
-    found
-}
-
-// The first of the held dependencies that the rows break, with its first pair of rows.
-pub fn first_violation(
-    schema: &[u8],
-    words: &[u32],
-    dependencies: [Dependency; 32],
-    held: usize,
-) -> Violation
-    requires { ⌜ held ≤ 32 ⌝ }
-    requires { ⌜ ((k : ℕ) → k < held → Testable (now schema) (getD dependencies k noDependency)) ⌝ }
-    requires { ⌜ spellsRows (now schema) (now words) ≡ true ⌝ }
-    ensures { λ r. ⌜ r ≡ violationOf (firstBrokenFrom 0 (map dependencyOf (take held dependencies)) (databaseOf (now (schema .entry)) (now (words .entry)))) ⌝ }
-{
-    if words.len() <= 1024 {
-        return violation_few(schema, words, dependencies, held);
-    }
-    if words.len() <= 16384 {
-        return violation_some(schema, words, dependencies, held);
-    }
-    violation_many(schema, words, dependencies, held)
 }

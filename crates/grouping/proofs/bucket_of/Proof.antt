@@ -3,12 +3,12 @@
 use mathlib.Core.Path.{_≡_, refl, sym, ap, _∙_}
 use mathlib.Core.Logic.{⊎-elim}
 use Prim.Native.Nat.{ℕ, _≤_, _-_, _+_, _*_, _/_, _%_, _<_}
-use native.Mathlib.Nat.{mod-lt}
+use native.Mathlib.Nat.{mod-lt, div-le-self}
 use native.Mathlib.Omega.{arith}
 use lib.ListN.{getD}
 use Rattle.query.specs.View.{columnsOf}
 use Rattle.words.specs.internal.Rows.{spanAt}
-use Rattle.grouping.specs.internal.Hash.{hashFrom}
+use Rattle.grouping.specs.internal.Hash.{hashFrom, spread}
 use Rattle.grouping.proofs.Hashes.{hashAt, hash-start, hash-skip, hash-mix, hash-end}
 use borrow.Author.Needs.{needs}
 use Rattle.grouping.proofs.bucket_of.Statement.{statement}
@@ -67,6 +67,15 @@ loop-again c = let a = c .before .before .before .args in
           (sym (w .1))) (c .if1 .came),
     )
 
+div-result : tie.Need-div-result Inv-loop μ-loop
+div-result c = search needs
+
+mul-result : tie.Need-mul-result Inv-loop μ-loop
+mul-result c = omega (arith, c .before .loop .inv .1, div-le-self (c .before .loop .h) (c .before .before .args .buckets))
+
+add-result : tie.Need-add-result Inv-loop μ-loop
+add-result c = omega (arith, c .before .loop .inv .1, div-le-self (c .before .loop .h) (c .before .before .args .buckets))
+
 rem-result : tie.Need-rem-result Inv-loop μ-loop
 rem-result c = search needs
 
@@ -78,7 +87,7 @@ returns c = let s = c .before .before in
     let e : hashFrom (columnsOf (a .d .left)) 0 (spanAt (a .width) W (a .a)) ≡ l .h =
     hash-start (a .width) W (a .a) (a .d .left) (s .pre .1 .0) (s .pre .1 .1) ∙ l .inv .2 ∙ hash-end (a .width) W (a .a) (l .c) (l .left) (l .h)
     (search needs) in
-    (sym (ap (λ (x : ℕ). x % a .buckets) e), mod-lt (l .h) {m = a .buckets} (s .pre .1 .2))
+    (sym (ap (spread (a .buckets)) e), mod-lt (l .h + l .h / a .buckets * 2654435761) {m = a .buckets} (s .pre .1 .2))
 
 pub bucket-of-spec : {M : Type 1} → statement M
 bucket-of-spec =
@@ -97,5 +106,8 @@ bucket-of-spec =
     add-c
     loop-less
     loop-again
+    div-result
+    mul-result
+    add-result
     rem-result
     returns)

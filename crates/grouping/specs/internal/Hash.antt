@@ -1,6 +1,6 @@
 -- The hash of a row's left values. Only that it is a function of them is used.
 use mathlib.Core.List.{List, [], _∷_}
-use Prim.Native.Nat.{ℕ, _+_, _*_, _%_}
+use Prim.Native.Nat.{ℕ, _+_, _*_, _/_, _%_}
 use Rattle.theory.specs.Query.{Row, column}
 use Rattle.theory.specs.Database.{Dependency}
 
@@ -9,6 +9,10 @@ unfoldable pub hashFrom : List ℕ → ℕ → Row ℕ → ℕ
 hashFrom [] h r = h
 hashFrom (c ∷ cs) h r = hashFrom cs ((h * 1000003 + column 0 r c) % 4294967296) r
 
+-- The bucket of a hash: neighbours stay neighbours, and hashes with the same remainder are spread
+abbrev pub spread : ℕ → ℕ → ℕ
+spread buckets h = (h + h / buckets * 2654435761) % buckets
+
 -- The bucket of a row, by its left values
 abbrev pub bucketOf : ℕ → Dependency → Row ℕ → ℕ
-bucketOf buckets d r = hashFrom (d .left) 0 r % buckets
+bucketOf buckets d r = spread buckets (hashFrom (d .left) 0 r)

@@ -2,7 +2,7 @@
 use mathlib.Core.Path.{_≡_}
 use mathlib.Core.Bool.{cond}
 use mathlib.Core.List.{List}
-use Prim.Native.Nat.{ℕ, _+_, _<_}
+use Prim.Native.Nat.{ℕ, _+_, _≤_, _<_}
 use lib.Dec.{ltb}
 use lib.ListN.{length, drop, getD}
 use Rattle.query.specs.View.{dependencyOf}
@@ -10,7 +10,7 @@ use Rattle.query.specs.declared.Dependency.{Dependency}
 use Rattle.words.specs.Words.{databaseOf}
 use Rattle.words.specs.Testing.{firstPairFrom}
 use Rattle.words.specs.internal.Found.{From}
-use Rattle.grouping.specs.internal.Table.{Table}
+use Rattle.grouping.specs.internal.Table.{offsetOf, numberOf, Table}
 use Rattle.grouping.specs.internal.Groups.{Groups}
 use Rattle.grouping.specs.declared.Position.{Position}
 use Rattle.grouping.specs.declared.Walk.{Walk}
@@ -26,19 +26,14 @@ pub record Member (schema words : List ℕ) (d : Dependency) (at n : ℕ) : Type
   pub inside : at < length words
   pub relation : getD words at 0 ≡ d .relation
 
--- The slices have room for the same number of leaders, which 32 bits count, and there is a bucket
-pub record Room (heads links offsets numbers : List ℕ) : Type 0 where
+-- What holds once the rows before the walk's row are passed
+pub record Walked (schema words : List ℕ) (d : Dependency) (w : Walk) (heads nodes : List ℕ) : Type 0 where
   pub bucket : 0 < length heads
-  pub linked : length links ≡ length offsets
-  pub numbered : length numbers ≡ length offsets
-  pub small : length offsets < 4294967296
-
--- What holds once the rows below n are passed
-pub record Walked (schema words : List ℕ) (d : Dependency) (n : ℕ) (w : Walk) (heads links offsets numbers : List ℕ) : Type 0 where
-  pub room : Room heads links offsets numbers
-  pub table : Table (getD schema (d .relation) 0) words d heads links offsets (w .count)
-  pub members : (s : ℕ) → s < w .count → Member schema words d (getD offsets s 0) (getD numbers s 0)
-  pub groups : Groups (dependencyOf d) (databaseOf schema words) n (w .least .number) (w .count) (λ s. getD numbers s 0)
+  pub placed : Placed schema words (w .row .at) (w .row .number)
+  pub few : w .count ≤ w .row .number
+  pub table : Table (getD schema (d .relation) 0) words d heads nodes (w .count)
+  pub members : (s : ℕ) → s < w .count → Member schema words d (offsetOf nodes s) (numberOf nodes s)
+  pub groups : Groups (dependencyOf d) (databaseOf schema words) (w .row .number) (w .least .number) (w .count) (numberOf nodes)
   pub least : Placed schema words (w .least .at) (w .least .number)
 
 -- The position of the two that comes first

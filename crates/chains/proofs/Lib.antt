@@ -1,2 +1,0 @@
--- Laws of hash chains.
-pub mod Chains

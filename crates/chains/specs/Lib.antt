@@ -1,2 +1,0 @@
--- Hash chains.
-pub mod internal
