@@ -7,6 +7,7 @@ sources.py reads files.
 
 from __future__ import annotations
 
+import gc
 import re
 import threading
 import time
@@ -102,6 +103,10 @@ class Shown(Dict[int, Value]):
     def __missing__(self, word: int) -> Value:
         found = self[word] = self._as_given(word, self._values.decode(word))
         return found
+
+    def learn(self, words: AbstractSet[int]) -> None:
+        """Takes up what words stand for, many at once: a text is shown as it is in every column."""
+        self.update((word, value) for word, value in zip(words, map(self._values.decode, words)) if type(value) is str)
 
     def _as_given(self, word: int, value: Value) -> Value:
         if isinstance(value, (int, Decimal)):
@@ -284,29 +289,45 @@ class Database:
 
     def decoded(self, answers: Words, number: int, shown: Sequence[Shown]) -> List[Tuple[Value, ...]]:
         """Answers of the engine as values, by how each column of theirs is shown: numbers ascending, then dates, then texts."""
-        length = len(shown)
-        if not length or not number:
+        if not shown or not number:
             return [()] * number
-        columns: List[Sequence[int]] = [answers[at : number * length : length] for at in range(length)]
-        if len(self.values) and max(answers) >= FIRST_CODE:
-            ordered = in_order(self.values, set(answers))
-            rank = {word: place for place, word in enumerate(ordered)}
-            rows = sorted(zip(*(map(rank.__getitem__, column) for column in columns)))
-            columns = [list(map(ordered.__getitem__, column)) for column in zip(*rows)]
-        return list(zip(*(map(column.__getitem__, held) for column, held in zip(shown, columns))))
+        with uncollected():
+            return self._decoded(answers, number, shown)
+
+    def _decoded(self, answers: Words, number: int, shown: Sequence[Shown]) -> List[Tuple[Value, ...]]:
+        length = len(shown)
+        columns = [answers[at : number * length : length] for at in range(length)]
+        if not len(self.values) or max(answers) < FIRST_CODE:
+            return list(zip(*(map(one.__getitem__, column) for one, column in zip(shown, columns))))
+        there = [set(column) for column in columns]
+        ordered = in_order(self.values, set().union(*there))
+        rank = {word: place for place, word in enumerate(ordered)}
+        rows = sorted(zip(*(map(rank.__getitem__, column) for column in columns)))
+        for one, words in zip(shown, there):
+            one.learn(words)
+        tables = [[one[word] if word in words else None for word in ordered] for one, words in zip(shown, there)]
+        return list(zip(*(map(table.__getitem__, map(itemgetter(at), rows)) for at, table in enumerate(tables))))
+
+
+@contextmanager
+def uncollected() -> Iterator[None]:
+    """Keeps Python from looking for cycles: rows make none, and looking for them doubles the time."""
+    collecting = gc.isenabled()
+    gc.disable()
+    try:
+        yield
+    finally:
+        if collecting:
+            gc.enable()
 
 
 def in_order(values: Values, words: Iterable[int]) -> List[int]:
     """Words in the order of what they stand for: numbers, then dates, then texts."""
-    numbers: List[Tuple[Any, int]] = []
-    dates: List[Tuple[str, int]] = []
-    texts: List[Tuple[str, int]] = []
-    for word in words:
-        value = values.decode(word)
-        if isinstance(value, (int, Decimal)):
-            numbers.append((value, word))
-        else:
-            (dates if isinstance(value, date) else texts).append((bare(value), word))
+    held = list(words)
+    decoded: List[Tuple[Any, int]] = list(zip(map(values.decode, held), held))
+    numbers = [one for one in decoded if isinstance(one[0], (int, Decimal))]
+    dates = [(bare(value), word) for value, word in decoded if isinstance(value, date)]
+    texts = [one for one in decoded if isinstance(one[0], str)]
     return [word for kind in (numbers, dates, texts) for _, word in sorted(kind, key=itemgetter(0))]
 
 

@@ -8,7 +8,6 @@ aside.
 from __future__ import annotations
 
 import csv
-import gc
 import os
 import re
 import sqlite3
@@ -21,7 +20,7 @@ from itertools import islice
 from typing import Any, Callable, Dict, Iterable, Iterator, List, NoReturn, Optional, Pattern, Sequence, TextIO, Tuple, Union
 from urllib.request import pathname2url
 
-from .data import CHUNK, Absent, Cells, Cures, Database, DataError, Note, Progress, Where, column_of, matched, positions, read_row_value
+from .data import CHUNK, Absent, Cells, Cures, Database, DataError, Note, Progress, Where, column_of, matched, positions, read_row_value, uncollected
 from .files import Path, kind_of, read_bytes, read_while, shown, text_of
 from .model import Words
 from .notation import Names, Reader, Table, Token, count, format_row
@@ -96,14 +95,11 @@ def fill(database: Database, paths: Union[Path, Sequence[Path]], csv_form: Csv =
     database.from_files = True
     for name in csv_form.text:
         column_of(name, database.names)
-    collecting = gc.isenabled()
-    gc.disable()  # Rows make no cycles, and looking for them doubles the time.
     try:
-        for path in [paths] if isinstance(paths, (str, os.PathLike)) else paths:
-            _read(path, database, csv_form)
+        with uncollected():
+            for path in [paths] if isinstance(paths, (str, os.PathLike)) else paths:
+                _read(path, database, csv_form)
     finally:
-        if collecting:
-            gc.enable()
         database.progress.done()
 
 

@@ -4,6 +4,7 @@ import ctypes
 import random
 import re
 import subprocess
+import sys
 import tempfile
 import threading
 import time
@@ -390,14 +391,14 @@ class Random(Calls):
         self.assertEqual(record.evaluate(0, [(0, (n,)) for n in range(80)]), want)
 
     def test_large_databases(self):
-        """On either side of each size at which the engine takes larger tables."""
+        """Up to a hundred thousand rows, and on either side of 4,096 words, from which on rows that a query can do without are dropped."""
         record = Record.open([2, 2]).add(0, [0], 1)
         joined = record.put(0, rule(record, "ans(z, x) :- R0(x, y), R1(y, z)"))
         joined = joined.put(1, rule(record, "ans(z) :- R0(x, y), R1(y, z)"))
         joined = joined.put(2, rule(record, "ans() :- R0(x, y), R1(y, x)"))
         joined = joined.put(3, rule(record, "ans(a) :- R1(a, b), R1(b, c), R1(c, d), R1(d, e), R1(e, f), R0(f, g)"))
         rng = random.Random(6)
-        for n in (40, 43, 170, 172, 600, 690, 2700, 2800, 9000, 65600):
+        for n in (40, 170, 682, 683, 9000, 65600):
             left = [(rng.randrange(2 * n), rng.randrange(n)) for _ in range(n)]
             right = [(rng.randrange(n), rng.randrange(n)) for _ in range(n)]
             rows = [row for pair in zip(left, right) for row in ((0, pair[0]), (1, pair[1]))]
@@ -405,8 +406,8 @@ class Random(Calls):
             for y, z in right:
                 after.setdefault(y, set()).add(z)
             both = {(z, x) for x, y in left for z in after.get(y, ())}
-            if n < 65600 or LONG:
-                self.assertEqual(joined.evaluate(0, rows), sorted(both))
+            self.assertEqual(joined.evaluate(0, rows), sorted(both))
+            self.assertEqual(joined.count(0, rows), len(both))
             self.assertEqual(joined.evaluate(1, rows), sorted({(z,) for z, _ in both}))
             self.assertEqual(joined.evaluate(2, rows), [()] if any(x in after.get(y, ()) for x, y in left) else [])
             reached = {x for x, _ in left}
@@ -419,6 +420,26 @@ class Random(Calls):
                 if left[i][1] != y and (broken is None or 2 * i < broken[1]):
                     broken = (0, 2 * i, 2 * k)
             self.assertEqual(record.test(rows), broken and Broken(*broken))
+
+    @unittest.skipUnless(LONG, "takes half a minute; SPERNEVAN_TEST_LONG=1 runs it")
+    def test_a_million_rows_a_table(self):
+        """Four million answers, and a key join of a million rows a table, in seconds."""
+        n, rng = 1_000_000, random.Random(7)
+        record = Record.open([2, 2]).add(0, [0], 1).add(1, [0], 1)
+        record = record.put(0, rule(record, "ans(x, y, z) :- R0(x, y), R1(x, z)")).put(1, rule(record, "ans(x, y) :- R0(x, g), R0(y, g)"))
+        keys = [rng.sample(range(n), n) for _ in range(2)]
+        words = array("I", [word for relation in (0, 1) for key in keys[relation] for word in (relation, key, key // 4 + relation)])
+        for what, call, want in (
+            ("test", lambda: record.test(words), None),
+            ("join", lambda: record.evaluate(0, words), [(key, key // 4, key // 4 + 1) for key in range(n)]),
+            ("count", lambda: record.count(1, words), 4 * n),
+            ("four million answers", lambda: record.evaluate(1, words)[-1], (n - 1, n - 1)),
+        ):
+            start = time.process_time()
+            self.assertEqual(call(), want)
+            took = time.process_time() - start
+            print(f"\n{what}: {took:.1f} s", file=sys.stderr)
+            self.assertLess(took, 30)
 
     def test_more_answers_than_a_batch(self):
         record = Record.open([1])

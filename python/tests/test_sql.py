@@ -14,10 +14,11 @@ import unittest
 from datetime import date, datetime, timedelta
 from decimal import Decimal
 from pathlib import Path
+from unittest import mock
 
 import context
 from context import MANY
-from spernevan import Names, Query, Record, Table, parse_query, read_names, sql
+from spernevan import Constant, Names, Query, Record, Row, Table, Variable, engine, parse_query, read_names, sql
 from spernevan.definition import define, itself
 
 TEXTS = ["Lindenberg", "O'Brien \\ \"q\" \\'", "", "two\nlines", "höhe — ☃", "7", "-- ;", "%s :x $1 {}"]
@@ -155,6 +156,49 @@ class SQLite(unittest.TestCase):
                 answered += bool(answers)
             base.close()
         self.assertGreater(answered, 20)
+
+    def test_larger_databases(self):
+        """Thousands of rows, repeats among them, and queries whose rows are tied together; with all memory, and with little."""
+        rng, answered = random.Random(14), 0
+        for _ in range(12 * MANY):
+            widths = [rng.randint(1, 4) for _ in range(rng.randint(1, 3))]
+            names, n = Names.default(widths), rng.choice([300, 1000, 3000])
+            rows = [(r, tuple(rng.randrange(n // rng.randint(1, 3)) for _ in range(widths[r]))) for r in rng.choices(range(len(widths)), k=n)]
+            rows += rng.choices(rows, k=n // 4)
+            base = sqlite3.connect(":memory:")
+            for table in names.tables:
+                base.execute(f"CREATE TABLE {table.name} ({', '.join(table.columns)})")
+            for r, values in rows:
+                base.execute(f"INSERT INTO R{r} VALUES ({', '.join('?' * len(values))})", values)
+            for query in [self.tied(rng, widths, n) for _ in range(4)]:
+                record = Record.open(widths).put(0, query)
+                found = sorted(base.execute(sql.statement(query, names)))
+                found = [()] * len(found) if not query.head else found
+                answered += bool(found)
+                self.assertEqual(record.evaluate(0, rows), found)
+                self.assertEqual(record.count(0, rows), len(found))
+                with mock.patch.object(engine, "AMPLE_WORDS", rng.choice([0, 100, 1000])):
+                    self.assertEqual(record.evaluate(0, rows), found)
+            base.close()
+        self.assertGreater(answered, 24)
+
+    def tied(self, rng, widths, values):
+        """A query of a few rows, each of which has a variable of an earlier one."""
+        rows, used = [], []
+        for number in range(rng.randint(1, 4)):
+            relation = rng.randrange(len(widths))
+            entries = [Variable(8 * number + column) for column in range(widths[relation])]
+            for column in range(len(entries)):
+                if rng.random() < 0.1:
+                    entries[column] = Constant(rng.randrange(values))
+                elif used and rng.random() < 0.1:
+                    entries[column] = rng.choice(used)
+            if used:
+                entries[rng.randrange(len(entries))] = rng.choice(used)
+            rows.append(Row(relation, tuple(entries)))
+            used += [entry for entry in entries if isinstance(entry, Variable)]
+        used = used or [Constant(3)]
+        return Query(tuple(rng.choice(used) for _ in range(rng.randint(0, 3))), tuple(rows))
 
     def test_sample(self):
         record = Record.read(context.SAMPLES / "flights.file")
