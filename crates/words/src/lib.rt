@@ -41,6 +41,14 @@ pub fn next(schema: &[u8], words: &[u32], at: usize) -> usize
     at + 1 + width
 }
 
+// The value in a column of the row of a database that begins at word `at`. Every value of a database is read here.
+pub fn value(words: &[u32], at: usize, column: usize) -> u32
+    requires { ⌜ at + 1 + column < length (now words) ⌝ }
+    ensures { λ x. ⌜ x ≡ getD (now (words .entry)) (at + 1 + column) 0 ⌝ }
+{
+    words[at + 1 + column]
+}
+
 // Whether the rows at `a` and `b` agree on the left columns of the dependency.
 pub fn agrees_at(words: &[u32], width: usize, d: Dependency, a: usize, b: usize) -> bool
     requires { ⌜ (a + 1 + width ≤ length (now words)) × (b + 1 + width ≤ length (now words)) ⌝ }
@@ -51,7 +59,7 @@ pub fn agrees_at(words: &[u32], width: usize, d: Dependency, a: usize, b: usize)
     let mut c: usize = 0;
     while c < width {
         if left % 2 == 1 {
-            if words[a + 1 + c] != words[b + 1 + c] {
+            if value(words, a, c) != value(words, b, c) {
                 return false;
             }
         }
@@ -72,7 +80,7 @@ pub fn breaks_at(words: &[u32], width: usize, d: Dependency, a: usize, b: usize)
         return false;
     }
     let right = d.right as usize;
-    words[a + 1 + right] != words[b + 1 + right]
+    value(words, a, right) != value(words, b, right)
 }
 
 // The position of a row that is found.

@@ -18,36 +18,19 @@ abbrev μ-loop : tie.MeasureT-loop
 loop-holds : tie.Need-loop-holds Inv-loop μ-loop
 loop-holds c = (search needs, refl)
 
-add-if2 : tie.Need-add-if2 Inv-loop μ-loop
-add-if2 c = search needs
+value-requires : tie.Need-value-requires Inv-loop μ-loop
+value-requires c κs = search needs
 
-add-if2-2 : tie.Need-add-if2-2 Inv-loop μ-loop
-add-if2-2 c = search needs
-
-mul-if2 : tie.Need-mul-if2 Inv-loop μ-loop
-mul-if2 c = search needs
-
-shared-slice-read-if2 : tie.Need-shared-slice-read-if2 Inv-loop μ-loop
-shared-slice-read-if2 c = search needs
-
-add-if2-3 : tie.Need-add-if2-3 Inv-loop μ-loop
-add-if2-3 c = search needs
-
-add-if2-4 : tie.Need-add-if2-4 Inv-loop μ-loop
-add-if2-4 c = search needs
-
-mul-if2-2 : tie.Need-mul-if2-2 Inv-loop μ-loop
-mul-if2-2 c = search needs
-
-shared-slice-read-if2-2 : tie.Need-shared-slice-read-if2-2 Inv-loop μ-loop
-shared-slice-read-if2-2 c = search needs
+value-requires-2 : tie.Need-value-requires-2 Inv-loop μ-loop
+value-requires-2 c κs = search needs
 
 returns : tie.Need-returns Inv-loop μ-loop
-returns c = let s = c .before .before .before .before .before .before in
+returns c = let s = c .before .before .before .before .before .before .before in
     let a = s .args in
     let l = c .before .before .before .before .before .loop in
     let e : agreeFrom (a .width) (a .words .now) (a .a) (a .b) 0 (a .d .left) ≡ false =
-    l .inv .1 ∙ agree-differ (a .width) (a .words .now) (a .a) (a .b) (l .c) (l .left) (search needs) (c .before .before .before .if1 .taken) (c .if2 .taken) in
+    l .inv .1 ∙ agree-differ (a .width) (a .words .now) (a .a) (a .b) (l .c) (l .left) (search needs) (c .before .before .before .if1 .taken)
+    (λ h. c .if2 .taken (c .before .before .value .ensures ∙ h ∙ sym (c .before .value2 .ensures))) in
     sym (agree-start (a .width) (a .words .now) (a .a) (a .b) (a .d .left) (s .pre .1 .0) (s .pre .1 .1) ∙ e)
 
 add-c : tie.Need-add-c Inv-loop μ-loop
@@ -57,15 +40,16 @@ loop-less : tie.Need-loop-less Inv-loop μ-loop
 loop-less c = search needs
 
 loop-again : tie.Need-loop-again Inv-loop μ-loop
-loop-again c = let a = c .before .before .before .args in
+loop-again c = let a = c .before .before .before .before .args in
     let l = c .before .before .loop in (
       search needs,
-      l .inv .1 ∙ ⊎-elim (λ w. agree-same (a .width) (a .words .now) (a .a) (a .b) (l .c) (l .left) (search needs) (w .0 .taken) (w .3 .left))
+      l .inv .1 ∙ ⊎-elim (λ w. agree-same (a .width) (a .words .now) (a .a) (a .b) (l .c) (l .left) (search needs) (w .0 .taken)
+          (sym (w .1 .ensures) ∙ w .3 .left ∙ w .2 .ensures))
           (λ w. agree-skip (a .width) (a .words .now) (a .a) (a .b) (l .c) (l .left) (search needs) (w .left)) (c .if1 .came),
     )
 
 returns-2 : tie.Need-returns-2 Inv-loop μ-loop
-returns-2 c = let s = c .before .before in
+returns-2 c = let s = c .before .before .before in
     let a = s .args in
     let l = c .before .loop in
     let e : agreeFrom (a .width) (a .words .now) (a .a) (a .b) 0 (a .d .left) ≡ true =
@@ -79,14 +63,8 @@ agrees-at-spec =
     Inv-loop
     μ-loop
     loop-holds
-    add-if2
-    add-if2-2
-    mul-if2
-    shared-slice-read-if2
-    add-if2-3
-    add-if2-4
-    mul-if2-2
-    shared-slice-read-if2-2
+    value-requires
+    value-requires-2
     returns
     add-c
     loop-less

@@ -27,29 +27,11 @@ returns c = let s = c .before .before .before in
 cast-right : tie.Need-cast-right
 cast-right c = search needs
 
-add-result : tie.Need-add-result
-add-result c = search needs
+value-requires : tie.Need-value-requires
+value-requires c κs = search needs
 
-add-result-2 : tie.Need-add-result-2
-add-result-2 c = search needs
-
-mul-result : tie.Need-mul-result
-mul-result c = search needs
-
-shared-slice-read-result : tie.Need-shared-slice-read-result
-shared-slice-read-result c = search needs
-
-add-result-3 : tie.Need-add-result-3
-add-result-3 c = search needs
-
-add-result-4 : tie.Need-add-result-4
-add-result-4 c = search needs
-
-mul-result-2 : tie.Need-mul-result-2
-mul-result-2 c = search needs
-
-shared-slice-read-result-2 : tie.Need-shared-slice-read-result-2
-shared-slice-read-result-2 c = search needs
+value-requires-2 : tie.Need-value-requires-2
+value-requires-2 c κs = search needs
 
 returns-2 : tie.Need-returns-2
 returns-2 c = let s = c .before .before .before .before .before .before in
@@ -57,7 +39,10 @@ returns-2 c = let s = c .before .before .before .before .before .before in
     let e : agreeRows (dependencyOf (a .d)) (spanAt (a .width) (a .words .now) (a .a)) (spanAt (a .width) (a .words .now) (a .b)) ≡ true =
     sym (c .before .before .before .before .agrees-at .ensures) ∙ not-false (c .before .before .before .before .agrees-at .result)
     (c .before .before .before .if1 .left) in
-    sym (breaks-spans (a .width) (a .words .now) (a .a) (a .b) (a .d) (s .pre .0 .0) (s .pre .0 .1) (s .pre .1 .1 .2)
+    let same : not (eqb (c .before .value .result) (c .value2 .result))
+    ≡ not (eqb (getD (a .words .now) (a .a + 1 + a .d .right) 0) (getD (a .words .now) (a .b + 1 + a .d .right) 0)) =
+    rw (c .before .value .ensures, c .value2 .ensures) in
+    same ∙ sym (breaks-spans (a .width) (a .words .now) (a .a) (a .b) (a .d) (s .pre .0 .0) (s .pre .0 .1) (s .pre .1 .1 .2)
     ∙ ap (λ (b : Bool). b && not (eqb (getD (a .words .now) (a .a + 1 + a .d .right) 0) (getD (a .words .now) (a .b + 1 + a .d .right) 0))) e)
 
 pub breaks-at-spec : {M : Type 1} → statement M
@@ -67,12 +52,6 @@ breaks-at-spec =
     agrees-at-requires
     returns
     cast-right
-    add-result
-    add-result-2
-    mul-result
-    shared-slice-read-result
-    add-result-3
-    add-result-4
-    mul-result-2
-    shared-slice-read-result-2
+    value-requires
+    value-requires-2
     returns-2)
