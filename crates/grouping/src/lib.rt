@@ -68,7 +68,7 @@ fn bucket_of(words: &[u32], width: usize, d: Dependency, a: usize, buckets: usiz
     let mut c: usize = 0;
     while c < width {
         if left % 2 == 1 {
-            h = (h * 1000003 + words[a + 1 + c] as u64) % 4294967296;
+            h = (h * 1000003 + words::value(words, a, c) as u64) % 4294967296;
         }
         left = left / 2;
         c += 1;
@@ -100,7 +100,7 @@ fn compare(
         let leader = nodes[s + 1] as usize;
         if words::agrees_at(words, width, d, leader, at) {
             let right = d.right as usize;
-            if words[leader + 1 + right] == words[at + 1 + right] {
+            if words::value(words, leader, right) == words::value(words, at, right) {
                 return Comparison::Same;
             }
             return Comparison::Differs(Position {

@@ -5,7 +5,6 @@ use mathlib.Core.Logic.{⊎-elim}
 use Prim.Native.Nat.{ℕ, _≤_, _-_, _+_, _*_, _/_, _%_, _<_}
 use native.Mathlib.Nat.{mod-lt, div-le-self}
 use native.Mathlib.Omega.{arith}
-use lib.ListN.{getD}
 use Rattle.query.specs.View.{columnsOf}
 use Rattle.words.specs.internal.Rows.{spanAt}
 use Rattle.grouping.specs.internal.Hash.{hashFrom, spread}
@@ -26,23 +25,14 @@ loop-holds c = (search needs, search needs, refl)
 mul-h : tie.Need-mul-h Inv-loop μ-loop
 mul-h c = search needs
 
-add-h : tie.Need-add-h Inv-loop μ-loop
-add-h c = search needs
-
-add-h-2 : tie.Need-add-h-2 Inv-loop μ-loop
-add-h-2 c = search needs
-
-mul-h-2 : tie.Need-mul-h-2 Inv-loop μ-loop
-mul-h-2 c = search needs
-
-shared-slice-read-h : tie.Need-shared-slice-read-h Inv-loop μ-loop
-shared-slice-read-h c = search needs
+value-requires : tie.Need-value-requires Inv-loop μ-loop
+value-requires c κs = search needs
 
 cast-h : tie.Need-cast-h Inv-loop μ-loop
-cast-h c = omega (arith, c .shared-slice-known .given (c .before .before .before .before .args .a + 1 + c .before .before .before .loop .c))
+cast-h c = search needs
 
-add-h-3 : tie.Need-add-h-3 Inv-loop μ-loop
-add-h-3 c = omega (arith, c .shared-slice-known .given (c .before .before .before .before .args .a + 1 + c .before .before .before .loop .c))
+add-h : tie.Need-add-h Inv-loop μ-loop
+add-h c = search needs
 
 add-c : tie.Need-add-c Inv-loop μ-loop
 add-c c = search needs
@@ -51,18 +41,18 @@ loop-less : tie.Need-loop-less Inv-loop μ-loop
 loop-less c = search needs
 
 loop-again : tie.Need-loop-again Inv-loop μ-loop
-loop-again c = let a = c .before .before .before .args in
+loop-again c = let a = c .before .before .before .before .args in
     let l = c .before .before .loop in
     let W = a .words .now in
-    let x : ℕ = getD W (a .a + 1 + l .c) 0 in
     let low : c .if1 .h < 4294967296 =
-    ⊎-elim (λ w. let e : c .if1 .h ≡ (l .h * 1000003 + x) % 4294967296 = w .2 in omega (arith, mod-lt (l .h * 1000003 + x) {m = 4294967296} (omega arith)))
+    ⊎-elim (λ w. let e : c .if1 .h ≡ (l .h * 1000003 + w .1 .result) % 4294967296 = w .2 in
+    omega (arith, mod-lt (l .h * 1000003 + w .1 .result) {m = 4294967296} (omega arith)))
     (λ w. let e : c .if1 .h ≡ l .h = w .1 in omega arith) (c .if1 .came) in (
       search needs,
       low,
       l .inv .2
           ∙ ⊎-elim (λ w. hash-mix (a .width) W (a .a) (l .c) (l .left) (l .h) (search needs) (w .0 .taken) ∙ ap
-          (hashAt (a .width) W (a .a) (l .c + 1) (l .left / 2)) (sym (w .2)))
+          (hashAt (a .width) W (a .a) (l .c + 1) (l .left / 2)) (sym (w .2 ∙ ap (λ (x : ℕ). (l .h * 1000003 + x) % 4294967296) (w .1 .ensures))))
           (λ w. hash-skip (a .width) W (a .a) (l .c) (l .left) (l .h) (search needs) (w .0 .left) ∙ ap (hashAt (a .width) W (a .a) (l .c + 1) (l .left / 2))
           (sym (w .1))) (c .if1 .came),
     )
@@ -71,16 +61,16 @@ div-result : tie.Need-div-result Inv-loop μ-loop
 div-result c = search needs
 
 mul-result : tie.Need-mul-result Inv-loop μ-loop
-mul-result c = omega (arith, c .before .loop .inv .1, div-le-self (c .before .loop .h) (c .before .before .args .buckets))
+mul-result c = omega (arith, c .before .loop .inv .1, div-le-self (c .before .loop .h) (c .before .before .before .args .buckets))
 
 add-result : tie.Need-add-result Inv-loop μ-loop
-add-result c = omega (arith, c .before .loop .inv .1, div-le-self (c .before .loop .h) (c .before .before .args .buckets))
+add-result c = omega (arith, c .before .loop .inv .1, div-le-self (c .before .loop .h) (c .before .before .before .args .buckets))
 
 rem-result : tie.Need-rem-result Inv-loop μ-loop
 rem-result c = search needs
 
 returns : tie.Need-returns Inv-loop μ-loop
-returns c = let s = c .before .before in
+returns c = let s = c .before .before .before in
     let a = s .args in
     let l = c .before .loop in
     let W = a .words .now in
@@ -97,12 +87,9 @@ bucket-of-spec =
     μ-loop
     loop-holds
     mul-h
-    add-h
-    add-h-2
-    mul-h-2
-    shared-slice-read-h
+    value-requires
     cast-h
-    add-h-3
+    add-h
     add-c
     loop-less
     loop-again

@@ -90,47 +90,29 @@ agrees-at-requires c κs = let s = begun (c .before .before) in
 cast-right : tie.Need-cast-right Inv-loop μ-loop
 cast-right c = search needs
 
-add-if2 : tie.Need-add-if2 Inv-loop μ-loop
-add-if2 c = omega (arith, right (c .before .before .before))
+value-requires : tie.Need-value-requires Inv-loop μ-loop
+value-requires c κs = right (c .before .before .before)
 
-add-if2-2 : tie.Need-add-if2-2 Inv-loop μ-loop
-add-if2-2 c = omega (arith, right (c .before .before .before))
-
-mul-if2 : tie.Need-mul-if2 Inv-loop μ-loop
-mul-if2 c = omega (arith, right (c .before .before .before))
-
-shared-slice-read-if2 : tie.Need-shared-slice-read-if2 Inv-loop μ-loop
-shared-slice-read-if2 c = omega (arith, right (c .before .before .before .before))
-
-add-if2-3 : tie.Need-add-if2-3 Inv-loop μ-loop
-add-if2-3 c = omega (arith, right-sought (c .before .before .before .before))
-
-add-if2-4 : tie.Need-add-if2-4 Inv-loop μ-loop
-add-if2-4 c = omega (arith, right-sought (c .before .before .before .before))
-
-mul-if2-2 : tie.Need-mul-if2-2 Inv-loop μ-loop
-mul-if2-2 c = omega (arith, right-sought (c .before .before .before .before))
-
-shared-slice-read-if2-2 : tie.Need-shared-slice-read-if2-2 Inv-loop μ-loop
-shared-slice-read-if2-2 c = omega (arith, right-sought (c .before .before .before .before .before))
+value-requires-2 : tie.Need-value-requires-2 Inv-loop μ-loop
+value-requires-2 c κs = right-sought (c .before .before .before .before)
 
 returns : tie.Need-returns Inv-loop μ-loop
 returns c = let m = c .before .before .before .before in
     let i = m .before .before .before in
-    (i .before .loop .node - 1, below i, agreed m, c .if2 .taken)
+    (i .before .loop .node - 1, below i, agreed m, sym (c .before .before .value .ensures) ∙ c .if2 .taken ∙ c .before .value2 .ensures)
 
-add-t23 : tie.Need-add-t23 Inv-loop μ-loop
-add-t23 c = omega (arith, stored (c .before .before .before .before .before .before .before))
+add-t26 : tie.Need-add-t26 Inv-loop μ-loop
+add-t26 c = omega (arith, stored (c .before .before .before .before .before .before .before))
 
-mul-t24 : tie.Need-mul-t24 Inv-loop μ-loop
-mul-t24 c = omega (arith, stored (c .before .before .before .before .before .before .before))
+mul-t27 : tie.Need-mul-t27 Inv-loop μ-loop
+mul-t27 c = omega (arith, stored (c .before .before .before .before .before .before .before))
 
-shared-slice-read-t32 : tie.Need-shared-slice-read-t32 Inv-loop μ-loop
-shared-slice-read-t32 c = omega (arith, stored (c .before .before .before .before .before .before .before .before))
+shared-slice-read-t23 : tie.Need-shared-slice-read-t23 Inv-loop μ-loop
+shared-slice-read-t23 c = omega (arith, stored (c .before .before .before .before .before .before .before .before))
 
-cast-t30 : tie.Need-cast-t30 Inv-loop μ-loop
-cast-t30 c = let l = c .before .before .before .before .before .before .before .before .before .loop in
-    omega (arith, c .shared-slice-known8 .given (3 * (l .node - 1) + 2))
+cast-t29 : tie.Need-cast-t29 Inv-loop μ-loop
+cast-t29 c = let l = c .before .before .before .before .before .before .before .before .before .loop in
+    omega (arith, c .shared-slice-known6 .given (3 * (l .node - 1) + 2))
 
 returns-2 : tie.Need-returns-2 Inv-loop μ-loop
 returns-2 c = let m = c .before .before .before .before .before in
@@ -144,7 +126,7 @@ shared-slice-read-node-2 : tie.Need-shared-slice-read-node-2 Inv-loop μ-loop
 shared-slice-read-node-2 c = omega (arith, stored (c .before .before .before .before))
 
 cast-node-2 : tie.Need-cast-node-2 Inv-loop μ-loop
-cast-node-2 c = omega (arith, c .shared-slice-known9 .given (3 * (c .before .before .before .before .before .loop .node - 1)))
+cast-node-2 c = omega (arith, c .shared-slice-known7 .given (3 * (c .before .before .before .before .before .loop .node - 1)))
 
 loop-less : tie.Need-loop-less Inv-loop μ-loop
 loop-less c = let i = c .before .before .before .before in
@@ -190,19 +172,13 @@ compare-spec =
     cast-leader
     agrees-at-requires
     cast-right
-    add-if2
-    add-if2-2
-    mul-if2
-    shared-slice-read-if2
-    add-if2-3
-    add-if2-4
-    mul-if2-2
-    shared-slice-read-if2-2
+    value-requires
+    value-requires-2
     returns
-    add-t23
-    mul-t24
-    shared-slice-read-t32
-    cast-t30
+    add-t26
+    mul-t27
+    shared-slice-read-t23
+    cast-t29
     returns-2
     mul-node-2
     shared-slice-read-node-2
