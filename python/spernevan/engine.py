@@ -371,10 +371,10 @@ def _most_answers(words: int, size: Size) -> int:
 def _for_answers(words: int, size: Size, answers: int) -> List[int]:
     """The words of index, states, batch and scratch for answers of so many words at most, as include/spernevan.h has them.
 
-    Three rows have few states, and so has a query on a few words: there it is not worth while to clear many.
+    Three rows have few states: there it is not worth while to clear many.
     """
     index = min(2 * words * max(0, size.rows - 1) + 112, MOST_INDEX_WORDS)
-    states = 0 if size.rows < 3 else words if size.rows == 3 else words + min(64 * words, 65536)
+    states = 0 if size.rows < 3 else words if size.rows == 3 else words + 65536
     return [index, states, 2 * answers + 64, 2 * answers + 64]
 
 
