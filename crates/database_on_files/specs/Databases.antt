@@ -6,22 +6,9 @@ use Prim.Native.Nat.{ℕ}
 use Rattle.record.specs.declared.Record.{Record}
 use Rattle.refusals.specs.Refusals.{Condition, firstHolding, Reply, gives, reply, refusalIn, _>>=_}
 use Rattle.format.specs.File.{readFile}
-use Rattle.words.specs.declared.Violation.{Violation}
-use Rattle.words.specs.declared.Violation.the-variants as violation
 use Rattle.database.specs.Calls.{tested, evaluated, bufferThen, counted}
 use Rattle.record_on_files.specs.Lent.{leaves}
-
--- What a test leaves: 1 where the database obeys, the rest 0; or 0, the dependency and its pair of rows
-pub record Tested : Type 0 where
-  pub obeys : ℕ
-  pub dependency : ℕ
-  pub first : ℕ
-  pub second : ℕ
-
--- These numbers of what a test finds
-abbrev pub testNumbers : Violation → Tested
-testNumbers violation.Absent = record { obeys = 1; dependency = 0; first = 0; second = 0 }
-testNumbers (violation.At k i j) = record { obeys = 0; dependency = k; first = i; second = j }
+use Rattle.verdict_numbers.specs.Verdicts.{Tested, testNumbers}
 
 -- The test of a database against the dependencies of the record of a file
 abbrev pub testedIn : List ℕ → List ℕ → Reply Tested

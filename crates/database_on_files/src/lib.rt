@@ -1,11 +1,9 @@
 // Testing a database, evaluating a place on it and counting its answers, on files. Each returns 0, or the number of the refusal, which leaves every buffer
 // and number that it is lent as it was; working memory too, unless the number is 10.
-use database::Answered;
-use database::Conformance;
 use record::Status;
 ghost use mathlib.Core.Path.{_≡_};
 ghost use lib.ListN.{length};
-ghost use Rattle.database.specs.Calls.{testConditions, searchConditions};
+ghost use Rattle.admission.specs.Conditions.{testConditions, searchConditions};
 ghost use Rattle.record_on_files.specs.Lent.{returned, leaves};
 ghost use Rattle.database_on_files.specs.Databases.{testedIn, evaluatedIn, answersLeft, countedIn, UnusedInFile};
 
@@ -34,23 +32,7 @@ pub fn test_in_file_lent(
         Status::Done => {
             let given = outcome.record;
             let found = database::test_lent(given, words, heads, nodes);
-            match found {
-                Conformance::Obeys => {
-                    *obeys = 1;
-                    *dependency = 0;
-                    *first = 0;
-                    *second = 0;
-                    0
-                }
-                Conformance::Broken(k, i, j) => {
-                    *obeys = 0;
-                    *dependency = k;
-                    *first = i;
-                    *second = j;
-                    0
-                }
-                Conformance::Refused(n) => n,
-            }
+            verdict_numbers::leave_test(found, obeys, dependency, first, second)
         }
         Status::Refused(n) => n,
     }
@@ -120,13 +102,7 @@ pub fn evaluate_in_file_lent(
                 batch,
                 scratch,
             );
-            match done {
-                Answered::Count(n) => {
-                    *count = n;
-                    0
-                }
-                Answered::Refused(n) => n,
-            }
+            verdict_numbers::leave_count(done, count)
         }
         Status::Refused(n) => n,
     }
@@ -185,13 +161,7 @@ pub fn count_in_file_lent(
         Status::Done => {
             let given = outcome.record;
             let done = database::count_lent(given, place, words, index, states, batch, scratch);
-            match done {
-                Answered::Count(k) => {
-                    *count = k;
-                    0
-                }
-                Answered::Refused(n) => n,
-            }
+            verdict_numbers::leave_count(done, count)
         }
         Status::Refused(n) => n,
     }

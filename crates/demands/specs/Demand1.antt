@@ -29,7 +29,8 @@ use Rattle.reduction.specs.declared.Reduced.{Reduced}
 use Rattle.reduction.specs.Reduced.{reductionConditions, IsReduced}
 use Rattle.database.specs.declared.Conformance.{Conformance}
 use Rattle.database.specs.declared.Answered.{Answered}
-use Rattle.database.specs.Calls.{testReply, testConditions, countReply, evaluationConditions, placeAnswers, longestBuffer}
+use Rattle.admission.specs.Conditions.{testConditions}
+use Rattle.database.specs.Calls.{testReply, countReply, evaluationConditions, placeAnswers, longestBuffer}
 use Rattle.words.specs.Words.{databaseOf}
 use Rattle.words.specs.Testing.{firstBrokenFrom}
 use Rattle.words.specs.Broken.{violationOf}

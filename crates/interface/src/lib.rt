@@ -7,7 +7,7 @@ ghost use Rattle.record_on_files.specs.Lent.{returned, leaves, Wrote};
 ghost use Rattle.record_on_files.specs.Records.{copied, opened, added, putIn, dropped, determinedIn};
 ghost use Rattle.reduction_on_files.specs.Shortening.{ReduceGives};
 ghost use Rattle.comparison_on_files.specs.Queries.{CompareGives, checkedIn, bit};
-ghost use Rattle.database.specs.Calls.{testConditions, searchConditions};
+ghost use Rattle.admission.specs.Conditions.{testConditions, searchConditions};
 ghost use Rattle.database_on_files.specs.Databases.{testedIn, evaluatedIn, answersLeft, countedIn, UnusedInFile};
 
 // ---- files

@@ -2,10 +2,12 @@
 use mathlib.Core.Path.{_≡_, refl, sym, ap, _∙_}
 use mathlib.Core.List.{List}
 use Prim.Native.Nat.{ℕ}
-use Rattle.database.specs.Calls.{countReply, counted, searchConditions, UnusedIfRefused}
+use Rattle.admission.specs.Conditions.{searchConditions}
+use Rattle.database.specs.Calls.{countReply, counted, UnusedIfRefused}
 use Rattle.database_on_files.specs.Databases.{countedIn, UnusedInFile}
-use Rattle.refusals.specs.Refusals.{Reply, gives, refused}
-use Rattle.record_on_files.proofs.Files.{read-done, read-refused, done-number, done-leaves, refused-number, refused-leaves}
+use Rattle.refusals.specs.Refusals.{Reply, refused}
+use Rattle.record_on_files.specs.Lent.{returned, leaves}
+use Rattle.record_on_files.proofs.Files.{read-done, read-refused, refused-number, refused-leaves}
 use Rattle.database_on_files.proofs.Memory.{unused-read}
 use borrow.Author.Needs.{needs}
 use Rattle.database_on_files.proofs.count_in_file_lent.Statement.{statement}
@@ -23,13 +25,13 @@ abbrev start : tie.After-count-lent → tie.Start
 start c = begun (passed c)
 
 -- Once the file is read the count is that of its record
-of-record : (c : tie.After-count-lent) (said : Reply ℕ) → countReply (c .count-lent .result) ≡ said
-    → countedIn (start c .args .file .now) (start c .args .place) (start c .args .words .now) ≡ said
-of-record c said e =
+of-record : (c : tie.After-count-lent)
+    → countReply (c .count-lent .result) ≡ countedIn (start c .args .file .now) (start c .args .place) (start c .args .words .now)
+of-record c =
     let s = start c .args in
     let o = passed c .read in
-    read-done (s .file .now) (o .result) (o .ensures) (λ r. counted r (s .place) (s .words .now)) (c .before .before .before .before .before .before .enum-told .given .1)
-    ∙ sym (c .count-lent .ensures .0) ∙ e
+    c .count-lent .ensures .0
+    ∙ sym (read-done (s .file .now) (o .result) (o .ensures) (λ r. counted r (s .place) (s .words .now)) (c .before .before .before .before .before .before .enum-told .given .1))
 
 -- Working memory is as the call on its record leaves it
 unused : (c : tie.After-count-lent) (before after : List ℕ)
@@ -50,11 +52,8 @@ enum-told c = search needs
 count-lent-requires : tie.Need-count-lent-requires
 count-lent-requires c κs = search needs
 
-enum-known-done : tie.Need-enum-known-done
-enum-known-done c = search needs
-
-enum-known-done-2 : tie.Need-enum-known-done-2
-enum-known-done-2 c = search needs
+leave-count-requires : tie.Need-leave-count-requires
+leave-count-requires c κs = search needs
 
 enum-known-answer : tie.Need-enum-known-answer
 enum-known-answer c = search needs
@@ -73,40 +72,19 @@ same-length-4 c = search needs
 
 returns : tie.Need-returns
 returns c =
-    let k = c .before .before .before .before .before .before .before .before .before .before .before in
-    let s = start k .args in
-    let f = c .before .done .given in
-    let p : countedIn (s .file .now) (s .place) (s .words .now) ≡ gives (f .0 .0) = of-record k (gives (f .0 .0)) (ap countReply (f .1)) in
+    let k = c .before .before .before .before .before .before .before .before .before .before in
+    let p = of-record k in
+    let l = c .leave-count .ensures in
     let m = k .count-lent .ensures .1 in (
-      done-number p,
-      (done-leaves p (λ n. n) (s .count .now), (unused k _ _ (m .0), (unused k _ _ (m .1 .0), (unused k _ _ (m .1 .1 .0), unused k _ _ (m .1 .1 .1))))),
+      l .0 ∙ ap returned p,
+      (
+        l .1 ∙ ap (λ (x : Reply ℕ). leaves x (λ n. n) (start k .args .count .now)) p,
+        (unused k _ _ (m .0), (unused k _ _ (m .1 .0), (unused k _ _ (m .1 .1 .0), unused k _ _ (m .1 .1 .1)))),
+      ),
     )
-
-same-length-5 : tie.Need-same-length-5
-same-length-5 c = search needs
-
-same-length-6 : tie.Need-same-length-6
-same-length-6 c = search needs
-
-same-length-7 : tie.Need-same-length-7
-same-length-7 c = search needs
-
-same-length-8 : tie.Need-same-length-8
-same-length-8 c = search needs
 
 returns-2 : tie.Need-returns-2
 returns-2 c =
-    let k = c .before .before .before .before .before .before .before .before .before .before .before in
-    let s = start k .args in
-    let f = c .before .done2 .given in
-    let p : countedIn (s .file .now) (s .place) (s .words .now) ≡ refused (f .0 .0) = of-record k (refused (f .0 .0)) (ap countReply (f .1)) in
-    let m = k .count-lent .ensures .1 in (
-      refused-number p,
-      (refused-leaves p (λ n. n) (s .count .now), (unused k _ _ (m .0), (unused k _ _ (m .1 .0), (unused k _ _ (m .1 .1 .0), unused k _ _ (m .1 .1 .1))))),
-    )
-
-returns-3 : tie.Need-returns-3
-returns-3 c =
     let o = c .before .before .before .read in
     let s = begun (c .before .before .before) .args in
     let p : countedIn (s .file .now) (s .place) (s .words .now) ≡ refused (c .before .answer .given .0 .0) =
@@ -122,17 +100,11 @@ count-in-file-lent-spec =
     read-requires
     enum-told
     count-lent-requires
-    enum-known-done
-    enum-known-done-2
+    leave-count-requires
     enum-known-answer
     same-length
     same-length-2
     same-length-3
     same-length-4
     returns
-    same-length-5
-    same-length-6
-    same-length-7
-    same-length-8
-    returns-2
-    returns-3)
+    returns-2)

@@ -3,11 +3,13 @@ use mathlib.Core.Path.{_≡_, refl, sym, ap, _∙_}
 use mathlib.Core.List.{List}
 use lib.ListN.{length}
 use Prim.Native.Nat.{ℕ}
-use Rattle.database.specs.Calls.{countReply, evaluated, bufferThen, searchConditions, UnusedIfRefused}
+use Rattle.admission.specs.Conditions.{searchConditions}
+use Rattle.database.specs.Calls.{countReply, evaluated, bufferThen, UnusedIfRefused}
 use Rattle.database_on_files.specs.Databases.{evaluatedIn, answersLeft, UnusedInFile}
-use Rattle.refusals.specs.Refusals.{Reply, gives, refused}
+use Rattle.refusals.specs.Refusals.{Reply, refused}
+use Rattle.record_on_files.specs.Lent.{returned, leaves}
 use Rattle.format.specs.File.{readFile}
-use Rattle.record_on_files.proofs.Files.{read-done, read-refused, done-number, done-leaves, refused-number, refused-leaves}
+use Rattle.record_on_files.proofs.Files.{read-done, read-refused, done-leaves, refused-number, refused-leaves}
 use Rattle.format.proofs.Results.{outcome-done, outcome-refused}
 use Rattle.database_on_files.proofs.Memory.{unused-read}
 use borrow.Author.Needs.{needs}
@@ -26,13 +28,13 @@ abbrev start : tie.After-evaluate-lent → tie.Start
 start c = begun (passed c)
 
 -- Once the file is read the count is that of its record
-of-record : (c : tie.After-evaluate-lent) (said : Reply ℕ) → countReply (c .evaluate-lent .result) ≡ said
-    → evaluatedIn (start c .args .file .now) (start c .args .place) (start c .args .words .now) (length (start c .args .answers .now)) ≡ said
-of-record c said e =
+of-record : (c : tie.After-evaluate-lent)
+    → countReply (c .evaluate-lent .result) ≡ evaluatedIn (start c .args .file .now) (start c .args .place) (start c .args .words .now) (length (start c .args .answers .now))
+of-record c =
     let s = start c .args in
     let o = passed c .read in
-    read-done (s .file .now) (o .result) (o .ensures) (λ r. evaluated r (s .place) (s .words .now) (length (s .answers .now))) (c .before .before .before .before .before .before .before .enum-told .given .1)
-    ∙ sym (c .evaluate-lent .ensures .0) ∙ e
+    c .evaluate-lent .ensures .0
+    ∙ sym (read-done (s .file .now) (o .result) (o .ensures) (λ r. evaluated r (s .place) (s .words .now) (length (s .answers .now))) (c .before .before .before .before .before .before .before .enum-told .given .1))
 
 -- And the answers are those of its place
 written : (c : tie.After-evaluate-lent)
@@ -63,11 +65,8 @@ enum-told c = search needs
 evaluate-lent-requires : tie.Need-evaluate-lent-requires
 evaluate-lent-requires c κs = search needs
 
-enum-known-done : tie.Need-enum-known-done
-enum-known-done c = search needs
-
-enum-known-done-2 : tie.Need-enum-known-done-2
-enum-known-done-2 c = search needs
+leave-count-requires : tie.Need-leave-count-requires
+leave-count-requires c κs = search needs
 
 enum-known-answer : tie.Need-enum-known-answer
 enum-known-answer c = search needs
@@ -89,49 +88,22 @@ same-length-5 c = search needs
 
 returns : tie.Need-returns
 returns c =
-    let k = c .before .before .before .before .before .before .before .before .before .before .before .before .before in
-    let s = start k .args in
-    let f = c .before .done .given in
-    let p : evaluatedIn (s .file .now) (s .place) (s .words .now) (length (s .answers .now)) ≡ gives (f .0 .0) = of-record k (gives (f .0 .0)) (ap countReply (f .1)) in
+    let k = c .before .before .before .before .before .before .before .before .before .before .before .before in
+    let p = of-record k in
+    let l = c .leave-count .ensures in
     let m = k .evaluate-lent .ensures .1 .1 in (
-      done-number p,
+      l .0 ∙ ap returned p,
       (
         k .evaluate-lent .ensures .1 .0 ∙ written k,
-        (done-leaves p (λ n. n) (s .count .now), (unused k _ _ (m .0), (unused k _ _ (m .1 .0), (unused k _ _ (m .1 .1 .0), unused k _ _ (m .1 .1 .1))))),
+        (
+          l .1 ∙ ap (λ (x : Reply ℕ). leaves x (λ n. n) (start k .args .count .now)) p,
+          (unused k _ _ (m .0), (unused k _ _ (m .1 .0), (unused k _ _ (m .1 .1 .0), unused k _ _ (m .1 .1 .1)))),
+        ),
       ),
     )
-
-same-length-6 : tie.Need-same-length-6
-same-length-6 c = search needs
-
-same-length-7 : tie.Need-same-length-7
-same-length-7 c = search needs
-
-same-length-8 : tie.Need-same-length-8
-same-length-8 c = search needs
-
-same-length-9 : tie.Need-same-length-9
-same-length-9 c = search needs
-
-same-length-10 : tie.Need-same-length-10
-same-length-10 c = search needs
 
 returns-2 : tie.Need-returns-2
 returns-2 c =
-    let k = c .before .before .before .before .before .before .before .before .before .before .before .before .before in
-    let s = start k .args in
-    let f = c .before .done2 .given in
-    let p : evaluatedIn (s .file .now) (s .place) (s .words .now) (length (s .answers .now)) ≡ refused (f .0 .0) = of-record k (refused (f .0 .0)) (ap countReply (f .1)) in
-    let m = k .evaluate-lent .ensures .1 .1 in (
-      refused-number p,
-      (
-        k .evaluate-lent .ensures .1 .0 ∙ written k,
-        (refused-leaves p (λ n. n) (s .count .now), (unused k _ _ (m .0), (unused k _ _ (m .1 .0), (unused k _ _ (m .1 .1 .0), unused k _ _ (m .1 .1 .1))))),
-      ),
-    )
-
-returns-3 : tie.Need-returns-3
-returns-3 c =
     let o = c .before .before .before .read in
     let s = begun (c .before .before .before) .args in
     let p : evaluatedIn (s .file .now) (s .place) (s .words .now) (length (s .answers .now)) ≡ refused (c .before .answer .given .0 .0) =
@@ -151,8 +123,7 @@ evaluate-in-file-lent-spec =
     read-requires
     enum-told
     evaluate-lent-requires
-    enum-known-done
-    enum-known-done-2
+    leave-count-requires
     enum-known-answer
     same-length
     same-length-2
@@ -160,10 +131,4 @@ evaluate-in-file-lent-spec =
     same-length-4
     same-length-5
     returns
-    same-length-6
-    same-length-7
-    same-length-8
-    same-length-9
-    same-length-10
-    returns-2
-    returns-3)
+    returns-2)

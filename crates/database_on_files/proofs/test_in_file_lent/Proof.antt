@@ -2,12 +2,14 @@
 use mathlib.Core.Path.{_≡_, refl, sym, ap, _∙_}
 use mathlib.Core.List.{List}
 use Prim.Native.Nat.{ℕ}
-use Rattle.database.specs.Calls.{testReply, tested, testConditions, UnusedIfRefused}
-use Rattle.database_on_files.specs.Databases.{testNumbers, testedIn, UnusedInFile}
+use Rattle.admission.specs.Conditions.{testConditions}
+use Rattle.database.specs.Calls.{tested, UnusedIfRefused}
+use Rattle.verdict_numbers.specs.Verdicts.{Tested, testNumbers, testResult}
+use Rattle.database_on_files.specs.Databases.{testedIn, UnusedInFile}
 use Rattle.refusals.specs.Refusals.{Reply, gives, refused, _>>=_}
 use Rattle.words.specs.declared.Violation.{Violation}
-use Rattle.words.specs.declared.Violation.the-variants as violation
-use Rattle.record_on_files.proofs.Files.{read-done, read-refused, done-number, done-leaves, refused-number, refused-leaves}
+use Rattle.record_on_files.specs.Lent.{returned, leaves}
+use Rattle.record_on_files.proofs.Files.{read-done, read-refused, refused-number, refused-leaves}
 use Rattle.database_on_files.proofs.Memory.{unused-read}
 use borrow.Author.Needs.{needs}
 use Rattle.database_on_files.proofs.test_in_file_lent.Statement.{statement}
@@ -25,13 +27,13 @@ abbrev start : tie.After-test-lent → tie.Start
 start c = begun (passed c)
 
 -- Once the file is read the test is that of its record
-of-record : (c : tie.After-test-lent) (said : Reply Violation) → testReply (c .test-lent .result) ≡ said
-    → (testedIn (start c .args .file .now) (start c .args .words .now) ≡ (said >>= λ v. gives (testNumbers v)))
-of-record c said e =
+of-record : (c : tie.After-test-lent) → testResult (c .test-lent .result) ≡ testedIn (start c .args .file .now) (start c .args .words .now)
+of-record c =
     let s = start c .args in
     let o = passed c .read in
-    read-done (s .file .now) (o .result) (o .ensures) (λ r. tested r (s .words .now) >>= λ v. gives (testNumbers v)) (c .before .before .before .before .enum-told .given .1)
-    ∙ ap (λ (x : Reply Violation). x >>= λ v. gives (testNumbers v)) (sym (c .test-lent .ensures .0) ∙ e)
+    let next : Violation → Reply Tested = λ v. gives (testNumbers v) in
+    ap (λ (x : Reply Violation). x >>= next) (c .test-lent .ensures .0)
+    ∙ sym (read-done (s .file .now) (o .result) (o .ensures) (λ r. tested r (s .words .now) >>= next) (c .before .before .before .before .enum-told .given .1))
 
 -- Working memory is as the test on its record leaves it
 unused : (c : tie.After-test-lent) (before after : List ℕ)
@@ -52,14 +54,8 @@ enum-told c = search needs
 test-lent-requires : tie.Need-test-lent-requires
 test-lent-requires c κs = search needs
 
-enum-told-2 : tie.Need-enum-told-2
-enum-told-2 c = search needs
-
-enum-known-found : tie.Need-enum-known-found
-enum-known-found c = search needs
-
-enum-known-found-2 : tie.Need-enum-known-found-2
-enum-known-found-2 c = search needs
+leave-test-requires : tie.Need-leave-test-requires
+leave-test-requires c κs = search needs
 
 enum-known-answer : tie.Need-enum-known-answer
 enum-known-answer c = search needs
@@ -71,84 +67,27 @@ same-length-2 : tie.Need-same-length-2
 same-length-2 c = search needs
 
 returns : tie.Need-returns
-unfolding _>>=_
 returns c =
-    let k = c .before .before .before .before .before .before in
-    let s = start k in
-    let m = k .test-lent .ensures .1 in
-    let p : testedIn (s .args .file .now) (s .args .words .now) ≡ gives (record { obeys = 1; dependency = 0; first = 0; second = 0 }) =
-    of-record k (gives violation.Absent) (ap testReply (c .enum-told2 .given .1)) in (
-      done-number p,
+    let k = c .before .before .before .before .before .before .before .before .before in
+    let p = of-record k in
+    let a = start k .args in
+    let l = c .leave-test .ensures in
+    let m = k .test-lent .ensures .1 in (
+      l .0 ∙ ap returned p,
       (
-        done-leaves p (λ t. t .obeys) (s .args .obeys .now),
+        l .1 .0 ∙ ap (λ (x : Reply Tested). leaves x (λ t. t .obeys) (a .obeys .now)) p,
         (
-          done-leaves p (λ t. t .dependency) (s .args .dependency .now),
+          l .1 .1 .0 ∙ ap (λ (x : Reply Tested). leaves x (λ t. t .dependency) (a .dependency .now)) p,
           (
-            done-leaves p (λ t. t .first) (s .args .first .now),
-            (done-leaves p (λ t. t .second) (s .args .second .now), (unused k _ _ (m .0), unused k _ _ (m .1))),
+            l .1 .1 .1 .0 ∙ ap (λ (x : Reply Tested). leaves x (λ t. t .first) (a .first .now)) p,
+            (l .1 .1 .1 .1 ∙ ap (λ (x : Reply Tested). leaves x (λ t. t .second) (a .second .now)) p, (unused k _ _ (m .0), unused k _ _ (m .1))),
           ),
         ),
       ),
     )
-
-same-length-3 : tie.Need-same-length-3
-same-length-3 c = search needs
-
-same-length-4 : tie.Need-same-length-4
-same-length-4 c = search needs
 
 returns-2 : tie.Need-returns-2
-unfolding _>>=_
 returns-2 c =
-    let k = c .before .before .before .before .before .before .before in
-    let s = start k in
-    let m = k .test-lent .ensures .1 in
-    let f = c .before .found .given in
-    let p : testedIn (s .args .file .now) (s .args .words .now)
-    ≡ gives (record { obeys = 0; dependency = f .0 .0; first = f .0 .1 .0; second = f .0 .1 .1 .0 }) =
-    of-record k (gives (violation.At (f .0 .0) (f .0 .1 .0) (f .0 .1 .1 .0))) (ap testReply (f .1)) in (
-      done-number p,
-      (
-        done-leaves p (λ t. t .obeys) (s .args .obeys .now),
-        (
-          done-leaves p (λ t. t .dependency) (s .args .dependency .now),
-          (
-            done-leaves p (λ t. t .first) (s .args .first .now),
-            (done-leaves p (λ t. t .second) (s .args .second .now), (unused k _ _ (m .0), unused k _ _ (m .1))),
-          ),
-        ),
-      ),
-    )
-
-same-length-5 : tie.Need-same-length-5
-same-length-5 c = search needs
-
-same-length-6 : tie.Need-same-length-6
-same-length-6 c = search needs
-
-returns-3 : tie.Need-returns-3
-unfolding _>>=_
-returns-3 c =
-    let k = c .before .before .before .before .before .before .before in
-    let s = start k in
-    let m = k .test-lent .ensures .1 in
-    let f = c .before .found2 .given in
-    let p : testedIn (s .args .file .now) (s .args .words .now) ≡ refused (f .0 .0) = of-record k (refused (f .0 .0)) (ap testReply (f .1)) in (
-      refused-number p,
-      (
-        refused-leaves p (λ t. t .obeys) (s .args .obeys .now),
-        (
-          refused-leaves p (λ t. t .dependency) (s .args .dependency .now),
-          (
-            refused-leaves p (λ t. t .first) (s .args .first .now),
-            (refused-leaves p (λ t. t .second) (s .args .second .now), (unused k _ _ (m .0), unused k _ _ (m .1))),
-          ),
-        ),
-      ),
-    )
-
-returns-4 : tie.Need-returns-4
-returns-4 c =
     let o = c .before .before .before .read in
     let s = begun (c .before .before .before) in
     let p : testedIn (s .args .file .now) (s .args .words .now) ≡ refused (c .before .answer .given .0 .0) =
@@ -174,17 +113,9 @@ test-in-file-lent-spec =
     read-requires
     enum-told
     test-lent-requires
-    enum-told-2
-    enum-known-found
-    enum-known-found-2
+    leave-test-requires
     enum-known-answer
     same-length
     same-length-2
     returns
-    same-length-3
-    same-length-4
-    returns-2
-    same-length-5
-    same-length-6
-    returns-3
-    returns-4)
+    returns-2)

@@ -1,0 +1,49 @@
+-- `leave_test` leaves the numbers of each case. Assumes nothing.
+use mathlib.Core.Path.{_≡_, ap}
+use Prim.Native.Nat.{ℕ}
+use Rattle.refusals.specs.Refusals.{Reply, gives, refused}
+use Rattle.words.specs.declared.Violation.{Violation}
+use Rattle.words.specs.declared.Violation.the-variants as violation
+use Rattle.database.specs.Calls.{testReply}
+use Rattle.record_on_files.specs.Lent.{returned, leaves}
+use Rattle.record_on_files.proofs.Files.{done-number, done-leaves, refused-number, refused-leaves, still-refused, goes-on}
+use Rattle.verdict_numbers.specs.Verdicts.{Tested, testNumbers}
+use borrow.Author.Needs.{needs}
+use Rattle.verdict_numbers.proofs.leave_test.Statement.{statement}
+use Rattle.verdict_numbers.proofs.leave_test.Tie as tie
+
+abbrev next : Violation → Reply Tested
+next v = gives (testNumbers v)
+
+enum-told : tie.Need-enum-told
+enum-told c = search needs
+
+enum-known-found : tie.Need-enum-known-found
+enum-known-found c = search needs
+
+enum-known-found-2 : tie.Need-enum-known-found-2
+enum-known-found-2 c = search needs
+
+returns : tie.Need-returns
+returns c =
+    let p = goes-on (ap testReply (c .enum-told .given .1)) next in
+    (done-number p, (done-leaves p (λ t. t .obeys) _, (done-leaves p (λ t. t .dependency) _, (done-leaves p (λ t. t .first) _, done-leaves p (λ t. t .second) _))))
+
+returns-2 : tie.Need-returns-2
+returns-2 c =
+    let p = goes-on (ap testReply (c .before .found .given .1)) next in
+    (done-number p, (done-leaves p (λ t. t .obeys) _, (done-leaves p (λ t. t .dependency) _, (done-leaves p (λ t. t .first) _, done-leaves p (λ t. t .second) _))))
+
+returns-3 : tie.Need-returns-3
+returns-3 c =
+    let p = still-refused (ap testReply (c .before .found2 .given .1)) next in (
+      refused-number p,
+      (
+        refused-leaves p (λ t. t .obeys) _,
+        (refused-leaves p (λ t. t .dependency) _, (refused-leaves p (λ t. t .first) _, refused-leaves p (λ t. t .second) _)),
+      ),
+    )
+
+pub leave-test-spec : {M : Type 1} → statement M
+leave-test-spec =
+    tie.close (tie.spec enum-told enum-known-found enum-known-found-2 returns returns-2 returns-3)
