@@ -197,12 +197,12 @@ module _ (r : Record) (p q : ℕ) (accepted : pairRefusal r p q ≡ none) where
         formed : theory.WellFormed (schemaOf r) (queryAt r p)
         formed = query-stored.well-formed (schemaOf r) (known .narrow) (storedAt r p) (known .good-p) fits (known .safe-p)
 
-        shown : containment.Counterexample (schemaOf r) (dependenciesOf r) (queryAt r p) (queryAt r q)
+        shown : containment.Counterexample (containment.Legal (schemaOf r) (dependenciesOf r)) (queryAt r p) (queryAt r q)
             (containment.frozenRows base (queryOf (schemaOf r) query)) (containment.frozenHead base (queryOf (schemaOf r) query))
         shown =
             subst
             (λ (C : theory.Query).
-            containment.Counterexample (schemaOf r) (dependenciesOf r) (queryAt r p) (queryAt r q) (containment.frozenRows base C)
+            containment.Counterexample (containment.Legal (schemaOf r) (dependenciesOf r)) (queryAt r p) (queryAt r q) (containment.frozenRows base C)
             (containment.frozenHead base C))
             (sym is)
             (counterexample (schemaOf r) (dependenciesOf r) (queryAt r p) (queryAt r q) base (formed .rows-fit)

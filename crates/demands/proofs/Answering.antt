@@ -62,9 +62,9 @@ module _ (r : Record) (p q : ℕ) (c : Comparison) (compared : Compared r p q c)
   decides =
       record {
         exactly = λ accepted. (
-          (λ says D sound obeys. compared .contained says D obeys),
+          (λ says D legal. compared .contained says D (legal .obeys)),
           λ contained. says-else (c .verdict) (not-refused accepted)
-              (λ e. let x = compared .apart e in x .no-answer (contained _ (x .sound) (x .obeys) _ (x .answer))),
+              (λ e. let x = compared .apart e in x .no-answer (contained _ (x .within) _ (x .answer))),
         );
         shown = λ accepted not. compared .apart (apart-else (c .verdict) (not-refused accepted) not);
       }

@@ -23,7 +23,7 @@ use Rattle.writer.specs.Write.{lengthReply}
 use Rattle.file.specs.RoundTrip.{Reads, Writes}
 use Rattle.theory.specs.Query.{_∈_}
 use Rattle.theory.specs.Answer.{Answer}
-use Rattle.theory.specs.Containment.{Contained, Counterexample, frozenRows, frozenHead}
+use Rattle.theory.specs.Containment.{Legal, Contained, Counterexample, frozenRows, frozenHead}
 use Rattle.lists.specs.Over.{over}
 
 -- ---- containment
@@ -31,9 +31,9 @@ use Rattle.lists.specs.Over.{over}
 -- A comparison says contained exactly when on every database that obeys the held dependencies each answer of p's query is an answer of q's; otherwise the
 -- query that it gives, read as a database, shows one on which this fails
 pub record Decides (r : Record) (p q : ℕ) (c : Comparison) : Type 0 where
-  pub exactly : pairRefusal r p q ≡ none → SaysContained (c .verdict) ↔ Contained (schemaOf r) (dependenciesOf r) (queryAt r p) (queryAt r q)
+  pub exactly : pairRefusal r p q ≡ none → SaysContained (c .verdict) ↔ Contained (Legal (schemaOf r) (dependenciesOf r)) (queryAt r p) (queryAt r q)
   pub shown : pairRefusal r p q ≡ none → (SaysContained (c .verdict) → ⊥)
-      → Counterexample (schemaOf r) (dependenciesOf r) (queryAt r p) (queryAt r q)
+      → Counterexample (Legal (schemaOf r) (dependenciesOf r)) (queryAt r p) (queryAt r q)
       (frozenRows base (queryOf (schemaOf r) (c .query))) (frozenHead base (queryOf (schemaOf r) (c .query)))
 
 -- ---- answers

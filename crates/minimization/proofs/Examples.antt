@@ -17,7 +17,7 @@ use Rattle.theory.specs.Query.{sameEntry, variablesOf, rowEntries, member, dist
 use Rattle.theory.specs.Chase.{firstPassing, firstPair, firstFound, agree, breaks, firstBroken, survives, resolve, substitute}
 use Rattle.theory.specs.Chase.{step, Chases, chaseOn, chaseFor, chase}
 use Rattle.determination.specs.Determined.{FitsColumns, subset, adds, growOn, growFor, closure, determined}
-use Rattle.minimization.specs.Search.{lookup, assignTo, matchEntry, matchEntries, matchRow, tryRows, placeRows, placeQuery, mappable}
+use Rattle.minimization.specs.Search.{lookup, assignTo, sendEntry, sendEntries, sendRow, tryRows, placeRows, placeQuery, mappable}
 use Rattle.minimization.specs.Checking.{sameRow}
 use Rattle.minimization.specs.Search.{containedOn, contained, prune, reduce}
 use Rattle.minimization.specs.Examples.{Example, reduces, chasesTo, compares, determines, schema, Meaning, sameQuery}
@@ -35,7 +35,7 @@ use Rattle.minimization.proofs.Reduce.{reduce-reduction}
 pub examples-hold : every holds examples ≡ true
 unfolding sameEntry variablesOf rowEntries member distinct orElse bind firstPassing firstPair firstFound agree breaks firstBroken
     survives resolve substitute step chaseOn chaseFor chase subset adds growOn growFor closure numbersWhere determined lookup assignTo
-    matchEntry matchEntries matchRow tryRows placeRows placeQuery mappable containedOn contained prune reduce sameLists sameRow sameQuery
+    sendEntry sendEntries sendRow tryRows placeRows placeQuery mappable containedOn contained prune reduce sameLists sameRow sameQuery
     every fitsColumns fitsSchema overSchema holds
 examples-hold = refl
 

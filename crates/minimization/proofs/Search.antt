@@ -17,8 +17,8 @@ use Rattle.theory.specs.Query.{Entry, constant, variable, Row, Query, mapRow, s
 use Rattle.theory.specs.Answer.{valueOf, Carries, Mapping}
 use Rattle.theory.specs.Database.{Database, Dependency}
 use Rattle.theory.specs.Chase.{chase}
-use Rattle.theory.specs.Containment.{Contained, Counterexample, frozenRows, frozenHead, ConstantsBelow}
-use Rattle.minimization.specs.Search.{Partial, lookup, assignTo, matchEntry, matchEntries, matchRow, tryRows, placeRows, placeQuery}
+use Rattle.theory.specs.Containment.{Legal, Contained, Counterexample, frozenRows, frozenHead, ConstantsBelow}
+use Rattle.minimization.specs.Search.{PartialMapping, lookup, assignTo, sendEntry, sendEntries, sendRow, tryRows, placeRows, placeQuery}
 use Rattle.minimization.specs.Search.{isSome, mappable, containedOn, contained}
 use Rattle.theory.proofs.Entries.{sameEntry-eq, sameEntry-ne}
 use Rattle.theory.proofs.Carry.{mapping-of}
@@ -32,15 +32,15 @@ row-same r s p q = λ i. record { relation = p i; values = q i }
 -- ---- 1. assignments that fit
 
 -- An assignment fits a partial one: it sends each chosen variable where the partial one does
-abbrev Fits : (ℕ → Entry) → Partial → Type 0
+abbrev Fits : (ℕ → Entry) → PartialMapping → Type 0
 Fits h bs = (v : ℕ) (e : Entry) → lookup v bs ≡ some e → h v ≡ e
 
 -- The assignment that a partial one gives: constant 0 where nothing is chosen
-abbrev assignment : Partial → ℕ → Entry
+abbrev assignment : PartialMapping → ℕ → Entry
 assignment bs v = Option·getD (lookup v bs) (constant 0)
 
 -- It fits the partial one
-fits-own : (bs : Partial) → Fits (assignment bs) bs
+fits-own : (bs : PartialMapping) → Fits (assignment bs) bs
 fits-own bs v e chosen = rw chosen refl
 
 -- Every assignment fits the empty one
@@ -49,7 +49,7 @@ unfolding lookup
 fits-empty h v e chosen = absurd (Option·none-ne-some e chosen)
 
 -- What fits after one more choice fitted before, and makes that choice; and the other way round
-fits-cons : (h : ℕ → Entry) (v : ℕ) (e : Entry) (bs : Partial) → Fits h bs → h v ≡ e → Fits h ((v, e) ∷ bs)
+fits-cons : (h : ℕ → Entry) (v : ℕ) (e : Entry) (bs : PartialMapping) → Fits h bs → h v ≡ e → Fits h ((v, e) ∷ bs)
 unfolding lookup
 fits-cons h v e bs fits makes w d chosen = go (eqb w v) refl chosen
   where
@@ -57,11 +57,11 @@ fits-cons h v e bs fits makes w d chosen = go (eqb w v) refl chosen
     go true same chosen = ap h (eqb-true w v same) ∙ makes ∙ Option·some-injective e d chosen
     go false other chosen = fits w d chosen
 
-cons-chosen : (h : ℕ → Entry) (v : ℕ) (e : Entry) (bs : Partial) → Fits h ((v, e) ∷ bs) → h v ≡ e
+cons-chosen : (h : ℕ → Entry) (v : ℕ) (e : Entry) (bs : PartialMapping) → Fits h ((v, e) ∷ bs) → h v ≡ e
 unfolding lookup
 cons-chosen h v e bs fits = fits v e (rw (eq-eqb v v refl) refl)
 
-cons-fits : (h : ℕ → Entry) (v : ℕ) (e : Entry) (bs : Partial) → lookup v bs ≡ none → Fits h ((v, e) ∷ bs) → Fits h bs
+cons-fits : (h : ℕ → Entry) (v : ℕ) (e : Entry) (bs : PartialMapping) → lookup v bs ≡ none → Fits h ((v, e) ∷ bs) → Fits h bs
 unfolding lookup
 cons-fits h v e bs free fits w d chosen = fits w d (go (eqb w v) refl)
   where
@@ -72,18 +72,18 @@ cons-fits h v e bs free fits w d chosen = fits w d (go (eqb w v) refl)
 -- ---- 2. matches
 
 -- A match that asks P of an assignment: after it fits what fitted before and has P; where it fails, nothing that fits has P
-abbrev Exact : (ℕ → Entry) → Partial → Type 0 → Option Partial → Type 0
+abbrev Exact : (ℕ → Entry) → PartialMapping → Type 0 → Option PartialMapping → Type 0
 Exact h bs P none = Fits h bs → P → ⊥
 Exact h bs P (some after) = Fits h after ↔ (Fits h bs × P)
 
 -- Two matches one after the other ask both
-exact-both : (h : ℕ → Entry) (bs : Partial) (P Q : Type 0) (first : Option Partial) (next : Partial → Option Partial)
-    → Exact h bs P first → ((after : Partial) → Exact h after Q (next after)) → Exact h bs (P × Q) (bind first next)
+exact-both : (h : ℕ → Entry) (bs : PartialMapping) (P Q : Type 0) (first : Option PartialMapping) (next : PartialMapping → Option PartialMapping)
+    → Exact h bs P first → ((after : PartialMapping) → Exact h after Q (next after)) → Exact h bs (P × Q) (bind first next)
 unfolding bind
 exact-both h bs P Q none next p q = λ fits both. p fits (both .0)
 exact-both h bs P Q (some after) next p q = go (next after) (q after)
   where
-    go : (second : Option Partial) → Exact h after Q second → Exact h bs (P × Q) second
+    go : (second : Option PartialMapping) → Exact h after Q second → Exact h bs (P × Q) second
     go none q = λ fits both. q (p .1 (fits, both .0)) (both .1)
     go (some last) q = (
       (λ fits. let mid = q .0 fits in let start = p .0 (mid .0) in (start .0, (start .1, mid .1))),
@@ -91,24 +91,24 @@ exact-both h bs P Q (some after) next p q = go (next after) (q after)
     )
 
 -- The same, where it is known what the match gave
-exact-some : (h : ℕ → Entry) (bs : Partial) (P : Type 0) (o : Option Partial) → Exact h bs P o → (after : Partial) → o ≡ some after
+exact-some : (h : ℕ → Entry) (bs : PartialMapping) (P : Type 0) (o : Option PartialMapping) → Exact h bs P o → (after : PartialMapping) → o ≡ some after
     → Fits h after ↔ (Fits h bs × P)
 exact-some h bs P o exact after e = rw e at exact
 
 -- What a match asks may be put in other words
-exact-same : (h : ℕ → Entry) (bs : Partial) (P Q : Type 0) (o : Option Partial) → P ↔ Q → Exact h bs P o → Exact h bs Q o
+exact-same : (h : ℕ → Entry) (bs : PartialMapping) (P Q : Type 0) (o : Option PartialMapping) → P ↔ Q → Exact h bs P o → Exact h bs Q o
 exact-same h bs P Q none same p = λ fits q. p fits (same .1 q)
 exact-same h bs P Q (some after) same p =
     ((λ fits. let start = p .0 fits in (start .0, same .0 (start .1))), λ start. p .1 (start .0, same .1 (start .1)))
 
-matchEntry-exact : (h : ℕ → Entry) (d e : Entry) (bs : Partial) → Exact h bs (valueOf constant h d ≡ e) (matchEntry d e bs)
-unfolding matchEntry assignTo
-matchEntry-exact h (constant n) e bs = go (sameEntry (constant n) e) refl
+sendEntry-exact : (h : ℕ → Entry) (d e : Entry) (bs : PartialMapping) → Exact h bs (valueOf constant h d ≡ e) (sendEntry d e bs)
+unfolding sendEntry assignTo
+sendEntry-exact h (constant n) e bs = go (sameEntry (constant n) e) refl
   where
     go : (b : Bool) → sameEntry (constant n) e ≡ b → Exact h bs (constant n ≡ e) (cond b (some bs) none)
     go true same = ((λ fits. (fits, sameEntry-eq (constant n) e same)), λ start. start .0)
     go false other = λ fits same. sameEntry-ne (constant n) e other same
-matchEntry-exact h (variable v) e bs = go (lookup v bs) refl
+sendEntry-exact h (variable v) e bs = go (lookup v bs) refl
   where
     go : (o : Option Entry) → lookup v bs ≡ o → Exact h bs (h v ≡ e) (assignTo v e bs o)
     go none free = ((λ fits. (cons-fits h v e bs free fits, cons-chosen h v e bs fits)), λ start. fits-cons h v e bs (start .0) (start .1))
@@ -122,28 +122,28 @@ matchEntry-exact h (variable v) e bs = go (lookup v bs) refl
 cons-same : {A : Type 0} (x y : A) (xs ys : List A) → ((x ≡ y) × (xs ≡ ys)) ↔ (x ∷ xs ≡ y ∷ ys)
 cons-same x y xs ys = ((λ both. cc (both .0, both .1)), λ e. (cc, cc))
 
-matchEntries-exact : (h : ℕ → Entry) (ds es : List Entry) (bs : Partial) → Exact h bs (map (valueOf constant h) ds ≡ es) (matchEntries ds es bs)
-unfolding matchEntries
-matchEntries-exact h [] [] bs = ((λ fits. (fits, refl)), λ start. start .0)
-matchEntries-exact h [] (e ∷ es) bs = λ fits same. cons≢nil (sym same)
-matchEntries-exact h (d ∷ ds) [] bs = λ fits same. cons≢nil same
-matchEntries-exact h (d ∷ ds) (e ∷ es) bs =
-    exact-same h bs _ _ (bind (matchEntry d e bs) (matchEntries ds es)) (cons-same (valueOf constant h d) e (map (valueOf constant h) ds) es)
-    (exact-both h bs (valueOf constant h d ≡ e) (map (valueOf constant h) ds ≡ es) (matchEntry d e bs) (matchEntries ds es)
-    (matchEntry-exact h d e bs) (λ after. matchEntries-exact h ds es after))
+sendEntries-exact : (h : ℕ → Entry) (ds es : List Entry) (bs : PartialMapping) → Exact h bs (map (valueOf constant h) ds ≡ es) (sendEntries ds es bs)
+unfolding sendEntries
+sendEntries-exact h [] [] bs = ((λ fits. (fits, refl)), λ start. start .0)
+sendEntries-exact h [] (e ∷ es) bs = λ fits same. cons≢nil (sym same)
+sendEntries-exact h (d ∷ ds) [] bs = λ fits same. cons≢nil same
+sendEntries-exact h (d ∷ ds) (e ∷ es) bs =
+    exact-same h bs _ _ (bind (sendEntry d e bs) (sendEntries ds es)) (cons-same (valueOf constant h d) e (map (valueOf constant h) ds) es)
+    (exact-both h bs (valueOf constant h d ≡ e) (map (valueOf constant h) ds ≡ es) (sendEntry d e bs) (sendEntries ds es)
+    (sendEntry-exact h d e bs) (λ after. sendEntries-exact h ds es after))
 
-matchRow-exact : (h : ℕ → Entry) (r s : Row Entry) (bs : Partial) → Exact h bs (mapRow (valueOf constant h) r ≡ s) (matchRow r s bs)
-unfolding matchRow
-matchRow-exact h r s bs = go (eqb (r .relation) (s .relation)) refl
+sendRow-exact : (h : ℕ → Entry) (r s : Row Entry) (bs : PartialMapping) → Exact h bs (mapRow (valueOf constant h) r ≡ s) (sendRow r s bs)
+unfolding sendRow
+sendRow-exact h r s bs = go (eqb (r .relation) (s .relation)) refl
   where
     go : (b : Bool) → eqb (r .relation) (s .relation) ≡ b
-        → Exact h bs (mapRow (valueOf constant h) r ≡ s) (cond b (matchEntries (r .values) (s .values) bs) none)
+        → Exact h bs (mapRow (valueOf constant h) r ≡ s) (cond b (sendEntries (r .values) (s .values) bs) none)
     go true same =
-        exact-same h bs _ _ (matchEntries (r .values) (s .values) bs) (
+        exact-same h bs _ _ (sendEntries (r .values) (s .values) bs) (
           (λ (e : map (valueOf constant h) (r .values) ≡ s .values). row-same (mapRow (valueOf constant h) r) s (eqb-true (r .relation) (s .relation) same) e),
           λ (e : mapRow (valueOf constant h) r ≡ s). ap (λ (q : Row Entry). q .values) e,
         )
-        (matchEntries-exact h (r .values) (s .values) bs)
+        (sendEntries-exact h (r .values) (s .values) bs)
     go false other = λ fits e. eqb-false (r .relation) (s .relation) other (ap (λ (q : Row Entry). q .relation) e)
 
 -- ---- 3. rows
@@ -164,53 +164,53 @@ orElse-nothing none later e = (refl, e)
 orElse-nothing (some y) later e = absurd (Option·some-ne-none y e)
 
 -- The rest of a search that follows an exact match: sound, and failing only where nothing fits
-module _ (h : ℕ → Entry) (bs : Partial) (P : Type 0) (first : Option Partial) (exact : Exact h bs P first) (Q : Type 0) (next : Partial → Option Partial) where
-  then-sound : ((mid after : Partial) → next mid ≡ some after → Fits h after → Fits h mid × Q)
-      → (after : Partial) → bind first next ≡ some after → Fits h after → Fits h bs × P × Q
+module _ (h : ℕ → Entry) (bs : PartialMapping) (P : Type 0) (first : Option PartialMapping) (exact : Exact h bs P first) (Q : Type 0) (next : PartialMapping → Option PartialMapping) where
+  then-sound : ((mid after : PartialMapping) → next mid ≡ some after → Fits h after → Fits h mid × Q)
+      → (after : PartialMapping) → bind first next ≡ some after → Fits h after → Fits h bs × P × Q
   then-sound sound after e fits =
       let t = bind-eq-some-iff first next .0 e in
       let mid = sound (t .0) after (t .2) fits in
       let start = exact-some h bs P first exact (t .0) (t .1) .0 (mid .0) in
       (start .0, start .1, mid .1)
 
-  then-complete : ((mid : Partial) → next mid ≡ none → Fits h mid → Q → ⊥) → bind first next ≡ none → Fits h bs → P → Q → ⊥
+  then-complete : ((mid : PartialMapping) → next mid ≡ none → Fits h mid → Q → ⊥) → bind first next ≡ none → Fits h bs → P → Q → ⊥
   unfolding bind
   then-complete complete e fits p q = go first exact e
     where
-      go : (o : Option Partial) → Exact h bs P o → bind o next ≡ none → ⊥
+      go : (o : Option PartialMapping) → Exact h bs P o → bind o next ≡ none → ⊥
       go none exact e = exact fits p
       go (some mid) exact e = complete mid e (exact .1 (fits, p)) q
 
 -- Where the row goes to a candidate and what comes next is sound, the trial is
-tryRows-sound : (h : ℕ → Entry) (Q : Type 0) (next : Partial → Option Partial)
-    → ((mid after : Partial) → next mid ≡ some after → Fits h after → Fits h mid × Q)
-    → (r : Row Entry) (candidates : List (Row Entry)) (bs after : Partial) → tryRows next r candidates bs ≡ some after → Fits h after
+tryRows-sound : (h : ℕ → Entry) (Q : Type 0) (next : PartialMapping → Option PartialMapping)
+    → ((mid after : PartialMapping) → next mid ≡ some after → Fits h after → Fits h mid × Q)
+    → (r : Row Entry) (candidates : List (Row Entry)) (bs after : PartialMapping) → tryRows next r candidates bs ≡ some after → Fits h after
     → Fits h bs × (mapRow (valueOf constant h) r ∈ candidates) × Q
 unfolding tryRows
 tryRows-sound h Q next sound r [] bs after e fits = absurd (Option·none-ne-some after e)
 tryRows-sound h Q next sound r (s ∷ ss) bs after e fits =
-    go (orElse-found (bind (matchRow r s bs) next) (tryRows next r ss bs) after e) (λ later. tryRows-sound h Q next sound r ss bs after later fits)
+    go (orElse-found (bind (sendRow r s bs) next) (tryRows next r ss bs) after e) (λ later. tryRows-sound h Q next sound r ss bs after later fits)
   where
-    go : (bind (matchRow r s bs) next ≡ some after) ⊎ (tryRows next r ss bs ≡ some after)
+    go : (bind (sendRow r s bs) next ≡ some after) ⊎ (tryRows next r ss bs ≡ some after)
         → (tryRows next r ss bs ≡ some after → Fits h bs × (mapRow (valueOf constant h) r ∈ ss) × Q) → Fits h bs × (mapRow (valueOf constant h) r ∈ (s ∷ ss))
         × Q
     go (inl here) rest =
-        let t = then-sound h bs (mapRow (valueOf constant h) r ≡ s) (matchRow r s bs) (matchRow-exact h r s bs) Q next sound after here fits in
+        let t = then-sound h bs (mapRow (valueOf constant h) r ≡ s) (sendRow r s bs) (sendRow-exact h r s bs) Q next sound after here fits in
         (t .0, List·Memᴰ·head (t .1), t .2)
     go (inr later) rest = let t = rest later in (t .0, List·Memᴰ·tail (t .1), t .2)
 
 -- Where every trial fails, no assignment that fits sends the row to a candidate and meets what comes next
-tryRows-complete : (h : ℕ → Entry) (Q : Type 0) (next : Partial → Option Partial) → ((mid : Partial) → next mid ≡ none → Fits h mid → Q → ⊥)
-    → (r : Row Entry) (candidates : List (Row Entry)) (bs : Partial) → tryRows next r candidates bs ≡ none → Fits h bs
+tryRows-complete : (h : ℕ → Entry) (Q : Type 0) (next : PartialMapping → Option PartialMapping) → ((mid : PartialMapping) → next mid ≡ none → Fits h mid → Q → ⊥)
+    → (r : Row Entry) (candidates : List (Row Entry)) (bs : PartialMapping) → tryRows next r candidates bs ≡ none → Fits h bs
     → mapRow (valueOf constant h) r ∈ candidates → Q → ⊥
 unfolding tryRows
 tryRows-complete h Q next complete r (s ∷ ss) bs e fits (List·Memᴰ·head same) q =
-    then-complete h bs (mapRow (valueOf constant h) r ≡ s) (matchRow r s bs) (matchRow-exact h r s bs) Q next complete
-    (orElse-nothing (bind (matchRow r s bs) next) (tryRows next r ss bs) e .0) fits same q
+    then-complete h bs (mapRow (valueOf constant h) r ≡ s) (sendRow r s bs) (sendRow-exact h r s bs) Q next complete
+    (orElse-nothing (bind (sendRow r s bs) next) (tryRows next r ss bs) e .0) fits same q
 tryRows-complete h Q next complete r (s ∷ ss) bs e fits (List·Memᴰ·tail at) q =
-    tryRows-complete h Q next complete r ss bs (orElse-nothing (bind (matchRow r s bs) next) (tryRows next r ss bs) e .1) fits at q
+    tryRows-complete h Q next complete r ss bs (orElse-nothing (bind (sendRow r s bs) next) (tryRows next r ss bs) e .1) fits at q
 
-placeRows-sound : (h : ℕ → Entry) (rs candidates : List (Row Entry)) (bs after : Partial) → placeRows rs candidates bs ≡ some after → Fits h after
+placeRows-sound : (h : ℕ → Entry) (rs candidates : List (Row Entry)) (bs after : PartialMapping) → placeRows rs candidates bs ≡ some after → Fits h after
     → Fits h bs × Placed h rs candidates
 unfolding placeRows
 placeRows-sound h [] candidates bs after e fits = (rw (Option·some-injective bs after e) fits, λ r at. absurd (List·Memᴰ·not-nil at))
@@ -222,7 +222,7 @@ placeRows-sound h (r ∷ rs) candidates bs after e fits =
     placed here rest q (List·Memᴰ·head same) = Memᴰ·cast (ap (mapRow (valueOf constant h)) same) here
     placed here rest q (List·Memᴰ·tail at) = rest q at
 
-placeRows-complete : (h : ℕ → Entry) (rs candidates : List (Row Entry)) (bs : Partial) → placeRows rs candidates bs ≡ none → Fits h bs → Placed h rs candidates
+placeRows-complete : (h : ℕ → Entry) (rs candidates : List (Row Entry)) (bs : PartialMapping) → placeRows rs candidates bs ≡ none → Fits h bs → Placed h rs candidates
     → ⊥
 unfolding placeRows
 placeRows-complete h [] candidates bs e fits placed = Option·some-ne-none bs e
@@ -234,13 +234,13 @@ placeRows-complete h (r ∷ rs) candidates bs e fits placed =
 
 module _ (head : List Entry) (r : Row Entry) (rs : List (Row Entry)) (T : Query) where
   -- What is found carries the query into T
-  placeQuery-sound : (after : Partial) → placeQuery head (r ∷ rs) T ≡ some after
+  placeQuery-sound : (after : PartialMapping) → placeQuery head (r ∷ rs) T ≡ some after
       → Carries constant (assignment after) (record { head = head; rows = r ∷ rs }) (T .rows) (T .head)
   unfolding placeQuery
   placeQuery-sound after e =
       let t =
-      then-sound (assignment after) [] (map (valueOf constant (assignment after)) head ≡ T .head) (matchEntries head (T .head) [])
-      (matchEntries-exact (assignment after) head (T .head) []) (Placed (assignment after) (r ∷ rs) (T .rows)) (placeRows (r ∷ rs) (T .rows))
+      then-sound (assignment after) [] (map (valueOf constant (assignment after)) head ≡ T .head) (sendEntries head (T .head) [])
+      (sendEntries-exact (assignment after) head (T .head) []) (Placed (assignment after) (r ∷ rs) (T .rows)) (placeRows (r ∷ rs) (T .rows))
       (placeRows-sound (assignment after) (r ∷ rs) (T .rows)) after e (fits-own after) in
       record { not-never = cons≢nil; to-head = t .1; to-rows = t .2 }
 
@@ -248,21 +248,21 @@ module _ (head : List Entry) (r : Row Entry) (rs : List (Row Entry)) (T : Query)
   placeQuery-complete : placeQuery head (r ∷ rs) T ≡ none → (h : ℕ → Entry) → Carries constant h (record { head = head; rows = r ∷ rs }) (T .rows) (T .head) → ⊥
   unfolding placeQuery
   placeQuery-complete e h c =
-      then-complete h [] (map (valueOf constant h) head ≡ T .head) (matchEntries head (T .head) []) (matchEntries-exact h head (T .head) [])
+      then-complete h [] (map (valueOf constant h) head ≡ T .head) (sendEntries head (T .head) []) (sendEntries-exact h head (T .head) [])
       (Placed h (r ∷ rs) (T .rows)) (placeRows (r ∷ rs) (T .rows)) (placeRows-complete h (r ∷ rs) (T .rows)) e (fits-empty h) (c .to-head) (c .to-rows)
 
   -- What is found is a mapping, and where there is a mapping something is found
   placed-mapping : isSome (placeQuery head (r ∷ rs) T) ≡ true → Mapping (record { head = head; rows = r ∷ rs }) T
   placed-mapping e = go (placeQuery head (r ∷ rs) T) refl e
     where
-      go : (o : Option Partial) → placeQuery head (r ∷ rs) T ≡ o → isSome o ≡ true → Mapping (record { head = head; rows = r ∷ rs }) T
+      go : (o : Option PartialMapping) → placeQuery head (r ∷ rs) T ≡ o → isSome o ≡ true → Mapping (record { head = head; rows = r ∷ rs }) T
       go none is e = absurd (true≢false (sym e))
       go (some after) is e = mapping-of (record { head = head; rows = r ∷ rs }) T (assignment after) (placeQuery-sound after is)
 
   mapping-placed : Mapping (record { head = head; rows = r ∷ rs }) T → isSome (placeQuery head (r ∷ rs) T) ≡ true
   mapping-placed m = go (placeQuery head (r ∷ rs) T) refl
     where
-      go : (o : Option Partial) → placeQuery head (r ∷ rs) T ≡ o → isSome o ≡ true
+      go : (o : Option PartialMapping) → placeQuery head (r ∷ rs) T ≡ o → isSome o ≡ true
       go none is = absurd (placeQuery-complete is (m .0) (m .1 .carries))
       go (some after) is = refl
 
@@ -310,14 +310,14 @@ both-below p q =
 
 module _ (widths : List ℕ) (ds : List Dependency) (p q : Query) (fit : (r : Row Entry) → r ∈ p .rows → FitsSchema widths r) where
   -- `contained` passes exactly where p is contained in q
-  pub contained-exact : (contained ds p q ≡ true) ↔ Contained widths ds p q
+  pub contained-exact : (contained ds p q ≡ true) ↔ Contained (Legal widths ds) p q
   contained-exact =
       let common = both-below p q in
       let theorem = contained-iff widths ds p q (common .0) fit (common .2) (common .3) (common .1) in
       ((λ e. theorem .1 (contained-mapping ds p q .0 e)), λ c. contained-mapping ds p q .1 (theorem .0 c))
 
   -- Where it fails, a database shows that p is not
-  pub contained-false : contained ds p q ≡ false → (D : Database) × (t : List ℕ) × Counterexample widths ds p q D t
+  pub contained-false : contained ds p q ≡ false → (D : Database) × (t : List ℕ) × Counterexample (Legal widths ds) p q D t
   contained-false e =
       let common = both-below p q in
       let neither : ((chase ds p .query .rows ≡ []) ⊎ Mapping q (chase ds p .query)) → ⊥ = λ either. true≢false (sym (contained-mapping ds p q .1 either) ∙ e)

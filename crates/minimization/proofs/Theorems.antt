@@ -9,6 +9,7 @@ use Rattle.minimization.specs.ContainmentTheorems as containment
 use Rattle.minimization.specs.ReductionTheorems as reduction
 use Rattle.theory.proofs.Lists.{bool-cases}
 use Rattle.theory.proofs.Chase.{freeze-injective}
+use Rattle.theory.specs.Containment.{Legal}
 use Rattle.theory.proofs.Containment.{contained-iff, counterexample, contained-over, counterexample-over}
 use Rattle.minimization.proofs.Reduction.{core-repeats, reduction-answers, reduction-equivalent, reduction-head-length, reduction-minimal}
 use Rattle.minimization.proofs.Reduction.{reduction-same-size}
@@ -31,7 +32,7 @@ chased-counterexample widths ds p q base fit belowP belowQ positive neither =
     counterexample widths ds p q base fit belowP belowQ positive (λ empty. neither (inl empty)) (λ f. neither (inr f))
 
 pub counterexample-refutes : containment.CounterexampleRefutes
-counterexample-refutes widths ds p q D t c all = c .no-answer (all D (c .sound) (c .obeys) t (c .answer))
+counterexample-refutes C p q D t c all = c .no-answer (all D (c .within) t (c .answer))
 
 pub freeze-apart : containment.FreezeApart
 freeze-apart = freeze-injective
@@ -46,7 +47,7 @@ pub not-contained-computes : containment.NotContainedComputes
 not-contained-computes widths ds p q fit = (
   contained-false widths ds p q fit,
   λ shown. bool-cases (contained ds p q)
-      (λ is. absurd (counterexample-refutes widths ds p q (shown .0) (shown .1) (shown .2) (contained-exact widths ds p q fit .0 is))) (λ is. is),
+      (λ is. absurd (counterexample-refutes (Legal widths ds) p q (shown .0) (shown .1) (shown .2) (contained-exact widths ds p q fit .0 is))) (λ is. is),
 )
 
 pub contained-over-exactly : containment.ContainedOverExactly

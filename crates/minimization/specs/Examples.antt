@@ -12,7 +12,7 @@ use Rattle.lists.specs.Tests.{every, sameLists}
 use Rattle.theory.specs.Query.{Entry, constant, variable, Row, Query, sameEntry, _∈_}
 use Rattle.theory.specs.Database.{Database, Dependency}
 use Rattle.theory.specs.Chase.{Chases, chase}
-use Rattle.theory.specs.Containment.{Contained, Counterexample}
+use Rattle.theory.specs.Containment.{Legal, Contained, Counterexample}
 use Rattle.minimization.specs.Reduction.{Reduction, Rival}
 use Rattle.determination.specs.Determined.{Determines, Ascending, determined}
 use Rattle.minimization.specs.Search.{contained, reduce}
@@ -54,8 +54,8 @@ pub record Counts (ds : List Dependency) (relation : ℕ) (left : List ℕ) (col
 abbrev pub Meaning : Example → Type 0
 Meaning (reduces ds q head rows count) = Reduces ds q head rows count
 Meaning (chasesTo ds q result count) = Chases ds q result count
-Meaning (compares ds p q true) = Contained schema ds p q
-Meaning (compares ds p q false) = (D : Database) × (t : List ℕ) × Counterexample schema ds p q D t
+Meaning (compares ds p q true) = Contained (Legal schema ds) p q
+Meaning (compares ds p q false) = (D : Database) × (t : List ℕ) × Counterexample (Legal schema ds) p q D t
 Meaning (determines ds relation left columns) = Counts ds relation left columns
 
 -- ---- how it is computed

@@ -9,50 +9,50 @@ use Rattle.theory.specs.Query.{Entry, constant, variable, Row, Query, sameEntry
 use Rattle.theory.specs.Database.{Dependency}
 use Rattle.theory.specs.Chase.{chase}
 
--- A partial assignment: some variables, each with the entry it goes to
-abbrev pub Partial : Type 0
-Partial = List (ℕ × Entry)
+-- A partial mapping: some variables, each with the entry it goes to
+abbrev pub PartialMapping : Type 0
+PartialMapping = List (ℕ × Entry)
 
 -- The entry that a variable goes to, if one is chosen
-unfoldable pub lookup : ℕ → Partial → Option Entry
+unfoldable pub lookup : ℕ → PartialMapping → Option Entry
 lookup v [] = none
 lookup v (b ∷ bs) = cond (eqb v (b .0)) (some (b .1)) (lookup v bs)
 
--- A partial assignment under which variable v goes to e, where `chosen` is what v goes to so far
-unfoldable pub assignTo : ℕ → Entry → Partial → Option Entry → Option Partial
+-- A partial mapping under which variable v goes to e, where `chosen` is what v goes to so far
+unfoldable pub assignTo : ℕ → Entry → PartialMapping → Option Entry → Option PartialMapping
 assignTo v e bs none = some ((v, e) ∷ bs)
 assignTo v e bs (some chosen) = cond (sameEntry chosen e) (some bs) none
 
--- A partial assignment extended so that an entry goes to another: a constant goes to itself only
-unfoldable pub matchEntry : Entry → Entry → Partial → Option Partial
-matchEntry (constant n) e bs = cond (sameEntry (constant n) e) (some bs) none
-matchEntry (variable v) e bs = assignTo v e bs (lookup v bs)
+-- A partial mapping extended so that an entry goes to another: a constant goes to itself only
+unfoldable pub sendEntry : Entry → Entry → PartialMapping → Option PartialMapping
+sendEntry (constant n) e bs = cond (sameEntry (constant n) e) (some bs) none
+sendEntry (variable v) e bs = assignTo v e bs (lookup v bs)
 
 -- The same for lists of entries, position by position
-unfoldable pub matchEntries : List Entry → List Entry → Partial → Option Partial
-matchEntries [] [] bs = some bs
-matchEntries [] (e ∷ es) bs = none
-matchEntries (d ∷ ds) [] bs = none
-matchEntries (d ∷ ds) (e ∷ es) bs = bind (matchEntry d e bs) (matchEntries ds es)
+unfoldable pub sendEntries : List Entry → List Entry → PartialMapping → Option PartialMapping
+sendEntries [] [] bs = some bs
+sendEntries [] (e ∷ es) bs = none
+sendEntries (d ∷ ds) [] bs = none
+sendEntries (d ∷ ds) (e ∷ es) bs = bind (sendEntry d e bs) (sendEntries ds es)
 
 -- The same for rows of one relation
-unfoldable pub matchRow : Row Entry → Row Entry → Partial → Option Partial
-matchRow r s bs = cond (eqb (r .relation) (s .relation)) (matchEntries (r .values) (s .values) bs) none
+unfoldable pub sendRow : Row Entry → Row Entry → PartialMapping → Option PartialMapping
+sendRow r s bs = cond (eqb (r .relation) (s .relation)) (sendEntries (r .values) (s .values) bs) none
 
 -- The first of the candidates that row r can go to so that `next`, which places the other rows, succeeds
-unfoldable pub tryRows : (Partial → Option Partial) → Row Entry → List (Row Entry) → Partial → Option Partial
+unfoldable pub tryRows : (PartialMapping → Option PartialMapping) → Row Entry → List (Row Entry) → PartialMapping → Option PartialMapping
 tryRows next r [] bs = none
-tryRows next r (s ∷ ss) bs = let later = tryRows next r ss bs in orElse (bind (matchRow r s bs) next) later
+tryRows next r (s ∷ ss) bs = let later = tryRows next r ss bs in orElse (bind (sendRow r s bs) next) later
 
--- A partial assignment under which each row goes to one of the candidates
-unfoldable pub placeRows : List (Row Entry) → List (Row Entry) → Partial → Option Partial
+-- A partial mapping under which each row goes to one of the candidates
+unfoldable pub placeRows : List (Row Entry) → List (Row Entry) → PartialMapping → Option PartialMapping
 placeRows [] candidates bs = some bs
 placeRows (r ∷ rs) candidates bs = tryRows (placeRows rs candidates) r candidates bs
 
--- A partial assignment that carries a query with some rows into T: the head first, then row by row. Never is mapped nowhere
-unfoldable pub placeQuery : List Entry → List (Row Entry) → Query → Option Partial
+-- A partial mapping that carries a query with some rows into T: the head first, then row by row. Never is mapped nowhere
+unfoldable pub placeQuery : List Entry → List (Row Entry) → Query → Option PartialMapping
 placeQuery head [] T = none
-placeQuery head (r ∷ rs) T = bind (matchEntries head (T .head) []) (placeRows (r ∷ rs) (T .rows))
+placeQuery head (r ∷ rs) T = bind (sendEntries head (T .head) []) (placeRows (r ∷ rs) (T .rows))
 
 -- Whether there is something
 abbrev pub isSome : {A : Type 0} → Option A → Bool

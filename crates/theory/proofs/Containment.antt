@@ -22,8 +22,7 @@ use Rattle.theory.specs.Query.{Entry, constant, variable, Row, Query, ma
 use Rattle.theory.specs.Database.{Database, Dependency, Obeys, Sound}
 use Rattle.theory.specs.Answer.{valueOf, itself, Carries, Answer, Mapping}
 use Rattle.theory.specs.Chase.{chase}
-use Rattle.theory.specs.Containment.{Contained, freeze, frozenRows, frozenHead, ConstantsBelow, Counterexample, ContainedOver}
-use Rattle.theory.specs.Containment.{CounterexampleOver, StandsFor}
+use Rattle.theory.specs.Containment.{Legal, Contained, Counterexample, freeze, frozenRows, frozenHead, ConstantsBelow, StandsFor}
 use Rattle.theory.proofs.Lists.{map-agree, list-cases}
 use Rattle.theory.proofs.Entries.{row-rowEntries}
 use Rattle.theory.proofs.Carry.{carries-onto, carries-compose, mapping-of, mapRow-id, mapRow-compose}
@@ -115,7 +114,7 @@ answer-along D S T f t answer = (λ v. valueOf itself (answer .0) (f .0 v), carr
 
 -- An answer of p is one of the chased p, and the mapping before it gives an answer of q
 pub contained-over-of-mapping : (C : Database → Type 0) (p q chased : Query) → ((D : Database) → C D → (t : List ℕ) → Answer D p t ↔ Answer D chased t)
-    → (chased .rows ≡ []) ⊎ Mapping q chased → ContainedOver C p q
+    → (chased .rows ≡ []) ⊎ Mapping q chased → Contained C p q
 contained-over-of-mapping C p q chased answers (inl none) D within t answer = absurd (answers D within t .0 answer .1 .not-never none)
 contained-over-of-mapping C p q chased answers (inr f) D within t answer = answer-along D q chased f t (answers D within t .0 answer)
 
@@ -125,7 +124,7 @@ module _ (C : Database → Type 0) (base : ℕ) (p q chased : Query) (stands : S
   stands-answer some = stands .answers (frozenRows base chased) (stands .frozen some) (frozenHead base chased) .1 (frozen-answer base chased some)
 
   -- p is contained in q over the class exactly when the chased p is never or q maps to it
-  pub contained-over : ((chased .rows ≡ []) ⊎ Mapping q chased) ↔ ContainedOver C p q
+  pub contained-over : ((chased .rows ≡ []) ⊎ Mapping q chased) ↔ Contained C p q
   contained-over = (
     contained-over-of-mapping C p q chased (stands .answers),
     λ contained.
@@ -134,7 +133,7 @@ module _ (C : Database → Type 0) (base : ℕ) (p q chased : Query) (stands : S
   )
 
   -- Otherwise the chased p, read as a database, shows that it is not
-  pub counterexample-over : chased .rows ≢ [] → (Mapping q chased → ⊥) → CounterexampleOver C p q (frozenRows base chased) (frozenHead base chased)
+  pub counterexample-over : chased .rows ≢ [] → (Mapping q chased → ⊥) → Counterexample C p q (frozenRows base chased) (frozenHead base chased)
   counterexample-over some none = record {
     within = stands .frozen some;
     answer = stands-answer some;
@@ -148,30 +147,25 @@ pub contained-of-mapping : (ds : List Dependency) (p q : Query) → (chase ds p 
     → (D : Database) → Obeys ds D → (t : List ℕ) → Answer D p t → Answer D q t
 contained-of-mapping ds p q = contained-over-of-mapping (Obeys ds) p q (chase ds p .query) (chase-answers ds p)
 
--- The sound databases that obey
-abbrev Obeying : List ℕ → List Dependency → Database → Type 0
-Obeying widths ds D = Sound widths D × Obeys ds D
-
 module _ (widths : List ℕ) (ds : List Dependency) (p q : Query) (base : ℕ) (fit : (r : Row Entry) → r ∈ p .rows → FitsSchema widths r)
     (belowP : ConstantsBelow base p) (belowQ : ConstantsBelow base q) (positive : 0 < base) where
-  chase-stands : StandsFor (Obeying widths ds) base p (chase ds p .query)
+  chase-stands : StandsFor (Legal widths ds) base p (chase ds p .query)
   chase-stands =
       let below = chase-constants ds p base positive belowP in
       record {
-        answers = λ D within t. chase-answers ds p D (within .1) t;
-        frozen = λ some. (frozen-sound widths base (chase ds p .query) (chase-rows-fit widths ds p fit), chase-obeys ds p base positive below);
+        answers = λ D legal t. chase-answers ds p D (legal .obeys) t;
+        frozen = λ some. record {
+          sound = frozen-sound widths base (chase ds p .query) (chase-rows-fit widths ds p fit);
+          obeys = chase-obeys ds p base positive below;
+        };
         below = below;
       }
 
   -- p is contained in q exactly when p chases to never or q maps to the chased p
-  pub contained-iff : Contained widths ds p q ↔ ((chase ds p .query .rows ≡ []) ⊎ Mapping q (chase ds p .query))
-  contained-iff =
-      let over = contained-over (Obeying widths ds) base p q (chase ds p .query) chase-stands belowQ in
-      (λ contained. over .1 (λ D within. contained D (within .0) (within .1)), λ found D sound obeys. over .0 found D (sound, obeys))
+  pub contained-iff : Contained (Legal widths ds) p q ↔ ((chase ds p .query .rows ≡ []) ⊎ Mapping q (chase ds p .query))
+  contained-iff = let over = contained-over (Legal widths ds) base p q (chase ds p .query) chase-stands belowQ in (over .1, over .0)
 
   -- Otherwise the chased p, read as a database, shows that it is not
   pub counterexample : chase ds p .query .rows ≢ [] → (Mapping q (chase ds p .query) → ⊥)
-      → Counterexample widths ds p q (frozenRows base (chase ds p .query)) (frozenHead base (chase ds p .query))
-  counterexample some none =
-      let over = counterexample-over (Obeying widths ds) base p q (chase ds p .query) chase-stands belowQ some none in
-      record { sound = over .within .0; obeys = over .within .1; answer = over .answer; no-answer = over .no-answer }
+      → Counterexample (Legal widths ds) p q (frozenRows base (chase ds p .query)) (frozenHead base (chase ds p .query))
+  counterexample = counterexample-over (Legal widths ds) base p q (chase ds p .query) chase-stands belowQ

@@ -1,4 +1,4 @@
--- Containment of queries over all databases that obey the dependencies (demand 2), and a query read as a database; then the same over any class of databases.
+-- Containment of queries over a class of databases, for demand 2 that of the legal ones, and a query read as a database.
 use mathlib.Core.Logic.{_≢_, _↔_}
 use mathlib.Core.List.{List, [], map}
 use Prim.Native.Nat.{ℕ, _+_, _<_}
@@ -6,14 +6,18 @@ use Rattle.theory.specs.Query.{Entry, constant, Query, mapRow, rowEntrie
 use Rattle.theory.specs.Database.{Database, Dependency, Obeys, Sound}
 use Rattle.theory.specs.Answer.{Answer, valueOf, itself}
 
--- p is contained in q: on every sound database that obeys the dependencies, each answer of p is an answer of q
-abbrev pub Contained : List ℕ → List Dependency → Query → Query → Type 0
-Contained widths ds p q = (D : Database) → Sound widths D → Obeys ds D → (t : List ℕ) → Answer D p t → Answer D q t
-
--- The database D and the tuple t show that p is not contained in q: D is sound and obeys the dependencies, and t is an answer of p and not of q
-pub record Counterexample (widths : List ℕ) (ds : List Dependency) (p q : Query) (D : Database) (t : List ℕ) : Type 0 where
+-- A database of the record's kind: its rows fit the relations, and it obeys the dependencies
+pub record Legal (widths : List ℕ) (ds : List Dependency) (D : Database) : Type 0 where
   pub sound : Sound widths D
   pub obeys : Obeys ds D
+
+-- p is contained in q over a class of databases: on each of them, each answer of p is an answer of q
+abbrev pub Contained : (Database → Type 0) → Query → Query → Type 0
+Contained C p q = (D : Database) → C D → (t : List ℕ) → Answer D p t → Answer D q t
+
+-- The database D and the tuple t show that it is not: D is of the class, and t is an answer of p on it and not of q
+pub record Counterexample (C : Database → Type 0) (p q : Query) (D : Database) (t : List ℕ) : Type 0 where
+  pub within : C D
   pub answer : Answer D p t
   pub no-answer : Answer D q t → ⊥
 
@@ -33,18 +37,6 @@ frozenHead base q = map (freeze base) (q .head)
 pub record ConstantsBelow (base : ℕ) (q : Query) : Type 0 where
   pub of-head : (n : ℕ) → constant n ∈ q .head → n < base
   pub of-rows : (n : ℕ) → constant n ∈ rowEntries (q .rows) → n < base
-
--- ---- over a class of databases
-
--- On each database of the class, each answer of p is an answer of q
-abbrev pub ContainedOver : (Database → Type 0) → Query → Query → Type 0
-ContainedOver C p q = (D : Database) → C D → (t : List ℕ) → Answer D p t → Answer D q t
-
--- D is of the class, and t is an answer of p on it and not of q
-pub record CounterexampleOver (C : Database → Type 0) (p q : Query) (D : Database) (t : List ℕ) : Type 0 where
-  pub within : C D
-  pub answer : Answer D p t
-  pub no-answer : Answer D q t → ⊥
 
 -- What a chase is for: `chased` has the answers of p on each database of the class, and, unless it is never, is one of them, read as
 -- a database that keeps its entries apart
