@@ -33,7 +33,7 @@
  * sooner on a large database; it may be of any length, 0 too. Where a call is refused with another number than 10 it is as it was, and otherwise it may hold
  * anything. The calls without it have enough of their own for some ten thousand rows. For a database of n words:
  *   heads     n / 2 words, and nodes 3 n / 2: then a test takes time in proportion to n
- *   index     2 n words for each row of the query but the first, and 112 more; one of more than 4294967294 words is not used
+ *   index     2 n words for each row of the query but the first, and 112 more; no more than 4294967294 are used
  *   states    n words and 65536 more, if the query has more than two rows; else none
  *   batch     twice the words of the answers, and 64 more: with fewer the database is searched again for each batch
  *   scratch   as many as batch
