@@ -13,8 +13,21 @@ use Rattle.theory.specs.Database.{Database, Dependency, Agree}
 use Rattle.theory.specs.Chase.{firstPassing, firstPair}
 use Rattle.words.specs.Testing.{numberedFrom, breaksWith, firstPairFrom}
 use Rattle.words.proofs.Obeys.{kept-breaks}
-use Rattle.grouping.specs.internal.Groups.{Keeps, Groups}
+use Rattle.grouping.specs.internal.Groups.{Keeps, Apart, KeyBelow, Groups}
 use Rattle.words.specs.Broken.{nthRow}
+
+-- what holds of the pairs below n, and of n with each row before it, holds of the pairs below n + 1
+pairs-more : (P : ℕ → ℕ → Type 0) (n : ℕ) → ((k j : ℕ) → k < j → j < n → P k j) → ((k : ℕ) → k < n → P k n)
+    → (k j : ℕ) → k < j → j < n + 1 → P k j
+pairs-more P n old new k j before below = go (eqb j n) refl
+  where
+    go : (b : Bool) → eqb j n ≡ b → P k j
+    go true e =
+        let here : j ≡ n = eqb-true j n e in
+        subst (P k) (sym here) (new k (omega arith))
+    go false e =
+        let apart : j ≡ n → ⊥ = eqb-false j n e in
+        old k j before (omega arith)
 
 module _ (d : Dependency) (D : Database) where
   -- rows that agree with a third agree
@@ -39,15 +52,8 @@ module _ (d : Dependency) (D : Database) where
     -- the row at n keeps the dependency with those before it
     more-kept : (low : ℕ) → low ≤ least → ((k : ℕ) → k < n → k < low → Keeps d (nthRow D k) (nthRow D n))
         → (k j : ℕ) → k < j → j < n + 1 → k < low → Keeps d (nthRow D k) (nthRow D j)
-    more-kept low le keeps k j before below h = go (eqb j n) refl
-      where
-        go : (b : Bool) → eqb j n ≡ b → Keeps d (nthRow D k) (nthRow D j)
-        go true e =
-            let here : j ≡ n = eqb-true j n e in
-            subst (λ (m : ℕ). Keeps d (nthRow D k) (nthRow D m)) (sym here) (keeps k (omega arith) h)
-        go false e =
-            let apart : j ≡ n → ⊥ = eqb-false j n e in
-            g .kept k j before (omega arith) (omega arith)
+    more-kept low le keeps k j before below =
+        pairs-more (λ (x y : ℕ). x < low → Keeps d (nthRow D x) (nthRow D y)) n (λ x y b l h. g .kept x y b l (omega arith)) keeps k j before below
 
     -- the row at n has a leader too
     more-led : (low : ℕ) → low ≤ least
@@ -120,11 +126,22 @@ module _ (d : Dependency) (D : Database) where
             sym (right k low' h i p first (eqb (number t) k) refl) ∙ same (omega arith)
 
     -- no leader agrees with the row at n: nor does a row before it
+    absent-apart : ((s : ℕ) → s < count → Agree 0 (d .left) (nthRow D (number s)) (nthRow D n) → ⊥)
+        → (k : ℕ) → k < n → k < least → Apart d (nthRow D k) (nthRow D n)
+    absent-apart absent k h i p q b =
+        let l = g .led k h i p in
+        absent (l .0) (l .1) (agree-through (nthRow D (number (l .0))) (nthRow D k) (nthRow D n) (l .3) b)
+
     absent-keeps : (low : ℕ) → low ≤ least → ((s : ℕ) → s < count → Agree 0 (d .left) (nthRow D (number s)) (nthRow D n) → ⊥)
         → (k : ℕ) → k < n → k < low → Keeps d (nthRow D k) (nthRow D n)
-    absent-keeps low le absent k h i p q b =
-        let l = g .led k h (omega arith) p in
-        absurd (absent (l .0) (l .1) (agree-through (nthRow D (number (l .0))) (nthRow D k) (nthRow D n) (l .3) b))
+    absent-keeps low le absent k h i p q b = absurd (absent-apart absent k h (omega arith) p q b)
+
+    -- the left columns tell one more row apart: it is of another relation, or no leader agrees with it and each row has one
+    pub key-other : (nthRow D n .relation ≡ d .relation → ⊥) → KeyBelow d D n → KeyBelow d D (n + 1)
+    key-other other = λ old. pairs-more (λ (x y : ℕ). Apart d (nthRow D x) (nthRow D y)) n old (λ k h p q a. other q)
+
+    pub key-new : n ≤ least → ((s : ℕ) → s < count → Agree 0 (d .left) (nthRow D (number s)) (nthRow D n) → ⊥) → KeyBelow d D n → KeyBelow d D (n + 1)
+    key-new low absent = λ old. pairs-more (λ (x y : ℕ). Apart d (nthRow D x) (nthRow D y)) n old (λ k h. absent-apart absent k h (omega arith))
 
     -- there is no room for the row at n, which would be a leader
     pub groups-full : (low : ℕ) → low ≤ least → low ≤ n → ((s : ℕ) → s < count → Agree 0 (d .left) (nthRow D (number s)) (nthRow D n) → ⊥)

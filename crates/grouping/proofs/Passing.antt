@@ -21,7 +21,7 @@ use Rattle.words.proofs.Obeys.{agree-true, agree-all}
 use Rattle.grouping.specs.internal.Hash.{bucketOf}
 use Rattle.grouping.specs.internal.Chains.{Chained}
 use Rattle.grouping.specs.internal.Table.{linkOf, offsetOf, numberOf, leaderOf, withLeader, keyOf, agrees}
-use Rattle.grouping.specs.internal.Groups.{Groups}
+use Rattle.grouping.specs.internal.Groups.{Groups, KeyBelow, Key}
 use Rattle.words.specs.Broken.{nthRow}
 use Rattle.grouping.specs.internal.Walked.{Placed, Member, Walked, earlierOf, Skips}
 use Rattle.grouping.specs.declared.Position.{Position}
@@ -29,7 +29,7 @@ use Rattle.grouping.specs.declared.Walk.{Walk}
 use Rattle.grouping.proofs.Hashes.{span-value}
 use Rattle.grouping.proofs.Entering.{enter-length, enter-below, enter-link, enter-offset, enter-number}
 use Rattle.grouping.proofs.Chains.{chained-none, chained-agree, chained-more}
-use Rattle.grouping.proofs.Leading.{groups-start, groups-other, groups-member, groups-full, groups-new, pairs-skip}
+use Rattle.grouping.proofs.Leading.{groups-start, groups-other, groups-member, groups-full, groups-new, key-other, key-new, pairs-skip}
 
 -- there are no more rows than words
 rows-few : (schema : List ℕ) (due : ℕ) (words : List ℕ) → length (rowsFrom schema due words) ≤ length words
@@ -139,10 +139,11 @@ module _ (schema words : List ℕ) (d : Dependency) where
 
   module _ (w : Walk) (H N : List ℕ) (h : Walked schema words d w H N) (after : ℕ) (next : Next schema words (w .row .at) after) where
     -- no leader is new
-    walked-on : (p : Position) → Placed schema words (p .at) (p .number)
+    walked-on : (p : Position) (b : Bool) → Placed schema words (p .at) (p .number)
         → Groups (dependencyOf d) (databaseOf schema words) (w .row .number + 1) (p .number) (w .count) (numberOf N)
-        → Walked schema words d (record { row = record { at = after; number = w .row .number + 1 }; count = w .count; least = p }) H N
-    walked-on p placed groups =
+        → (b ≡ true → (p .number ≡ length words) × KeyBelow (dependencyOf d) (databaseOf schema words) (w .row .number + 1))
+        → Walked schema words d (record { row = record { at = after; number = w .row .number + 1 }; count = w .count; least = p; key = b }) H N
+    walked-on p b placed groups key =
         record {
           bucket = h .bucket;
           placed = placed-next (w .row .at) after (w .row .number) (h .placed) next;
@@ -151,25 +152,32 @@ module _ (schema words : List ℕ) (d : Dependency) where
           members = h .members;
           groups = groups;
           least = placed;
+          key = key;
         }
 
     -- no leader is new, and a row may be the first of a broken pair
     walked-earlier : (p q : Position) → p ≡ earlierOf (w .least) q → Placed schema words (q .at) (q .number)
         → ((low : ℕ) → low ≤ w .least .number → low ≤ q .number
         → Groups (dependencyOf d) (databaseOf schema words) (w .row .number + 1) low (w .count) (numberOf N))
-        → Walked schema words d (record { row = record { at = after; number = w .row .number + 1 }; count = w .count; least = p }) H N
+        → Walked schema words d (record { row = record { at = after; number = w .row .number + 1 }; count = w .count; least = p; key = false }) H N
     walked-earlier p q e placed groups =
-        walked-on p (subst (λ (x : Position). Placed schema words (x .at) (x .number)) (sym e) (earlier-placed schema words (w .least) q (h .least) placed))
+        walked-on p false
+        (subst (λ (x : Position). Placed schema words (x .at) (x .number)) (sym e) (earlier-placed schema words (w .least) q (h .least) placed))
         (groups (p .number) (subst (λ (x : Position). x .number ≤ w .least .number) (sym e) (earlier-left (w .least) q))
         (subst (λ (x : Position). x .number ≤ q .number) (sym e) (earlier-right (w .least) q)))
+        (λ t. absurd (false≢true t))
 
     -- the row is of another relation
     pub walked-other : (getD words (w .row .at) 0 ≡ d .relation → ⊥)
-        → Walked schema words d (record { row = record { at = after; number = w .row .number + 1 }; count = w .count; least = w .least }) H N
+        → Walked schema words d (record { row = record { at = after; number = w .row .number + 1 }; count = w .count; least = w .least; key = w .key }) H N
     walked-other other =
-        walked-on (w .least) (h .least)
-        (groups-other (dependencyOf d) (databaseOf schema words) (w .row .number) (w .least .number) (w .count) (numberOf N) (h .groups)
-        (λ e. other (sym (ap (λ (r : Row ℕ). r .relation) (placed-row (w .row .at) after (w .row .number) (h .placed) next)) ∙ e)))
+        let D : Database = databaseOf schema words in
+        let n : ℕ = w .row .number in
+        let differs : nthRow D n .relation ≡ d .relation → ⊥ =
+        λ e. other (sym (ap (λ (r : Row ℕ). r .relation) (placed-row (w .row .at) after n (h .placed) next)) ∙ e) in
+        walked-on (w .least) (w .key) (h .least)
+        (groups-other (dependencyOf d) D n (w .least .number) (w .count) (numberOf N) (h .groups) differs)
+        (λ t. (h .key t .0, key-other (dependencyOf d) D n (w .least .number) (w .count) (numberOf N) (h .groups) differs (h .key t .1)))
 
     module _ (relation : getD words (w .row .at) 0 ≡ d .relation) where
       member : Member schema words d (w .row .at) (w .row .number)
@@ -187,18 +195,19 @@ module _ (schema words : List ℕ) (d : Dependency) where
       pub walked-same : (s : ℕ) → s < w .count → d .right < getD schema (d .relation) 0
           → agrees (getD schema (d .relation) 0) words d N (w .row .at) s ≡ true
           → getD words (offsetOf N s + 1 + d .right) 0 ≡ getD words (w .row .at + 1 + d .right) 0
-          → Walked schema words d (record { row = record { at = after; number = w .row .number + 1 }; count = w .count; least = w .least }) H N
+          → Walked schema words d (record { row = record { at = after; number = w .row .number + 1 }; count = w .count; least = w .least; key = false }) H N
       walked-same s below fits agree same =
-          walked-on (w .least) (h .least)
+          walked-on (w .least) false (h .least)
           (groups-member (dependencyOf d) (databaseOf schema words) (w .row .number) (w .least .number) (w .count) (numberOf N) (h .groups)
           (w .least .number) s (omega arith) below (grouped s below agree)
           (λ _. member-value (offsetOf N s) (numberOf N s) (h .members s below) (d .right) fits ∙ same
           ∙ sym (member-value (w .row .at) (w .row .number) member (d .right) fits)))
+          (λ t. absurd (false≢true t))
 
       -- and may differ from it
       pub walked-differ : (s : ℕ) → s < w .count → agrees (getD schema (d .relation) 0) words d N (w .row .at) s ≡ true
           → (p : Position) → p ≡ earlierOf (w .least) (leaderOf N s)
-          → Walked schema words d (record { row = record { at = after; number = w .row .number + 1 }; count = w .count; least = p }) H N
+          → Walked schema words d (record { row = record { at = after; number = w .row .number + 1 }; count = w .count; least = p; key = false }) H N
       walked-differ s below agree p e =
           walked-earlier p (leaderOf N s) e (h .members s below .placed)
           (λ low left right. groups-member (dependencyOf d) (databaseOf schema words) (w .row .number) (w .least .number) (w .count) (numberOf N) (h .groups)
@@ -211,7 +220,7 @@ module _ (schema words : List ℕ) (d : Dependency) where
 
         -- it would be a leader, and there is no room for it
         pub walked-full : (p : Position) → p ≡ earlierOf (w .least) (w .row)
-            → Walked schema words d (record { row = record { at = after; number = w .row .number + 1 }; count = w .count; least = p }) H N
+            → Walked schema words d (record { row = record { at = after; number = w .row .number + 1 }; count = w .count; least = p; key = false }) H N
         walked-full p e =
             walked-earlier p (w .row) e (h .placed)
             (λ low left right. groups-full (dependencyOf d) (databaseOf schema words) (w .row .number) (w .least .number) (w .count) (numberOf N) (h .groups)
@@ -268,8 +277,17 @@ module _ (schema words : List ℕ) (d : Dependency) where
               (λ s low. enter-below N (w .count) (getD H b 0) (w .row .at) (w .row .number) (3 * s) (omega arith))
               (enter-link N (w .count) (getD H b 0) (w .row .at) (w .row .number) room)
 
+          new-key : w .key ≡ true → (w .least .number ≡ length words) × KeyBelow (dependencyOf d) (databaseOf schema words) (w .row .number + 1)
+          new-key t =
+              let all : w .least .number ≡ length words = h .key t .0 in
+              let low : w .row .number ≤ w .least .number = omega (arith, h .placed .from .counted, h .placed .from .inside) in (
+                all,
+                key-new (dependencyOf d) (databaseOf schema words) (w .row .number) (w .least .number) (w .count) (numberOf N) (h .groups) low alone
+                    (h .key t .1),
+              )
+
           pub walked-new : Walked schema words d
-              (record { row = record { at = after; number = w .row .number + 1 }; count = w .count + 1; least = w .least })
+              (record { row = record { at = after; number = w .row .number + 1 }; count = w .count + 1; least = w .least; key = w .key })
               (set H b (w .count + 1)) (withLeader N (w .count) (getD H b 0) (w .row .at) (w .row .number))
           unfolding heads nodes
           walked-new =
@@ -289,6 +307,7 @@ module _ (schema words : List ℕ) (d : Dependency) where
                 groups = groups-new (dependencyOf d) (databaseOf schema words) (w .row .number) (w .least .number) (w .count) (numberOf N) (h .groups)
                     (numberOf nodes) old-number new-number (member-relation (w .row .at) (w .row .number) member) alone;
                 least = h .least;
+                key = new-key;
               }
 
   -- ---- from the first row to the last
@@ -296,7 +315,7 @@ module _ (schema words : List ℕ) (d : Dependency) where
   -- no row is passed
   pub walked-start : (H N : List ℕ) → spellsRows schema words ≡ true → 0 < length H → ((b : ℕ) → b < length H → getD H b 0 ≡ 0)
       → Walked schema words d
-      (record { row = record { at = 0; number = 0 }; count = 0; least = record { at = length words; number = length words } }) H N
+      (record { row = record { at = 0; number = 0 }; count = 0; least = record { at = length words; number = length words }; key = true }) H N
   walked-start H N good bucket clear =
       record {
         bucket = bucket;
@@ -310,17 +329,23 @@ module _ (schema words : List ℕ) (d : Dependency) where
         members = λ s low. absurd (omega arith);
         groups = groups-start (dependencyOf d) (databaseOf schema words) (length words) (numberOf N);
         least = placed-end;
+        key = λ t. (refl, λ i j before below. absurd (omega arith));
       }
 
   -- all rows are passed
-  pub walked-end : (w : Walk) (H N : List ℕ) → Walked schema words d w H N → length words ≤ w .row .at → Skips schema words d (w .least)
+  all-passed : (w : Walk) (H N : List ℕ) → Walked schema words d w H N → length words ≤ w .row .at → length (databaseOf schema words) ≤ w .row .number
   unfolding rowsFrom
-  walked-end w H N h end =
+  all-passed w H N h end =
       let n : ℕ = w .row .number in
       let none : drop n (databaseOf schema words) ≡ [] =
       h .placed .read ∙ ap (λ (l : List ℕ). databaseOf schema l) (drop-of-length-le words {i = w .row .at} end) in
       let size : length (drop n (databaseOf schema words)) ≡ length (databaseOf schema words) - n = length-drop n (databaseOf schema words) in
       let zero-size : length (drop n (databaseOf schema words)) ≡ 0 = ap (λ (l : Database). length l) none in
+      omega arith
+
+  pub walked-end : (w : Walk) (H N : List ℕ) → Walked schema words d w H N → length words ≤ w .row .at → Skips schema words d (w .least)
+  walked-end w H N h end =
+      let all : length (databaseOf schema words) ≤ w .row .number = all-passed w H N h end in
       record {
         from = h .least .from;
         same = λ m.
@@ -328,6 +353,13 @@ module _ (schema words : List ℕ) (d : Dependency) where
             (λ k j before below low. h .groups .kept k j before (omega arith) low)
             ∙ ap (λ (l : Database). firstPairFrom (dependencyOf d) (m + w .least .number) l) (h .least .read);
       }
+
+  -- and the left columns told them apart
+  pub walked-key : (w : Walk) (H N : List ℕ) → Walked schema words d w H N → length words ≤ w .row .at → w .key ≡ true
+      → Key (dependencyOf d) (databaseOf schema words)
+  walked-key w H N h end t =
+      let all : length (databaseOf schema words) ≤ w .row .number = all-passed w H N h end in
+      λ i j before below. h .key t .1 i j before (omega arith)
 
   -- no row is skipped
   pub skips-none : spellsRows schema words ≡ true → Skips schema words d (record { at = 0; number = 0 })

@@ -4,17 +4,19 @@
 // The leaders stand in lent slices, as hash chains over their left values: `heads` has a word for each bucket, and `nodes` three for each leader: its
 // link, the word at which it begins, and its position among the rows. A leader is written as its number plus 1, and 0 is the end of a chain.
 // A row for which there is no room, or whose word is beyond 32 bits, is one that may be the first of a broken pair.
+// If every row of the relation is a leader, the left columns are a key: no two rows agree on them.
 use query::Dependency;
 ghost use mathlib.Core.Path.{_≡_};
 ghost use mathlib.Core.Bool.{true};
 ghost use Prim.Native.Nat.{ℕ, _+_, _*_, _^_, _≤_, _<_};
 ghost use lib.ListN.{length, getD, set};
 ghost use Rattle.query.specs.View.{dependencyOf};
-ghost use Rattle.words.specs.Words.{spellsRows};
+ghost use Rattle.words.specs.Words.{spellsRows, databaseOf};
 ghost use Rattle.words.specs.internal.Rows.{spanAt};
 ghost use Rattle.words.specs.internal.Found.{Testable};
 ghost use Rattle.grouping.specs.internal.Hash.{bucketOf};
 ghost use Rattle.grouping.specs.internal.Table.{Table, Compared, withLeader};
+ghost use Rattle.grouping.specs.internal.Groups.{Key};
 ghost use Rattle.grouping.specs.internal.Walked.{Walked, earlierOf, Skips};
 
 // A row: the word at which it begins, and its position among the rows.
@@ -23,11 +25,19 @@ pub struct Position {
     pub number: usize,
 }
 
-// How far a walk is: the row that comes next, how many leaders are entered, and the first row known that may be the first of a broken pair.
+// Where a walk leads to: a row that may be the first of a broken pair, or the end; and whether the left columns were seen to be a key.
+pub struct Skipped {
+    pub row: Position,
+    pub key: bool,
+}
+
+// How far a walk is: the row that comes next, how many leaders are entered, the first row known that may be the first of a broken pair, and
+// whether every row of the relation was entered.
 struct Walk {
     row: Position,
     count: usize,
     least: Position,
+    key: bool,
 }
 
 // A row that is compared with the leaders: the width of its relation, the word at which it begins, and its bucket.
@@ -158,19 +168,31 @@ fn step(
     };
     let count = walk.count;
     let least = walk.least;
+    let key = walk.key;
     let index = d.relation as usize;
     if words[at] as usize != index {
-        return Walk { row, count, least };
+        return Walk {
+            row,
+            count,
+            least,
+            key,
+        };
     }
     let width = schema[index] as usize;
     let bucket = bucket_of(words, width, d, at, heads.len());
     let found = compare(words, d, Sought { width, at, bucket }, heads, nodes, count);
     match found {
-        Comparison::Same => Walk { row, count, least },
+        Comparison::Same => Walk {
+            row,
+            count,
+            least,
+            key: false,
+        },
         Comparison::Differs(p) => Walk {
             row,
             count,
             least: earlier(least, p),
+            key: false,
         },
         Comparison::Alone => {
             let here = walk.row;
@@ -180,33 +202,39 @@ fn step(
                     row,
                     count: count + 1,
                     least,
+                    key,
                 };
             }
             Walk {
                 row,
                 count,
                 least: earlier(least, here),
+                key: false,
             }
         }
     }
 }
 
 // A row before which none is the first of a broken pair, or the end of the words. With room for all leaders it is the first row of the first
-// broken pair; without a bucket it is the first row.
+// broken pair, and a key is seen; without a bucket it is the first row.
 pub fn skip(
     schema: &[u8],
     words: &[u32],
     d: Dependency,
     heads: &mut [u32],
     nodes: &mut [u32],
-) -> Position
+) -> Skipped
     requires { ⌜ Testable (now schema) d ⌝ }
     requires { ⌜ spellsRows (now schema) (now words) ≡ true ⌝ }
-    ensures { λ r. ⌜ Skips (now (schema .entry)) (now (words .entry)) d r ⌝ }
+    ensures { λ r. ⌜ Skips (now (schema .entry)) (now (words .entry)) d (r .row) ⌝ }
+    ensures { λ r. ⌜ (r .key ≡ true → Key (dependencyOf d) (databaseOf (now (schema .entry)) (now (words .entry)))) ⌝ }
 {
     let first = Position { at: 0, number: 0 };
     if heads.len() == 0 {
-        return first;
+        return Skipped {
+            row: first,
+            key: false,
+        };
     }
     clear(heads);
     let mut walk = Walk {
@@ -216,9 +244,12 @@ pub fn skip(
             at: words.len(),
             number: words.len(),
         },
+        key: true,
     };
     while walk.row.at < words.len() {
         walk = step(schema, words, d, walk, heads, nodes);
     }
-    walk.least
+    let row = walk.least;
+    let key = walk.key;
+    Skipped { row, key }
 }

@@ -1,5 +1,6 @@
 // The first of some dependencies that rows break, with its first pair of rows: one walk over the rows for each dependency, which skips to a row that
-// may be the first of a pair. The lent slices hold tables of `grouping`: the larger they are, the fewer walks. What they hold before does not matter.
+// may be the first of a pair. A dependency whose left columns contain a key that an earlier walk has seen is obeyed, and needs no walk.
+// The lent slices hold tables of `grouping`: the larger they are, the fewer walks. What they hold before does not matter.
 use query::Dependency;
 use words::Partner;
 use words::RowPair;
@@ -16,41 +17,141 @@ ghost use Rattle.words.specs.Testing.{firstPairFrom, firstBrokenFrom};
 ghost use Rattle.words.specs.Broken.{violationOf};
 ghost use Rattle.words.specs.internal.Found.{pairOf, Testable};
 ghost use Rattle.query.specs.Rule.{noDependency};
+ghost use Rattle.theory.specs.Database.{Database};
+ghost use Rattle.grouping.specs.internal.Groups.{Key};
+ghost use Rattle.testing.specs.internal.Keyed.{Keyed};
 
-// The first pair of rows that break the dependency.
+// The first pair of rows that break a dependency, and whether its left columns were seen to be a key of the rows.
+struct Tested {
+    pair: RowPair,
+    key: bool,
+}
+
+// The dependencies whose left columns were seen to be keys: the first `count` of an array.
+struct Keys {
+    list: [Dependency; 32],
+    count: usize,
+}
+
+// What is known once a dependency is tested: its first pair of rows, and the keys.
+struct Step {
+    pair: RowPair,
+    keys: Keys,
+}
+
+// Whether the left columns of the dependency contain a key that was seen.
+fn has_key(keys: Keys, d: Dependency) -> bool
+    requires { ⌜ keys .count ≤ 32 ⌝ }
+    ensures { λ r. ⌜ (r ≡ true → (D : Database) → Keyed D keys → Key (dependencyOf d) D) ⌝ }
+{
+    let count = keys.count;
+    let mut k: usize = 0;
+    while k < count {
+        let e = keys.list[k];
+        if e.relation == d.relation {
+            if e.left & d.left == e.left {
+                return true;
+            }
+        }
+        k += 1;
+    }
+    false
+}
+
+// The keys with the left columns of one more dependency, if there is room.
+fn with_key(keys: Keys, d: Dependency) -> Keys
+    ensures { λ r. ⌜ ((D : Database) → Keyed D keys → Key (dependencyOf d) D → Keyed D r) ⌝ }
+{
+    let count = keys.count;
+    if 32 <= count {
+        return keys;
+    }
+    let mut list = keys.list;
+    list[count] = d;
+    Keys {
+        list,
+        count: count + 1,
+    }
+}
+
+// The first pair of rows that break the dependency. A key is seen if the first walk passes all rows.
 fn first_pair(
     schema: &[u8],
     words: &[u32],
     d: Dependency,
     heads: &mut [u32],
     nodes: &mut [u32],
-) -> RowPair
+) -> Tested
     requires { ⌜ Testable (now schema) d ⌝ }
     requires { ⌜ spellsRows (now schema) (now words) ≡ true ⌝ }
-    ensures { λ r. ⌜ r ≡ pairOf (firstPairFrom (dependencyOf d) 0 (databaseOf (now (schema .entry)) (now (words .entry)))) ⌝ }
+    ensures { λ r. ⌜ r .pair ≡ pairOf (firstPairFrom (dependencyOf d) 0 (databaseOf (now (schema .entry)) (now (words .entry)))) ⌝ }
+    ensures { λ r. ⌜ (r .key ≡ true → Key (dependencyOf d) (databaseOf (now (schema .entry)) (now (words .entry)))) ⌝ }
 {
     let relation = d.relation as u32;
     let mut at: usize = 0;
     let mut i: usize = 0;
     while at < words.len() {
         let rest = &words[at..];
-        let p = grouping::skip(schema, rest, d, heads, nodes);
+        let skipped = grouping::skip(schema, rest, d, heads, nodes);
+        let p = skipped.row;
         let first = at + p.at;
         let n = i + p.number;
         if first == words.len() {
-            return RowPair::Absent;
+            let key = at == 0 && skipped.key;
+            return Tested {
+                pair: RowPair::Absent,
+                key,
+            };
         }
         let after = words::next(schema, words, first);
         if words[first] == relation {
             let second = words::first_partner(schema, words, d, first, after, n + 1);
             if let Partner::At(j) = second {
-                return RowPair::At(n, j);
+                return Tested {
+                    pair: RowPair::At(n, j),
+                    key: false,
+                };
             }
         }
         at = after;
         i = n + 1;
     }
-    RowPair::Absent
+    Tested {
+        pair: RowPair::Absent,
+        key: false,
+    }
+}
+
+// Tests one dependency: with a walk, unless its left columns contain a key that was seen.
+fn test(
+    schema: &[u8],
+    words: &[u32],
+    d: Dependency,
+    keys: Keys,
+    heads: &mut [u32],
+    nodes: &mut [u32],
+) -> Step
+    requires { ⌜ Testable (now schema) d ⌝ }
+    requires { ⌜ spellsRows (now schema) (now words) ≡ true ⌝ }
+    requires { ⌜ Keyed (databaseOf (now schema) (now words)) keys ⌝ }
+    ensures { λ r. ⌜ r .pair ≡ pairOf (firstPairFrom (dependencyOf d) 0 (databaseOf (now (schema .entry)) (now (words .entry)))) ⌝ }
+    ensures { λ r. ⌜ Keyed (databaseOf (now (schema .entry)) (now (words .entry))) (r .keys) ⌝ }
+{
+    if has_key(keys, d) {
+        return Step {
+            pair: RowPair::Absent,
+            keys,
+        };
+    }
+    let tested = first_pair(schema, words, d, heads, nodes);
+    let pair = tested.pair;
+    if tested.key {
+        return Step {
+            pair,
+            keys: with_key(keys, d),
+        };
+    }
+    Step { pair, keys }
 }
 
 // The first of the held dependencies that the rows break, with its first pair of rows.
@@ -73,10 +174,20 @@ pub fn first_violation(
         buckets = words.len();
     }
     let used = &mut heads[..buckets];
+    let mut keys = Keys {
+        list: [Dependency {
+            relation: 0,
+            left: 0,
+            right: 0,
+        }; 32],
+        count: 0,
+    };
     let mut k: usize = 0;
     while k < held {
         let d = dependencies[k];
-        let found = first_pair(schema, words, d, used, nodes);
+        let step = test(schema, words, d, keys, used, nodes);
+        keys = step.keys;
+        let found = step.pair;
         if let RowPair::At(i, j) = found {
             return Violation::At(k, i, j);
         }

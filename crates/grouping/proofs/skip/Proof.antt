@@ -1,11 +1,12 @@
--- `skip` finds a row before which none is the first of a broken pair. Invariant: the rows before the walk's row are passed.
+-- `skip` finds a row before which none is the first of a broken pair, and may see a key. Invariant: the rows before the walk's row are passed.
 -- Assumes nothing.
 use mathlib.Core.Path.{_≡_, _∙_}
+use mathlib.Core.Bool.{false≢true}
 use Prim.Native.Nat.{_-_}
 use native.Mathlib.Omega.{arith}
 use lib.ListN.{length}
 use Rattle.grouping.specs.internal.Walked.{Walked}
-use Rattle.grouping.proofs.Passing.{walked-start, walked-end, skips-none}
+use Rattle.grouping.proofs.Passing.{walked-start, walked-end, walked-key, skips-none}
 use borrow.Author.Needs.{needs}
 use Rattle.grouping.proofs.skip.Statement.{statement}
 use Rattle.grouping.proofs.skip.Tie as tie
@@ -19,7 +20,7 @@ abbrev μ-loop : tie.MeasureT-loop
 
 returns : tie.Need-returns Inv-loop μ-loop
 returns c = let s = c .before .before .before .before .before in
-    skips-none (s .args .schema .now) (s .args .words .now) (s .args .d) (s .pre .1)
+    (skips-none (s .args .schema .now) (s .args .words .now) (s .args .d) (s .pre .1), λ t. absurd (false≢true t))
 
 clear-requires : tie.Need-clear-requires Inv-loop μ-loop
 clear-requires c κs = search needs
@@ -57,8 +58,10 @@ same-length-2 c = search needs
 returns-2 : tie.Need-returns-2 Inv-loop μ-loop
 returns-2 c = let l = c .before .before .before in
     let s = l .before .before .before .before .before .before .before .before .before .before in
-    let a = s .args in
-    walked-end (a .schema .now) (a .words .now) (a .d) (l .loop .walk) (l .loop .heads) (l .loop .nodes) (l .loop .inv .0) (c .before .if2 .left)
+    let a = s .args in (
+      walked-end (a .schema .now) (a .words .now) (a .d) (l .loop .walk) (l .loop .heads) (l .loop .nodes) (l .loop .inv .0) (c .before .if2 .left),
+      walked-key (a .schema .now) (a .words .now) (a .d) (l .loop .walk) (l .loop .heads) (l .loop .nodes) (l .loop .inv .0) (c .before .if2 .left),
+    )
 
 pub skip-spec : {M : Type 1} → statement M
 skip-spec =

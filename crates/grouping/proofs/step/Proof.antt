@@ -134,8 +134,8 @@ enter-requires c κs = let t = c .before .before in
     let more = free (t .before) in
     ((k .before .before .before .bucket-of .ensures .1, omega arith, more), (omega arith, omega arith, omega arith))
 
-add-t41 : tie.Need-add-t41
-add-t41 c = let t = c .before .before .before .before .before .before .before .before in
+add-t42 : tie.Need-add-t42
+add-t42 c = let t = c .before .before .before .before .before .before .before .before in
     omega (arith, free t, begun (compared (t .before .before .before .before) .before) .good .1 .1 .1 .1 .1 .0)
 
 same-length : tie.Need-same-length
@@ -156,6 +156,7 @@ returns-2 c = let u = c .before .before .before .before in
       row = record { at = after (e .before); number = a .walk .row .number + 1 };
       count = a .walk .count + 1;
       least = a .walk .least;
+      key = a .walk .key;
     } in (
       subst (λ (x : List ℕ). Walked (a .schema .now) (a .words .now) (a .d) w x (u .enter .last .1 .0)) (sym (u .enter .ensures .0))
           (subst (λ (x : List ℕ). Walked (a .schema .now) (a .words .now) (a .d) w (set (a .heads .now) (b .result) (a .walk .count + 1)) x)
@@ -242,7 +243,7 @@ step-spec =
     mul-if2
     sub-if2
     enter-requires
-    add-t41
+    add-t42
     same-length
     same-length-2
     returns-2

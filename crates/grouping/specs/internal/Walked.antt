@@ -1,6 +1,6 @@
 -- A walk over the rows of the words that enters the leaders of groups into a table, and keeps the first row that may break the dependency.
 use mathlib.Core.Path.{_≡_}
-use mathlib.Core.Bool.{cond}
+use mathlib.Core.Bool.{true, cond}
 use mathlib.Core.List.{List}
 use Prim.Native.Nat.{ℕ, _+_, _≤_, _<_}
 use lib.Dec.{ltb}
@@ -11,7 +11,7 @@ use Rattle.words.specs.Words.{databaseOf}
 use Rattle.words.specs.Testing.{firstPairFrom}
 use Rattle.words.specs.internal.Found.{From}
 use Rattle.grouping.specs.internal.Table.{offsetOf, numberOf, Table}
-use Rattle.grouping.specs.internal.Groups.{Groups}
+use Rattle.grouping.specs.internal.Groups.{Groups, KeyBelow}
 use Rattle.grouping.specs.declared.Position.{Position}
 use Rattle.grouping.specs.declared.Walk.{Walk}
 
@@ -35,6 +35,7 @@ pub record Walked (schema words : List ℕ) (d : Dependency) (w : Walk) (heads n
   pub members : (s : ℕ) → s < w .count → Member schema words d (offsetOf nodes s) (numberOf nodes s)
   pub groups : Groups (dependencyOf d) (databaseOf schema words) (w .row .number) (w .least .number) (w .count) (numberOf nodes)
   pub least : Placed schema words (w .least .at) (w .least .number)
+  pub key : w .key ≡ true → (w .least .number ≡ length words) × KeyBelow (dependencyOf d) (databaseOf schema words) (w .row .number)
 
 -- The position of the two that comes first
 abbrev pub earlierOf : Position → Position → Position

@@ -1,18 +1,21 @@
 -- `first_pair` is the first pair of rows that break the dependency. Invariant: the search from `at` on finds what the whole search finds.
 -- Assumes nothing.
 use mathlib.Core.Path.{_≡_, refl, sym, ap, subst, _∙_}
-use mathlib.Core.Bool.{true}
+use mathlib.Core.Bool.{true, false≢true}
 use mathlib.Core.List.{List}
 use mathlib.Core.Logic.{⊎-elim}
 use Prim.Native.Nat.{ℕ, _≤_, _-_, _+_}
 use native.Mathlib.Omega.{arith}
-use lib.ListN.{length, drop, getD}
+use lib.ListN.{length, take, drop, getD}
+use borrow.Author.Tests.{eqb-true}
 use Rattle.query.specs.View.{dependencyOf}
 use Rattle.words.specs.Words.{spellsRows, databaseOf}
 use Rattle.words.specs.Testing.{firstPairFrom}
 use Rattle.words.specs.internal.Found.{pairOf, From}
+use Rattle.words.specs.declared.RowPair.the-variants as pair
 use Rattle.words.specs.internal.Rows.{Next}
 use Rattle.words.proofs.Search.{pair-found, pair-later, pair-other, pair-end}
+use Rattle.grouping.specs.internal.Groups.{Key}
 use Rattle.grouping.specs.internal.Walked.{Skips}
 use Rattle.grouping.proofs.Passing.{rest-all, skips-on}
 use borrow.Author.Needs.{needs}
@@ -32,20 +35,20 @@ abbrev begun : tie.At-loop Inv-loop μ-loop → tie.Start Inv-loop μ-loop
 begun c = c .before .before .before .before .before .before
 
 abbrev walk : tie.After-struct-known3 Inv-loop μ-loop → tie.At-loop Inv-loop μ-loop
-walk c = c .before .before .before .before .before .before .before .before .before .before .before
+walk c = c .before .before .before .before .before .before .before .before .before .before .before .before
 
 abbrev start : tie.After-struct-known3 Inv-loop μ-loop → tie.Start Inv-loop μ-loop
 start c = begun (walk c)
 
 -- The row that is skipped to: the word at which it begins, and its position
 abbrev skipping : tie.After-struct-known3 Inv-loop μ-loop → tie.After-skip Inv-loop μ-loop
-skipping c = c .before .before .before .before .before .before
+skipping c = c .before .before .before .before .before .before .before
 
 abbrev first : tie.After-struct-known3 Inv-loop μ-loop → ℕ
-first c = walk c .loop .at + skipping c .skip .result .at
+first c = walk c .loop .at + skipping c .skip .result .row .at
 
 abbrev number : tie.After-struct-known3 Inv-loop μ-loop → ℕ
-number c = walk c .loop .i + skipping c .skip .result .number
+number c = walk c .loop .i + skipping c .skip .result .row .number
 
 skipped : (c : tie.After-struct-known3 Inv-loop μ-loop) → From (start c .args .schema .now) (start c .args .words .now) (first c) (number c)
     × (firstPairFrom (dependencyOf (start c .args .d)) 0 (databaseOf (start c .args .schema .now) (start c .args .words .now))
@@ -53,9 +56,9 @@ skipped : (c : tie.After-struct-known3 Inv-loop μ-loop) → From (start c .args
 skipped c =
     let a = start c .args in
     let l = walk c .loop in
-    let p = skipping c .skip .result in
+    let p = skipping c .skip .result .row in
     let k = skips-on (a .schema .now) (a .words .now) (a .d) (l .at) (l .i) p (l .inv .0)
-    (subst (λ (Y : List ℕ). Skips (a .schema .now) Y (a .d) p) (rest-all (a .words .now) (l .at)) (skipping c .skip .ensures)) in
+    (subst (λ (Y : List ℕ). Skips (a .schema .now) Y (a .d) p) (rest-all (a .words .now) (l .at)) (skipping c .skip .ensures .0)) in
     (k .0, l .inv .1 ∙ k .1)
 
 -- The row after it
@@ -107,11 +110,31 @@ same-length c = search needs
 same-length-2 : tie.Need-same-length-2 Inv-loop μ-loop
 same-length-2 c = search needs
 
-returns : tie.Need-returns Inv-loop μ-loop
-returns c = let q = c .before in
+-- No row is left
+ended : (c : tie.Then1 Inv-loop μ-loop) → pair.Absent
+    ≡ pairOf (firstPairFrom (dependencyOf (start (c .before) .args .d)) 0 (databaseOf (start (c .before) .args .schema .now) (start (c .before) .args .words .now)))
+ended c = let q = c .before in
     let a = start q .args in
     let end : first q ≡ length (a .words .now) = c .if1 .taken in
     sym (ap pairOf (skipped q .1 ∙ pair-end (a .schema .now) (a .words .now) (dependencyOf (a .d)) (first q) (number q) (omega arith)))
+
+returns : tie.Need-returns Inv-loop μ-loop
+returns c = let q = c .before .before in
+    let a = start q .args in
+    let l = walk q .loop in
+    let all : take (length (a .words .now) - l .at) (drop (l .at) (a .words .now)) ≡ a .words .now =
+    rest-all (a .words .now) (l .at) ∙ ap (λ (n : ℕ). drop n (a .words .now)) (c .if2 .taken) in
+    (ended (c .before), λ t. subst (λ (Y : List ℕ). Key (dependencyOf (a .d)) (databaseOf (a .schema .now) Y)) all (skipping q .skip .ensures .1 t))
+
+same-length-3 : tie.Need-same-length-3 Inv-loop μ-loop
+same-length-3 c = search needs
+
+same-length-4 : tie.Need-same-length-4 Inv-loop μ-loop
+same-length-4 c = search needs
+
+returns-2 : tie.Need-returns-2 Inv-loop μ-loop
+returns-2 c = let l = walk (c .before .before) .loop in
+    (ended (c .before), λ t. absurd (c .if2 .left (eqb-true (l .at) 0 t)))
 
 next-requires : tie.Need-next-requires Inv-loop μ-loop
 next-requires c κs = let q = c .before in
@@ -119,11 +142,11 @@ next-requires c κs = let q = c .before in
     let more : first q ≡ length (start q .args .words .now) → ⊥ = c .if1 .left in
     (omega arith, skipped q .0 .good)
 
-mul-if2 : tie.Need-mul-if2 Inv-loop μ-loop
-mul-if2 c = omega (arith, skipped (at-first c) .0 .inside)
+mul-if3 : tie.Need-mul-if3 Inv-loop μ-loop
+mul-if3 c = omega (arith, skipped (at-first c) .0 .inside)
 
-shared-slice-read-if2 : tie.Need-shared-slice-read-if2 Inv-loop μ-loop
-shared-slice-read-if2 c = search needs
+shared-slice-read-if3 : tie.Need-shared-slice-read-if3 Inv-loop μ-loop
+shared-slice-read-if3 c = search needs
 
 add-first-partner : tie.Need-add-first-partner Inv-loop μ-loop
 add-first-partner c = search needs
@@ -134,27 +157,29 @@ first-partner-requires c κs = let m = c .before .before in
     let s = start q in
     let a = s .args in
     let S = a .schema .now in
-    let place : m .next .result ≡ first q + 1 + getD S (a .d .relation) 0 = beyond m .place ∙ ap (λ (r : ℕ). first q + 1 + getD S r 0) (c .if2 .taken) in
+    let place : m .next .result ≡ first q + 1 + getD S (a .d .relation) 0 = beyond m .place ∙ ap (λ (r : ℕ). first q + 1 + getD S r 0) (c .if3 .taken) in
     let room : first q + 1 + getD S (a .d .relation) 0 ≤ length (a .words .now) = omega (arith, beyond m .fits) in
-    (s .pre .0, ((c .if2 .taken, room), from-beyond m))
+    (s .pre .0, ((c .if3 .taken, room), from-beyond m))
 
 enum-known-second : tie.Need-enum-known-second Inv-loop μ-loop
 enum-known-second c = search needs
 
-same-length-3 : tie.Need-same-length-3 Inv-loop μ-loop
-same-length-3 c = search needs
+same-length-5 : tie.Need-same-length-5 Inv-loop μ-loop
+same-length-5 c = search needs
 
-same-length-4 : tie.Need-same-length-4 Inv-loop μ-loop
-same-length-4 c = search needs
+same-length-6 : tie.Need-same-length-6 Inv-loop μ-loop
+same-length-6 c = search needs
 
-returns-2 : tie.Need-returns-2 Inv-loop μ-loop
-returns-2 c = let f = c .before .second .given in
+returns-3 : tie.Need-returns-3 Inv-loop μ-loop
+returns-3 c = let f = c .before .second .given in
     let k = c .before .before .before in
     let m = k .before .before .before in
     let q = at-first m in
-    let a = start q .args in
-    sym (ap pairOf (skipped q .1) ∙ pair-found (a .schema .now) (a .words .now) (dependencyOf (a .d)) (first q) (m .next .result) (number q) (f .0 .0) (beyond m)
-    (sym (f .1) ∙ k .first-partner .ensures))
+    let a = start q .args in (
+      sym (ap pairOf (skipped q .1) ∙ pair-found (a .schema .now) (a .words .now) (dependencyOf (a .d)) (first q) (m .next .result) (number q) (f .0 .0)
+          (beyond m) (sym (f .1) ∙ k .first-partner .ensures)),
+      λ t. absurd (false≢true t),
+    )
 
 enum-told : tie.Need-enum-told Inv-loop μ-loop
 enum-told c = search needs
@@ -176,21 +201,21 @@ loop-again c = let m = c .before .before in
       from-beyond m,
       skipped q .1
           ∙ ⊎-elim (λ w. pair-later S X D (first q) (m .next .result) (number q) (beyond m) (sym (w .3 .given .1) ∙ w .1 .ensures))
-          (λ w. pair-other S X D (first q) (m .next .result) (number q) (beyond m) (w .left)) (c .if2 .came),
-      q .before .before .before .before .before .heads .given ∙ l .inv .2,
-      q .before .before .before .nodes .given ∙ l .inv .3,
+          (λ w. pair-other S X D (first q) (m .next .result) (number q) (beyond m) (w .left)) (c .if3 .came),
+      q .before .before .before .before .before .before .heads .given ∙ l .inv .2,
+      q .before .before .before .before .nodes .given ∙ l .inv .3,
     )
 
-same-length-5 : tie.Need-same-length-5 Inv-loop μ-loop
-same-length-5 c = search needs
+same-length-7 : tie.Need-same-length-7 Inv-loop μ-loop
+same-length-7 c = search needs
 
-same-length-6 : tie.Need-same-length-6 Inv-loop μ-loop
-same-length-6 c = search needs
+same-length-8 : tie.Need-same-length-8 Inv-loop μ-loop
+same-length-8 c = search needs
 
-returns-3 : tie.Need-returns-3 Inv-loop μ-loop
-returns-3 c = let l = c .before .loop in
+returns-4 : tie.Need-returns-4 Inv-loop μ-loop
+returns-4 c = let l = c .before .loop in
     let a = begun (c .before) .args in
-    sym (ap pairOf (l .inv .1 ∙ pair-end (a .schema .now) (a .words .now) (dependencyOf (a .d)) (l .at) (l .i) (c .loop-test .left)))
+    (sym (ap pairOf (l .inv .1 ∙ pair-end (a .schema .now) (a .words .now) (dependencyOf (a .d)) (l .at) (l .i) (c .loop-test .left))), λ t. absurd (false≢true t))
 
 pub first-pair-spec : {M : Type 1} → statement M
 first-pair-spec =
@@ -210,19 +235,22 @@ first-pair-spec =
     same-length
     same-length-2
     returns
-    next-requires
-    mul-if2
-    shared-slice-read-if2
-    add-first-partner
-    first-partner-requires
-    enum-known-second
     same-length-3
     same-length-4
     returns-2
+    next-requires
+    mul-if3
+    shared-slice-read-if3
+    add-first-partner
+    first-partner-requires
+    enum-known-second
+    same-length-5
+    same-length-6
+    returns-3
     enum-told
     add-i
     loop-less
     loop-again
-    same-length-5
-    same-length-6
-    returns-3)
+    same-length-7
+    same-length-8
+    returns-4)

@@ -1,4 +1,5 @@
--- `first_violation` is the first broken dependency with its first pair. Invariant: the search from dependency k on finds what the whole search finds.
+-- `first_violation` is the first broken dependency with its first pair. Invariant: the search from dependency k on finds what the whole search finds,
+-- and the keys that are noted are keys.
 -- Assumes nothing.
 use mathlib.Core.Path.{_≡_, refl, sym, ap, _∙_}
 use mathlib.Core.List.{List, _∷_, map}
@@ -15,18 +16,19 @@ use Rattle.words.specs.Broken.{violationOf}
 use Rattle.query.specs.Rule.{noDependency}
 use Rattle.words.proofs.Search.{violation-found, violation-later, violation-end}
 use Rattle.lists.proofs.Positions.{left-cons, left-none}
+use Rattle.testing.specs.internal.Keyed.{Keyed}
 use borrow.Author.Needs.{needs}
 use Rattle.testing.proofs.first_violation.Statement.{statement}
 use Rattle.testing.proofs.first_violation.Tie as tie
 
 abbrev Inv-loop : tie.InvT-loop
-Inv-loop schema words held nodes₀ dependencies buckets used₀ k₀ nodes used k = (k ≤ held)
+Inv-loop schema words held nodes₀ dependencies buckets used₀ keys₀ k₀ nodes used keys k = (k ≤ held)
     × (firstBrokenFrom 0 (map dependencyOf (take held dependencies)) (databaseOf schema words)
     ≡ firstBrokenFrom k (map dependencyOf (drop k (take held dependencies))) (databaseOf schema words))
-    × (length nodes ≡ length nodes₀) × (length used ≡ length used₀)
+    × Keyed (databaseOf schema words) keys × (length nodes ≡ length nodes₀) × (length used ≡ length used₀)
 
 abbrev μ-loop : tie.MeasureT-loop
-μ-loop schema words held nodes₀ dependencies buckets used₀ k₀ nodes used k = held - k
+μ-loop schema words held nodes₀ dependencies buckets used₀ keys₀ k₀ nodes used keys k = held - k
 
 -- Where the call began
 abbrev begun : tie.At-loop Inv-loop μ-loop → tie.Start Inv-loop μ-loop
@@ -59,7 +61,7 @@ slice-aggregate-used : tie.Need-slice-aggregate-used Inv-loop μ-loop
 slice-aggregate-used c = sym (length-take-le (c .before .if1 .buckets) (c .before .before .before .before .before .before .args .heads .now) (few (c .before)))
 
 loop-holds : tie.Need-loop-holds Inv-loop μ-loop
-loop-holds c = (search needs, refl, refl, refl)
+loop-holds c = (search needs, refl, record { few = omega arith; hold = λ k low. absurd (omega arith) }, refl, refl)
 
 mul-d : tie.Need-mul-d Inv-loop μ-loop
 mul-d c = search needs
@@ -67,10 +69,10 @@ mul-d c = search needs
 array-copy-out-d : tie.Need-array-copy-out-d Inv-loop μ-loop
 array-copy-out-d c = search needs
 
-first-pair-requires : tie.Need-first-pair-requires Inv-loop μ-loop
-first-pair-requires c κs = let i = c .before .before .before in
+test-requires : tie.Need-test-requires Inv-loop μ-loop
+test-requires c κs = let i = c .before .before .before in
     let s = begun (i .before) in
-    (s .pre .1 .0 (i .before .loop .k) (i .loop-test .taken), s .pre .1 .1)
+    (s .pre .1 .0 (i .before .loop .k) (i .loop-test .taken), (s .pre .1 .1, i .before .loop .inv .2))
 
 enum-known-found : tie.Need-enum-known-found Inv-loop μ-loop
 enum-known-found c = search needs
@@ -83,13 +85,13 @@ same-length-2 c = search needs
 
 returns : tie.Need-returns Inv-loop μ-loop
 returns c = let f = c .before .before .before .found .given in
-    let q = c .before .before .before .before .before .before .before .before .before in
+    let q = c .before .before .before .before .before .before .before .before .before .before in
     let i = q .before .before .before .before in
     let a = begun (i .before) .args in
     let k = i .before .loop .k in
     sym (ap violationOf (onward i)
     ∙ violation-found (databaseOf (a .schema .now) (a .words .now)) (dependencyOf (getD (a .t3) k noDependency))
-    (map dependencyOf (drop (k + 1) (take (a .held) (a .t3)))) k (f .0 .0) (f .0 .1 .0) (sym (f .1) ∙ q .first-pair .ensures))
+    (map dependencyOf (drop (k + 1) (take (a .held) (a .t3)))) k (f .0 .0) (f .0 .1 .0) (sym (f .1) ∙ q .test .ensures .0))
 
 enum-told : tie.Need-enum-told Inv-loop μ-loop
 enum-told c = search needs
@@ -101,16 +103,17 @@ loop-less : tie.Need-loop-less Inv-loop μ-loop
 loop-less c = search needs
 
 loop-again : tie.Need-loop-again Inv-loop μ-loop
-loop-again c = let q = c .before .before .before .before .before .before in
+loop-again c = let q = c .before .before .before .before .before .before .before in
     let i = q .before .before .before .before in
     let l = i .before .loop in
     let a = begun (i .before) .args in (
       search needs,
       onward i
           ∙ violation-later (databaseOf (a .schema .now) (a .words .now)) (dependencyOf (getD (a .t3) (l .k) noDependency))
-          (map dependencyOf (drop (l .k + 1) (take (a .held) (a .t3)))) (l .k) (sym (c .enum-told .given .1) ∙ q .first-pair .ensures),
-      c .before .before .before .nodes .given ∙ l .inv .2,
-      c .before .before .before .before .before .used3 .given ∙ l .inv .3,
+          (map dependencyOf (drop (l .k + 1) (take (a .held) (a .t3)))) (l .k) (sym (c .enum-told .given .1) ∙ q .test .ensures .0),
+      q .test .ensures .1,
+      c .before .before .before .before .nodes .given ∙ l .inv .3,
+      c .before .before .before .before .before .before .used3 .given ∙ l .inv .4,
     )
 
 same-length-3 : tie.Need-same-length-3 Inv-loop μ-loop
@@ -137,7 +140,7 @@ first-violation-spec =
     loop-holds
     mul-d
     array-copy-out-d
-    first-pair-requires
+    test-requires
     enum-known-found
     same-length
     same-length-2

@@ -1,0 +1,2 @@
+-- What contracts of the functions cite; what a test promises is in the specs of `words`.
+pub mod internal

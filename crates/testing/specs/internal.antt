@@ -1,0 +1,2 @@
+-- The keys that walks over the rows have seen.
+pub mod Keyed
