@@ -2,7 +2,6 @@
 -- Assumes nothing.
 use mathlib.Core.Path.{_≡_, sym, _∙_}
 use mathlib.Core.Bool.{true}
-use Prim.Native.Nat.{_^_, _<_}
 use native.Mathlib.Nat.{lt-of-le-of-lt}
 use lib.Count.{ones-le}
 use lib.Dec.{lit<}
@@ -47,9 +46,7 @@ closed-columns-requires c κs = (
 )
 
 cast-t13 : tie.Need-cast-t13
-cast-t13 c =
-    let small : c .closed-columns .result < 2 ^ 8 = search needs in
-    record { fits = lt-of-le-of-lt (ones-le 8 (c .closed-columns .result) small) (lit< tt) }
+cast-t13 c = record { fits = lt-of-le-of-lt (ones-le 8 _ (search needs)) (lit< tt) }
 
 returns-3 : tie.Need-returns-3
 returns-3 c =
