@@ -5,7 +5,8 @@ use query::Dependency;
 use record::Outcome;
 use record::Record;
 use record::Status;
-use record::calls;
+use record::blank::blank_record;
+use record::blank::no_place;
 ghost use mathlib.Core.Path.{_≡_};
 ghost use mathlib.Core.Bool.{true};
 ghost use Prim.Native.Nat.{_+_, _-_, _*_, _≤_};
@@ -34,7 +35,7 @@ pub fn refusal(number: u8) -> Outcome
 {
     Outcome {
         answer: Status::Refused(number),
-        record: calls::blank_record(),
+        record: blank_record(),
     }
 }
 
@@ -52,7 +53,7 @@ pub fn read_places(
     requires { ⌜ chained n (2 + 4 * n) (length (now file)) (drop 2 (now file)) ≡ true ⌝ }
     ensures { λ r. ⌜ r ≡ recordRead (count, widths) (held, dependencies) (readPlaces (take count widths) (stretches (n - 2) (now (file .entry)) (drop 10 (now (file .entry))))) ⌝ }
 {
-    let blank = calls::no_place();
+    let blank = no_place();
     let mut places = [blank; 8];
     for k in 2..n {
         let read = read_place(part(file, k), k + 1 == n, count, widths);

@@ -1,10 +1,6 @@
--- Facts that other crates cite: what a passed test tells (Good), what the record's fields are for the theory (Stored), where they are blank (Shape),
--- what a lookup of a place tells (Refusals), that the calls keep the rule (Kept), and what the calls' equations mean (Meaning).
+-- Facts that other crates cite: what a passed test tells (Good), what the record's fields are for the theory (Stored), what a lookup of a place tells
+-- (Refusals), and that another content of a place keeps the rule (Kept).
 pub mod Good
 pub mod Stored
-pub mod Shape
 pub mod Refusals
 pub mod Kept
-pub mod Meaning
--- Laws of this crate's own proofs: the calls (Outcomes).
-pub mod Outcomes

@@ -1,4 +1,4 @@
--- `record::calls::adds_column` meets its contract: the tests on masks are those of `adds` on lists of columns.
+-- `closure::adds_column` meets its contract: the tests on masks are those of `adds` on lists of columns.
 -- Assumes nothing.
 use mathlib.Core.Path.{_≡_}
 use mathlib.Core.Bool.{false, not}

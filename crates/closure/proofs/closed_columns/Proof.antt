@@ -1,4 +1,4 @@
--- `record::calls::closed_columns` meets its contract. Invariant: the looks that are left, on the mask so far, give the whole closure.
+-- `closure::closed_columns` meets its contract. Invariant: the looks that are left, on the mask so far, give the whole closure.
 -- Assumes nothing.
 use mathlib.Core.Path.{_≡_, sym, ap, _∙_}
 use mathlib.Core.List.{map}

@@ -1,4 +1,4 @@
--- `record::calls::next_columns` meets its contract. Invariant: the first dependency that adds is the first from i on.
+-- `closure::next_columns` meets its contract. Invariant: the first dependency that adds is the first from i on.
 -- Assumes nothing.
 use mathlib.Core.Path.{_≡_, sym, ap, _∙_}
 use mathlib.Core.List.{List, map}

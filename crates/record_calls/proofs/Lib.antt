@@ -1,0 +1,5 @@
+-- What the calls' equations mean (Meaning), which other crates cite; and on the way that the calls keep the rule (Kept), and each call by the test that
+-- decides it (Outcomes).
+pub mod Meaning
+pub mod Kept
+pub mod Outcomes
