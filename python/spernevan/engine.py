@@ -415,7 +415,7 @@ def _evaluated(file: bytes, place: int, words: Words, size: Size, room: int, mos
     working = _flat(_lent(words, _for_answers(len(words), size, most)))
     number = _number("evaluate_lent", *_slice(file), _place(place), *_words(words), buffer, held, *working, ctypes.byref(found))
     answers = array("I")
-    if number == 0:
+    if number == 0 and found.value * size.head > 0:  # Before Python 3.10 an array takes no bytes from an empty part.
         answers.frombytes((ctypes.c_uint8 * (4 * found.value * size.head)).from_buffer(buffer))
     return number, found.value, answers, held
 
