@@ -24,7 +24,7 @@ from typing import AbstractSet, Any, Callable, Dict, Iterable, Iterator, List, M
 from .files import Failure
 from .model import Constant, Query, Words
 from .notation import Names, Table, count, format_datum
-from .values import FIRST_CODE, Null, Value, Values, bare, doubt, plain, read_cell, read_cell_with_comma, read_literal
+from .values import FIRST_CODE, Null, Value, Values, bare, doubt, looks_absent, plain, read_cell, read_cell_with_comma, read_literal
 
 CHUNK = 50_000
 
@@ -353,8 +353,9 @@ class Cells(Dict[Any, int]):
         self._values, self._null, self._read = values, null, read
         self.form = form
         self.same: Optional[Tuple[str, str]] = None
-        # The first cell of a column without types that is taken as a text and may be meant otherwise, and what to say of it.
-        self.doubt: Optional[Tuple[str, str]] = None
+        # In a column without types, the first cell that is taken as a text and may be meant as a number, under False, and the
+        # first that may be meant as no value, under True; and what to say of it.
+        self.doubts: Dict[bool, Tuple[str, str]] = {}
 
     def column(self, cells: Sequence[Any]) -> Words:
         """Cells in words. A cell that is no value raises ValueError, or Null; `fault` then says which."""
@@ -394,7 +395,7 @@ class Cells(Dict[Any, int]):
             return cells if first else None
         if self._read is read_row_value:
             return [cell[1:-1].replace("''", "'") for cell in cells] if first >= "'" and max(cells) < "(" else None
-        return cells if first >= ":" and (self.doubt is not None or _MAY_BE_ABSENT.search("\n".join(cells)) is None) else None
+        return cells if first >= ":" and (True in self.doubts or _MAY_BE_ABSENT.search("\n".join(cells)) is None) else None
 
     def _learn_fractions(self, new: Sequence[Any]) -> None:
         """Takes up numbers that are not whole, many at once; `__missing__` takes up the other cells."""
@@ -414,6 +415,14 @@ class Cells(Dict[Any, int]):
         written = self.form.written.setdefault(word, spelled)
         if written != spelled and word and self.same is None:
             self.same = written, spelled
+
+    def _doubt(self, cell: str) -> None:
+        """Notes a cell that is taken as a text, if it is the first that may be meant otherwise."""
+        absent = looks_absent(cell)
+        if absent not in self.doubts:
+            said = doubt(cell, "," if self._read is read_cell_with_comma else ".")
+            if said is not None:
+                self.doubts[absent] = cell, said
 
     def fault(self, cells: Sequence[Any]) -> Tuple[int, ValueError]:
         """The position of the first cell that `column` did not take, and why."""
@@ -440,9 +449,8 @@ class Cells(Dict[Any, int]):
                 self.form.given.setdefault(word, given)
         elif isinstance(value, (int, Decimal)):
             self._write_down(word, cell.strip().replace(",", "."))
-        elif self._read is not str and self._read is not read_row_value and self.doubt is None and (cell[:1] <= "9" or cell[:1] in "nN"):
-            said = doubt(cell, "," if self._read is read_cell_with_comma else ".")
-            self.doubt = None if said is None else (cell, said)
+        elif self._read is not str and self._read is not read_row_value and len(self.doubts) < 2 and (cell[:1] <= "9" or cell[:1] in "nN"):
+            self._doubt(cell)
         try:
             self[cell] = word
         except TypeError:

@@ -330,23 +330,37 @@ def _memory() -> int:
 # As many words at most are lent for answers, and for each of the two parts in which they are gathered and sorted, before their number is known.
 # What is not touched of them costs nothing, and all three are less than a fifth of the memory.
 AMPLE_WORDS = min(2**27, _memory() // 64)
+# A database of as many words and more is worked on in huge pages. A smaller one touches little of what is lent, and to clear a huge page takes longer.
+HUGE_WORDS = 2**20
 # In more the engine makes no index.
 MOST_INDEX_WORDS = 2**32 - 2
 
 _Part = Tuple["ctypes.Array[ctypes.c_uint32]", int]
 
 
-def _map(size: int) -> mmap.mmap:
-    """So many bytes of memory, of which pages that are not touched cost nothing. OSError or ValueError if there are not as many."""
-    return mmap.mmap(-1, size, mmap.MAP_PRIVATE | mmap.MAP_ANONYMOUS)
+def _map(size: int, huge: bool) -> mmap.mmap:
+    """So many bytes of memory, in huge pages if the machine has them. OSError or ValueError if there are not as many.
+
+    Pages that are not touched cost nothing.
+    """
+    held = mmap.mmap(-1, size, mmap.MAP_PRIVATE | mmap.MAP_ANONYMOUS)
+    if huge and hasattr(mmap, "MADV_HUGEPAGE"):
+        try:
+            held.madvise(mmap.MADV_HUGEPAGE)
+        except OSError:
+            pass
+    return held
 
 
-def _lent(words: Sequence[int]) -> List[_Part]:
-    """Memory for parts of so many words. Where the machine does not give it the largest of them have half as many, and so on: the engine is then slower."""
+def _lent(database: Words, words: Sequence[int]) -> List[_Part]:
+    """Memory for parts of so many words, to work on a database in.
+
+    Where the machine does not give it the largest of them have half as many, and so on: the engine is then slower.
+    """
     sizes = list(words)
     while True:
         try:
-            held = _map(4 * max(1, sum(sizes)))
+            held = _map(4 * max(1, sum(sizes)), len(database) >= HUGE_WORDS)
             break
         except (OSError, ValueError, OverflowError):
             largest = max(sizes)
@@ -383,7 +397,7 @@ def test(file: bytes, words: Words) -> Optional[Tuple[int, int, int]]:
     obeys = ctypes.c_uint8()
     found = [ctypes.c_size_t() for _ in range(3)]
     outs = [ctypes.byref(obeys), *(ctypes.byref(place) for place in found)]
-    number = _number("test_lent", *_slice(file), *_words(words), *_flat(_lent([len(words) // 2, len(words) * 3 // 2])), *outs)
+    number = _number("test_lent", *_slice(file), *_words(words), *_flat(_lent(words, [len(words) // 2, len(words) * 3 // 2])), *outs)
     if number != 0:
         raise Refused(number)
     if obeys.value == 1:
@@ -397,11 +411,11 @@ def _evaluated(file: bytes, place: int, words: Words, size: Size, room: int, mos
     Its number, how many answers there are, their words, and for how many there was room: the machine may not give as much.
     """
     found = ctypes.c_size_t()
-    ((buffer, held),) = _lent([room])
-    working = _flat(_lent(_for_answers(len(words), size, most)))
+    ((buffer, held),) = _lent(words, [room])
+    working = _flat(_lent(words, _for_answers(len(words), size, most)))
     number = _number("evaluate_lent", *_slice(file), _place(place), *_words(words), buffer, held, *working, ctypes.byref(found))
     answers = array("I")
-    if number == 0:
+    if number == 0 and found.value * size.head > 0:  # Before Python 3.10 an array takes no bytes from an empty part.
         answers.frombytes((ctypes.c_uint8 * (4 * found.value * size.head)).from_buffer(buffer))
     return number, found.value, answers, held
 
@@ -429,7 +443,7 @@ def count(file: bytes, place: int, words: Words, size: Size) -> int:
     """How many answers there are."""
     found = ctypes.c_size_t()
     most = min(_most_answers(len(words), size), AMPLE_WORDS // 2)
-    working = _flat(_lent(_for_answers(len(words), size, most)))
+    working = _flat(_lent(words, _for_answers(len(words), size, most)))
     number = _number("count_lent", *_slice(file), _place(place), *_words(words), *working, ctypes.byref(found))
     del working
     if number != 0:

@@ -102,8 +102,8 @@ class Names:
         for number, table in enumerate(self.tables):
             if table.name == token.text:
                 return number
-        known = ", ".join(table.name for table in self.tables) or "none"
-        raise reader.error(token, f"there is no table {token.text}; there is {known}")
+        known = f"there is {', '.join(table.name for table in self.tables)}" if self.tables else "the lines of the tables come first"
+        raise reader.error(token, f"there is no table {token.text}; {known}")
 
     def column(self, relation: int, reader: Reader) -> int:
         """The number of the column that the next token names."""
@@ -136,6 +136,8 @@ def read_keyed_table(reader: Reader, tables: Sequence[Table]) -> Tuple[Table, Li
             raise reader.error(found, f"a table has {MOST_COLUMNS} columns at most")
         if reader.try_take("*"):
             key.append(len(columns))
+        if reader.next.kind == "name":
+            raise reader.error(reader.next, f"a comma is missing before {reader.next.text:.40}; a column has a name and no type")
         columns.append(found.text)
 
     if not reader.listed(column):

@@ -174,11 +174,11 @@ _CURES = [
     for pattern, cure in (
         (r"\.[^\S\n]*(?:#|\n|\Z)", "a line ends without one"),
         (r"\.", "a decimal has digits before and after its point"),
-        (r"(?<==)>", "'->' goes between the columns of a dependency"),
+        (r"(?<==)>|[\u2192\u27f6]", "'->' goes between the columns of a dependency"),
         (r"<-", "':-' goes between the head of a rule and its rows"),
-        (r"[<>!\u2260\u2264\u2265]", "a rule has rows alone, joined by equal values, and no comparisons"),
+        (r"[<>!\u2260\u2264\u2265]", "a rule has rows alone, joined by equal values, and no comparisons; a dependency has ->"),
         (r";", "',' goes between the rows of a rule, and each row of a database has its own line"),
-        (r"(?<=\w)-(?=\w)", "a text, such as 'F-101', stands between quotes"),
+        (r"(?<=\w)-(?=\w)", "a text, such as 'F-101', stands between quotes, and a name has _ for -"),
         (r"[%/]", "'#' begins a comment"),
         (r"\0", "is this a text at all?"),
     )

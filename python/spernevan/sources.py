@@ -18,10 +18,10 @@ from dataclasses import dataclass
 from functools import partial
 from itertools import islice
 from typing import Any, Callable, Dict, Iterable, Iterator, List, NoReturn, Optional, Pattern, Sequence, TextIO, Tuple, Union
-from urllib.request import pathname2url
+from urllib.parse import quote
 
 from .data import CHUNK, Absent, Cells, Cures, Database, DataError, Note, Progress, Where, column_of, matched, positions, read_row_value, uncollected
-from .files import Path, kind_of, read_bytes, read_while, shown, text_of
+from .files import Path, is_utf8, kind_of, read_bytes, read_while, shown, text_of
 from .model import Words
 from .notation import Names, Reader, Table, Token, count, format_row
 from .record import Asked, Record
@@ -353,15 +353,14 @@ def read_csv(path: str, relation: int, database: Database, csv_form: Csv = Csv()
                 columns = list(zip(*rows)) if rows else [()] * len(header)
                 words = []
                 for column, (number, cells) in enumerate(zip(at, readers)):
-                    known = cells.doubt
+                    known = set(cells.doubts)
                     try:
                         words.append(cells.column(columns[number]))
                     except ValueError:
                         position, error = cells.fault(columns[number])
                         where = _csv_place(path, sign, start + position)
                         _refuse(f"{where}: column {table.columns[column]}", error, f"the cell is empty (NULL); {database.cures.null}")
-                    if known is None and cells.doubt is not None:
-                        cell, said = cells.doubt
+                    for cell, said in [cells.doubts[kind] for kind in cells.doubts if kind not in known]:
                         where = _csv_place(path, sign, start + columns[number].index(cell))
                         taken = f"{where}: {cell.strip()} in {table.name}.{table.columns[column]} is taken as a text; {said}"
                         comma = "," in cell and csv_form.decimal == "."
@@ -483,13 +482,24 @@ def _sqlite_errors(path: str) -> Iterator[None]:
     try:
         yield
     except sqlite3.Error as error:
-        raise DataError(f"{path}: SQLite says: {error}") from None
+        raise DataError(f"{path}: SQLite says: {error}{_sqlite_cure(path, str(error))}") from None
+
+
+def _sqlite_cure(path: str, words: str) -> str:
+    """What to do about an error of SQLite, where that is known."""
+    if "locked" in words:
+        return "; another program is writing it: try again when that is done"
+    if "readonly" in words and os.path.exists(f"{path}-journal"):
+        return "; a program that wrote it was interrupted: open it once with a program that may write it, as sqlite3, which undoes what is half written"
+    if "readonly" in words or "unable to open" in words:
+        return "; if it is in WAL mode, SQLite makes files beside it to read it: copy it to a folder that can be written"
+    return ""
 
 
 def read_sqlite(path: str, database: Database) -> None:
     """The tables of an SQLite file that the archive has. Nothing is written to it."""
     with _sqlite_errors(path):
-        connection = sqlite3.connect(f"file:{pathname2url(os.path.abspath(path))}?mode=ro", uri=True)
+        connection = sqlite3.connect(f"file://{quote(os.path.abspath(os.fsencode(path)))}?mode=ro", uri=True)
         try:
             # One transaction, so that every table is as it was at one moment.
             connection.isolation_level = None
@@ -516,10 +526,15 @@ def _read_sqlite_table(connection: sqlite3.Connection, path: str, name: str, rel
         wanted = [labels[number] for number in positions(table.columns, labels, f"{path}: table {name}")]
         database.has(relation)
         readers: List[Cells] = [database.cells(relation, column, plain) for column in range(len(wanted))]
-        cursor = connection.execute(f"SELECT {', '.join(map(_quoted, wanted))} FROM {_quoted(name)}")
+        select = f"SELECT {', '.join(map(_quoted, wanted))} FROM {_quoted(name)}"
+        cursor = connection.execute(select)
         start = 0
         while True:
-            rows = cursor.fetchmany(CHUNK)
+            try:
+                rows = cursor.fetchmany(CHUNK)
+            except sqlite3.OperationalError:
+                _refuse_bytes(connection, select, path, name, wanted)
+                raise
             if not rows:
                 return
             words = []
@@ -532,6 +547,15 @@ def _read_sqlite_table(connection: sqlite3.Connection, path: str, name: str, rel
                     _refuse(f"{path}: row {start + position + 1} of {name}, column {wanted[column]}", error, f"NULL in {row}; {database.cures.null}")
             database.add(relation, words, _sqlite_where(path, name, start))
             start += len(rows)
+
+
+def _refuse_bytes(connection: sqlite3.Connection, select: str, path: str, name: str, wanted: Sequence[str]) -> None:
+    """Raises an error for the first text that is not UTF-8, which SQLite keeps as it is given; if there is none, does nothing."""
+    connection.text_factory = lambda text: "" if is_utf8(text) else bytearray(text)  # bytes are a BLOB
+    for number, row in enumerate(connection.execute(select)):
+        for label, cell in zip(wanted, row):
+            if isinstance(cell, bytearray):
+                raise DataError(f"{path}: row {number + 1} of {name}, column {label}: the text {bytes(cell)!r:.40} is not UTF-8")
 
 
 def _sqlite_where(path: str, name: str, start: int) -> Where:

@@ -90,7 +90,7 @@ def pack(text: str, source: str = "text") -> Tuple[Record, Names]:
             tables.append(table)
             add(start, key_dependencies(len(tables) - 1, key, len(table.columns)))
         else:
-            raise reader.expected("a table(, a table: or a place:")
+            raise reader.expected("a line such as flight(number, sonde), flight: number -> sonde or 0: ans(f) :- ..")
         reader.line_ends()
     if not tables:
         raise reader.error(reader.next, "a text has at least one table, as in flight(number, sonde)")

@@ -301,9 +301,14 @@ def number_meant(cell: str, decimal: str = ".") -> Optional[str]:
 _ABSENT = frozenset(["nan", "na", "n/a", "#n/a", "null", "none"])
 
 
+def looks_absent(cell: str) -> bool:
+    """Whether a cell is a word that programs write for no value."""
+    return cell.strip().casefold() in _ABSENT
+
+
 def doubt(cell: str, decimal: str = ".") -> Optional[str]:
     """What to say of a cell that `read_cell` takes as a text and that a program may have meant otherwise; None if there is no doubt."""
-    if cell.strip().casefold() in _ABSENT:
+    if looks_absent(cell):
         return "an absent value is an empty cell; if it is a text"
     number = number_meant(cell, decimal)
     return None if number is None else f"the number is written {number}; if it is no number"

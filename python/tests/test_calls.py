@@ -1,6 +1,7 @@
 """Every call of the engine: the reference examples, the refusals, random records, hostile arguments."""
 
 import ctypes
+import mmap
 import random
 import re
 import subprocess
@@ -12,6 +13,7 @@ import unittest
 import weakref
 from array import array
 from pathlib import Path
+from types import SimpleNamespace
 from unittest import mock
 
 import context
@@ -488,10 +490,10 @@ class Memory(Calls):
         plain = engine._map
         for most in (2**30, 2**16, 2**13, 2**12):
 
-            def scarce(size):
+            def scarce(size, huge):
                 if size > most:
                     raise OSError(12, "Cannot allocate memory")
-                return plain(size)
+                return plain(size, huge)
 
             with self.subTest(most=most), mock.patch.object(engine, "_map", scarce):
                 if most > 8 * len(self.want):
@@ -507,9 +509,9 @@ class Memory(Calls):
         """Parts of any lengths, whatever they hold."""
         rng, plain = random.Random(12), engine._lent
 
-        def some(words):
+        def some(database, words):
             sizes = [words[0]] if len(words) == 1 else [rng.choice([0, 1, 15, 16, 47, 64, 300, size]) for size in words]
-            parts = plain(sizes)
+            parts = plain(database, sizes)
             for part, size in parts:
                 part[:size] = [rng.choice([0, 1, 2**32 - 1, rng.randrange(2**32)])] * size
             return parts
@@ -530,14 +532,27 @@ class Memory(Calls):
         with mock.patch.object(engine, "_lent", side_effect=engine._lent) as lent:
             self.record.evaluate(0, [(0, (1, 2)), (1, (2, 3))])
             self.record.test([(0, (1, 2)), (1, (2, 3))])
-        self.assertEqual([call.args[0] for call in lent.call_args_list], [[18], [124, 0, 100, 100], [3, 9]])
+        self.assertEqual([call.args[1] for call in lent.call_args_list], [[18], [124, 0, 100, 100], [3, 9]])
         self.assertLess(engine._for_answers(2**31, engine.Size(12, 8), 1)[0], 2**32 - 1)
+
+    def test_huge_pages(self):
+        """A large database has them, and where there are none the answers are the same."""
+        for most, asked in ((engine.HUGE_WORDS, {False}), (1, {True})):
+            with mock.patch.object(engine, "HUGE_WORDS", most), mock.patch.object(engine, "_map", side_effect=engine._map) as lent:
+                self.answered()
+            self.assertEqual({call.args[1] for call in lent.call_args_list}, asked)
+        self.assertEqual(len(engine._map(2**22, True)), 2**22)
+        with mock.patch.object(engine, "HUGE_WORDS", 1), mock.patch.object(engine.mmap, "MADV_HUGEPAGE", 9999, create=True):
+            self.answered()  # No machine knows this advice.
+        other = SimpleNamespace(mmap=mmap.mmap, MAP_PRIVATE=mmap.MAP_PRIVATE, MAP_ANONYMOUS=mmap.MAP_ANONYMOUS)
+        with mock.patch.object(engine, "HUGE_WORDS", 1), mock.patch.object(engine, "mmap", other):
+            self.answered()  # Nor does every system have the word for it.
 
     def test_it_is_let_go(self):
         plain, held = engine._map, []
 
-        def noted(size):
-            found = plain(size)
+        def noted(size, huge):
+            found = plain(size, huge)
             held.append(weakref.ref(found))
             return found
 

@@ -4,8 +4,10 @@ import csv
 import importlib.util
 import io
 import json
+import os
 import pickle
 import random
+import shutil
 import sqlite3
 import subprocess
 import sys
@@ -272,6 +274,11 @@ class Files(Data):
             status, _, err = run("test", self.text, self.csv(burst=f"flight,height\n1,2\n2,{cell}\n"))
             said = f"burst.csv:3: {cell} in burst.height is taken as a text; an absent value is an empty cell; if it is a text, say --text burst.height\n"
             self.assertTrue(status == 0 and err.endswith(said), err)
+        for kinds in (["NaN", "3", "1e4", "NA", "2e5"], ["F", "1e4", "x", "NaN", "2e5"]):
+            err = run("test", self.text, self.csv(burst="flight,height\n" + "".join(f"{row},{cell}\n" for row, cell in enumerate(kinds))))[2]
+            self.assertEqual(err.count("is taken as a text"), 2)
+            for cell in ("NaN", "1e4"):
+                self.assertIn(f"burst.csv:{kinds.index(cell) + 2}: {cell} in burst.height is taken as a text; ", err)
         for cell in ("1,2,3", "a,5", "2026,x"):
             self.assertEqual(run("test", self.text, self.csv(burst=f"flight;height\n1;{cell}\n"))[2], "")
 
@@ -318,7 +325,28 @@ class Files(Data):
             f"{blob}: row 2 of flight, column site: a value must be a number, a text or a date, not b'\\x00\\xff'", "test", self.text, blob
         )
         wrong = self.sqlite("UPDATE flight SET site = CAST(x'ff' AS TEXT) WHERE number = 'F-2'")
-        self.failed(f"{wrong}: SQLite says: Could not decode to UTF-8", "test", self.text, wrong)
+        self.failed(f"{wrong}: row 2 of flight, column site: the text b'\\xff' is not UTF-8", "test", self.text, wrong)
+
+    def test_sqlite_that_must_be_written_first(self):
+        base = self.sqlite()
+        for words, beside, cure in [
+            ("database is locked", "", "another program is writing it: try again when that is done"),
+            ("attempt to write a readonly database", "-journal", "a program that wrote it was interrupted: open it once with a program that may write it"),
+            ("attempt to write a readonly database", "-wal", "if it is in WAL mode, SQLite makes files beside it to read it: copy it to a folder"),
+        ]:
+            with mock.patch.object(sources, "_read_connection", side_effect=sqlite3.OperationalError(words)):
+                held = self.write(f"{base.name}{beside}", base.read_bytes())
+                self.failed(f"{base}: SQLite says: {words}; {cure}", "test", self.text, base)
+            if beside:
+                os.unlink(held)
+
+    def test_names_of_sqlite_files(self):
+        base = self.sqlite()
+        for name in ("a b#?%41;c&d=e.db", b"l\xe9.db", "日.db"):
+            other = os.path.join(os.fsencode(self.folder), os.fsencode(name))
+            shutil.copyfile(base, other)
+            self.assertEqual(self.done("test", self.text, os.fsdecode(other)), self.done("test", self.text, base))
+        self.assertEqual(self.done("test", self.text, f"/{base.resolve()}"), self.done("test", self.text, base))
 
     def test_nothing_is_written_to_sqlite(self):
         base = self.sqlite()

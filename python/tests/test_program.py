@@ -56,6 +56,12 @@ class Program(Started):
             self.assertEqual(done.returncode, status)
             self.assertTrue(done.stdout.startswith(out) and done.stderr.startswith(err) and bool(done.stderr) == bool(err), done)
 
+    def test_nothing_of_the_network_is_loaded(self):
+        """It would take as long to start as all else."""
+        asked = "import sys, spernevan.command; print(sorted({'ssl', 'socket', 'http.client', 'email'} & set(sys.modules)))"
+        done = subprocess.run([sys.executable, "-c", asked], cwd=context.HERE.parent, capture_output=True, text=True)
+        self.assertEqual(done.stdout, "[]\n", done.stderr)
+
     def test_through_a_link(self):
         link = self.folder / "linked"
         link.symlink_to(context.ROOT / "spernevan")
@@ -179,6 +185,28 @@ class Program(Started):
         self.assertIn(b"000 rows\x1b[K", shown)
         self.assertTrue(shown.endswith(b"\r\x1b[K"))
         self.assertEqual(subprocess.run(arguments, capture_output=True).stderr, b"")
+
+
+def other_python():
+    """The oldest Python, from 3.9 on, that this machine has beside the one that runs, and its environment; None if there is no other."""
+    for minor in range(9, 30):
+        name, environment = f"python3.{minor}", {**os.environ, "PYENV_VERSION": f"3.{minor}"}  # A version manager has the others by this alone.
+        if minor == sys.version_info.minor or shutil.which(name) is None:
+            continue
+        if subprocess.run([name, "-c", "import ctypes, sqlite3"], env=environment, capture_output=True).returncode == 0:
+            return name, environment
+    return None
+
+
+class OtherPython(unittest.TestCase):
+    def test_answers(self):
+        found = other_python()
+        if found is None:
+            self.skipTest("there is no other Python")
+        name, environment = found
+        command = [name, "-m", "unittest", "discover", "-s", str(context.HERE), "-p", "test_data.py", "-k", "FromPython"]
+        done = subprocess.run(command, env=environment, capture_output=True, text=True)
+        self.assertEqual(done.returncode, 0, done.stderr)
 
 
 class Install(Started):
