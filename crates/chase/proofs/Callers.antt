@@ -23,14 +23,14 @@ use Rattle.query.proofs.Good.{good-query}
 use Rattle.theory.specs.Query as theory
 use Rattle.theory.specs.Query.{constant, variable, rowEntries, variablesOf, variableCount, _∈_}
 use Rattle.theory.specs.Database as database
-use Rattle.determination.specs.Determined.{subset}
+use Rattle.theory.specs.Query.{subset}
 use Rattle.theory.specs.Chase.{Chases, rests, clashes, replaces}
 use Rattle.lists.proofs.Tests.{and-left, and-right}
 use Rattle.theory.proofs.Lists.{replicate-mem}
 use Rattle.theory.proofs.Entries.{constant-variable, variablesOf-mem}
 use Rattle.theory.proofs.Replacement.{replace-head-safe}
 use Rattle.theory.proofs.Chase.{chase-chases, chase-count-le}
-use Rattle.determination.proofs.Determined.{subset-true, subset-of}
+use Rattle.theory.proofs.Lists.{subset-true, subset-of}
 
 -- The widths that good relations give are 1 to 8
 pub good-widths : (relations : ℕ) (widths : List ℕ) → goodRelations relations widths ≡ true → every (between 1 8) (take relations widths) ≡ true

@@ -21,7 +21,8 @@ use Rattle.determination.proofs.Determined.{adds-relation}
 use Rattle.theory.specs.Query.{member, _∈_}
 use Rattle.theory.specs.Chase.{firstPassing}
 use Rattle.theory.specs.Database.{Dependency}
-use Rattle.determination.specs.Determined.{subset, adds, growOn, growFor, closure, determined}
+use Rattle.theory.specs.Query.{subset}
+use Rattle.determination.specs.Determined.{adds, growOn, growFor, closure, determined}
 use Rattle.query.specs.declared.Dependency as stored
 use Rattle.query.specs.View.{columnsFrom, columnsOf, dependencyOf, maskOf}
 use Rattle.lists.specs.Tests.{every}

@@ -13,7 +13,7 @@ use lib.ListN.{length}
 use borrow.Author.Tests.{eqb-true, eqb-false, eq-eqb, ne-eqb}
 use Rattle.lists.specs.Numbers.{numbersWhere}
 use Rattle.theory.specs.Query.{member}
-use Rattle.determination.specs.Determined.{subset}
+use Rattle.theory.specs.Query.{subset}
 use Rattle.query.specs.View.{columnsFrom, columnsOf, maskOf}
 
 -- Whether column c is in a mask

@@ -27,9 +27,9 @@ use Rattle.comparison.proofs.Verdicts.{queries}
 use Rattle.chase.proofs.Callers.{chases-safe}
 use Rattle.theory.specs.Query as theory
 use Rattle.theory.specs.Query.{rowEntries, variablesOf}
-use Rattle.determination.specs.Determined.{subset}
+use Rattle.theory.specs.Query.{subset}
 use Rattle.theory.proofs.Chase.{chase-chases}
-use Rattle.determination.proofs.Determined.{subset-true, subset-of}
+use Rattle.theory.proofs.Lists.{subset-true, subset-of}
 use Rattle.mapping_words.specs.Images.{mappingWords}
 use Rattle.comparison_on_files.specs.Queries.{verdictFits, comparisonFits, ComparisonGiven, ComparisonShape, Comparing, CompareGives}
 use Rattle.comparison_on_files.specs.internal.Steps.{SoundComparison}

@@ -16,29 +16,17 @@ use lib.ListN.{length, getD, replicate, length-replicate, getD-replicate, List·
 use native.Mathlib.Decide.{decLt}
 use borrow.Author.Tests.{eqb-true, eq-eqb, not-true}
 use Rattle.lists.specs.Numbers.{numbersWhere}
-use Rattle.theory.specs.Query.{Row, column, member, _∈_}
+use Rattle.theory.specs.Query.{Row, column, member, subset, _∈_}
 use Rattle.theory.specs.Database.{Database, Dependency, Agree, Obeys, Sound}
 use Rattle.theory.specs.Chase.{firstPassing}
-use Rattle.determination.specs.Determined.{Determines, FitsColumns, Ascending, subset, adds, growOn, growFor, closure, determined}
+use Rattle.determination.specs.Determined.{FitsColumns, Determines, Increasing, adds, growOn, growFor, closure, determined}
 use Rattle.lists.proofs.Tests.{and-left, and-right, and-both}
 use Rattle.lists.proofs.Numbers.{where-from, where-of}
-use Rattle.theory.proofs.Lists.{mem-cases, member-mem, mem-member, member-not-mem}
+use Rattle.theory.proofs.Lists.{mem-cases, member-mem, mem-member, member-not-mem, subset-true, subset-of}
 use Rattle.theory.proofs.Members.{_⊆_}
 use Rattle.theory.proofs.Step.{firstPassing-found, firstPassing-nothing}
 
 -- ---- 1. tests
-
--- A list that passes `subset` is a part of the other, and a part of it passes
-pub subset-true : (ms ns : List ℕ) → subset ms ns ≡ true → (n : ℕ) → n ∈ ms → n ∈ ns
-unfolding subset
-subset-true (m ∷ ms) ns e n (List·Memᴰ·head same) = Memᴰ·cast same (member-mem m ns (and-left (member m ns) (subset ms ns) e))
-subset-true (m ∷ ms) ns e n (List·Memᴰ·tail at) = subset-true ms ns (and-right (member m ns) (subset ms ns) e) n at
-
-pub subset-of : (ms ns : List ℕ) → ((n : ℕ) → n ∈ ms → n ∈ ns) → subset ms ns ≡ true
-unfolding subset
-subset-of [] ns part = refl
-subset-of (m ∷ ms) ns part =
-    and-both (member m ns) (subset ms ns) (mem-member m ns (part m (List·Memᴰ·head refl))) (subset-of ms ns (λ n at. part n (List·Memᴰ·tail at)))
 
 -- ---- 2. sound
 
@@ -345,13 +333,13 @@ closure-complete widths ds fits relation held left c less determines =
 -- ---- 5. the determined columns
 
 -- The numbers of a range that pass a test ascend
-where-ascending : (test : ℕ → Bool) (start n : ℕ) → Ascending (numbersWhere test start n)
+where-ascending : (test : ℕ → Bool) (start n : ℕ) → Increasing (numbersWhere test start n)
 unfolding numbersWhere
 where-ascending test start zero = tt
 where-ascending test start (suc n) = go (test start) (where-ascending test (suc start) n)
   where
-    go : (b : Bool) → Ascending (numbersWhere test (suc start) n)
-        → Ascending (cond b (start ∷ numbersWhere test (suc start) n) (numbersWhere test (suc start) n))
+    go : (b : Bool) → Increasing (numbersWhere test (suc start) n)
+        → Increasing (cond b (start ∷ numbersWhere test (suc start) n) (numbersWhere test (suc start) n))
     go true rest = ((λ m at. where-from test (suc start) n m at .0), rest)
     go false rest = rest
 
@@ -369,12 +357,12 @@ determined-exact widths ds fits relation held left width same c = (
 )
 
 -- each once and in ascending order, so their number is the length of the list
-pub determined-ascending : (ds : List Dependency) (relation width : ℕ) (left : List ℕ) → Ascending (determined ds relation width left)
+pub determined-ascending : (ds : List Dependency) (relation width : ℕ) (left : List ℕ) → Increasing (determined ds relation width left)
 unfolding determined
 determined-ascending ds relation width left = where-ascending (λ c. member c (closure ds relation left)) 0 width
 
 -- Two ascending lists with the same numbers are the same
-pub ascending-unique : (xs ys : List ℕ) → Ascending xs → Ascending ys → xs ⊆ ys → ys ⊆ xs → xs ≡ ys
+pub ascending-unique : (xs ys : List ℕ) → Increasing xs → Increasing ys → xs ⊆ ys → ys ⊆ xs → xs ≡ ys
 ascending-unique [] [] up up' into back = refl
 ascending-unique [] (y ∷ ys) up up' into back = absurd (List·Memᴰ·not-nil (back y (List·Memᴰ·head refl)))
 ascending-unique (x ∷ xs) [] up up' into back = absurd (List·Memᴰ·not-nil (into x (List·Memᴰ·head refl)))

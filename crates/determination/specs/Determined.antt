@@ -1,13 +1,13 @@
 -- The columns that a set of columns determines: what it means over all databases, and the closure that computes it.
 use mathlib.Core.Path.{_≡_}
-use mathlib.Core.Bool.{Bool, true, not, _&&_}
+use mathlib.Core.Bool.{Bool, not, _&&_}
 use mathlib.Core.List.{List, [], _∷_}
 use mathlib.Core.Option.{Option, none, some}
 use Prim.Native.Nat.{ℕ, zero, suc, _<_}
 use lib.Dec.{eqb}
 use lib.ListN.{length, getD}
 use Rattle.lists.specs.Numbers.{numbersWhere}
-use Rattle.theory.specs.Query.{Row, column, member, _∈_}
+use Rattle.theory.specs.Query.{Row, column, member, subset, _∈_}
 use Rattle.theory.specs.Database.{Database, Dependency, Agree, Obeys, Sound}
 use Rattle.theory.specs.Chase.{firstPassing}
 
@@ -24,14 +24,9 @@ pub record FitsColumns (widths : List ℕ) (d : Dependency) : Type 0 where
   pub right : d .right < getD widths (d .relation) 0
 
 -- Each number is less than all that follow it
-abbrev pub Ascending : List ℕ → Type 0
-Ascending [] = Unit {0}
-Ascending (n ∷ ns) = ((m : ℕ) → m ∈ ns → n < m) × Ascending ns
-
--- Whether each number of the first list stands in the second
-unfoldable pub subset : List ℕ → List ℕ → Bool
-subset [] ns = true
-subset (m ∷ ms) ns = member m ns && subset ms ns
+abbrev pub Increasing : List ℕ → Type 0
+Increasing [] = Unit {0}
+Increasing (n ∷ ns) = ((m : ℕ) → m ∈ ns → n < m) × Increasing ns
 
 -- Whether a dependency adds its right column to the known columns of a relation
 unfoldable pub adds : ℕ → List ℕ → Dependency → Bool

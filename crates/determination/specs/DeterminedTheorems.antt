@@ -6,7 +6,7 @@ use Prim.Native.Nat.{ℕ, _<_}
 use lib.ListN.{length, getD}
 use Rattle.theory.specs.Query.{_∈_}
 use Rattle.theory.specs.Database.{Dependency}
-use Rattle.determination.specs.Determined.{Determines, FitsColumns, Ascending, determined}
+use Rattle.determination.specs.Determined.{FitsColumns, Determines, Increasing, determined}
 
 -- The columns of a relation that a left set determines: those on which two rows that agree on the set agree in every sound database that obeys the dependencies
 abbrev pub Determined : List ℕ → List Dependency → ℕ → List ℕ → ℕ → Type 0
@@ -21,12 +21,12 @@ DeterminedExactly =
 
 -- in ascending order, so each once
 abbrev pub DeterminedAscending : Type 0
-DeterminedAscending = (ds : List Dependency) (relation width : ℕ) (left : List ℕ) → Ascending (determined ds relation width left)
+DeterminedAscending = (ds : List Dependency) (relation width : ℕ) (left : List ℕ) → Increasing (determined ds relation width left)
 
 -- and every ascending list of them is the same list, so that their number is its length
 abbrev pub DeterminedUnique : Type 0
 DeterminedUnique =
     (widths : List ℕ) (ds : List Dependency) (relation : ℕ) (left : List ℕ)
     → ((d : Dependency) → d ∈ ds → FitsColumns widths d) → relation < length widths
-    → (cs : List ℕ) → Ascending cs → ((c : ℕ) → (c ∈ cs) ↔ Determined widths ds relation left c)
+    → (cs : List ℕ) → Increasing cs → ((c : ℕ) → (c ∈ cs) ↔ Determined widths ds relation left c)
     → cs ≡ determined ds relation (getD widths relation 0) left

@@ -3,7 +3,7 @@ use mathlib.Core.Path.{refl}
 use mathlib.Core.List.{flatMap}
 use Rattle.lists.specs.Tests.{every}
 use Rattle.theory.specs.Query.{rowEntries, variablesOf, member}
-use Rattle.determination.specs.Determined.{subset}
+use Rattle.theory.specs.Query.{subset}
 use Rattle.query.specs.View.{rowsOf}
 use Rattle.query.specs.Rule.{goodRelations, goodSet, goodDependency, goodDependencies, goodQuery, goodRows, headSafe}
 use Rattle.record.specs.Rule.{goodRecord}

@@ -10,7 +10,7 @@ use lib.ListN.{take, drop, getD}
 use lib.Seq.{drop-drop}
 use Rattle.theory.specs.Query as theory
 use Rattle.theory.specs.Query.{member, variablesOf, rowEntries}
-use Rattle.determination.specs.Determined.{subset}
+use Rattle.theory.specs.Query.{subset}
 use Rattle.query.specs.declared.Entry.{Entry}
 use Rattle.query.specs.declared.Entry.the-variants.{Constant, Variable}
 use Rattle.query.specs.declared.Cell.{Cell}

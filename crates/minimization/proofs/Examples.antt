@@ -16,7 +16,8 @@ use Rattle.theory.specs.Database.{Dependency}
 use Rattle.theory.specs.Query.{sameEntry, variablesOf, rowEntries, member, distinct}
 use Rattle.theory.specs.Chase.{firstPassing, firstPair, firstFound, agree, breaks, firstBroken, survives, resolve, substitute}
 use Rattle.theory.specs.Chase.{step, Chases, chaseOn, chaseFor, chase}
-use Rattle.determination.specs.Determined.{FitsColumns, subset, adds, growOn, growFor, closure, determined}
+use Rattle.theory.specs.Query.{subset}
+use Rattle.determination.specs.Determined.{FitsColumns, adds, growOn, growFor, closure, determined}
 use Rattle.minimization.specs.Search.{lookup, assignTo, sendEntry, sendEntries, sendRow, tryRows, placeRows, placeQuery, mappable}
 use Rattle.minimization.specs.Checking.{sameRow}
 use Rattle.minimization.specs.Search.{containedOn, contained, prune, reduce}

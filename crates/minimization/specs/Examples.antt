@@ -14,7 +14,7 @@ use Rattle.theory.specs.Database.{Database, Dependency}
 use Rattle.theory.specs.Chase.{Chases, chase}
 use Rattle.theory.specs.Containment.{Legal, Contained, Counterexample}
 use Rattle.minimization.specs.Reduction.{Reduction, Rival}
-use Rattle.determination.specs.Determined.{Determines, Ascending, determined}
+use Rattle.determination.specs.Determined.{Determines, Increasing, determined}
 use Rattle.minimization.specs.Search.{contained, reduce}
 use Rattle.minimization.specs.Checking.{sameRow}
 
@@ -46,7 +46,7 @@ pub record Reduces (ds : List Dependency) (q : Query) (head : List Entry) (rows 
 -- The left set determines so many columns: those that it determines, in ascending order, are so many
 pub record Counts (ds : List Dependency) (relation : ℕ) (left : List ℕ) (columns : ℕ) : Type 0 where
   pub set : List ℕ
-  pub ascending : Ascending set
+  pub ascending : Increasing set
   pub size : length set ≡ columns
   pub exact : (c : ℕ) → (c ∈ set) ↔ ((c < getD schema relation 0) × Determines schema ds relation left c)
 

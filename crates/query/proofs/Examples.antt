@@ -1,7 +1,7 @@
 -- The examples of `specs/Examples`, by computation. Assumes nothing.
 use mathlib.Core.Path.{refl}
 use Rattle.theory.specs.Query.{rowEntries, variablesOf, member}
-use Rattle.determination.specs.Determined.{subset}
+use Rattle.theory.specs.Query.{subset}
 use Rattle.lists.specs.Tests.{every}
 use Rattle.lists.specs.Over.{pad}
 use Rattle.query.specs.View.{rowsOf, columnsFrom, maskOf}

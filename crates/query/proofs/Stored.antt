@@ -15,7 +15,6 @@ use borrow.Author.Tests.{leb-true, ltb-true, eqb-true}
 use Rattle.theory.specs.Query as theory
 use Rattle.theory.specs.Query.{variablesOf, rowEntries, WellFormed, FitsSchema, _∈_}
 use Rattle.theory.specs.Database as database
-use Rattle.determination.specs.Determined.{FitsColumns}
 use Rattle.theory.specs.Containment.{ConstantsBelow}
 use Rattle.query.specs.declared.Entry.{Entry}
 use Rattle.query.specs.declared.Entry.the-variants.{Constant, Variable}
@@ -25,7 +24,7 @@ use Rattle.query.specs.declared.Dependency.{Dependency}
 use Rattle.query.specs.View.{entryOf, entriesOf, rowsOf, queryOf, columnsFrom, dependencyOf}
 use Rattle.lists.specs.Tests.{every, inUse}
 use Rattle.query.specs.Rule.{goodDependency, goodEntry, goodCell, blankEntry, blankCell, goodRow, goodRows, headInUse, goodQuery, headSafe}
-use Rattle.determination.proofs.Determined.{subset-true}
+use Rattle.theory.proofs.Lists.{subset-true}
 use Rattle.lists.proofs.Tests.{and-left, and-right, and-both, every-append, used-whole, every-take, used-all, used-good}
 use Rattle.query.proofs.Good.{good-query, good-dependency}
 
@@ -182,24 +181,6 @@ columns-below start (suc n) mask (suc k) {c} h at =
         → (c ∈ columnsFrom (suc start) n (mask / 2) → c < suc start + k) → c < start + suc k
     go true m rest = ⊎-elim (λ p. omega arith) (λ l. let h : c < suc start + k = rest l in omega arith) (List·Memᴰ·cases-cons m)
     go false m rest = let h : c < suc start + k = rest m in omega arith
-
--- A stored dependency fits the schema
-pub dependency-fits : (schema : List ℕ) (d : Dependency) → goodDependency schema d ≡ true → FitsColumns schema (dependencyOf d)
-dependency-fits schema d e =
-    let good = good-dependency schema d e in
-    record {
-      relation = good .relation;
-      left = λ c at. let h : c < 0 + getD schema (d .relation) 0 = columns-below 0 8 (d .left) (getD schema (d .relation) 0) (good .left) at in omega arith;
-      right = good .right;
-    }
-
--- So does each of a list of them
-pub held-fit : (schema : List ℕ) (ds : List Dependency) {d : database.Dependency} → every (goodDependency schema) ds ≡ true → d ∈ map dependencyOf ds
-    → FitsColumns schema d
-unfolding every
-held-fit schema (k ∷ ds) e (List·Memᴰ·head p) =
-    subst (FitsColumns schema) (sym p) (dependency-fits schema k (and-left (goodDependency schema k) (every (goodDependency schema) ds) e))
-held-fit schema (k ∷ ds) e (List·Memᴰ·tail at) = held-fit schema ds (and-right (goodDependency schema k) (every (goodDependency schema) ds) e) at
 
 -- ---- 6. cells by position
 

@@ -13,7 +13,6 @@ use Rattle.query.specs.declared.Dependency.{Dependency}
 use Rattle.query.specs.declared.Place.{Place}
 use Rattle.query.specs.View.{queryOf}
 use Rattle.theory.specs.Query as theory
-use Rattle.determination.specs.Determined as determined
 use Rattle.lists.specs.Tests.{between, every, inUse, isZero}
 
 -- ---- what is not in use
@@ -87,7 +86,7 @@ goodQuery schema q =
 -- Each head variable occurs in a row: what refusal 6 asks of a query
 unfoldable pub headSafe : List ℕ → Query → Bool
 headSafe schema q =
-    determined.subset (theory.variablesOf (queryOf schema q .head)) (theory.variablesOf (theory.rowEntries (queryOf schema q .rows)))
+    theory.subset (theory.variablesOf (queryOf schema q .head)) (theory.variablesOf (theory.rowEntries (queryOf schema q .rows)))
 
 -- The arrays of a query are as long as its type says: 8 head cells, 12 relations and 96 cells
 abbrev pub shapedQuery : Query → Bool

@@ -8,8 +8,6 @@ use lib.ListN.{length, take, getD}
 use lib.Seq.{length-take-le}
 use Rattle.theory.specs.Query.{_∈_}
 use Rattle.theory.specs.Database as database
-use Rattle.determination.specs.Determined.{FitsColumns}
-use Rattle.query.proofs.Stored.{held-fit}
 use Rattle.query.specs.declared.Dependency.{Dependency}
 use Rattle.query.specs.declared.Place.{Place}
 use Rattle.record.specs.declared.Record.{Record}
@@ -36,12 +34,6 @@ module _ (r : Record) (good : goodRecord r ≡ true) where
   -- The schema has as many widths as there are relations
   pub schema-length : length (r .widths) ≡ 8 → length (schemaOf r) ≡ r .relations
   schema-length e = length-take-le (r .relations) (r .widths) (omega (arith, relation-count .1))
-
-  -- Each held dependency fits the schema
-  pub dependencies-fit : (d : database.Dependency) → d ∈ dependenciesOf r → FitsColumns (schemaOf r) d
-  dependencies-fit d at =
-      held-fit (schemaOf r) (take (r .held) (r .dependencies))
-      (used-good (r .held) (goodDependency (schemaOf r)) blankDependency (r .dependencies) (good-record r good .dependencies)) at
 
   -- A place is good
   pub place-good : (p : ℕ) (z : Place) → p < length (r .places) → goodPlace (schemaOf r) (getD (r .places) p z) ≡ true

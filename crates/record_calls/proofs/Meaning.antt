@@ -31,7 +31,8 @@ use Rattle.record_calls.specs.Meaning.{OpenKeeps, AddKeeps, PutKeeps, Dr
 use Rattle.closure.specs.internal.Closure.{growMask}
 use Rattle.record.proofs.Good.{good-record}
 use Rattle.query.proofs.Good.{good-set}
-use Rattle.record.proofs.Stored.{narrow, dependencies-fit}
+use Rattle.record.proofs.Stored.{narrow}
+use Rattle.record_calls.proofs.Fitting.{dependencies-fit}
 use Rattle.closure.proofs.Masks.{same-columns, columns-member, columns-count}
 use Rattle.closure.proofs.Closure.{is-columns, determined-mask, grow-lt}
 use Rattle.refusals.proofs.Refusals.{none-holds, refused-gives, reply-gives}

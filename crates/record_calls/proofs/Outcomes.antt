@@ -34,7 +34,8 @@ use Rattle.closure.specs.internal.Closure.{growMask, rightNarrow}
 use Rattle.lists.proofs.Tests.{every-replicate, every-weaken, used-good}
 use Rattle.record.proofs.Good.{good-record}
 use Rattle.query.proofs.Good.{good-dependency, good-set}
-use Rattle.record.proofs.Stored.{narrow, dependencies-fit}
+use Rattle.record.proofs.Stored.{narrow}
+use Rattle.record_calls.proofs.Fitting.{dependencies-fit}
 use Rattle.closure.proofs.Closure.{held-length, determined-mask, determined-count}
 use Rattle.refusals.proofs.Refusals.{first-goes}
 use Rattle.record.proofs.Refusals.{found-refused, filled-at, vacant-at, place-refused, vacant-refused}

@@ -39,7 +39,7 @@ use Rattle.theory.specs.Answer.{IsMapping, Mapping}
 use Rattle.theory.specs.Chase.{chase}
 use Rattle.minimization.specs.Reduction.{Reduction}
 use Rattle.theory.proofs.Carry.{mapping-target}
-use Rattle.determination.proofs.Determined.{subset-of}
+use Rattle.theory.proofs.Lists.{subset-of}
 use Rattle.minimization.proofs.Reduction.{reduction-answers, reduction-minimal, reduction-mapping, reduction-wellformed}
 use Rattle.mapping.specs.declared.Mapped.{Mapped}
 use Rattle.reduction.specs.declared.Shortened.{Shortened}

@@ -12,7 +12,7 @@ use lib.Seq.{drop-length, getD-set-same, getD-set-other}
 use borrow.Author.Tests.{eqb-true, eqb-false, eq-eqb}
 use Rattle.theory.specs.Database.{Database, Dependency}
 use Rattle.theory.specs.Chase.{firstPair}
-use Rattle.determination.proofs.Determined.{subset-true}
+use Rattle.theory.proofs.Lists.{subset-true}
 use Rattle.closure.proofs.Masks.{same-columns, subset-mask}
 use Rattle.query.specs.View.{dependencyOf, columnsOf}
 use Rattle.query.specs.Rule.{noDependency}

@@ -13,8 +13,8 @@ use native.Mathlib.Omega.{arith}
 use borrow.Author.Tests.{eqb-true, eqb-false}
 use lib.Dec.{eqb}
 use lib.ListN.{length, getD, replicate}
-use Rattle.lists.proofs.Tests.{and-left, and-right}
-use Rattle.theory.specs.Query.{member, distinct, _∈_, without}
+use Rattle.lists.proofs.Tests.{and-left, and-right, and-both}
+use Rattle.theory.specs.Query.{member, subset, distinct, _∈_, without}
 
 -- ---- truth values and options
 
@@ -168,3 +168,15 @@ distinct-nodup (m ∷ ms) =
     (member m ms)
     (λ p. rw p (distinct-nodup ms))
     (λ p. rw p (λ at. member-not-mem m ms p (distinct-mem m ms at), distinct-nodup ms))
+
+-- A list that passes `subset` is a part of the other, and a part of it passes
+pub subset-true : (ms ns : List ℕ) → subset ms ns ≡ true → (n : ℕ) → n ∈ ms → n ∈ ns
+unfolding subset
+subset-true (m ∷ ms) ns e n (List·Memᴰ·head same) = Memᴰ·cast same (member-mem m ns (and-left (member m ns) (subset ms ns) e))
+subset-true (m ∷ ms) ns e n (List·Memᴰ·tail at) = subset-true ms ns (and-right (member m ns) (subset ms ns) e) n at
+
+pub subset-of : (ms ns : List ℕ) → ((n : ℕ) → n ∈ ms → n ∈ ns) → subset ms ns ≡ true
+unfolding subset
+subset-of [] ns part = refl
+subset-of (m ∷ ms) ns part =
+    and-both (member m ns) (subset ms ns) (mem-member m ns (part m (List·Memᴰ·head refl))) (subset-of ms ns (λ n at. part n (List·Memᴰ·tail at)))

@@ -75,6 +75,11 @@ unfoldable pub member : ℕ → List ℕ → Bool
 member n [] = false
 member n (m ∷ ms) = cond (eqb n m) true (member n ms)
 
+-- Whether each number of the first list stands in the second
+unfoldable pub subset : List ℕ → List ℕ → Bool
+subset [] ns = true
+subset (m ∷ ms) ns = member m ns && subset ms ns
+
 -- A list without repeats: of equal numbers the last stays
 unfoldable pub distinct : List ℕ → List ℕ
 distinct [] = []

@@ -15,7 +15,7 @@ use Rattle.query.specs.Rule.{headSafe}
 use Rattle.query.proofs.Good.{good-query}
 use Rattle.query.proofs.Relations.{width-le}
 use Rattle.query.proofs.Shape.{row-count}
-use Rattle.determination.proofs.Determined.{subset-true}
+use Rattle.theory.proofs.Lists.{subset-true}
 use Rattle.query.proofs.Stored.{variables-below}
 use Rattle.printing.specs.internal.Writing.{Fits}
 use Rattle.printing.proofs.Writing.{Progress, started, part-fits, rest-fits, wrote, wrote-rest, left-as}
