@@ -1,7 +1,7 @@
 -- Entries, rows and queries, for any number of columns, rows, variables and constants. The limits of SPECIFICATION, Limits, are the record's, not the theory's.
 -- What a query means is in `Answer`.
 use mathlib.Core.Path.{_≡_}
-use mathlib.Core.Bool.{Bool, true, false, cond}
+use mathlib.Core.Bool.{Bool, true, false, cond, _&&_}
 use mathlib.Core.List.{List, [], _∷_, _++_, map, List·Memᴰ, List·Memᴰ·head, List·Memᴰ·tail}
 use Prim.Native.Nat.{ℕ, _<_}
 use lib.Dec.{eqb}
