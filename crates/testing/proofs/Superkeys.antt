@@ -1,13 +1,12 @@
 -- Keys of the rows: a set of columns that contains a key is one, and rows with a key on the left break no dependency. Assumes nothing.
 use mathlib.Core.Path.{_≡_, refl, sym, ap, subst, _∙_}
 use mathlib.Core.Bool.{Bool, true, false}
-use mathlib.Core.Option.{none, orElse}
-use mathlib.Core.List.{List, []}
-use Prim.Native.Nat.{ℕ, _+_, _≤_, _<_}
+use mathlib.Core.Option.{none}
+use Prim.Native.Nat.{ℕ, _+_, _<_}
 use native.Mathlib.Omega.{arith}
 use lib.Bits.{bitAnd}
 use lib.Dec.{eqb}
-use lib.ListN.{length, drop, getD, set}
+use lib.ListN.{length, getD, set}
 use lib.Seq.{drop-length, getD-set-same, getD-set-other}
 use borrow.Author.Tests.{eqb-true, eqb-false, eq-eqb}
 use Rattle.theory.specs.Database.{Database, Dependency}
@@ -18,7 +17,6 @@ use Rattle.query.specs.View.{dependencyOf, columnsOf}
 use Rattle.query.specs.Rule.{noDependency}
 use Rattle.query.specs.declared.Dependency as stored
 use Rattle.words.specs.Testing.{numberedFrom, firstPairFrom}
-use Rattle.words.specs.Broken.{nthRow}
 use Rattle.grouping.specs.internal.Groups.{Key}
 use Rattle.grouping.proofs.Leading.{pairs-skip}
 use Rattle.testing.specs.declared.Keys.{Keys}
@@ -35,9 +33,10 @@ key-none d n D key =
 pub key-contained : (e d : stored.Dependency) (D : Database) → e .left < 256 → d .left < 256 → e .relation ≡ d .relation → bitAnd (e .left) (d .left) ≡ e .left
     → Key (dependencyOf e) D → Key (dependencyOf d) D
 key-contained e d D small-e small-d relation inside key =
-    λ i j before below p q a. key i j before below (p ∙ sym relation) (q ∙ sym relation)
-    (λ c m. a c (subset-true (columnsOf (e .left)) (columnsOf (d .left))
-    (subset-mask (e .left) (d .left) (columnsOf (d .left)) small-e (same-columns (d .left) small-d) ∙ eq-eqb (bitAnd (e .left) (d .left)) (e .left) inside) c m))
+    let part = subset-true (columnsOf (e .left)) (columnsOf (d .left))
+    (subset-mask (e .left) (d .left) (columnsOf (d .left)) small-e (same-columns (d .left) small-d)
+    ∙ eq-eqb (bitAnd (e .left) (d .left)) (e .left) inside) in
+    λ i j before below p q a. key i j before below (p ∙ sym relation) (q ∙ sym relation) (λ c m. a c (part c m))
 
 -- one more key is noted
 pub keyed-more : (D : Database) (keys : Keys) (d : stored.Dependency) → keys .count < 32 → length (keys .list) ≡ 32 → Keyed D keys → Key (dependencyOf d) D

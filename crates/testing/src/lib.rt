@@ -74,7 +74,7 @@ fn with_key(keys: Keys, d: Dependency) -> Keys
     }
 }
 
-// The first pair of rows that break the dependency. A key is seen if the first walk passes all rows.
+// The first pair of rows that break the dependency. A key is seen only by a walk over all rows.
 fn first_pair(
     schema: &[u8],
     words: &[u32],

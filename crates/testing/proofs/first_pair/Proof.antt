@@ -112,7 +112,8 @@ same-length-2 c = search needs
 
 -- No row is left
 ended : (c : tie.Then1 Inv-loop μ-loop) → pair.Absent
-    ≡ pairOf (firstPairFrom (dependencyOf (start (c .before) .args .d)) 0 (databaseOf (start (c .before) .args .schema .now) (start (c .before) .args .words .now)))
+    ≡ pairOf (firstPairFrom (dependencyOf (start (c .before) .args .d)) 0
+    (databaseOf (start (c .before) .args .schema .now) (start (c .before) .args .words .now)))
 ended c = let q = c .before in
     let a = start q .args in
     let end : first q ≡ length (a .words .now) = c .if1 .taken in
@@ -215,7 +216,8 @@ same-length-8 c = search needs
 returns-4 : tie.Need-returns-4 Inv-loop μ-loop
 returns-4 c = let l = c .before .loop in
     let a = begun (c .before) .args in
-    (sym (ap pairOf (l .inv .1 ∙ pair-end (a .schema .now) (a .words .now) (dependencyOf (a .d)) (l .at) (l .i) (c .loop-test .left))), λ t. absurd (false≢true t))
+    let none = pair-end (a .schema .now) (a .words .now) (dependencyOf (a .d)) (l .at) (l .i) (c .loop-test .left) in
+    (sym (ap pairOf (l .inv .1 ∙ none)), λ t. absurd (false≢true t))
 
 pub first-pair-spec : {M : Type 1} → statement M
 first-pair-spec =

@@ -8,8 +8,6 @@ use Rattle.testing.proofs.Superkeys.{key-contained}
 use borrow.Author.Needs.{needs}
 use Rattle.testing.proofs.has_key.Statement.{statement}
 use Rattle.testing.proofs.has_key.Tie as tie
-use Rattle.testing.proofs.has_key.Reads as reads
-use Rattle.testing.proofs.has_key.Lts as lts
 
 abbrev Inv-loop : tie.InvT-loop
 Inv-loop d keys count k₀ k = k ≤ count

@@ -7,8 +7,6 @@ use Rattle.testing.proofs.Superkeys.{keyed-more}
 use borrow.Author.Needs.{needs}
 use Rattle.testing.proofs.with_key.Statement.{statement}
 use Rattle.testing.proofs.with_key.Tie as tie
-use Rattle.testing.proofs.with_key.Reads as reads
-use Rattle.testing.proofs.with_key.Lts as lts
 
 returns : tie.Need-returns
 returns c = λ D h key. h
