@@ -88,10 +88,9 @@ pub record Compared (r : Record) (p q : ℕ) (c : Comparison) : Type 0 where
   pub no-mapping : (c .verdict ≡ Contained → ⊥) → c .images ≡ replicate 96 noCell
   pub chased : c .verdict ≡ Apart → (queryOf (schemaOf r) (c .query) ≡ chasedAt r p) × (goodQuery (schemaOf r) (c .query) ≡ true)
   pub no-query : (c .verdict ≡ Apart → ⊥) → c .query ≡ noQuery
-  pub contained : SaysContained (c .verdict) → (D : database.Database) → database.Obeys (dependenciesOf r) D → (t : List ℕ)
-      → answer.Answer D (queryAt r p) t → answer.Answer D (queryAt r q) t
+  pub contained : SaysContained (c .verdict) → containment.Contained (database.Obeys (dependenciesOf r)) (queryAt r p) (queryAt r q)
   pub apart : c .verdict ≡ Apart
-      → containment.Counterexample (schemaOf r) (dependenciesOf r) (queryAt r p) (queryAt r q)
+      → containment.Counterexample (containment.Legal (schemaOf r) (dependenciesOf r)) (queryAt r p) (queryAt r q)
       (containment.frozenRows base (queryOf (schemaOf r) (c .query))) (containment.frozenHead base (queryOf (schemaOf r) (c .query)))
 
 -- What each case of a check says: refused with a number, or yes or no
