@@ -20,11 +20,8 @@ use Rattle.lists.specs.Tests.{between, every}
 use Rattle.query.specs.Rule.{goodDependency, goodQuery, headSafe, goodPlace, noPlace, shapedQuery}
 use Rattle.record.specs.Rule.{goodRecord, blankRecord}
 use Rattle.refusals.specs.Refusals.{_>>=_, badQuery, bufferTooShort, firstHolding, gives, refused, reply, Reply}
-use Rattle.record.specs.Calls.{queryAt, brokenRecord, unknownPlace, vacant, filled}
-use Rattle.record_calls.specs.Calls.{concluded}
-use Rattle.record.specs.Calls.{withPlace, emptyRecord}
-use Rattle.record_calls.specs.Calls.{withDependency, openRecord, addDependency, putQuery}
-use Rattle.record_calls.specs.Calls.{dropQuery}
+use Rattle.record.specs.Calls.{queryAt, brokenRecord, unknownPlace, vacant, filled, withPlace, emptyRecord}
+use Rattle.record_calls.specs.Calls.{concluded, withDependency, openRecord, addDependency, putQuery, dropQuery}
 use Rattle.refusals.proofs.Refusals.{refused-gives}
 use Rattle.lists.proofs.Tests.{and-left, and-right, and-both, every-set}
 use Rattle.record.proofs.Good.{good-record}
