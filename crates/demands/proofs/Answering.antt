@@ -21,7 +21,7 @@ use Rattle.lists.proofs.Tests.{below-or-past}
 use Rattle.evaluation.specs.Evaluated.{answerWords}
 use Rattle.database.specs.declared.Answered.{Answered}
 use Rattle.database.specs.Calls.{tooLong, evaluationRefused, placeAnswers, countReply, evaluated, bufferThen}
-use Rattle.database.proofs.Evaluations.{none-asked}
+use Rattle.admission.proofs.Admitted.{none-asked}
 use Rattle.database.proofs.Meaning.{place-ascending, place-answers}
 use Rattle.minimization.specs.Search as search
 use Rattle.record.specs.declared.Outcome.{Outcome}
