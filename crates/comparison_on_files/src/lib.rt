@@ -35,7 +35,8 @@ fn store_contained(
     part: &mut [u8],
     size: &mut usize,
 ) -> u8
-    ensures { λ r. ⌜ ComparisonGiven (verdictFits (length (now (mapping .entry))) (length (now (part .entry))) (code, [])) images (now (verdict .entry)) (now (mapping .entry)) (now (part .entry)) (now (size .entry)) r (now (verdict .exit)) (now (mapping .exit)) (now (part .exit)) (now (size .exit)) ⌝ }
+    ensures { λ r. ⌜ ComparisonGiven (verdictFits (length (now (mapping .entry))) (length (now (part .entry))) (code, [])) images (now (verdict .entry))
+        (now (mapping .entry)) (now (part .entry)) (now (size .entry)) r (now (verdict .exit)) (now (mapping .exit)) (now (part .exit)) (now (size .exit)) ⌝ }
 {
     if mapping.len() < 192 {
         return refusals::BUFFER_TOO_SHORT;
@@ -59,7 +60,9 @@ fn store_apart(
 ) -> u8
     requires { ⌜ goodRelations count widths ≡ true ⌝ }
     requires { ⌜ goodPlace (take count widths) (placeWith chased) ≡ true ⌝ }
-    ensures { λ r. ⌜ ComparisonGiven (verdictFits (length (now (mapping .entry))) (length (now (part .entry))) (0, query (take count widths) .put chased)) images (now (verdict .entry)) (now (mapping .entry)) (now (part .entry)) (now (size .entry)) r (now (verdict .exit)) (now (mapping .exit)) (now (part .exit)) (now (size .exit)) ⌝ }
+    ensures { λ r. ⌜ ComparisonGiven (verdictFits (length (now (mapping .entry))) (length (now (part .entry))) (0, query (take count widths) .put chased)) images
+        (now (verdict .entry)) (now (mapping .entry)) (now (part .entry)) (now (size .entry)) r (now (verdict .exit)) (now (mapping .exit)) (now (part .exit))
+        (now (size .exit)) ⌝ }
 {
     if mapping.len() < 192 {
         return refusals::BUFFER_TOO_SHORT;
@@ -91,7 +94,9 @@ pub fn store_comparison(
 ) -> u8
     requires { ⌜ goodRelations count widths ≡ true ⌝ }
     requires { ⌜ SoundComparison (take count widths) compared ⌝ }
-    ensures { λ r. ⌜ ComparisonGiven (comparisonFits (length (now (mapping .entry))) (length (now (part .entry))) (take count widths) compared) (compared .images) (now (verdict .entry)) (now (mapping .entry)) (now (part .entry)) (now (size .entry)) r (now (verdict .exit)) (now (mapping .exit)) (now (part .exit)) (now (size .exit)) ⌝ }
+    ensures { λ r. ⌜ ComparisonGiven (comparisonFits (length (now (mapping .entry))) (length (now (part .entry))) (take count widths) compared)
+        (compared .images) (now (verdict .entry)) (now (mapping .entry)) (now (part .entry)) (now (size .entry)) r (now (verdict .exit)) (now (mapping .exit))
+        (now (part .exit)) (now (size .exit)) ⌝ }
 {
     let found = compared.verdict;
     let images = compared.images;
@@ -159,7 +164,8 @@ pub fn compare_in_file(
     part: &mut [u8],
     size: &mut usize,
 ) -> u8
-    ensures { λ r. ⌜ CompareGives (now (file .entry)) p q (now (verdict .entry)) (now (mapping .entry)) (now (part .entry)) (now (size .entry)) r (now (verdict .exit)) (now (mapping .exit)) (now (part .exit)) (now (size .exit)) ⌝ }
+    ensures { λ r. ⌜ CompareGives (now (file .entry)) p q (now (verdict .entry)) (now (mapping .entry)) (now (part .entry)) (now (size .entry)) r (now
+        (verdict .exit)) (now (mapping .exit)) (now (part .exit)) (now (size .exit)) ⌝ }
 {
     let outcome = file::read(file);
     let answer = outcome.answer;

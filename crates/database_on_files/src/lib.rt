@@ -81,7 +81,8 @@ pub fn evaluate_in_file_lent(
 ) -> u8
     ensures { λ r. ⌜ r ≡ returned (evaluatedIn (now (file .entry)) place (now (words .entry)) (length (now (answers .entry)))) ⌝ }
     ensures { λ _. ⌜ now (answers .exit) ≡ answersLeft (now (file .entry)) place (now (words .entry)) (now (answers .entry)) ⌝ }
-    ensures { λ _. ⌜ now (count .exit) ≡ leaves (evaluatedIn (now (file .entry)) place (now (words .entry)) (length (now (answers .entry)))) (λ n. n) (now (count .entry)) ⌝ }
+    ensures { λ _. ⌜ now (count .exit) ≡ leaves (evaluatedIn (now (file .entry)) place (now (words .entry)) (length (now (answers .entry)))) (λ n. n)
+        (now (count .entry)) ⌝ }
     ensures { λ _. ⌜ UnusedInFile (now (file .entry)) (λ r. searchConditions r place (now (words .entry))) (now (index .entry)) (now (index .exit)) ⌝ }
     ensures { λ _. ⌜ UnusedInFile (now (file .entry)) (λ r. searchConditions r place (now (words .entry))) (now (states .entry)) (now (states .exit)) ⌝ }
     ensures { λ _. ⌜ UnusedInFile (now (file .entry)) (λ r. searchConditions r place (now (words .entry))) (now (batch .entry)) (now (batch .exit)) ⌝ }
@@ -118,7 +119,8 @@ pub fn evaluate_in_file(
 ) -> u8
     ensures { λ r. ⌜ r ≡ returned (evaluatedIn (now (file .entry)) place (now (words .entry)) (length (now (answers .entry)))) ⌝ }
     ensures { λ _. ⌜ now (answers .exit) ≡ answersLeft (now (file .entry)) place (now (words .entry)) (now (answers .entry)) ⌝ }
-    ensures { λ _. ⌜ now (count .exit) ≡ leaves (evaluatedIn (now (file .entry)) place (now (words .entry)) (length (now (answers .entry)))) (λ n. n) (now (count .entry)) ⌝ }
+    ensures { λ _. ⌜ now (count .exit) ≡ leaves (evaluatedIn (now (file .entry)) place (now (words .entry)) (length (now (answers .entry)))) (λ n. n)
+        (now (count .entry)) ⌝ }
 {
     let mut index = [0u32; 65536];
     let mut states = [0u32; 32768];

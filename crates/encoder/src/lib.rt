@@ -115,7 +115,8 @@ fn put_rows(
     requires { ⌜ goodRelations count widths ≡ true ⌝ }
     requires { ⌜ size ≤ 12 ⌝ }
     requires { ⌜ start + length (flatMap (row (take count widths) .put) (take size (chunk named cells))) ≤ length (now buffer) ⌝ }
-    ensures { λ r. ⌜ (now (buffer .exit) ≡ over (now (buffer .entry)) start (flatMap (row (take count widths) .put) (take size (chunk named cells)))) × (r ≡ start + length (flatMap (row (take count widths) .put) (take size (chunk named cells)))) ⌝ }
+    ensures { λ r. ⌜ (now (buffer .exit) ≡ over (now (buffer .entry)) start (flatMap (row (take count widths) .put) (take size (chunk named cells)))) ×
+        (r ≡ start + length (flatMap (row (take count widths) .put) (take size (chunk named cells)))) ⌝ }
 {
     let mut at = start;
     for r in 0..size {

@@ -97,7 +97,8 @@ fn compare(
     count: usize,
 ) -> Comparison
     requires { ⌜ (sought .at + 1 + sought .width ≤ length (now words)) × (sought .width ≤ 8) × (d .left < 2 ^ sought .width) × (d .right < sought .width) ⌝ }
-    requires { ⌜ (sought .bucket ≡ bucketOf (length (now heads)) (dependencyOf d) (spanAt (sought .width) (now words) (sought .at))) × (sought .bucket < length (now heads)) ⌝ }
+    requires { ⌜ (sought .bucket ≡ bucketOf (length (now heads)) (dependencyOf d) (spanAt (sought .width) (now words) (sought .at))) × (sought .bucket < length
+        (now heads)) ⌝ }
     requires { ⌜ Table (sought .width) (now words) d (now heads) (now nodes) count ⌝ }
     ensures { λ r. ⌜ Compared (sought .width) (now (words .entry)) d (now (nodes .entry)) count (sought .at) r ⌝ }
 {

@@ -23,7 +23,8 @@ pub extern "C" fn spernevan_read(file: &[u8]) -> u8
 // Reads a file and writes its record back.
 #[no_mangle]
 pub extern "C" fn spernevan_write(file: &[u8], out: &mut [u8], size: &mut usize) -> u8
-    ensures { λ r. ⌜ Wrote (copied (now (file .entry)) (length (now (out .entry)))) (now (out .entry)) (now (size .entry)) r (now (out .exit)) (now (size .exit)) ⌝ }
+    ensures { λ r. ⌜ Wrote (copied (now (file .entry)) (length (now (out .entry)))) (now (out .entry)) (now (size .entry)) r (now (out .exit)) (now
+        (size .exit)) ⌝ }
 {
     record_on_files::copy_file(file, out, size)
 }
@@ -33,7 +34,8 @@ pub extern "C" fn spernevan_write(file: &[u8], out: &mut [u8], size: &mut usize)
 // Opens a record from relation widths.
 #[no_mangle]
 pub extern "C" fn spernevan_open(widths: &[u8], out: &mut [u8], size: &mut usize) -> u8
-    ensures { λ r. ⌜ Wrote (opened (now (widths .entry)) (length (now (out .entry)))) (now (out .entry)) (now (size .entry)) r (now (out .exit)) (now (size .exit)) ⌝ }
+    ensures { λ r. ⌜ Wrote (opened (now (widths .entry)) (length (now (out .entry)))) (now (out .entry)) (now (size .entry)) r (now (out .exit)) (now
+        (size .exit)) ⌝ }
 {
     record_on_files::open_file(widths, out, size)
 }
@@ -48,7 +50,8 @@ pub extern "C" fn spernevan_add(
     out: &mut [u8],
     size: &mut usize,
 ) -> u8
-    ensures { λ r. ⌜ Wrote (added (now (file .entry)) relation left right (length (now (out .entry)))) (now (out .entry)) (now (size .entry)) r (now (out .exit)) (now (size .exit)) ⌝ }
+    ensures { λ r. ⌜ Wrote (added (now (file .entry)) relation left right (length (now (out .entry)))) (now (out .entry)) (now (size .entry)) r (now
+        (out .exit)) (now (size .exit)) ⌝ }
 {
     record_on_files::add_in_file(file, relation, left, right, out, size)
 }
@@ -62,7 +65,8 @@ pub extern "C" fn spernevan_put(
     out: &mut [u8],
     size: &mut usize,
 ) -> u8
-    ensures { λ r. ⌜ Wrote (putIn (now (file .entry)) place (now (query .entry)) (length (now (out .entry)))) (now (out .entry)) (now (size .entry)) r (now (out .exit)) (now (size .exit)) ⌝ }
+    ensures { λ r. ⌜ Wrote (putIn (now (file .entry)) place (now (query .entry)) (length (now (out .entry)))) (now (out .entry)) (now (size .entry)) r
+        (now (out .exit)) (now (size .exit)) ⌝ }
 {
     record_on_files::put_in_file(file, place, query, out, size)
 }
@@ -70,7 +74,8 @@ pub extern "C" fn spernevan_put(
 // Drops a filled place.
 #[no_mangle]
 pub extern "C" fn spernevan_drop(file: &[u8], place: usize, out: &mut [u8], size: &mut usize) -> u8
-    ensures { λ r. ⌜ Wrote (dropped (now (file .entry)) place (length (now (out .entry)))) (now (out .entry)) (now (size .entry)) r (now (out .exit)) (now (size .exit)) ⌝ }
+    ensures { λ r. ⌜ Wrote (dropped (now (file .entry)) place (length (now (out .entry)))) (now (out .entry)) (now (size .entry)) r (now (out .exit))
+        (now (size .exit)) ⌝ }
 {
     record_on_files::drop_in_file(file, place, out, size)
 }
@@ -104,7 +109,8 @@ pub extern "C" fn spernevan_reduce(
     count: &mut u8,
     mapping: &mut [u32],
 ) -> u8
-    ensures { λ r. ⌜ ReduceGives (now (file .entry)) source target (now (out .entry)) (now (size .entry)) (now (count .entry)) (now (mapping .entry)) r (now (out .exit)) (now (size .exit)) (now (count .exit)) (now (mapping .exit)) ⌝ }
+    ensures { λ r. ⌜ ReduceGives (now (file .entry)) source target (now (out .entry)) (now (size .entry)) (now (count .entry)) (now (mapping .entry)) r
+        (now (out .exit)) (now (size .exit)) (now (count .exit)) (now (mapping .exit)) ⌝ }
 {
     reduction_on_files::reduce_in_file(file, source, target, out, size, count, mapping)
 }
@@ -120,7 +126,8 @@ pub extern "C" fn spernevan_compare(
     query: &mut [u8],
     size: &mut usize,
 ) -> u8
-    ensures { λ r. ⌜ CompareGives (now (file .entry)) p q (now (verdict .entry)) (now (mapping .entry)) (now (query .entry)) (now (size .entry)) r (now (verdict .exit)) (now (mapping .exit)) (now (query .exit)) (now (size .exit)) ⌝ }
+    ensures { λ r. ⌜ CompareGives (now (file .entry)) p q (now (verdict .entry)) (now (mapping .entry)) (now (query .entry)) (now (size .entry)) r
+        (now (verdict .exit)) (now (mapping .exit)) (now (query .exit)) (now (size .exit)) ⌝ }
 {
     comparison_on_files::compare_in_file(file, p, q, verdict, mapping, query, size)
 }
@@ -204,7 +211,8 @@ pub extern "C" fn spernevan_evaluate(
 ) -> u8
     ensures { λ r. ⌜ r ≡ returned (evaluatedIn (now (file .entry)) place (now (words .entry)) (length (now (answers .entry)))) ⌝ }
     ensures { λ _. ⌜ now (answers .exit) ≡ answersLeft (now (file .entry)) place (now (words .entry)) (now (answers .entry)) ⌝ }
-    ensures { λ _. ⌜ now (count .exit) ≡ leaves (evaluatedIn (now (file .entry)) place (now (words .entry)) (length (now (answers .entry)))) (λ n. n) (now (count .entry)) ⌝ }
+    ensures { λ _. ⌜ now (count .exit) ≡ leaves (evaluatedIn (now (file .entry)) place (now (words .entry)) (length (now (answers .entry)))) (λ n. n)
+        (now (count .entry)) ⌝ }
 {
     database_on_files::evaluate_in_file(file, place, words, answers, count)
 }
@@ -224,7 +232,8 @@ pub extern "C" fn spernevan_evaluate_lent(
 ) -> u8
     ensures { λ r. ⌜ r ≡ returned (evaluatedIn (now (file .entry)) place (now (words .entry)) (length (now (answers .entry)))) ⌝ }
     ensures { λ _. ⌜ now (answers .exit) ≡ answersLeft (now (file .entry)) place (now (words .entry)) (now (answers .entry)) ⌝ }
-    ensures { λ _. ⌜ now (count .exit) ≡ leaves (evaluatedIn (now (file .entry)) place (now (words .entry)) (length (now (answers .entry)))) (λ n. n) (now (count .entry)) ⌝ }
+    ensures { λ _. ⌜ now (count .exit) ≡ leaves (evaluatedIn (now (file .entry)) place (now (words .entry)) (length (now (answers .entry)))) (λ n. n)
+        (now (count .entry)) ⌝ }
     ensures { λ _. ⌜ UnusedInFile (now (file .entry)) (λ r. searchConditions r place (now (words .entry))) (now (index .entry)) (now (index .exit)) ⌝ }
     ensures { λ _. ⌜ UnusedInFile (now (file .entry)) (λ r. searchConditions r place (now (words .entry))) (now (states .entry)) (now (states .exit)) ⌝ }
     ensures { λ _. ⌜ UnusedInFile (now (file .entry)) (λ r. searchConditions r place (now (words .entry))) (now (batch .entry)) (now (batch .exit)) ⌝ }

@@ -51,7 +51,8 @@ pub fn read_places(
     requires { ⌜ goodRelations count widths ≡ true ⌝ }
     requires { ⌜ (2 ≤ n) × (n ≤ 10) × (2 + 4 * n ≤ length (now file)) ⌝ }
     requires { ⌜ chained n (2 + 4 * n) (length (now file)) (drop 2 (now file)) ≡ true ⌝ }
-    ensures { λ r. ⌜ r ≡ recordRead (count, widths) (held, dependencies) (readPlaces (take count widths) (stretches (n - 2) (now (file .entry)) (drop 10 (now (file .entry))))) ⌝ }
+    ensures { λ r. ⌜ r ≡ recordRead (count, widths) (held, dependencies) (readPlaces (take count widths) (stretches (n - 2) (now (file .entry)) (drop 10
+        (now (file .entry))))) ⌝ }
 {
     let blank = no_place();
     let mut places = [blank; 8];

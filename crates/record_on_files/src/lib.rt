@@ -38,7 +38,8 @@ pub fn store(given: Record, out: &mut [u8], size: &mut usize) -> u8
 // Stores the record of a call, unless it is refused.
 pub fn store_outcome(outcome: Outcome, out: &mut [u8], size: &mut usize) -> u8
     requires { ⌜ GoodIfDone outcome ⌝ }
-    ensures { λ r. ⌜ Wrote (fileFitted (length (now (out .entry))) (resultOf (outcomeReply outcome))) (now (out .entry)) (now (size .entry)) r (now (out .exit)) (now (size .exit)) ⌝ }
+    ensures { λ r. ⌜ Wrote (fileFitted (length (now (out .entry))) (resultOf (outcomeReply outcome))) (now (out .entry)) (now (size .entry)) r (now
+        (out .exit)) (now (size .exit)) ⌝ }
 {
     let answer = outcome.answer;
     match answer {
@@ -84,7 +85,8 @@ pub fn check_file(file: &[u8]) -> u8
 
 // Reads a file and writes its record back.
 pub fn copy_file(file: &[u8], out: &mut [u8], size: &mut usize) -> u8
-    ensures { λ r. ⌜ Wrote (copied (now (file .entry)) (length (now (out .entry)))) (now (out .entry)) (now (size .entry)) r (now (out .exit)) (now (size .exit)) ⌝ }
+    ensures { λ r. ⌜ Wrote (copied (now (file .entry)) (length (now (out .entry)))) (now (out .entry)) (now (size .entry)) r (now (out .exit)) (now
+        (size .exit)) ⌝ }
 {
     store_outcome(file::read(file), out, size)
 }
@@ -93,7 +95,8 @@ pub fn copy_file(file: &[u8], out: &mut [u8], size: &mut usize) -> u8
 
 // Opens a record from relation widths.
 pub fn open_file(widths: &[u8], out: &mut [u8], size: &mut usize) -> u8
-    ensures { λ r. ⌜ Wrote (opened (now (widths .entry)) (length (now (out .entry)))) (now (out .entry)) (now (size .entry)) r (now (out .exit)) (now (size .exit)) ⌝ }
+    ensures { λ r. ⌜ Wrote (opened (now (widths .entry)) (length (now (out .entry)))) (now (out .entry)) (now (size .entry)) r (now (out .exit)) (now
+        (size .exit)) ⌝ }
 {
     store_outcome(record_calls::open(widths), out, size)
 }
@@ -107,7 +110,8 @@ pub fn add_in_file(
     out: &mut [u8],
     size: &mut usize,
 ) -> u8
-    ensures { λ r. ⌜ Wrote (added (now (file .entry)) relation left right (length (now (out .entry)))) (now (out .entry)) (now (size .entry)) r (now (out .exit)) (now (size .exit)) ⌝ }
+    ensures { λ r. ⌜ Wrote (added (now (file .entry)) relation left right (length (now (out .entry)))) (now (out .entry)) (now (size .entry)) r (now
+        (out .exit)) (now (size .exit)) ⌝ }
 {
     let outcome = file::read(file);
     let answer = outcome.answer;
@@ -127,7 +131,8 @@ pub fn add_in_file(
 
 // Puts a query, the bytes of a query part, into a vacant place.
 pub fn put_in_file(file: &[u8], place: usize, query: &[u8], out: &mut [u8], size: &mut usize) -> u8
-    ensures { λ r. ⌜ Wrote (putIn (now (file .entry)) place (now (query .entry)) (length (now (out .entry)))) (now (out .entry)) (now (size .entry)) r (now (out .exit)) (now (size .exit)) ⌝ }
+    ensures { λ r. ⌜ Wrote (putIn (now (file .entry)) place (now (query .entry)) (length (now (out .entry)))) (now (out .entry)) (now (size .entry)) r
+        (now (out .exit)) (now (size .exit)) ⌝ }
 {
     let outcome = file::read(file);
     let answer = outcome.answer;
@@ -142,7 +147,8 @@ pub fn put_in_file(file: &[u8], place: usize, query: &[u8], out: &mut [u8], size
 
 // Drops a filled place.
 pub fn drop_in_file(file: &[u8], place: usize, out: &mut [u8], size: &mut usize) -> u8
-    ensures { λ r. ⌜ Wrote (dropped (now (file .entry)) place (length (now (out .entry)))) (now (out .entry)) (now (size .entry)) r (now (out .exit)) (now (size .exit)) ⌝ }
+    ensures { λ r. ⌜ Wrote (dropped (now (file .entry)) place (length (now (out .entry)))) (now (out .entry)) (now (size .entry)) r (now (out .exit))
+        (now (size .exit)) ⌝ }
 {
     let outcome = file::read(file);
     let answer = outcome.answer;

@@ -54,7 +54,8 @@ fn refused(number: u8, given: Record) -> Reduced
 // Shortens a query: chases it, loses rows, and finds a mapping from the query as it was.
 fn shorten(q: Query, dependencies: [Dependency; 32], held: usize) -> Shortened
     requires { ⌜ Shortenable q dependencies held ⌝ }
-    ensures { λ r. ⌜ ((schema : List ℕ) → every (between 1 8) schema ≡ true → goodQuery schema q ≡ true → headSafe schema q ≡ true → IsShortened schema (heldOf dependencies held) q r) ⌝ }
+    ensures { λ r. ⌜ ((schema : List ℕ) → every (between 1 8) schema ≡ true → goodQuery schema q ≡ true → headSafe schema q ≡ true → IsShortened schema
+        (heldOf dependencies held) q r) ⌝ }
 {
     let chased = chase::chase(q, dependencies, held);
     let query = chased.query;

@@ -17,7 +17,8 @@ pub fn store_reduction(
     mapping: &mut [u32],
 ) -> u8
     requires { ⌜ SoundReduction reduced ⌝ }
-    ensures { λ r. ⌜ ReductionGiven (reductionFits (length (now (out .entry))) (length (now (mapping .entry))) reduced) (now (out .entry)) (now (size .entry)) (now (count .entry)) (now (mapping .entry)) r (now (out .exit)) (now (size .exit)) (now (count .exit)) (now (mapping .exit)) ⌝ }
+    ensures { λ r. ⌜ ReductionGiven (reductionFits (length (now (out .entry))) (length (now (mapping .entry))) reduced) (now (out .entry)) (now (size .entry))
+        (now (count .entry)) (now (mapping .entry)) r (now (out .exit)) (now (size .exit)) (now (count .exit)) (now (mapping .exit)) ⌝ }
 {
     let answer = reduced.answer;
     match answer {
@@ -52,7 +53,8 @@ pub fn reduce_in_file(
     count: &mut u8,
     mapping: &mut [u32],
 ) -> u8
-    ensures { λ r. ⌜ ReduceGives (now (file .entry)) source target (now (out .entry)) (now (size .entry)) (now (count .entry)) (now (mapping .entry)) r (now (out .exit)) (now (size .exit)) (now (count .exit)) (now (mapping .exit)) ⌝ }
+    ensures { λ r. ⌜ ReduceGives (now (file .entry)) source target (now (out .entry)) (now (size .entry)) (now (count .entry)) (now (mapping .entry)) r
+        (now (out .exit)) (now (size .exit)) (now (count .exit)) (now (mapping .exit)) ⌝ }
 {
     let outcome = file::read(file);
     let answer = outcome.answer;

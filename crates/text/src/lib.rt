@@ -119,7 +119,8 @@ fn put_row_line(buffer: &mut [u8], at: usize, relation: usize, cells: [Cell; 8],
 
 // Writes a line for each row of a query.
 fn put_rows(buffer: &mut [u8], at: usize, relations: u8, widths: [u8; 8], query: Query) -> usize
-    requires { ⌜ Fits (now buffer) at (rowsText (queryOf (take relations widths) query .rows)) × (goodRelations relations widths ≡ true) × (goodQuery (take relations widths) query ≡ true) ⌝ }
+    requires { ⌜ Fits (now buffer) at (rowsText (queryOf (take relations widths) query .rows)) × (goodRelations relations widths ≡ true) × (goodQuery
+        (take relations widths) query ≡ true) ⌝ }
     ensures { λ r. ⌜ WrittenAt (now (buffer .entry)) at (rowsText (queryOf (take relations widths) query .rows)) (now (buffer .exit)) r ⌝ }
 {
     let size = query.size as usize;
@@ -153,8 +154,10 @@ fn put_images(
     query: Query,
     images: [Cell; 96],
 ) -> usize
-    requires { ⌜ Fits (now buffer) at (imagesText (imagesOf images) (variablesInRows (queryOf (take relations widths) query))) × (goodRelations relations widths ≡ true) × (query .size ≤ 12) ⌝ }
-    ensures { λ r. ⌜ WrittenAt (now (buffer .entry)) at (imagesText (imagesOf images) (variablesInRows (queryOf (take relations widths) query))) (now (buffer .exit)) r ⌝ }
+    requires { ⌜ Fits (now buffer) at (imagesText (imagesOf images) (variablesInRows (queryOf (take relations widths) query))) × (goodRelations relations widths
+        ≡ true) × (query .size ≤ 12) ⌝ }
+    ensures { λ r. ⌜ WrittenAt (now (buffer .entry)) at (imagesText (imagesOf images) (variablesInRows (queryOf (take relations widths) query))) (now
+        (buffer .exit)) r ⌝ }
 {
     let size = query.size as usize;
     let named = query.relations;
@@ -179,8 +182,10 @@ fn put_map_line(
     query: Query,
     images: [Cell; 96],
 ) -> usize
-    requires { ⌜ Fits (now buffer) at (mapLine (imagesOf images) (variablesInRows (queryOf (take relations widths) query))) × (goodRelations relations widths ≡ true) × (query .size ≤ 12) ⌝ }
-    ensures { λ r. ⌜ WrittenAt (now (buffer .entry)) at (mapLine (imagesOf images) (variablesInRows (queryOf (take relations widths) query))) (now (buffer .exit)) r ⌝ }
+    requires { ⌜ Fits (now buffer) at (mapLine (imagesOf images) (variablesInRows (queryOf (take relations widths) query))) × (goodRelations relations widths
+        ≡ true) × (query .size ≤ 12) ⌝ }
+    ensures { λ r. ⌜ WrittenAt (now (buffer .entry)) at (mapLine (imagesOf images) (variablesInRows (queryOf (take relations widths) query))) (now
+        (buffer .exit)) r ⌝ }
 {
     let next = put_bytes(buffer, at, b"map");
     let next = put_images(buffer, next, relations, widths, query, images);
@@ -200,7 +205,8 @@ pub fn write_place(
     images: [Cell; 96],
 ) -> usize
     requires { ⌜ Listable (now buffer) at place relations widths source result images ⌝ }
-    ensures { λ r. ⌜ WrittenAt (now (buffer .entry)) at (placeText place (queryOf (take relations widths) source) (queryOf (take relations widths) result) count (imagesOf images)) (now (buffer .exit)) r ⌝ }
+    ensures { λ r. ⌜ WrittenAt (now (buffer .entry)) at (placeText place (queryOf (take relations widths) source) (queryOf (take relations widths) result) count
+        (imagesOf images)) (now (buffer .exit)) r ⌝ }
 {
     let rows = source.size as usize;
     let kept = result.size as usize;

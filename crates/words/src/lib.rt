@@ -113,7 +113,8 @@ pub fn first_partner(
     requires { ⌜ Testable (now schema) d ⌝ }
     requires { ⌜ (getD (now words) a 0 ≡ d .relation) × (a + 1 + getD (now schema) (d .relation) 0 ≤ length (now words)) ⌝ }
     requires { ⌜ From (now schema) (now words) from n ⌝ }
-    ensures { λ r. ⌜ r ≡ partnerOf (firstPassing (breaksWith (dependencyOf d) (rowAt (now (schema .entry)) (now (words .entry)) a)) (rowsAt (now (schema .entry)) (now (words .entry)) from n)) ⌝ }
+    ensures { λ r. ⌜ r ≡ partnerOf (firstPassing (breaksWith (dependencyOf d) (rowAt (now (schema .entry)) (now (words .entry)) a)) (rowsAt (now
+        (schema .entry)) (now (words .entry)) from n)) ⌝ }
 {
     let relation = d.relation as u32;
     let index = d.relation as usize;
