@@ -348,6 +348,13 @@ class Files(Data):
             self.assertEqual(self.done("test", self.text, os.fsdecode(other)), self.done("test", self.text, base))
         self.assertEqual(self.done("test", self.text, f"/{base.resolve()}"), self.done("test", self.text, base))
 
+    @unittest.skipIf(sqlite3.sqlite_version_info < (3, 31), "this SQLite computes no columns")
+    def test_computed_columns_and_views_of_sqlite(self):
+        base = self.sqlite('DROP TABLE "Burst"', "CREATE TABLE burst (flight, feet, height AS (feet * 0.5))", "INSERT INTO burst VALUES ('F-1', 3)")
+        self.assertEqual(self.done("evaluate", self.text, "ans(f, h) :- burst(f, h)", base), "ans('F-1', 1.5)\n# 1 answer\n")
+        base = self.sqlite('ALTER TABLE "Burst" RENAME TO kite', "CREATE VIEW burst AS SELECT 'F-1' AS flight, 2.5 AS height")
+        self.assertEqual(self.done("evaluate", self.text, "ans(f, h) :- burst(f, h)", base), "ans('F-1', 2.5)\n# 1 answer\n")
+
     def test_nothing_is_written_to_sqlite(self):
         base = self.sqlite()
         before = base.read_bytes()
