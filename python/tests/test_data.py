@@ -279,6 +279,13 @@ class Files(Data):
             self.assertEqual(err.count("is taken as a text"), 2)
             for cell in ("NaN", "1e4"):
                 self.assertIn(f"burst.csv:{kinds.index(cell) + 2}: {cell} in burst.height is taken as a text; ", err)
+        for others in ("x", "1", "F", "n", "2026-01-14T12:00"):
+            cells = self.csv(burst=f"flight,height\n{others},1\nT1 ,2\nT2 ,3\n")
+            said = "the space at its end is kept, and without it the text is another; if it is meant, say --text burst.flight"
+            self.assertEqual(run("test", self.text, cells)[2], f"spernevan: {cells}/burst.csv:3: T1 in burst.flight is taken as a text; {said}\n")
+            self.assertEqual(run("test", self.text, cells, "--text", "burst.flight")[2], "")
+        self.assertIn("1e4 in burst.flight is taken as a text; the number is written 10000;", run("test", self.text, self.csv(burst="flight,height\n1e4 ,2\n"))[2])
+        self.assertEqual(run("test", self.text, self.csv(burst="flight,height\n 1 , 2 \n 2026-01-14 , 3.0 \n"))[2], "")
         for cell in ("1,2,3", "a,5", "2026,x"):
             self.assertEqual(run("test", self.text, self.csv(burst=f"flight;height\n1;{cell}\n"))[2], "")
 
