@@ -284,7 +284,8 @@ class Files(Data):
             said = "the space at its end is kept, and without it the text is another; if it is meant, say --text burst.flight"
             self.assertEqual(run("test", self.text, cells)[2], f"spernevan: {cells}/burst.csv:3: T1 in burst.flight is taken as a text; {said}\n")
             self.assertEqual(run("test", self.text, cells, "--text", "burst.flight")[2], "")
-        self.assertIn("1e4 in burst.flight is taken as a text; the number is written 10000;", run("test", self.text, self.csv(burst="flight,height\n1e4 ,2\n"))[2])
+        cells = self.csv(burst="flight,height\n1e4 ,2\n")
+        self.assertIn("1e4 in burst.flight is taken as a text; the number is written 10000;", run("test", self.text, cells)[2])
         self.assertEqual(run("test", self.text, self.csv(burst="flight,height\n 1 , 2 \n 2026-01-14 , 3.0 \n"))[2], "")
         for cell in ("1,2,3", "a,5", "2026,x"):
             self.assertEqual(run("test", self.text, self.csv(burst=f"flight;height\n1;{cell}\n"))[2], "")
