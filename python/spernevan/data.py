@@ -24,7 +24,7 @@ from typing import AbstractSet, Any, Callable, Dict, Iterable, Iterator, List, M
 from .files import Failure
 from .model import Constant, Query, Words
 from .notation import Names, Table, count, format_datum
-from .values import FIRST_CODE, Null, Value, Values, bare, doubt, looks_absent, plain, read_cell, read_cell_with_comma, read_literal
+from .values import FIRST_CODE, Doubt, Null, Value, Values, bare, doubt, kind_of_doubt, plain, read_cell, read_cell_with_comma, read_literal
 
 CHUNK = 50_000
 
@@ -353,9 +353,8 @@ class Cells(Dict[Any, int]):
         self._values, self._null, self._read = values, null, read
         self.form = form
         self.same: Optional[Tuple[str, str]] = None
-        # In a column without types, the first cell that is taken as a text and may be meant as a number, under False, and the
-        # first that may be meant as no value, under True; and what to say of it.
-        self.doubts: Dict[bool, Tuple[str, str]] = {}
+        # In a column without types, the first cell of each kind that is taken as a text and may be meant otherwise, and what to say of it.
+        self.doubts: Dict[Doubt, Tuple[str, str]] = {}
 
     def column(self, cells: Sequence[Any]) -> Words:
         """Cells in words. A cell that is no value raises ValueError, or Null; `fault` then says which."""
@@ -395,7 +394,13 @@ class Cells(Dict[Any, int]):
             return cells if first else None
         if self._read is read_row_value:
             return [cell[1:-1].replace("''", "'") for cell in cells] if first >= "'" and max(cells) < "(" else None
-        return cells if first >= ":" and (True in self.doubts or _MAY_BE_ABSENT.search("\n".join(cells)) is None) else None
+        return cells if first >= ":" and not self._may_be_doubtful("\n".join(cells)) else None
+
+    def _may_be_doubtful(self, lines: str) -> bool:
+        """Whether among cells, none of which begins as a number does, there may be the first of a kind that may be meant otherwise."""
+        if Doubt.SPACE not in self.doubts and (" \n" in lines or lines[-1:] == " "):
+            return True
+        return Doubt.ABSENT not in self.doubts and _MAY_BE_ABSENT.search(lines) is not None
 
     def _learn_fractions(self, new: Sequence[Any]) -> None:
         """Takes up numbers that are not whole, many at once; `__missing__` takes up the other cells."""
@@ -417,12 +422,12 @@ class Cells(Dict[Any, int]):
             self.same = written, spelled
 
     def _doubt(self, cell: str) -> None:
-        """Notes a cell that is taken as a text, if it is the first that may be meant otherwise."""
-        absent = looks_absent(cell)
-        if absent not in self.doubts:
+        """Notes a cell that is taken as a text, if it is the first of its kind that may be meant otherwise."""
+        kind = kind_of_doubt(cell)
+        if kind not in self.doubts:
             said = doubt(cell, "," if self._read is read_cell_with_comma else ".")
             if said is not None:
-                self.doubts[absent] = cell, said
+                self.doubts[kind] = cell, said
 
     def fault(self, cells: Sequence[Any]) -> Tuple[int, ValueError]:
         """The position of the first cell that `column` did not take, and why."""
@@ -449,8 +454,9 @@ class Cells(Dict[Any, int]):
                 self.form.given.setdefault(word, given)
         elif isinstance(value, (int, Decimal)):
             self._write_down(word, cell.strip().replace(",", "."))
-        elif self._read is not str and self._read is not read_row_value and len(self.doubts) < 2 and (cell[:1] <= "9" or cell[:1] in "nN"):
-            self._doubt(cell)
+        elif isinstance(value, str) and self._read is not str and self._read is not read_row_value:
+            if cell[:1] <= "9" or cell[:1] in "nN" or cell[-1:] == " ":
+                self._doubt(cell)
         try:
             self[cell] = word
         except TypeError:

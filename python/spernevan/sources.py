@@ -522,7 +522,8 @@ def _read_connection(connection: sqlite3.Connection, path: str, database: Databa
 def _read_sqlite_table(connection: sqlite3.Connection, path: str, name: str, relation: int, database: Database) -> None:
     with _sqlite_errors(path):
         table = database.names.tables[relation]
-        labels = [row[1] for row in connection.execute(f"PRAGMA table_info({_quoted(name)})")]
+        # Computed columns are among these, and not in what PRAGMA table_info gives.
+        labels = [column[0] for column in connection.execute(f"SELECT * FROM {_quoted(name)} LIMIT 0").description]
         wanted = [labels[number] for number in positions(table.columns, labels, f"{path}: table {name}")]
         database.has(relation)
         readers: List[Cells] = [database.cells(relation, column, plain) for column in range(len(wanted))]

@@ -19,6 +19,7 @@ from array import array
 from collections import defaultdict
 from datetime import date, datetime
 from decimal import Decimal, InvalidOperation
+from enum import Enum
 from itertools import count, filterfalse, islice
 from operator import itemgetter
 from typing import DefaultDict, Dict, Iterable, Iterator, List, Optional, Sequence, Tuple, Type, Union
@@ -301,17 +302,30 @@ def number_meant(cell: str, decimal: str = ".") -> Optional[str]:
 _ABSENT = frozenset(["nan", "na", "n/a", "#n/a", "null", "none"])
 
 
-def looks_absent(cell: str) -> bool:
-    """Whether a cell is a word that programs write for no value."""
-    return cell.strip().casefold() in _ABSENT
+class Doubt(Enum):
+    """As what a cell that is taken as a text may be meant: as no value, as the text without the space at its end, as a number."""
+
+    ABSENT = 0
+    SPACE = 1
+    NUMBER = 2
+
+
+def kind_of_doubt(cell: str) -> Doubt:
+    """As what a cell that is taken as a text would be meant, if it is meant otherwise."""
+    if cell.strip().casefold() in _ABSENT:
+        return Doubt.ABSENT
+    return Doubt.SPACE if cell[-1:] == " " else Doubt.NUMBER
 
 
 def doubt(cell: str, decimal: str = ".") -> Optional[str]:
     """What to say of a cell that `read_cell` takes as a text and that a program may have meant otherwise; None if there is no doubt."""
-    if looks_absent(cell):
+    kind = kind_of_doubt(cell)
+    if kind is Doubt.ABSENT:
         return "an absent value is an empty cell; if it is a text"
     number = number_meant(cell, decimal)
-    return None if number is None else f"the number is written {number}; if it is no number"
+    if number is not None:
+        return f"the number is written {number}; if it is no number"
+    return "the space at its end is kept, and without it the text is another; if it is meant" if kind is Doubt.SPACE else None
 
 
 def read_date(word: str) -> Optional[date]:

@@ -261,7 +261,7 @@ class Messages(Command):
             ("flight(a, b)\n0: ans(x) :- flight(x y)\n", "2:23: a comma is missing before y"),
             ("flight(a 'b')\n", "1:10: a comma is missing before 'b'"),
             ("flight('a', b)\n", "1:8: the name of a column was expected, not the text 'a'; quotes are for values"),
-            ("flight(a)\n0.5: ans() :- never\n", "2:1: a line such as flight(number, sonde), flight: number -> sonde or 0: ans(f) :- .. was expected, not the number 0.5"),
+            ("flight(a)\n0.5: ans() :- never\n", "2:1: a line such as flight(number, sonde), flight: number -> sonde or 0: ans(f) :- .. was expe"),
             ("flight(a)\n0: ans() :- flight('Lindenberg)\n", "2:20: the quote ' that begins here does not end on this line"),
             ("flight(a)\n0: ans() :- flight(.5)\n", "2:20: '.' has no meaning here; a decimal has digits before and after its point"),
             ("flight(a)\n0: ans() :- flight(2026-02-30)\n", "2:20: there is no day 2026-02-30"),

@@ -279,6 +279,14 @@ class Files(Data):
             self.assertEqual(err.count("is taken as a text"), 2)
             for cell in ("NaN", "1e4"):
                 self.assertIn(f"burst.csv:{kinds.index(cell) + 2}: {cell} in burst.height is taken as a text; ", err)
+        for others in ("x", "1", "F", "n", "2026-01-14T12:00"):
+            cells = self.csv(burst=f"flight,height\n{others},1\nT1 ,2\nT2 ,3\n")
+            said = "the space at its end is kept, and without it the text is another; if it is meant, say --text burst.flight"
+            self.assertEqual(run("test", self.text, cells)[2], f"spernevan: {cells}/burst.csv:3: T1 in burst.flight is taken as a text; {said}\n")
+            self.assertEqual(run("test", self.text, cells, "--text", "burst.flight")[2], "")
+        cells = self.csv(burst="flight,height\n1e4 ,2\n")
+        self.assertIn("1e4 in burst.flight is taken as a text; the number is written 10000;", run("test", self.text, cells)[2])
+        self.assertEqual(run("test", self.text, self.csv(burst="flight,height\n 1 , 2 \n 2026-01-14 , 3.0 \n"))[2], "")
         for cell in ("1,2,3", "a,5", "2026,x"):
             self.assertEqual(run("test", self.text, self.csv(burst=f"flight;height\n1;{cell}\n"))[2], "")
 
@@ -347,6 +355,13 @@ class Files(Data):
             shutil.copyfile(base, other)
             self.assertEqual(self.done("test", self.text, os.fsdecode(other)), self.done("test", self.text, base))
         self.assertEqual(self.done("test", self.text, f"/{base.resolve()}"), self.done("test", self.text, base))
+
+    @unittest.skipIf(sqlite3.sqlite_version_info < (3, 31), "this SQLite computes no columns")
+    def test_computed_columns_and_views_of_sqlite(self):
+        base = self.sqlite('DROP TABLE "Burst"', "CREATE TABLE burst (flight, feet, height AS (feet * 0.5))", "INSERT INTO burst VALUES ('F-1', 3)")
+        self.assertEqual(self.done("evaluate", self.text, "ans(f, h) :- burst(f, h)", base), "ans('F-1', 1.5)\n# 1 answer\n")
+        base = self.sqlite('ALTER TABLE "Burst" RENAME TO kite', "CREATE VIEW burst AS SELECT 'F-1' AS flight, 2.5 AS height")
+        self.assertEqual(self.done("evaluate", self.text, "ans(f, h) :- burst(f, h)", base), "ans('F-1', 2.5)\n# 1 answer\n")
 
     def test_nothing_is_written_to_sqlite(self):
         base = self.sqlite()

@@ -120,7 +120,12 @@ class Rules(unittest.TestCase):
             ("ans() :- burst(2026-01-14 12:00, 1)", 1, 16, "2026-01-14 goes on with a time; a date with a time is a text between quotes"),
             ("ans() :- burst(x, 1).", 1, 21, "'.' has no meaning here; a line ends without one"),
             ("ans() <- burst(x, 1)", 1, 7, "'<' has no meaning here; ':-' goes between the head of a rule and its rows"),
-            ("ans() :- burst(x, y), y > 1", 1, 25, "'>' has no meaning here; a rule has rows alone, joined by equal values, and no comparisons; a dependency has ->"),
+            (
+                "ans() :- burst(x, y), y > 1",
+                1,
+                25,
+                "'>' has no meaning here; a rule has rows alone, joined by equal values, and no comparisons; a dependency has ->",
+            ),
             ("ans() :- burst(x, y), y = 1", 1, 23, "a rule has no =: write the value, or another variable, in the place of y in its row"),
             ("ans() :- not burst(x, y)", 1, 10, "a rule has no not: it asks for rows that are there"),
             ("ans() :- burst(x, y) // all", 1, 22, "'/' has no meaning here; '#' begins a comment"),

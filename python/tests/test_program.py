@@ -57,7 +57,7 @@ class Program(Started):
             self.assertTrue(done.stdout.startswith(out) and done.stderr.startswith(err) and bool(done.stderr) == bool(err), done)
 
     def test_nothing_of_the_network_is_loaded(self):
-        """It would take as long to start as all else."""
+        """The start would take a quarter longer."""
         asked = "import sys, spernevan.command; print(sorted({'ssl', 'socket', 'http.client', 'email'} & set(sys.modules)))"
         done = subprocess.run([sys.executable, "-c", asked], cwd=context.HERE.parent, capture_output=True, text=True)
         self.assertEqual(done.stdout, "[]\n", done.stderr)
