@@ -18,7 +18,7 @@ use Rattle.refusals.proofs.Refusals.{refused-gives}
 use Rattle.query.specs.declared.Place.{Place}
 use Rattle.query.specs.Rule.{noPlace}
 use Rattle.lists.proofs.Tests.{below-or-past}
-use Rattle.evaluation.specs.Evaluated.{answerWords}
+use Rattle.passes.specs.Evaluated.{answerWords}
 use Rattle.database.specs.declared.Answered.{Answered}
 use Rattle.database.specs.Calls.{tooLong, evaluationRefused, placeAnswers, countReply, evaluated, bufferThen}
 use Rattle.admission.proofs.Admitted.{none-asked}

@@ -26,7 +26,7 @@ use Rattle.reduction.specs.Reduced.{reductionRefusal, reductionConditions, IsRe
 use Rattle.database.specs.declared.Conformance.{Conformance}
 use Rattle.database.specs.declared.Answered.{Answered}
 use Rattle.database.specs.Calls.{testReply, tested, evaluationRefused, countReply, evaluated, bufferThen, counted, placeAnswers}
-use Rattle.evaluation.specs.Evaluated.{answerWords}
+use Rattle.passes.specs.Evaluated.{answerWords}
 use Rattle.minimization.specs.Search as search
 use Rattle.record.specs.Rule.{blankRecord}
 use Rattle.format.specs.Bytes.{number}

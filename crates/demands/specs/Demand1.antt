@@ -35,7 +35,7 @@ use Rattle.database.specs.Calls.{testReply, countReply, evaluationConditions, p
 use Rattle.words.specs.Words.{databaseOf}
 use Rattle.words.specs.Testing.{firstBrokenFrom}
 use Rattle.words.specs.Broken.{violationOf}
-use Rattle.evaluation.specs.Evaluated.{answerWords}
+use Rattle.passes.specs.Evaluated.{answerWords}
 use Rattle.lists.specs.Tests.{every}
 use Rattle.lists.specs.Over.{over}
 use Rattle.format.specs.Bytes.{number}

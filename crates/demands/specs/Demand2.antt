@@ -15,7 +15,7 @@ use Rattle.comparison.specs.declared.Comparison.{Comparison}
 use Rattle.comparison.specs.Comparison.{pairRefusal, SaysContained, base}
 use Rattle.words.specs.Words.{databaseOf}
 use Rattle.answers.specs.Ascending.{Ascending}
-use Rattle.evaluation.specs.Evaluated.{answerWords}
+use Rattle.passes.specs.Evaluated.{answerWords}
 use Rattle.database.specs.declared.Answered.{Answered}
 use Rattle.database.specs.Calls.{countReply, evaluationRefused, placeAnswers}
 use Rattle.writer.specs.declared.Written.{Written}
