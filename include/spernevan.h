@@ -37,6 +37,7 @@
  *   states    n words and 65536 more, if the query has more than two rows; else none
  *   batch     twice the words of the answers, and 64 more: with fewer the database is searched again for each batch
  *   scratch   as many as batch
+ * For a million words and more, memory that is mapped in huge pages (madvise with MADV_HUGEPAGE) saves a tenth of the time or two.
  *
  * A query part is the query as a file has it: head length, row count, head entries, then the rows, each a relation byte and its entries;
  * an entry is a byte (0 constant, 1 variable) and 32 bits, little-endian. Without rows it is the first two bytes alone, the query that has no answers.
