@@ -18,6 +18,7 @@
  *  11  no query is in the place to be read or dropped
  *  12  a query is already in the place to be filled
  *  13  the record has its 32 dependencies already
+ * 14, a record that breaks its rule, does not come here: a file that is read holds none.
  * A file that cannot be read is refused with 1 to 6 before anything else, and 10 comes last of all.
  * A refusal leaves every buffer and every number as it was; working memory too, unless the number is 10.
  *
@@ -29,15 +30,19 @@
  *
  * For 64-bit x86 Linux only. Every call uses less than 1 MB of stack: a thread whose stack is smaller must not make it.
  *
- * Calls whose names end in _lent are lent working memory too. They answer as the calls without it do, whatever it holds before, and the more of it there is the
- * sooner on a large database; it may be of any length, 0 too. Where a call is refused with another number than 10 it is as it was, and otherwise it may hold
- * anything. The calls without it have enough of their own for some ten thousand rows. For a database of n words:
- *   heads     n / 2 words, and nodes 3 n / 2: then a test takes time in proportion to n
- *   index     2 n words for each row of the query but the first, and 112 more; no more than 4294967294 are used
- *   states    n words and 65536 more, if the query has more than two rows; else none
- *   batch     twice the words of the answers, and 64 more: with fewer the database is searched again for each batch
+ * Calls whose names end in _lent are lent working memory too. They answer as the calls without it do, whatever it holds before and however little there is; it may
+ * be of any length, 0 too, and with less they take longer. Where a call is refused with another number than 10 it is as it was, and otherwise it may hold anything.
+ * The calls without it have some of their own, for some ten thousand rows and four thousand words of answers; beyond that their time grows as the square.
+ * For a database of n words lend:
+ *   heads     n / 2 words, and nodes 3 n / 2: then a test takes time in proportion to n for each dependency, unless values are chosen so that they collide
+ *   index     2 n words for each row of the query but the first, and 112 more; no more than 4294967294 are used, and none for a database of 4294967295 words or more
+ *   states    n words and 65536 more, if the query has more than two rows; else none. They are cleared, so that more than that only costs time
+ *   batch     twice the words of the answers, and 64 more: with fewer the database is searched again for each batch. A count wants as much as an evaluation
  *   scratch   as many as batch
+ * Where the number of answers is not known, a buffer and a batch of memory that is mapped and not touched cost nothing; after a refusal with 10 try more.
  * For a million words and more, memory that is mapped in huge pages (madvise with MADV_HUGEPAGE) saves a tenth of the time or two.
+ * Queries can have very many answers, or very many ways to each: an evaluation may take long, and nothing stops it but the end of its thread or process.
+ * Calls that share nothing that is written may run at the same time.
  *
  * A query part is the query as a file has it: head length, row count, head entries, then the rows, each a relation byte and its entries;
  * an entry is a byte (0 constant, 1 variable) and 32 bits, little-endian. Without rows it is the first two bytes alone, the query that has no answers.
@@ -145,8 +150,8 @@ uint8_t spernevan_test(const uint8_t *file, size_t file_length, const uint32_t *
 
 /*
  * Evaluates the query of a place on a database.
- * Takes a file, a place and the database. Returns 0 with the answers in `answers`, ascending and each once, as many words each as the head has entries,
- * and their number in `*count`; or 1 to 6, then 7, 11, 9, 10.
+ * Takes a file, a place and the database. Returns 0 with the answers in `answers`, ascending by their words from the left and each once, as many words each as the
+ * head has entries, and their number in `*count`; or 1 to 6, then 7, 11, 9, 10. With an empty head there is one answer, of no words, or none.
  */
 uint8_t spernevan_evaluate(const uint8_t *file, size_t file_length, size_t place, const uint32_t *words, size_t words_length,
                            uint32_t *answers, size_t answers_length, size_t *count);

@@ -332,7 +332,7 @@ def _memory() -> int:
 AMPLE_WORDS = min(2**27, _memory() // 64)
 # A database of as many words and more is worked on in huge pages. A smaller one touches little of what is lent, and to clear a huge page takes longer.
 HUGE_WORDS = 2**20
-# In more the engine makes no index.
+# The engine uses no more words of an index.
 MOST_INDEX_WORDS = 2**32 - 2
 
 _Part = Tuple["ctypes.Array[ctypes.c_uint32]", int]
@@ -385,7 +385,7 @@ def _most_answers(words: int, size: Size) -> int:
 def _for_answers(words: int, size: Size, answers: int) -> List[int]:
     """The words of index, states, batch and scratch for answers of so many words at most, as include/spernevan.h has them.
 
-    Three rows have few states: there it is not worth while to clear many.
+    Of three rows the search has fewer states than rows of the database: there no more are lent, since lent ones are cleared.
     """
     index = min(2 * words * max(0, size.rows - 1) + 112, MOST_INDEX_WORDS)
     states = 0 if size.rows < 3 else words if size.rows == 3 else words + 65536
