@@ -2,7 +2,7 @@
 use parsing::read_query;
 use query::Place;
 use record::Status;
-use record::blank::no_place;
+use record::calls;
 ghost use mathlib.Core.Path.{_≡_};
 ghost use mathlib.Core.Bool.{true};
 ghost use lib.ListN.{take};
@@ -33,7 +33,7 @@ fn no_place_read(number: u8) -> PlaceRead
 {
     PlaceRead {
         answer: Status::Refused(number),
-        place: no_place(),
+        place: calls::no_place(),
     }
 }
 
@@ -48,7 +48,7 @@ pub fn read_place(part: &[u8], last: bool, count: u8, widths: [u8; 8]) -> PlaceR
         }
         return PlaceRead {
             answer: Status::Done,
-            place: no_place(),
+            place: calls::no_place(),
         };
     }
     let read = read_query(part, count, widths);

@@ -13,9 +13,9 @@ use Rattle.query.specs.declared.Dependency.{Dependency}
 use Rattle.query.specs.declared.Query.{Query}
 use Rattle.record.specs.declared.Record.{Record}
 use Rattle.record.specs.declared.Outcome.{Outcome}
-use Rattle.record_calls.specs.declared.Columns.{Columns}
+use Rattle.record.specs.declared.Columns.{Columns}
 use Rattle.record.specs.Calls.{statusReply, outcomeReply, queryAt}
-use Rattle.record_calls.specs.Calls.{columnsReply, concluded, openRecord, addDependency, putQuery, dropQuery, determinedColumns}
+use Rattle.record.specs.Calls.{columnsReply, concluded, openRecord, addDependency, putQuery, dropQuery, determinedColumns}
 use Rattle.comparison.specs.declared.Comparison.{Comparison}
 use Rattle.comparison.specs.declared.Verdict.{Verdict}
 use Rattle.comparison.specs.declared.Verdict.the-variants as verdict

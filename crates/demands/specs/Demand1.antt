@@ -17,12 +17,12 @@ use Rattle.query.specs.View.{entriesOf, maskOf}
 use Rattle.query.specs.Rule.{noCell, noQuery, noPlace}
 use Rattle.record.specs.declared.Record.{Record}
 use Rattle.record.specs.declared.Outcome.{Outcome}
-use Rattle.record_calls.specs.declared.Columns.{Columns}
+use Rattle.record.specs.declared.Columns.{Columns}
 use Rattle.record.specs.View.{schemaOf, dependenciesOf}
 use Rattle.record.specs.Rule.{blankRecord}
 use Rattle.record.specs.Calls.{statusReply, emptyRecord, withPlace, queryAt}
-use Rattle.record_calls.specs.Calls.{columnsReply, withDependency, determinedAt}
-use Rattle.record_calls.specs.Calls.{openConditions, addConditions, putConditions, dropConditions, determinedConditions}
+use Rattle.record.specs.Calls.{columnsReply, withDependency, determinedAt}
+use Rattle.record.specs.Calls.{openConditions, addConditions, putConditions, dropConditions, determinedConditions}
 use Rattle.comparison.specs.declared.Comparison.{Comparison}
 use Rattle.comparison.specs.declared.Checked.{Checked}
 use Rattle.comparison.specs.Comparison.{pairConditions, verdictReply, Compared, checkReply}

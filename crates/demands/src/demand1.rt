@@ -7,9 +7,9 @@ use file::Written;
 use query::Cell;
 use query::Dependency;
 use query::Query;
+use record::Columns;
 use record::Outcome;
 use record::Record;
-use record_calls::Columns;
 use reduction::Reduced;
 ghost use Rattle.demands.specs.Demand1.{OpenMeets, AddMeets, PutMeets, DropMeets, DeterminedMeets, CompareMeets, CheckMeets, ReduceMeets, TestMeets, EvaluateMeets, CountMeets, ReadMeets, WriteMeets};
 
@@ -19,35 +19,35 @@ ghost use Rattle.demands.specs.Demand1.{OpenMeets, AddMeets, PutMeets, D
 pub fn open(widths: &[u8]) -> Outcome
     ensures { λ o. ⌜ OpenMeets (now (widths .entry)) o ⌝ }
 {
-    record_calls::open(widths)
+    Record::open(widths)
 }
 
 // Adds a dependency.
 pub fn add(given: Record, d: Dependency) -> Outcome
     ensures { λ o. ⌜ AddMeets given d o ⌝ }
 {
-    record_calls::add_dependency(given, d)
+    given.add_dependency(d)
 }
 
 // Puts a query into a vacant place.
 pub fn put(given: Record, place: usize, q: Query) -> Outcome
     ensures { λ o. ⌜ PutMeets given place q o ⌝ }
 {
-    record_calls::put(given, place, q)
+    given.put(place, q)
 }
 
 // Drops the query of a filled place.
 pub fn drop_query(given: Record, place: usize) -> Outcome
     ensures { λ o. ⌜ DropMeets given place o ⌝ }
 {
-    record_calls::drop_query(given, place)
+    given.drop_query(place)
 }
 
 // The columns that a left set determines.
 pub fn determined(given: Record, relation: u8, left: u8) -> Columns
     ensures { λ c. ⌜ DeterminedMeets given relation left c ⌝ }
 {
-    record_calls::determined(given, relation, left)
+    given.determined(relation, left)
 }
 
 // ---- queries

@@ -35,20 +35,17 @@ pub fn pair(arity: u8, shown: Entry, size: u8, b: Entry, c: Entry) -> Query {
 
 // The record with a query put at a place. Each is put where it is accepted.
 pub fn put(r: Record, place: usize, q: Query) -> Record {
-    let outcome = record_calls::put(r, place, q);
+    let outcome = r.put(place, q);
     outcome.record
 }
 
 // The record in which column 0 of relation 0 determines column 1.
 pub fn dependent(r: Record) -> Record {
-    let added = record_calls::add_dependency(
-        r,
-        Dependency {
-            relation: 0,
-            left: 1,
-            right: 1,
-        },
-    );
+    let added = r.add_dependency(Dependency {
+        relation: 0,
+        left: 1,
+        right: 1,
+    });
     added.record
 }
 

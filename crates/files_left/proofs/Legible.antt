@@ -20,12 +20,13 @@ use Rattle.lists.specs.Tests.{between, every}
 use Rattle.query.specs.Rule.{goodDependency, goodQuery, headSafe, goodPlace, noPlace, shapedQuery}
 use Rattle.record.specs.Rule.{goodRecord, blankRecord}
 use Rattle.refusals.specs.Refusals.{_>>=_, badQuery, bufferTooShort, firstHolding, gives, refused, reply, Reply}
-use Rattle.record.specs.Calls.{queryAt, brokenRecord, unknownPlace, vacant, filled, withPlace, emptyRecord}
-use Rattle.record_calls.specs.Calls.{concluded, withDependency, openRecord, addDependency, putQuery, dropQuery}
+use Rattle.record.specs.Calls.{queryAt, concluded, brokenRecord, unknownPlace, vacant, filled}
+use Rattle.record.specs.Calls.{withPlace, withDependency, emptyRecord, openRecord, addDependency, putQuery}
+use Rattle.record.specs.Calls.{dropQuery}
 use Rattle.refusals.proofs.Refusals.{refused-gives}
 use Rattle.lists.proofs.Tests.{and-left, and-right, and-both, every-set}
 use Rattle.record.proofs.Good.{good-record}
-use Rattle.record_calls.proofs.Meaning.{open-keeps, add-keeps, put-keeps, drop-keeps}
+use Rattle.record.proofs.Meaning.{open-keeps, add-keeps, put-keeps, drop-keeps}
 use Rattle.lists.specs.Over.{over}
 use Rattle.format.specs.Bytes.{Bytes}
 use Rattle.format.specs.Parts.{query}

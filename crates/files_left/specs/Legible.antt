@@ -11,7 +11,7 @@ use Rattle.query.specs.declared.Query.{Query}
 use Rattle.record.specs.declared.Record.{Record}
 use Rattle.record.specs.View.{schemaOf}
 use Rattle.query.specs.View.{queryOf}
-use Rattle.record_calls.specs.Calls.{openRecord, addDependency, dropQuery}
+use Rattle.record.specs.Calls.{openRecord, addDependency, dropQuery}
 use Rattle.format.specs.Bytes.{Bytes}
 use Rattle.refusals.specs.Refusals.{Reply, gives, _>>=_}
 use Rattle.format.specs.File.{placeWith, readPlace, readFile}

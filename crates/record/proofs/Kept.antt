@@ -1,19 +1,22 @@
--- A good record with another content of a place is good. A place that holds a good query with a safe head is good, and so is a vacant one.
+-- The calls keep the rule: a good record with another content of a place, with one dependency more, and a record just opened are good.
+-- A place that holds a good query with a safe head is good, and so is a vacant one
 use mathlib.Core.Path.{_≡_, refl}
 use mathlib.Core.Bool.{true}
 use mathlib.Core.List.{List}
 use Prim.Native.Nat.{ℕ, _<_}
-use lib.ListN.{length, getD}
+use native.Mathlib.Omega.{arith}
+use lib.ListN.{length, take, getD}
 use lib.Seq.{getD-set-same}
 use Rattle.query.specs.declared.Query.{Query}
+use Rattle.query.specs.declared.Dependency.{Dependency}
 use Rattle.query.specs.declared.Place.{Place}
 use Rattle.record.specs.declared.Record.{Record}
 use Rattle.record.specs.View.{schemaOf}
 use Rattle.lists.specs.Tests.{every}
-use Rattle.query.specs.Rule.{goodQuery, headSafe, blankQuery, goodPlace, noPlace}
+use Rattle.query.specs.Rule.{goodRelations, goodDependency, blankDependency, goodQuery, headSafe, blankQuery, goodPlace, noPlace}
 use Rattle.record.specs.Rule.{goodRecord}
-use Rattle.record.specs.Calls.{withPlace}
-use Rattle.lists.proofs.Tests.{and-both, every-set}
+use Rattle.record.specs.Calls.{withPlace, withDependency, emptyRecord}
+use Rattle.lists.proofs.Tests.{and-both, every-set, every-replicate, used-more}
 use Rattle.record.proofs.Good.{good-record, make-record}
 
 pub filled-place : (schema : List ℕ) (q : Query) → goodQuery schema q ≡ true → headSafe schema q ≡ true
@@ -34,6 +37,32 @@ place-kept r place p good fits =
       held = g .held;
       dependencies = g .dependencies;
       places = every-set (goodPlace (schemaOf r)) (r .places) place p (g .places) fits;
+    })
+
+-- One dependency more
+pub dependency-kept : (r : Record) (d : Dependency) → goodRecord r ≡ true → goodDependency (schemaOf r) d ≡ true → r .held < 32
+    → length (r .dependencies) ≡ 32 → goodRecord (withDependency r d) ≡ true
+dependency-kept r d good fits room long =
+    let g = good-record r good in
+    make-record (withDependency r d)
+    (record {
+      relations = g .relations;
+      held = omega arith;
+      dependencies =
+          used-more (r .held) (goodDependency (schemaOf r)) blankDependency (r .dependencies) d (omega arith) fits (g .dependencies);
+      places = g .places;
+    })
+
+-- A record just opened
+pub opened-good : (relations : ℕ) (widths : List ℕ) → goodRelations relations widths ≡ true → goodRecord (emptyRecord relations widths) ≡ true
+unfolding every
+opened-good relations widths good =
+    make-record (emptyRecord relations widths)
+    (record {
+      relations = good;
+      held = omega arith;
+      dependencies = refl;
+      places = every-replicate (goodPlace (take relations widths)) 8 noPlace (empty-place (take relations widths));
     })
 
 -- What a place holds afterwards

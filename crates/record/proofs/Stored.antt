@@ -4,17 +4,14 @@ use mathlib.Core.Bool.{Bool, true, cond, _&&_}
 use mathlib.Core.List.{List}
 use Prim.Native.Nat.{ℕ, _≤_, _<_}
 use native.Mathlib.Omega.{arith}
-use lib.ListN.{length, take, getD}
+use lib.ListN.{length, getD}
 use lib.Seq.{length-take-le}
-use Rattle.theory.specs.Query.{_∈_}
-use Rattle.theory.specs.Database as database
-use Rattle.query.specs.declared.Dependency.{Dependency}
 use Rattle.query.specs.declared.Place.{Place}
 use Rattle.record.specs.declared.Record.{Record}
-use Rattle.record.specs.View.{schemaOf, dependenciesOf}
-use Rattle.query.specs.Rule.{goodDependency, blankDependency, goodQuery, headSafe, blankQuery, goodPlace}
+use Rattle.record.specs.View.{schemaOf}
+use Rattle.query.specs.Rule.{goodQuery, headSafe, blankQuery, goodPlace}
 use Rattle.record.specs.Rule.{goodRecord}
-use Rattle.lists.proofs.Tests.{and-left, and-right, every-getD, used-good}
+use Rattle.lists.proofs.Tests.{and-left, and-right, every-getD}
 use Rattle.query.proofs.Relations.{relations-bounds, width-bounds, width-le}
 use Rattle.record.proofs.Good.{good-record}
 

@@ -1,22 +1,29 @@
--- What the calls on a record share: what an answer says, what is asked of the record and its places, and records with one part another.
-use mathlib.Core.Bool.{Bool, not}
-use mathlib.Core.List.{List}
-use Prim.Native.Nat.{ℕ}
-use lib.Dec.{ltb}
-use lib.ListN.{getD, set, replicate}
+-- What each call on the record alone answers: what it asks, in the order of SPECIFICATION, Refusals, and the record after it.
+use mathlib.Core.Bool.{Bool, true, not, _&&_}
+use mathlib.Core.List.{List, [], _∷_, _++_}
+use mathlib.Core.Option.{Option, none, some}
+use Prim.Native.Nat.{ℕ, _+_, _-_}
+use lib.Dec.{eqb, ltb}
+use lib.ListN.{length, getD, set, replicate}
 use Rattle.theory.specs.Query as theory
+use Rattle.determination.specs.Determined.{determined}
 use Rattle.query.specs.declared.Query.{Query}
+use Rattle.query.specs.declared.Dependency.{Dependency}
 use Rattle.query.specs.declared.Place.{Place}
 use Rattle.record.specs.declared.Record.{Record}
 use Rattle.record.specs.declared.Status.{Status}
 use Rattle.record.specs.declared.Status.the-variants as status
 use Rattle.record.specs.declared.Outcome.{Outcome}
-use Rattle.query.specs.View.{queryOf}
-use Rattle.record.specs.View.{schemaOf}
-use Rattle.query.specs.Rule.{noDependency, noPlace}
-use Rattle.record.specs.Rule.{goodRecord}
-use Rattle.refusals.specs.Refusals.{badRecord, Condition, noSuchPlace, placeFilled, placeVacant}
-use Rattle.refusals.specs.Refusals.{Reply, refused, gives}
+use Rattle.record.specs.declared.Columns.{Columns}
+use Rattle.record.specs.declared.Columns.the-variants as columns
+use Rattle.query.specs.View.{columnsOf, queryOf, maskOf}
+use Rattle.record.specs.View.{schemaOf, dependenciesOf}
+use Rattle.lists.specs.Tests.{between, every}
+use Rattle.query.specs.Rule.{goodSet, goodDependency, goodQuery, headSafe, noDependency, noPlace}
+use Rattle.record.specs.Rule.{goodRecord, blankRecord}
+use Rattle.refusals.specs.Refusals.{badDependency, badQuery, badRecord, badRelations, dependenciesFull}
+use Rattle.refusals.specs.Refusals.{Condition, firstHolding, noSuchPlace, placeFilled, placeVacant, unsafeHead}
+use Rattle.refusals.specs.Refusals.{Reply, refused, gives, reply}
 
 -- ---- replies
 
@@ -28,6 +35,16 @@ statusReply (status.Refused n) = refused n
 -- What a call that changes the record says, and the record that it hands back
 abbrev pub outcomeReply : Outcome → Reply (Unit {0}) × Record
 outcomeReply o = (statusReply (o .answer), o .«record»)
+
+-- The same of a call that is refused with a number, or not: a refusal hands back the record given, an accepted call the record `after`
+abbrev pub concluded : Option ℕ → Record → Record → Reply (Unit {0}) × Record
+concluded none given after = (gives tt, after)
+concluded (some n) given after = (refused n, given)
+
+-- What each case of an answer about determined columns says: their set and how many they are, or refused with a number
+abbrev pub columnsReply : Columns → Reply (ℕ × ℕ)
+columnsReply (columns.Determined mask size) = gives (mask, size)
+columnsReply (columns.Refused n) = refused n
 
 -- ---- places
 
@@ -64,9 +81,63 @@ abbrev pub withPlace : Record → ℕ → Place → Record
 withPlace r place p =
     record { relations = r .relations; widths = r .widths; held = r .held; dependencies = r .dependencies; places = set (r .places) place p }
 
--- ---- a record just opened
+-- The record with one dependency more, after those held
+abbrev pub withDependency : Record → Dependency → Record
+withDependency r d =
+    record { relations = r .relations; widths = r .widths; held = r .held + 1; dependencies = set (r .dependencies) (r .held) d; places = r .places }
+
+-- ---- the calls
 
 -- A record of the given relations, no dependencies, all places vacant
 abbrev pub emptyRecord : ℕ → List ℕ → Record
 emptyRecord relations widths =
     record { relations = relations; widths = widths; held = 0; dependencies = replicate 32 noDependency; places = replicate 8 noPlace }
+
+-- What opening asks: 3 unless there are 1 to 8 widths, each 1 to 8
+abbrev pub openConditions : List ℕ → List Condition
+openConditions widths = (not (between 1 8 (length widths) && every (between 1 8) widths), badRelations) ∷ []
+
+-- Open a record from relation widths, no dependencies, all places vacant
+unfoldable pub openRecord : List ℕ → Reply (Unit {0}) × Record
+openRecord widths =
+    concluded (firstHolding (openConditions widths)) blankRecord
+    (emptyRecord (length widths) (widths ++ replicate (8 - length widths) 0))
+
+-- What adding a dependency asks: 14; 4 unless it is good; 13 where 32 are held
+abbrev pub addConditions : Record → Dependency → List Condition
+addConditions r d = brokenRecord r ∷ (not (goodDependency (schemaOf r) d), badDependency) ∷ (eqb (r .held) 32, dependenciesFull) ∷ []
+
+-- Add a dependency after those held
+unfoldable pub addDependency : Record → Dependency → Reply (Unit {0}) × Record
+addDependency r d = concluded (firstHolding (addConditions r d)) r (withDependency r d)
+
+-- What putting a query asks: 14; 7; 5 unless it keeps the limits and holds nothing where it is not in use; 6 where a head variable is in no row; 12
+abbrev pub putConditions : Record → ℕ → Query → List Condition
+putConditions r place q =
+    brokenRecord r ∷ unknownPlace place ∷ (not (goodQuery (schemaOf r) q), badQuery) ∷ (not (headSafe (schemaOf r) q), unsafeHead) ∷ filled r place ∷ []
+
+-- Put a query into a vacant place
+unfoldable pub putQuery : Record → ℕ → Query → Reply (Unit {0}) × Record
+putQuery r place q = concluded (firstHolding (putConditions r place q)) r (withPlace r place (record { filled = true; query = q }))
+
+-- What dropping a place asks: 14; 7; 11
+abbrev pub dropConditions : Record → ℕ → List Condition
+dropConditions r place = brokenRecord r ∷ unknownPlace place ∷ vacant r place ∷ []
+
+-- Drop a filled place
+unfoldable pub dropQuery : Record → ℕ → Reply (Unit {0}) × Record
+dropQuery r place = concluded (firstHolding (dropConditions r place)) r (withPlace r place noPlace)
+
+-- What a question about determined columns asks: 14; 4 unless the relation is known and the set is a nonempty set of its columns
+abbrev pub determinedConditions : Record → ℕ → ℕ → List Condition
+determinedConditions r relation left = brokenRecord r ∷ (not (goodSet (schemaOf r) relation left), badDependency) ∷ []
+
+-- The columns of a relation that a left set determines
+abbrev pub determinedAt : Record → ℕ → ℕ → List ℕ
+determinedAt r relation left = determined (dependenciesOf r) relation (getD (schemaOf r) relation 0) (columnsOf left)
+
+-- Their set and how many they are
+unfoldable pub determinedColumns : Record → ℕ → ℕ → Reply (ℕ × ℕ)
+determinedColumns r relation left =
+    reply (firstHolding (determinedConditions r relation left))
+    (maskOf (determinedAt r relation left), length (determinedAt r relation left))

@@ -1,7 +1,6 @@
-// The record of relations, dependencies and saved queries: its types, its rule, and its places.
+// The record of relations, dependencies and saved queries: its types, its rule, and the calls that change or ask it alone.
 pub mod rule; // rule.rt: whether a record is as SPECIFICATION, The record, describes
-pub mod places; // places.rt: places looked up, read, and given another content
-pub mod blank; // blank.rt: a vacant place, a record just opened, the blank record
+pub mod calls; // calls.rt: open, add a dependency, put and drop a query, determined columns
 
 use query::Dependency;
 use query::Place;
@@ -30,5 +29,11 @@ pub struct Outcome {
 // Where a place is looked up: its index, or the number of the refusal.
 pub enum Lookup {
     At(usize),
+    Refused(u8),
+}
+
+// What a question about determined columns answers: their set, bit c for column c, with their number; or the number of the refusal.
+pub enum Columns {
+    Determined(u8, u8),
     Refused(u8),
 }

@@ -7,10 +7,10 @@ use query::Cell;
 use query::Dependency;
 use query::Entry;
 use query::Query;
+use record::Columns;
 use record::Outcome;
 use record::Record;
 use record::Status;
-use record_calls::Columns;
 
 // Writes an answer, and hands on the record.
 fn answer(outcome: Outcome) -> Record {
@@ -46,7 +46,7 @@ fn open_counts() {
     let widths = [1u8; 9];
     for n in 0..10usize {
         show::case(b"open, widths ", n as u8);
-        answer(record_calls::open(&widths[..n]));
+        answer(Record::open(&widths[..n]));
     }
 }
 
@@ -54,7 +54,7 @@ fn open_counts() {
 fn open_widths() {
     for w in 0..10u8 {
         show::case(b"open, width ", w);
-        answer(record_calls::open(&[2, w]));
+        answer(Record::open(&[2, w]));
     }
 }
 
@@ -149,7 +149,7 @@ fn query(case: u8) -> Query {
 fn puts(r: Record, place: usize) {
     for case in 0..16u8 {
         show::case(b"put ", case);
-        answer(record_calls::put(r, place, query(case)));
+        answer(r.put(place, query(case)));
     }
 }
 
@@ -157,7 +157,7 @@ fn puts(r: Record, place: usize) {
 fn drops(r: Record) {
     for place in 0..10usize {
         show::case(b"drop ", place as u8);
-        answer(record_calls::drop_query(r, place));
+        answer(r.drop_query(place));
     }
 }
 
@@ -199,7 +199,7 @@ fn dependency(case: u8) -> Dependency {
 fn adds(r: Record) {
     for case in 0..6u8 {
         show::case(b"add ", case);
-        answer(record_calls::add_dependency(r, dependency(case)));
+        answer(r.add_dependency(dependency(case)));
     }
 }
 
@@ -208,7 +208,7 @@ fn full(r: Record) -> Record {
     let mut grown = r;
     for case in 0..32u8 {
         show::case(b"add to ", case);
-        grown = answer(record_calls::add_dependency(grown, dependency(1 - case % 2)));
+        grown = answer(grown.add_dependency(dependency(1 - case % 2)));
     }
     grown
 }
@@ -217,14 +217,14 @@ fn full(r: Record) -> Record {
 fn determined(r: Record, relation: u8) {
     for left in 0..9u8 {
         show::case(b"determined by ", left);
-        columns(record_calls::determined(r, relation, left));
+        columns(r.determined(relation, left));
     }
 }
 
 pub fn all() {
     open_counts();
     open_widths();
-    let opened = record_calls::open(&[2, 3]);
+    let opened = Record::open(&[2, 3]);
     let r = opened.record;
     puts(r, 0);
     puts(r, 8);

@@ -14,10 +14,9 @@ use Rattle.record.specs.declared.Record.{Record}
 use Rattle.record.specs.declared.Outcome.{Outcome}
 use Rattle.record.specs.View.{schemaOf}
 use Rattle.record.specs.Rule.{goodRecord}
-use Rattle.record.specs.Calls.{statusReply, outcomeReply}
-use Rattle.record_calls.specs.Calls.{openRecord, addDependency, putQuery, dropQuery}
-use Rattle.record_calls.specs.Meaning.{LeavesGood}
-use Rattle.record_calls.proofs.Meaning.{open-keeps, add-keeps, put-keeps, drop-keeps}
+use Rattle.record.specs.Calls.{statusReply, outcomeReply, openRecord, addDependency, putQuery, dropQuery}
+use Rattle.record.specs.Meaning.{LeavesGood}
+use Rattle.record.proofs.Meaning.{open-keeps, add-keeps, put-keeps, drop-keeps}
 use Rattle.format.specs.File.{readPlace}
 use Rattle.record_on_files.specs.Records.{resultOf, putPart}
 use Rattle.record_on_files.specs.internal.Steps.{GoodIfDone}

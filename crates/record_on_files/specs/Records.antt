@@ -7,7 +7,7 @@ use lib.Dec.{ltb}
 use Rattle.refusals.specs.Refusals.{_>>=_, gives, noSuchPlace, refused, Reply}
 use Rattle.record.specs.declared.Record.{Record}
 use Rattle.record.specs.View.{schemaOf}
-use Rattle.record_calls.specs.Calls.{openRecord, addDependency, putQuery, dropQuery, determinedColumns}
+use Rattle.record.specs.Calls.{openRecord, addDependency, putQuery, dropQuery, determinedColumns}
 use Rattle.format.specs.File.{readPlace, readFile, fileOf}
 use Rattle.record_on_files.specs.Lent.{fitted}
 

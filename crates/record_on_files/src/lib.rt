@@ -1,11 +1,11 @@
 // The calls on the record alone, on files: a record is the bytes of its file, in and out.
 // Each returns 0, or the number of the refusal, which leaves every buffer and number that it is lent as it was.
 use query::Dependency;
+use record::Columns;
 use record::Outcome;
 use record::Record;
 use record::Status;
-use record_calls::Columns;
-use record_calls::refused;
+use record::calls::refused;
 use writer::Written;
 use writer::write_good;
 ghost use mathlib.Core.Path.{_≡_};
@@ -63,7 +63,7 @@ pub fn put_part(given: Record, place: usize, part: &[u8]) -> Outcome
         Status::Done => {
             let p = read.place;
             let query = p.query;
-            record_calls::put(given, place, query)
+            given.put(place, query)
         }
         Status::Refused(n) => refused(n, given),
     }
@@ -98,7 +98,7 @@ pub fn open_file(widths: &[u8], out: &mut [u8], size: &mut usize) -> u8
     ensures { λ r. ⌜ Wrote (opened (now (widths .entry)) (length (now (out .entry)))) (now (out .entry)) (now (size .entry)) r (now (out .exit)) (now
         (size .exit)) ⌝ }
 {
-    store_outcome(record_calls::open(widths), out, size)
+    store_outcome(Record::open(widths), out, size)
 }
 
 // Adds a dependency after those held.
@@ -123,7 +123,7 @@ pub fn add_in_file(
                 left,
                 right,
             };
-            store_outcome(record_calls::add_dependency(given, d), out, size)
+            store_outcome(given.add_dependency(d), out, size)
         }
         Status::Refused(n) => n,
     }
@@ -155,7 +155,7 @@ pub fn drop_in_file(file: &[u8], place: usize, out: &mut [u8], size: &mut usize)
     match answer {
         Status::Done => {
             let given = outcome.record;
-            store_outcome(record_calls::drop_query(given, place), out, size)
+            store_outcome(given.drop_query(place), out, size)
         }
         Status::Refused(n) => n,
     }
@@ -178,7 +178,7 @@ pub fn determined_in_file(
     match answer {
         Status::Done => {
             let given = outcome.record;
-            let found = record_calls::determined(given, relation, left);
+            let found = given.determined(relation, left);
             match found {
                 Columns::Determined(mask, n) => {
                     *columns = mask;

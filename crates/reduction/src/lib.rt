@@ -8,8 +8,8 @@ use query::Query;
 use record::Lookup;
 use record::Record;
 use record::Status;
-use record::places::stored;
-use record::places::with_place;
+use record::calls::stored;
+use record::calls::with_place;
 ghost use mathlib.Core.Path.{_≡_};
 ghost use mathlib.Core.Bool.{true};
 ghost use mathlib.Core.List.{List};
@@ -99,17 +99,17 @@ pub fn reduce(given: Record, source: usize, target: usize) -> Reduced
     if !given.is_good() {
         return refused(refusals::BAD_RECORD, given);
     }
-    let found = record::places::place_at(target);
+    let found = record::calls::place_at(target);
     let Lookup::At(_) = found else {
-        return refused(record::places::number(found), given);
+        return refused(record::calls::number(found), given);
     };
     let found = given.filled_place(source);
     let Lookup::At(from) = found else {
-        return refused(record::places::number(found), given);
+        return refused(record::calls::number(found), given);
     };
     let found = given.vacant_place(target);
     let Lookup::At(to) = found else {
-        return refused(record::places::number(found), given);
+        return refused(record::calls::number(found), given);
     };
     store_reduced(given, from, to)
 }

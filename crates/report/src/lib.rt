@@ -21,7 +21,7 @@ fn alone(given: Record, place: usize) -> Record
     let dependencies = given.dependencies;
     let places = given.places;
     let kept = places[place];
-    let vacant = record::blank::no_place();
+    let vacant = record::calls::no_place();
     let mut after = [vacant; 8];
     after[place] = kept;
     Record {
@@ -58,10 +58,10 @@ fn write_lines(buffer: &mut [u8], at: usize, given: Record, place: usize) -> usi
 {
     let target = other_place(place);
     let single = alone(given, place);
-    let source = record::places::stored(given, place);
+    let source = record::calls::stored(given, place);
     let reduced = reduction::reduce(single, place, target);
     let after = reduced.record;
-    let result = record::places::stored(after, target);
+    let result = record::calls::stored(after, target);
     let widths = given.widths;
     let images = reduced.images;
     text::write_place(

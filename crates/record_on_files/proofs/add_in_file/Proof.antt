@@ -2,7 +2,7 @@
 use mathlib.Core.Path.{sym, ap, _∙_}
 use lib.ListN.{length}
 use Rattle.query.specs.declared.Dependency.{Dependency}
-use Rattle.record_calls.specs.Calls.{addDependency}
+use Rattle.record.specs.Calls.{addDependency}
 use Rattle.format.specs.File.{fileOf}
 use Rattle.record_on_files.specs.Lent.{fitted}
 use Rattle.record_on_files.specs.Records.{resultOf, fileFitted}
