@@ -8,7 +8,7 @@ use Rattle.refusals.specs.Refusals.{Condition, firstHolding, Reply, gives, repl
 use Rattle.format.specs.File.{readFile}
 use Rattle.database.specs.Calls.{tested, evaluated, bufferThen, counted}
 use Rattle.record_on_files.specs.Lent.{leaves}
-use Rattle.verdict_numbers.specs.Verdicts.{Tested, testNumbers}
+use Rattle.lent_numbers.specs.Numbers.{Tested, testNumbers}
 
 -- The test of a database against the dependencies of the record of a file
 abbrev pub testedIn : List ℕ → List ℕ → Reply Tested

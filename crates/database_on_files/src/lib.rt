@@ -32,7 +32,7 @@ pub fn test_in_file_lent(
         Status::Done => {
             let given = outcome.record;
             let found = database::test_lent(given, words, heads, nodes);
-            verdict_numbers::leave_test(found, obeys, dependency, first, second)
+            lent_numbers::leave_test(found, obeys, dependency, first, second)
         }
         Status::Refused(n) => n,
     }
@@ -103,7 +103,7 @@ pub fn evaluate_in_file_lent(
                 batch,
                 scratch,
             );
-            verdict_numbers::leave_count(done, count)
+            lent_numbers::leave_count(done, count)
         }
         Status::Refused(n) => n,
     }
@@ -163,7 +163,7 @@ pub fn count_in_file_lent(
         Status::Done => {
             let given = outcome.record;
             let done = database::count_lent(given, place, words, index, states, batch, scratch);
-            verdict_numbers::leave_count(done, count)
+            lent_numbers::leave_count(done, count)
         }
         Status::Refused(n) => n,
     }

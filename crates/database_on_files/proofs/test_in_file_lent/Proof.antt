@@ -4,7 +4,7 @@ use mathlib.Core.List.{List}
 use Prim.Native.Nat.{ℕ}
 use Rattle.admission.specs.Conditions.{testConditions}
 use Rattle.database.specs.Calls.{tested, UnusedIfRefused}
-use Rattle.verdict_numbers.specs.Verdicts.{Tested, testNumbers, testResult}
+use Rattle.lent_numbers.specs.Numbers.{Tested, testNumbers, testResult}
 use Rattle.database_on_files.specs.Databases.{testedIn, UnusedInFile}
 use Rattle.refusals.specs.Refusals.{Reply, gives, refused, _>>=_}
 use Rattle.words.specs.declared.Violation.{Violation}

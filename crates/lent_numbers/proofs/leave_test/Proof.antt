@@ -7,10 +7,10 @@ use Rattle.words.specs.declared.Violation.the-variants as violation
 use Rattle.database.specs.Calls.{testReply}
 use Rattle.record_on_files.specs.Lent.{returned, leaves}
 use Rattle.record_on_files.proofs.Files.{done-number, done-leaves, refused-number, refused-leaves, still-refused, goes-on}
-use Rattle.verdict_numbers.specs.Verdicts.{Tested, testNumbers}
+use Rattle.lent_numbers.specs.Numbers.{Tested, testNumbers}
 use borrow.Author.Needs.{needs}
-use Rattle.verdict_numbers.proofs.leave_test.Statement.{statement}
-use Rattle.verdict_numbers.proofs.leave_test.Tie as tie
+use Rattle.lent_numbers.proofs.leave_test.Statement.{statement}
+use Rattle.lent_numbers.proofs.leave_test.Tie as tie
 
 abbrev next : Violation → Reply Tested
 next v = gives (testNumbers v)

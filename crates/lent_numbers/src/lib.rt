@@ -4,7 +4,7 @@ use database::Conformance;
 ghost use mathlib.Core.Path.{_≡_};
 ghost use Rattle.database.specs.Calls.{countReply};
 ghost use Rattle.record_on_files.specs.Lent.{returned, leaves};
-ghost use Rattle.verdict_numbers.specs.Verdicts.{testResult};
+ghost use Rattle.lent_numbers.specs.Numbers.{testResult};
 
 // Leaves what a test says. Gives 0, or the number of the refusal.
 pub fn leave_test(

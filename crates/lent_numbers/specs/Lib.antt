@@ -1,0 +1,2 @@
+-- The numbers that a test leaves (Numbers).
+pub mod Numbers

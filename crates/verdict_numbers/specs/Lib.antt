@@ -1,2 +1,0 @@
--- The numbers that a test leaves (Verdicts).
-pub mod Verdicts
