@@ -119,7 +119,7 @@ static void returned(uint32_t *memory, size_t n) { munmap(memory, 4 * n + 4); }
 
 static double engine_evaluate(size_t *count) {
     double best = 1e9;
-    size_t index_size = 2 * word_count * (query_rows - 1) + 112, states_size = query_rows > 2 ? word_count : 0;
+    size_t index_size = 2 * word_count * (query_rows - 1) + 112, states_size = query_rows > 2 ? word_count + 65536 : 0;
     for (int k = 0; k < turns(); k++) {
         if (answers) returned(answers, MOST);
         double t = now();
