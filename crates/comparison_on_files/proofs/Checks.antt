@@ -22,7 +22,7 @@ use Rattle.comparison.specs.Comparison.{pairRefusal, checkReply, CheckedMapping
 use Rattle.theory.specs.Query as theory
 use Rattle.theory.specs.Answer.{IsMapping}
 use Rattle.minimization.specs.Checking.{mapsTo}
-use Rattle.record_on_files.specs.Lent.{returned, leaves}
+use Rattle.lent_numbers.specs.Lent.{returned, leaves}
 use Rattle.comparison_on_files.specs.Queries.{readingMaps, wordsMap, bit, WordsMapExact}
 
 -- ---- what is read, and what the test says of it

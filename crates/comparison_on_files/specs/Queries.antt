@@ -24,7 +24,7 @@ use Rattle.comparison.specs.Comparison.{notContained, verdictReply, pairRefusal
 use Rattle.theory.specs.Query as theory
 use Rattle.theory.specs.Answer as answer
 use Rattle.minimization.specs.Checking.{mapsTo}
-use Rattle.record_on_files.specs.Lent.{returned, leaves}
+use Rattle.lent_numbers.specs.Lent.{returned, leaves}
 
 -- ---- comparing
 

@@ -20,7 +20,7 @@ ghost use Rattle.format.specs.Parts.{query};
 ghost use Rattle.format.specs.File.{placeWith};
 ghost use Rattle.refusals.specs.Refusals.{reply};
 ghost use Rattle.comparison.specs.Comparison.{pairRefusal};
-ghost use Rattle.record_on_files.specs.Lent.{returned, leaves};
+ghost use Rattle.lent_numbers.specs.Lent.{returned, leaves};
 ghost use Rattle.comparison_on_files.specs.Queries.{verdictFits, comparisonFits, ComparisonGiven, CompareGives, wordsMap, checkedIn, bit};
 ghost use Rattle.comparison_on_files.specs.internal.Steps.{SoundComparison};
 

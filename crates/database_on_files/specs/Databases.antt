@@ -7,11 +7,11 @@ use Rattle.record.specs.declared.Record.{Record}
 use Rattle.refusals.specs.Refusals.{Condition, firstHolding, Reply, gives, reply, refusalIn, _>>=_}
 use Rattle.format.specs.File.{readFile}
 use Rattle.database.specs.Calls.{tested, evaluated, bufferThen, counted}
-use Rattle.record_on_files.specs.Lent.{leaves}
-use Rattle.lent_numbers.specs.Numbers.{Tested, testNumbers}
+use Rattle.lent_numbers.specs.Lent.{leaves}
+use Rattle.lent_numbers.specs.Numbers.{TestNumbers, testNumbers}
 
 -- The test of a database against the dependencies of the record of a file
-abbrev pub testedIn : List ℕ → List ℕ → Reply Tested
+abbrev pub testedIn : List ℕ → List ℕ → Reply TestNumbers
 testedIn file words = readFile file >>= λ r. tested r words >>= λ v. gives (testNumbers v)
 
 -- The count of the answers of a place of the record of a file, for a buffer with so much room

@@ -4,7 +4,7 @@ use record::Status;
 ghost use mathlib.Core.Path.{_≡_};
 ghost use lib.ListN.{length};
 ghost use Rattle.admission.specs.Conditions.{testConditions, searchConditions};
-ghost use Rattle.record_on_files.specs.Lent.{returned, leaves};
+ghost use Rattle.lent_numbers.specs.Lent.{returned, leaves};
 ghost use Rattle.database_on_files.specs.Databases.{testedIn, evaluatedIn, answersLeft, countedIn, UnusedInFile};
 
 // Tests a database against the dependencies. Working memory is lent for the tables.

@@ -19,8 +19,9 @@ use Rattle.query.specs.declared.Place.{Place}
 use Rattle.query.specs.Rule.{noPlace}
 use Rattle.lists.proofs.Tests.{below-or-past}
 use Rattle.passes.specs.Evaluated.{answerWords}
-use Rattle.database.specs.declared.Answered.{Answered}
-use Rattle.database.specs.Calls.{tooLong, evaluationRefused, placeAnswers, countReply, evaluated, bufferThen}
+use Rattle.replies.specs.declared.Answered.{Answered}
+use Rattle.replies.specs.Replies.{countReply}
+use Rattle.database.specs.Calls.{tooLong, evaluationRefused, placeAnswers, evaluated, bufferThen}
 use Rattle.admission.proofs.Admitted.{none-asked}
 use Rattle.database.proofs.Meaning.{place-ascending, place-answers}
 use Rattle.minimization.specs.Search as search

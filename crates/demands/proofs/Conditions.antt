@@ -23,9 +23,10 @@ use Rattle.comparison.specs.declared.Checked.{Checked}
 use Rattle.comparison.specs.Comparison.{pairRefusal, verdictReply, verdictOn, chasedAt, Compared, checkReply, CheckedMapping}
 use Rattle.reduction.specs.declared.Reduced.{Reduced}
 use Rattle.reduction.specs.Reduced.{reductionRefusal, reductionConditions, IsReduced}
-use Rattle.database.specs.declared.Conformance.{Conformance}
-use Rattle.database.specs.declared.Answered.{Answered}
-use Rattle.database.specs.Calls.{testReply, tested, evaluationRefused, countReply, evaluated, bufferThen, counted, placeAnswers}
+use Rattle.replies.specs.declared.Conformance.{Conformance}
+use Rattle.replies.specs.declared.Answered.{Answered}
+use Rattle.replies.specs.Replies.{testReply, countReply}
+use Rattle.database.specs.Calls.{tested, evaluationRefused, evaluated, bufferThen, counted, placeAnswers}
 use Rattle.passes.specs.Evaluated.{answerWords}
 use Rattle.minimization.specs.Search as search
 use Rattle.record.specs.Rule.{blankRecord}
@@ -36,8 +37,9 @@ use Rattle.format.proofs.Faults.{first-fault}
 use Rattle.format.proofs.Stretches.{length-stretches}
 use Rattle.writer.specs.declared.Written.{Written}
 use Rattle.writer.specs.Write.{lengthReply, writingRefused, written, afterWriting}
-use Rattle.demands.specs.Demand1.{Meets, Nothing, OpenMeets, AddMeets, PutMeets, DropMeets, DeterminedMeets, CompareMeets, CheckMeets}
-use Rattle.demands.specs.Demand1.{ReduceMeets, TestMeets, EvaluateMeets, CountMeets, partsAsk, readAsks, AsksInOrder, ReadMeets, WriteMeets}
+use Rattle.demands.specs.Demand1.{Meets, Nothing, partsAsk, readAsks, AsksInOrder}
+use Rattle.demands.specs.Demand1Calls.{OpenMeets, AddMeets, PutMeets, DropMeets, DeterminedMeets, CompareMeets, CheckMeets}
+use Rattle.demands.specs.Demand1Calls.{ReduceMeets, TestMeets, EvaluateMeets, CountMeets, ReadMeets, WriteMeets}
 
 -- ---- every call
 

@@ -16,8 +16,9 @@ use Rattle.comparison.specs.Comparison.{pairRefusal, SaysContained, base}
 use Rattle.words.specs.Words.{databaseOf}
 use Rattle.answers.specs.Ascending.{Ascending}
 use Rattle.passes.specs.Evaluated.{answerWords}
-use Rattle.database.specs.declared.Answered.{Answered}
-use Rattle.database.specs.Calls.{countReply, evaluationRefused, placeAnswers}
+use Rattle.replies.specs.declared.Answered.{Answered}
+use Rattle.replies.specs.Replies.{countReply}
+use Rattle.database.specs.Calls.{evaluationRefused, placeAnswers}
 use Rattle.writer.specs.declared.Written.{Written}
 use Rattle.writer.specs.Write.{lengthReply}
 use Rattle.file.specs.RoundTrip.{Reads, Writes}

@@ -1,8 +1,6 @@
 // Demand 1: every call is refused in the order of refusals and then hands back what it was given; otherwise it leaves what is due.
 use comparison::Checked;
 use comparison::Comparison;
-use database::Answered;
-use database::Conformance;
 use file::Written;
 use query::Cell;
 use query::Dependency;
@@ -11,7 +9,12 @@ use record::Columns;
 use record::Outcome;
 use record::Record;
 use reduction::Reduced;
-ghost use Rattle.demands.specs.Demand1.{OpenMeets, AddMeets, PutMeets, DropMeets, DeterminedMeets, CompareMeets, CheckMeets, ReduceMeets, TestMeets, EvaluateMeets, CountMeets, ReadMeets, WriteMeets};
+use replies::Answered;
+use replies::Conformance;
+ghost use Rattle.admission.specs.Conditions.{testConditions, searchConditions};
+ghost use Rattle.database.specs.Calls.{UnusedIfRefused};
+ghost use Rattle.demands.specs.Demand1Calls.{OpenMeets, AddMeets, PutMeets, DropMeets, DeterminedMeets, CompareMeets, CheckMeets, ReduceMeets};
+ghost use Rattle.demands.specs.Demand1Calls.{TestMeets, EvaluateMeets, CountMeets, ReadMeets, WriteMeets};
 
 // ---- the record
 
@@ -82,9 +85,11 @@ pub fn test(given: Record, words: &[u32]) -> Conformance
     database::test(given, words)
 }
 
-// The same in lent tables.
+// The same in lent tables, which a refused test leaves as they were.
 pub fn test_lent(given: Record, words: &[u32], heads: &mut [u32], nodes: &mut [u32]) -> Conformance
     ensures { λ v. ⌜ TestMeets given (now (words .entry)) v ⌝ }
+    ensures { λ _. ⌜ UnusedIfRefused (testConditions given (now (words .entry))) (now (heads .entry)) (now (heads .exit)) ⌝ }
+    ensures { λ _. ⌜ UnusedIfRefused (testConditions given (now (words .entry))) (now (nodes .entry)) (now (nodes .exit)) ⌝ }
 {
     database::test_lent(given, words, heads, nodes)
 }
@@ -96,7 +101,7 @@ pub fn evaluate(given: Record, place: usize, words: &[u32], buffer: &mut [u32]) 
     database::evaluate(given, place, words, buffer)
 }
 
-// The same in lent memory.
+// The same in lent memory, which is as it was after every refusal but 10.
 pub fn evaluate_lent(
     given: Record,
     place: usize,
@@ -108,6 +113,10 @@ pub fn evaluate_lent(
     scratch: &mut [u32],
 ) -> Answered
     ensures { λ a. ⌜ EvaluateMeets given place (now (words .entry)) (now (buffer .entry)) (now (buffer .exit)) a ⌝ }
+    ensures { λ _. ⌜ UnusedIfRefused (searchConditions given place (now (words .entry))) (now (index .entry)) (now (index .exit)) ⌝ }
+    ensures { λ _. ⌜ UnusedIfRefused (searchConditions given place (now (words .entry))) (now (states .entry)) (now (states .exit)) ⌝ }
+    ensures { λ _. ⌜ UnusedIfRefused (searchConditions given place (now (words .entry))) (now (batch .entry)) (now (batch .exit)) ⌝ }
+    ensures { λ _. ⌜ UnusedIfRefused (searchConditions given place (now (words .entry))) (now (scratch .entry)) (now (scratch .exit)) ⌝ }
 {
     database::evaluate_lent(given, place, words, buffer, index, states, batch, scratch)
 }
@@ -119,7 +128,7 @@ pub fn count(given: Record, place: usize, words: &[u32]) -> Answered
     database::count(given, place, words)
 }
 
-// The same in lent memory.
+// The same in lent memory, which is as it was after every refusal but 10.
 pub fn count_lent(
     given: Record,
     place: usize,
@@ -130,6 +139,10 @@ pub fn count_lent(
     scratch: &mut [u32],
 ) -> Answered
     ensures { λ a. ⌜ CountMeets given place (now (words .entry)) a ⌝ }
+    ensures { λ _. ⌜ UnusedIfRefused (searchConditions given place (now (words .entry))) (now (index .entry)) (now (index .exit)) ⌝ }
+    ensures { λ _. ⌜ UnusedIfRefused (searchConditions given place (now (words .entry))) (now (states .entry)) (now (states .exit)) ⌝ }
+    ensures { λ _. ⌜ UnusedIfRefused (searchConditions given place (now (words .entry))) (now (batch .entry)) (now (batch .exit)) ⌝ }
+    ensures { λ _. ⌜ UnusedIfRefused (searchConditions given place (now (words .entry))) (now (scratch .entry)) (now (scratch .exit)) ⌝ }
 {
     database::count_lent(given, place, words, index, states, batch, scratch)
 }

@@ -1,10 +1,10 @@
 // Demand 2: containment is decided over all databases, answers are those of conjunctive queries, and files and records come back as they were.
 use comparison::Comparison;
-use database::Answered;
 use file::Written;
 use record::Outcome;
 use record::Record;
 use record::Status;
+use replies::Answered;
 ghost use Rattle.demands.specs.Demand2.{Decides, Evaluates, FileComesBack, RecordComesBack};
 
 // Contained exactly when it is so on every database that obeys the dependencies; otherwise one is shown on which it is not.

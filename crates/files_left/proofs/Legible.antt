@@ -43,12 +43,12 @@ use Rattle.comparison.specs.declared.Verdict.the-variants as verdict
 use Rattle.comparison.specs.Comparison.{chasedAt, verdictReply, verdictOn, Compared}
 use Rattle.minimization.specs.Search as search
 use Rattle.reduction.specs.declared.Reduced.{Reduced}
-use Rattle.record_on_files.specs.Lent.{fitted, Wrote}
+use Rattle.lent_numbers.specs.Lent.{fitted, Wrote}
 use Rattle.record_on_files.specs.Records.{resultOf, fileFitted, putPart}
 use Rattle.reduction_on_files.specs.Shortening.{ReductionGiven, Reducing}
 use Rattle.comparison_on_files.specs.Queries.{comparisonFits, ComparisonGiven, ComparisonShape, Comparing}
 use Rattle.files_left.specs.Legible.{FileLeft, WriteLeft, OpenLeft, AddLeft, PutLeft, DropLeft, ReduceLeft, CompareLeft}
-use Rattle.record_on_files.proofs.Files.{goes-on}
+use Rattle.lent_numbers.proofs.Lent.{goes-on}
 use Rattle.comparison_on_files.proofs.Verdicts.{query-part, comparison-apart, comparison-contained, comparison-never, compared-sound}
 
 -- ---- records that are written whole

@@ -18,7 +18,7 @@ use Rattle.format.specs.File.{placeWith, readPlace, readFile}
 use Rattle.comparison.specs.Comparison.{chasedAt, pairRefusal}
 use Rattle.reduction.specs.declared.Reduced.{Reduced}
 use Rattle.reduction.specs.Reduced.{reductionRefusal, IsReduced}
-use Rattle.record_on_files.specs.Lent.{Wrote}
+use Rattle.lent_numbers.specs.Lent.{Wrote}
 use Rattle.record_on_files.specs.Records.{resultOf, copied, opened, added, putPart, putIn, dropped}
 use Rattle.reduction_on_files.specs.Shortening.{ReduceGives}
 use Rattle.comparison_on_files.specs.Queries.{CompareGives}

@@ -3,7 +3,7 @@
 ghost use mathlib.Core.Path.{_≡_};
 ghost use lib.ListN.{length};
 ghost use Rattle.format.specs.File.{readFile};
-ghost use Rattle.record_on_files.specs.Lent.{returned, leaves, Wrote};
+ghost use Rattle.lent_numbers.specs.Lent.{returned, leaves, Wrote};
 ghost use Rattle.record_on_files.specs.Records.{copied, opened, added, putIn, dropped, determinedIn};
 ghost use Rattle.reduction_on_files.specs.Shortening.{ReduceGives};
 ghost use Rattle.comparison_on_files.specs.Queries.{CompareGives, checkedIn, bit};

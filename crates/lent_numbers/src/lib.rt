@@ -1,10 +1,55 @@
-// What a test and an evaluation leave in the numbers that a call on a file is lent.
-use database::Answered;
-use database::Conformance;
+// What a call on a file returns, and leaves in the numbers that it is lent: 0 and the parts of its answer, or the number of the refusal and the numbers as they were.
+use record::Columns;
+use record::Status;
+use replies::Answered;
+use replies::Conformance;
+use writer::Written;
 ghost use mathlib.Core.Path.{_≡_};
-ghost use Rattle.database.specs.Calls.{countReply};
-ghost use Rattle.record_on_files.specs.Lent.{returned, leaves};
-ghost use Rattle.lent_numbers.specs.Numbers.{testResult};
+ghost use Rattle.record.specs.Calls.{statusReply, columnsReply};
+ghost use Rattle.writer.specs.Write.{lengthReply};
+ghost use Rattle.replies.specs.Replies.{countReply};
+ghost use Rattle.lent_numbers.specs.Lent.{returned, leaves};
+ghost use Rattle.lent_numbers.specs.internal.Results.{testResult};
+
+// Gives 0 where a call is done, or the number of the refusal.
+pub fn number_of(answer: Status) -> u8
+    ensures { λ r. ⌜ r ≡ returned (statusReply answer) ⌝ }
+{
+    match answer {
+        Status::Done => 0,
+        Status::Refused(n) => n,
+    }
+}
+
+// Leaves the length of what was written. Gives 0, or the number of the refusal.
+pub fn leave_length(written: Written, size: &mut usize) -> u8
+    ensures { λ r. ⌜ r ≡ returned (lengthReply written) ⌝ }
+    ensures { λ _. ⌜ now (size .exit) ≡ leaves (lengthReply written) (λ n. n) (now (size .entry)) ⌝ }
+{
+    match written {
+        Written::Length(n) => {
+            *size = n;
+            0
+        }
+        Written::Refused(n) => n,
+    }
+}
+
+// Leaves the columns that a left set determines, and how many they are. Gives 0, or the number of the refusal.
+pub fn leave_columns(found: Columns, columns: &mut u8, count: &mut u8) -> u8
+    ensures { λ r. ⌜ r ≡ returned (columnsReply found) ⌝ }
+    ensures { λ _. ⌜ now (columns .exit) ≡ leaves (columnsReply found) (λ s. s .0) (now (columns .entry)) ⌝ }
+    ensures { λ _. ⌜ now (count .exit) ≡ leaves (columnsReply found) (λ s. s .1) (now (count .entry)) ⌝ }
+{
+    match found {
+        Columns::Determined(mask, size) => {
+            *columns = mask;
+            *count = size;
+            0
+        }
+        Columns::Refused(n) => n,
+    }
+}
 
 // Leaves what a test says. Gives 0, or the number of the refusal.
 pub fn leave_test(

@@ -9,7 +9,7 @@ use Rattle.record.specs.declared.Record.{Record}
 use Rattle.record.specs.View.{schemaOf}
 use Rattle.record.specs.Calls.{openRecord, addDependency, putQuery, dropQuery, determinedColumns}
 use Rattle.format.specs.File.{readPlace, readFile, fileOf}
-use Rattle.record_on_files.specs.Lent.{fitted}
+use Rattle.lent_numbers.specs.Lent.{fitted}
 
 -- The record that a call leaves, or its refusal
 abbrev pub resultOf : Reply (Unit {0}) × Record → Reply Record

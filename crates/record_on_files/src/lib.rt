@@ -1,12 +1,13 @@
 // The calls on the record alone, on files: a record is the bytes of its file, in and out.
 // Each returns 0, or the number of the refusal, which leaves every buffer and number that it is lent as it was.
+use lent_numbers::leave_columns;
+use lent_numbers::leave_length;
+use lent_numbers::number_of;
 use query::Dependency;
-use record::Columns;
 use record::Outcome;
 use record::Record;
 use record::Status;
 use record::calls::refused;
-use writer::Written;
 use writer::write_good;
 ghost use mathlib.Core.Path.{_≡_};
 ghost use mathlib.Core.Bool.{true};
@@ -14,7 +15,7 @@ ghost use lib.ListN.{length};
 ghost use Rattle.record.specs.Rule.{goodRecord};
 ghost use Rattle.record.specs.Calls.{outcomeReply};
 ghost use Rattle.format.specs.File.{fileOf, readFile};
-ghost use Rattle.record_on_files.specs.Lent.{fitted, returned, leaves, Wrote};
+ghost use Rattle.lent_numbers.specs.Lent.{fitted, returned, leaves, Wrote};
 ghost use Rattle.record_on_files.specs.Records.{resultOf, fileFitted, putPart, copied, opened, added, putIn, dropped, determinedIn};
 ghost use Rattle.record_on_files.specs.internal.Steps.{GoodIfDone};
 
@@ -25,14 +26,7 @@ pub fn store(given: Record, out: &mut [u8], size: &mut usize) -> u8
     requires { ⌜ goodRecord given ≡ true ⌝ }
     ensures { λ r. ⌜ Wrote (fitted (length (now (out .entry))) (fileOf given)) (now (out .entry)) (now (size .entry)) r (now (out .exit)) (now (size .exit)) ⌝ }
 {
-    let written = write_good(given, out);
-    match written {
-        Written::Length(n) => {
-            *size = n;
-            0
-        }
-        Written::Refused(n) => n,
-    }
+    leave_length(write_good(given, out), size)
 }
 
 // Stores the record of a call, unless it is refused.
@@ -77,10 +71,7 @@ pub fn check_file(file: &[u8]) -> u8
 {
     let outcome = file::read(file);
     let answer = outcome.answer;
-    match answer {
-        Status::Done => 0,
-        Status::Refused(n) => n,
-    }
+    number_of(answer)
 }
 
 // Reads a file and writes its record back.
@@ -178,15 +169,7 @@ pub fn determined_in_file(
     match answer {
         Status::Done => {
             let given = outcome.record;
-            let found = given.determined(relation, left);
-            match found {
-                Columns::Determined(mask, n) => {
-                    *columns = mask;
-                    *count = n;
-                    0
-                }
-                Columns::Refused(n) => n,
-            }
+            leave_columns(given.determined(relation, left), columns, count)
         }
         Status::Refused(n) => n,
     }

@@ -13,7 +13,7 @@ use Rattle.format.specs.File.{readFile, fileOf, shaped}
 use Rattle.mapping_words.specs.Images.{mappingWords}
 use Rattle.reduction.specs.declared.Reduced.{Reduced}
 use Rattle.reduction.specs.Reduced.{IsReduced}
-use Rattle.record_on_files.specs.Lent.{returned, leaves}
+use Rattle.lent_numbers.specs.Lent.{returned, leaves}
 
 -- A reduction for buffers with so much room. Refused, after the refusals of the reduction itself: bufferTooShort, its file is longer than the one buffer,
 -- or the other has no room for a mapping. The file is that of the reduction `o`: nothing here says that all reductions of a place have files of one length

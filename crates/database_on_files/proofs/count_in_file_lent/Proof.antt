@@ -3,11 +3,13 @@ use mathlib.Core.Path.{_≡_, refl, sym, ap, _∙_}
 use mathlib.Core.List.{List}
 use Prim.Native.Nat.{ℕ}
 use Rattle.admission.specs.Conditions.{searchConditions}
-use Rattle.database.specs.Calls.{countReply, counted, UnusedIfRefused}
+use Rattle.replies.specs.Replies.{countReply}
+use Rattle.database.specs.Calls.{counted, UnusedIfRefused}
 use Rattle.database_on_files.specs.Databases.{countedIn, UnusedInFile}
 use Rattle.refusals.specs.Refusals.{Reply, refused}
-use Rattle.record_on_files.specs.Lent.{returned, leaves}
-use Rattle.record_on_files.proofs.Files.{read-done, read-refused, refused-number, refused-leaves}
+use Rattle.lent_numbers.specs.Lent.{returned, leaves}
+use Rattle.record_on_files.proofs.Files.{read-done, read-refused}
+use Rattle.lent_numbers.proofs.Lent.{refused-number, refused-leaves}
 use Rattle.database_on_files.proofs.Memory.{unused-read}
 use borrow.Author.Needs.{needs}
 use Rattle.database_on_files.proofs.count_in_file_lent.Statement.{statement}

@@ -4,12 +4,14 @@ use mathlib.Core.List.{List}
 use lib.ListN.{length}
 use Prim.Native.Nat.{ℕ}
 use Rattle.admission.specs.Conditions.{searchConditions}
-use Rattle.database.specs.Calls.{countReply, evaluated, bufferThen, UnusedIfRefused}
+use Rattle.replies.specs.Replies.{countReply}
+use Rattle.database.specs.Calls.{evaluated, bufferThen, UnusedIfRefused}
 use Rattle.database_on_files.specs.Databases.{evaluatedIn, answersLeft, UnusedInFile}
 use Rattle.refusals.specs.Refusals.{Reply, refused}
-use Rattle.record_on_files.specs.Lent.{returned, leaves}
+use Rattle.lent_numbers.specs.Lent.{returned, leaves}
 use Rattle.format.specs.File.{readFile}
-use Rattle.record_on_files.proofs.Files.{read-done, read-refused, done-leaves, refused-number, refused-leaves}
+use Rattle.record_on_files.proofs.Files.{read-done, read-refused}
+use Rattle.lent_numbers.proofs.Lent.{done-leaves, refused-number, refused-leaves}
 use Rattle.format.proofs.Results.{outcome-done, outcome-refused}
 use Rattle.database_on_files.proofs.Memory.{unused-read}
 use borrow.Author.Needs.{needs}

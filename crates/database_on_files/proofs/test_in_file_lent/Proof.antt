@@ -4,12 +4,14 @@ use mathlib.Core.List.{List}
 use Prim.Native.Nat.{ℕ}
 use Rattle.admission.specs.Conditions.{testConditions}
 use Rattle.database.specs.Calls.{tested, UnusedIfRefused}
-use Rattle.lent_numbers.specs.Numbers.{Tested, testNumbers, testResult}
+use Rattle.lent_numbers.specs.Numbers.{TestNumbers, testNumbers}
+use Rattle.lent_numbers.specs.internal.Results.{testResult}
 use Rattle.database_on_files.specs.Databases.{testedIn, UnusedInFile}
 use Rattle.refusals.specs.Refusals.{Reply, gives, refused, _>>=_}
 use Rattle.words.specs.declared.Violation.{Violation}
-use Rattle.record_on_files.specs.Lent.{returned, leaves}
-use Rattle.record_on_files.proofs.Files.{read-done, read-refused, refused-number, refused-leaves}
+use Rattle.lent_numbers.specs.Lent.{returned, leaves}
+use Rattle.record_on_files.proofs.Files.{read-done, read-refused}
+use Rattle.lent_numbers.proofs.Lent.{refused-number, refused-leaves}
 use Rattle.database_on_files.proofs.Memory.{unused-read}
 use borrow.Author.Needs.{needs}
 use Rattle.database_on_files.proofs.test_in_file_lent.Statement.{statement}
@@ -31,7 +33,7 @@ of-record : (c : tie.After-test-lent) → testResult (c .test-lent .result) ≡ 
 of-record c =
     let s = start c .args in
     let o = passed c .read in
-    let next : Violation → Reply Tested = λ v. gives (testNumbers v) in
+    let next : Violation → Reply TestNumbers = λ v. gives (testNumbers v) in
     ap (λ (x : Reply Violation). x >>= next) (c .test-lent .ensures .0)
     ∙ sym (read-done (s .file .now) (o .result) (o .ensures) (λ r. tested r (s .words .now) >>= next) (c .before .before .before .before .enum-told .given .1))
 
@@ -75,12 +77,12 @@ returns c =
     let m = k .test-lent .ensures .1 in (
       l .0 ∙ ap returned p,
       (
-        l .1 .0 ∙ ap (λ (x : Reply Tested). leaves x (λ t. t .obeys) (a .obeys .now)) p,
+        l .1 .0 ∙ ap (λ (x : Reply TestNumbers). leaves x (λ t. t .obeys) (a .obeys .now)) p,
         (
-          l .1 .1 .0 ∙ ap (λ (x : Reply Tested). leaves x (λ t. t .dependency) (a .dependency .now)) p,
+          l .1 .1 .0 ∙ ap (λ (x : Reply TestNumbers). leaves x (λ t. t .dependency) (a .dependency .now)) p,
           (
-            l .1 .1 .1 .0 ∙ ap (λ (x : Reply Tested). leaves x (λ t. t .first) (a .first .now)) p,
-            (l .1 .1 .1 .1 ∙ ap (λ (x : Reply Tested). leaves x (λ t. t .second) (a .second .now)) p, (unused k _ _ (m .0), unused k _ _ (m .1))),
+            l .1 .1 .1 .0 ∙ ap (λ (x : Reply TestNumbers). leaves x (λ t. t .first) (a .first .now)) p,
+            (l .1 .1 .1 .1 ∙ ap (λ (x : Reply TestNumbers). leaves x (λ t. t .second) (a .second .now)) p, (unused k _ _ (m .0), unused k _ _ (m .1))),
           ),
         ),
       ),

@@ -4,15 +4,15 @@ use Prim.Native.Nat.{ℕ}
 use Rattle.refusals.specs.Refusals.{Reply, gives, refused}
 use Rattle.words.specs.declared.Violation.{Violation}
 use Rattle.words.specs.declared.Violation.the-variants as violation
-use Rattle.database.specs.Calls.{testReply}
-use Rattle.record_on_files.specs.Lent.{returned, leaves}
-use Rattle.record_on_files.proofs.Files.{done-number, done-leaves, refused-number, refused-leaves, still-refused, goes-on}
-use Rattle.lent_numbers.specs.Numbers.{Tested, testNumbers}
+use Rattle.replies.specs.Replies.{testReply}
+use Rattle.lent_numbers.specs.Lent.{returned, leaves}
+use Rattle.lent_numbers.proofs.Lent.{done-number, done-leaves, refused-number, refused-leaves, still-refused, goes-on}
+use Rattle.lent_numbers.specs.Numbers.{TestNumbers, testNumbers}
 use borrow.Author.Needs.{needs}
 use Rattle.lent_numbers.proofs.leave_test.Statement.{statement}
 use Rattle.lent_numbers.proofs.leave_test.Tie as tie
 
-abbrev next : Violation → Reply Tested
+abbrev next : Violation → Reply TestNumbers
 next v = gives (testNumbers v)
 
 enum-told : tie.Need-enum-told

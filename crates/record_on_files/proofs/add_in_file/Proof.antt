@@ -4,9 +4,10 @@ use lib.ListN.{length}
 use Rattle.query.specs.declared.Dependency.{Dependency}
 use Rattle.record.specs.Calls.{addDependency}
 use Rattle.format.specs.File.{fileOf}
-use Rattle.record_on_files.specs.Lent.{fitted}
+use Rattle.lent_numbers.specs.Lent.{fitted}
 use Rattle.record_on_files.specs.Records.{resultOf, fileFitted}
-use Rattle.record_on_files.proofs.Files.{read-done, read-refused, read-good, read-long, still-refused, wrote-same, wrote-none}
+use Rattle.record_on_files.proofs.Files.{read-done, read-refused, read-good, read-long}
+use Rattle.lent_numbers.proofs.Lent.{still-refused, wrote-same, wrote-none}
 use Rattle.record_on_files.proofs.Kept.{add-sound}
 use borrow.Author.Needs.{needs}
 use Rattle.record_on_files.proofs.add_in_file.Statement.{statement}

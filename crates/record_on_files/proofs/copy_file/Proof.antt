@@ -1,6 +1,7 @@
 -- `spernevan_write` gives the file back. Assumes nothing.
 use lib.ListN.{length}
-use Rattle.record_on_files.proofs.Files.{read-good, copied-is, wrote-same}
+use Rattle.record_on_files.proofs.Files.{read-good, copied-is}
+use Rattle.lent_numbers.proofs.Lent.{wrote-same}
 use borrow.Author.Needs.{needs}
 use Rattle.record_on_files.proofs.copy_file.Statement.{statement}
 use Rattle.record_on_files.proofs.copy_file.Tie as tie

@@ -3,9 +3,10 @@ use mathlib.Core.Path.{sym, ap, _∙_}
 use lib.ListN.{length}
 use Rattle.record.specs.Calls.{dropQuery}
 use Rattle.format.specs.File.{fileOf}
-use Rattle.record_on_files.specs.Lent.{fitted}
+use Rattle.lent_numbers.specs.Lent.{fitted}
 use Rattle.record_on_files.specs.Records.{resultOf, fileFitted}
-use Rattle.record_on_files.proofs.Files.{read-done, read-refused, read-good, still-refused, wrote-same, wrote-none}
+use Rattle.record_on_files.proofs.Files.{read-done, read-refused, read-good}
+use Rattle.lent_numbers.proofs.Lent.{still-refused, wrote-same, wrote-none}
 use Rattle.record_on_files.proofs.Kept.{drop-sound}
 use borrow.Author.Needs.{needs}
 use Rattle.record_on_files.proofs.drop_in_file.Statement.{statement}

@@ -2,7 +2,7 @@
 use mathlib.Core.Path.{sym, ap}
 use lib.ListN.{length}
 use Rattle.record_on_files.specs.Records.{resultOf, fileFitted}
-use Rattle.record_on_files.proofs.Files.{wrote-same}
+use Rattle.lent_numbers.proofs.Lent.{wrote-same}
 use Rattle.record_on_files.proofs.Kept.{open-sound}
 use borrow.Author.Needs.{needs}
 use Rattle.record_on_files.proofs.open_file.Statement.{statement}

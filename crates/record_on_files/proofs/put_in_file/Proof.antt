@@ -2,9 +2,10 @@
 use mathlib.Core.Path.{sym, ap, _∙_}
 use lib.ListN.{length}
 use Rattle.format.specs.File.{fileOf}
-use Rattle.record_on_files.specs.Lent.{fitted}
+use Rattle.lent_numbers.specs.Lent.{fitted}
 use Rattle.record_on_files.specs.Records.{fileFitted, putPart}
-use Rattle.record_on_files.proofs.Files.{read-done, read-refused, read-good, still-refused, wrote-same, wrote-none}
+use Rattle.record_on_files.proofs.Files.{read-done, read-refused, read-good}
+use Rattle.lent_numbers.proofs.Lent.{still-refused, wrote-same, wrote-none}
 use borrow.Author.Needs.{needs}
 use Rattle.record_on_files.proofs.put_in_file.Statement.{statement}
 use Rattle.record_on_files.proofs.put_in_file.Tie as tie

@@ -1,8 +1,9 @@
 -- `store_outcome` stores the record of a call that is done. Assumes nothing.
 use lib.ListN.{length}
-use Rattle.record_on_files.specs.Lent.{fitted}
+use Rattle.lent_numbers.specs.Lent.{fitted}
 use Rattle.format.specs.File.{fileOf}
-use Rattle.record_on_files.proofs.Files.{result-done, result-refused, goes-on, still-refused, wrote-same, wrote-none}
+use Rattle.record_on_files.proofs.Files.{result-done, result-refused}
+use Rattle.lent_numbers.proofs.Lent.{goes-on, still-refused, wrote-same, wrote-none}
 use borrow.Author.Needs.{needs}
 use Rattle.record_on_files.proofs.store_outcome.Statement.{statement}
 use Rattle.record_on_files.proofs.store_outcome.Tie as tie

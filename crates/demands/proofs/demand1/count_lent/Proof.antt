@@ -23,7 +23,7 @@ returns : tie.Need-returns
 returns c =
     let k = c .before .before .before .before .before .before .before .before in
     let a = k .before .before .before .before .before .before .before .before .before .before .args in
-    count-meets (a .given) (a .place) (a .words .now) (k .count-lent .result) (k .count-lent .ensures .0)
+    (count-meets (a .given) (a .place) (a .words .now) (k .count-lent .result) (k .count-lent .ensures .0), k .count-lent .ensures .1)
 
 pub count-lent-spec : {M : Type 1} → statement M
 count-lent-spec = tie.close (tie.spec count-lent-requires same-length same-length-2 same-length-3 same-length-4 returns)

@@ -26,7 +26,8 @@ returns : tie.Need-returns
 returns c =
     let k = c .before .before .before .before .before .before .before .before .before .before in
     let a = k .before .before .before .before .before .before .before .before .before .before .before .before .args in
-    evaluate-meets (a .given) (a .place) (a .words .now) (a .buffer .now) _ (k .evaluate-lent .result) (k .evaluate-lent .ensures .0) (k .evaluate-lent .ensures .1 .0)
+    let e = k .evaluate-lent .ensures in
+    (evaluate-meets (a .given) (a .place) (a .words .now) (a .buffer .now) _ (k .evaluate-lent .result) (e .0) (e .1 .0), e .1 .1)
 
 pub evaluate-lent-spec : {M : Type 1} → statement M
 evaluate-lent-spec = tie.close (tie.spec evaluate-lent-requires same-length same-length-2 same-length-3 same-length-4 same-length-5 returns)

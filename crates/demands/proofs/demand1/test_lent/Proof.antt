@@ -17,7 +17,7 @@ returns : tie.Need-returns
 returns c =
     let k = c .before .before .before .before in
     let a = k .before .before .before .before .before .before .args in
-    test-meets (a .given) (a .words .now) (k .test-lent .result) (k .test-lent .ensures .0)
+    (test-meets (a .given) (a .words .now) (k .test-lent .result) (k .test-lent .ensures .0), k .test-lent .ensures .1)
 
 pub test-lent-spec : {M : Type 1} → statement M
 test-lent-spec = tie.close (tie.spec test-lent-requires same-length same-length-2 returns)

@@ -1,2 +1,0 @@
--- What the private function promises.
-pub mod Answering

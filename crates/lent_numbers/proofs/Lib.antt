@@ -1,0 +1,2 @@
+-- What a result leaves (Lent).
+pub mod Lent

@@ -1,0 +1,2 @@
+-- What functions of this crate and their callers alone cite.
+pub mod Results

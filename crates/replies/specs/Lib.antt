@@ -1,0 +1,2 @@
+-- What each case of an answer says (Replies).
+pub mod Replies
