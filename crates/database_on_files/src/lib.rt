@@ -53,18 +53,16 @@ pub fn test_in_file(
     ensures { λ _. ⌜ now (first .exit) ≡ leaves (testedIn (now (file .entry)) (now (words .entry))) (λ t. t .first) (now (first .entry)) ⌝ }
     ensures { λ _. ⌜ now (second .exit) ≡ leaves (testedIn (now (file .entry)) (now (words .entry))) (λ t. t .second) (now (second .entry)) ⌝ }
 {
-    let mut heads = [0u32; 16384];
-    let mut nodes = [0u32; 49152];
-    test_in_file_lent(
-        file,
-        words,
-        &mut heads,
-        &mut nodes,
-        obeys,
-        dependency,
-        first,
-        second,
-    )
+    let outcome = file::read(file);
+    let answer = outcome.answer;
+    match answer {
+        Status::Done => {
+            let given = outcome.record;
+            let found = database::test(given, words);
+            lent_numbers::leave_test(found, obeys, dependency, first, second)
+        }
+        Status::Refused(n) => n,
+    }
 }
 
 // Evaluates the query of a place on a database. Working memory is lent for the index, the states of the search, a batch of answers and its sorting.
@@ -122,21 +120,16 @@ pub fn evaluate_in_file(
     ensures { λ _. ⌜ now (count .exit) ≡ leaves (evaluatedIn (now (file .entry)) place (now (words .entry)) (length (now (answers .entry)))) (λ n. n)
         (now (count .entry)) ⌝ }
 {
-    let mut index = [0u32; 65536];
-    let mut states = [0u32; 32768];
-    let mut batch = [0u32; 16384];
-    let mut scratch = [0u32; 16384];
-    evaluate_in_file_lent(
-        file,
-        place,
-        words,
-        answers,
-        &mut index,
-        &mut states,
-        &mut batch,
-        &mut scratch,
-        count,
-    )
+    let outcome = file::read(file);
+    let answer = outcome.answer;
+    match answer {
+        Status::Done => {
+            let given = outcome.record;
+            let done = database::evaluate(given, place, words, answers);
+            lent_numbers::leave_count(done, count)
+        }
+        Status::Refused(n) => n,
+    }
 }
 
 // Counts the answers of the query of a place on a database. Working memory is lent as for an evaluation.
@@ -174,18 +167,14 @@ pub fn count_in_file(file: &[u8], place: usize, words: &[u32], count: &mut usize
     ensures { λ r. ⌜ r ≡ returned (countedIn (now (file .entry)) place (now (words .entry))) ⌝ }
     ensures { λ _. ⌜ now (count .exit) ≡ leaves (countedIn (now (file .entry)) place (now (words .entry))) (λ n. n) (now (count .entry)) ⌝ }
 {
-    let mut index = [0u32; 65536];
-    let mut states = [0u32; 32768];
-    let mut batch = [0u32; 16384];
-    let mut scratch = [0u32; 16384];
-    count_in_file_lent(
-        file,
-        place,
-        words,
-        &mut index,
-        &mut states,
-        &mut batch,
-        &mut scratch,
-        count,
-    )
+    let outcome = file::read(file);
+    let answer = outcome.answer;
+    match answer {
+        Status::Done => {
+            let given = outcome.record;
+            let done = database::count(given, place, words);
+            lent_numbers::leave_count(done, count)
+        }
+        Status::Refused(n) => n,
+    }
 }
