@@ -11,13 +11,13 @@ use borrow.Author.Tests.{eqb-true}
 use Rattle.query.specs.declared.Query.{Query}
 use Rattle.query.specs.declared.Place.{Place}
 use Rattle.lists.specs.Tests.{every}
-use Rattle.query.specs.Rule.{blankQuery, goodQuery, headSafe, noQuery, goodPlace, noPlace, shapedQuery}
+use Rattle.query.specs.Rule.{blankQuery, goodQuery, headSafe, noQuery, goodPlace, noPlace, shapedQuery, placeWith}
 use Rattle.refusals.specs.Refusals.{_>>=_, badQuery, gives, refused}
 use Rattle.format.specs.Bytes.{Bytes}
 use Rattle.lists.specs.Over.{pad}
 use Rattle.format.specs.Format.{byte, sequence, via}
 use Rattle.format.specs.Parts.{query}
-use Rattle.format.specs.File.{complete, isVacant, placeWith, safeQuery, readPlace, noneLeft, readPlaces, join, putPlace, oneMoreIfAny, upToFilled}
+use Rattle.format.specs.File.{complete, isVacant, safeQuery, readPlace, noneLeft, readPlaces, join, putPlace, oneMoreIfAny, upToFilled}
 use Rattle.lists.proofs.Tests.{and-left, and-right, and-both, and-iff}
 use Rattle.lists.proofs.Over.{pad-is}
 use Rattle.format.proofs.Bytes.{bytes-append}

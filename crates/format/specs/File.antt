@@ -11,7 +11,7 @@ use Rattle.record.specs.declared.Record.{Record}
 use Rattle.record.specs.View.{schemaOf}
 use Rattle.lists.specs.Tests.{between, every}
 use Rattle.lists.specs.Over.{pad}
-use Rattle.query.specs.Rule.{headSafe, shapedQuery, noPlace}
+use Rattle.query.specs.Rule.{headSafe, shapedQuery, noPlace, placeWith}
 use Rattle.record.specs.Rule.{blankRecord}
 use Rattle.refusals.specs.Refusals.{badDependency, badDirectory, badOffsets, badQuery, badRelations, unsafeHead, Reply, refused, gives, _>>=_}
 use Rattle.format.specs.Bytes.{number, bytesOf}
@@ -76,10 +76,6 @@ unfoldable pub isVacant : List ℕ → Bool
 isVacant [] = false
 isVacant (b ∷ []) = eqb b 255
 isVacant (b ∷ c ∷ bytes) = false
-
--- A place that holds a query
-abbrev pub placeWith : Query → Place
-placeWith q = record { filled = true; query = q }
 
 -- A query whose head is safe. Refused: 6, a head variable in no row
 unfoldable pub safeQuery : List ℕ → Query → Reply Place

@@ -11,8 +11,8 @@ ghost use mathlib.Core.Path.{_≡_};
 ghost use mathlib.Core.Option.{none, some};
 ghost use Prim.Native.Nat.{_<_};
 ghost use Rattle.query.specs.Rule.{noPlace};
-ghost use Rattle.record.specs.Rule.{blankRecord};
-ghost use Rattle.record.specs.Calls.{outcomeReply, columnsReply, concluded, storedAt, withPlace, withDependency, emptyRecord, openRecord, addDependency, putQuery, dropQuery, determinedColumns};
+ghost use Rattle.record.specs.Rule.{blankRecord, emptyRecord};
+ghost use Rattle.record.specs.Calls.{outcomeReply, columnsReply, concluded, storedAt, withPlace, withDependency, openRecord, addDependency, putQuery, dropQuery, determinedColumns};
 ghost use Rattle.record.specs.internal.Lookup.{placeAt, filledPlace, vacantPlace, numberOf};
 
 // A call is done.
