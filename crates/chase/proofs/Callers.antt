@@ -1,36 +1,28 @@
 -- What a caller of the chase has to show, from the rule for the record: good relations, dependencies and query; and what it can conclude
 -- besides: the count is at most the number of different variables, and a safe head stays safe. Assumes nothing.
-use mathlib.Core.Path.{_≡_, refl, sym, subst}
+use mathlib.Core.Path.{_≡_, refl}
 use mathlib.Core.Bool.{true, not, _&&_}
 use mathlib.Core.List.{List}
 use Prim.Native.Nat.{ℕ, _^_, _≤_, _<_}
 use native.Mathlib.Omega.{arith}
 use borrow.Author.Tests.{leb-true, ltb-true, lt-ltb}
 use lib.Dec.{eqb, leb, ltb}
-use lib.ListN.{length, take, drop, getD, replicate}
+use lib.ListN.{length, take, drop, getD}
 use lib.Seq.{getD-take}
 use Rattle.query.specs.declared.Query.{Query}
 use Rattle.query.specs.declared.Dependency.{Dependency}
 use Rattle.query.specs.View.{queryOf, heldOf}
 use Rattle.lists.specs.Tests.{every, between, isZero, inUse}
-use Rattle.query.specs.Rule.{blankDependency, goodRelations, goodSet, goodDependency, goodDependencies, goodQuery, headSafe, noDependency}
+use Rattle.query.specs.Rule.{blankDependency, goodRelations, goodSet, goodDependency, goodDependencies, goodQuery, noDependency}
 use Rattle.chase.specs.declared.Chased.{Chased}
 use Rattle.first_step.specs.internal.Wide.{Chasable}
 use Rattle.chase.specs.internal.Outcome.{IsChased}
 use Rattle.lists.proofs.Tests.{every-weaken}
 use Rattle.lists.proofs.Positions.{every-getD-else}
 use Rattle.query.proofs.Good.{good-query}
-use Rattle.theory.specs.Query as theory
-use Rattle.theory.specs.Query.{constant, variable, rowEntries, variablesOf, variableCount, _∈_}
-use Rattle.theory.specs.Database as database
-use Rattle.theory.specs.Query.{subset}
-use Rattle.theory.specs.Chase.{Chases, rests, clashes, replaces}
+use Rattle.theory.specs.Query.{variableCount}
 use Rattle.lists.proofs.Tests.{and-left, and-right}
-use Rattle.theory.proofs.Lists.{replicate-mem}
-use Rattle.theory.proofs.Entries.{constant-variable, variablesOf-mem}
-use Rattle.theory.proofs.Replacement.{replace-head-safe}
-use Rattle.theory.proofs.Chase.{chase-chases, chase-count-le}
-use Rattle.theory.proofs.Lists.{subset-true, subset-of}
+use Rattle.theory.proofs.Chase.{chase-count-le}
 
 -- The widths that good relations give are 1 to 8
 pub good-widths : (relations : ℕ) (widths : List ℕ) → goodRelations relations widths ≡ true → every (between 1 8) (take relations widths) ≡ true
@@ -93,28 +85,3 @@ chasable schema held dependencies q widths good good-q =
 pub chased-count : {schema : List ℕ} {dependencies : List Dependency} {held : ℕ} {q : Query} {r : Chased} → IsChased schema dependencies held q r
     → r .count ≤ variableCount (queryOf schema q)
 chased-count {schema} {dependencies} {held} {q} c = rw (c .count-is) (chase-count-le (heldOf dependencies held) (queryOf schema q))
-
--- The chase keeps each head variable in a row
-pub chases-safe : {ds : List database.Dependency} {q result : theory.Query} {count : ℕ} → Chases ds q result count
-    → ((v : ℕ) → v ∈ variablesOf (q .head) → v ∈ variablesOf (rowEntries (q .rows)))
-    → (v : ℕ) → v ∈ variablesOf (result .head) → v ∈ variablesOf (rowEntries (result .rows))
-chases-safe (rests is) safe = safe
-chases-safe {q} (clashes is) safe =
-    λ v at.
-    let n = length (q .head) in
-    absurd (constant-variable 0 v (sym (replicate-mem n (constant 0) (variable v) (variablesOf-mem v (replicate n (constant 0)) at))))
-chases-safe {q} (replaces {v = v} {e = e} is later) safe = chases-safe later (replace-head-safe v e q safe)
-
--- so the head of a safe query stays safe
-pub chased-safe : {schema : List ℕ} {dependencies : List Dependency} {held : ℕ} {q : Query} {r : Chased} → IsChased schema dependencies held q r
-    → headSafe schema q ≡ true → headSafe schema (r .query) ≡ true
-unfolding headSafe
-chased-safe {schema} {dependencies} {held} {q} c safe =
-    let view = queryOf schema q in
-    subst
-    (λ (x : theory.Query). subset (variablesOf (x .head)) (variablesOf (rowEntries (x .rows))) ≡ true)
-    (sym (c .query-is))
-    (subset-of
-    _
-    _
-    (chases-safe (chase-chases (heldOf dependencies held) view) (subset-true (variablesOf (view .head)) (variablesOf (rowEntries (view .rows))) safe)))

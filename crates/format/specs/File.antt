@@ -1,6 +1,6 @@
 -- The file: the directory of its parts, the reader with its refusals, and the bytes of a record (SPECIFICATION, The file and Refusals, 1 to 6).
 use mathlib.Core.Bool.{Bool, true, false, cond, _&&_}
-use mathlib.Core.List.{List, [], _∷_, _++_, map}
+use mathlib.Core.List.{List, [], _∷_, _++_, map, flatten}
 use Prim.Native.Nat.{ℕ, zero, suc, _+_, _*_}
 use lib.Dec.{eqb, leb}
 use lib.ListN.{length, take, drop}
@@ -60,14 +60,9 @@ unfoldable pub tableOf : ℕ → List (List ℕ) → List ℕ
 tableOf start [] = []
 tableOf start (p ∷ ps) = bytesOf 2 start ++ bytesOf 2 (length p) ++ tableOf (start + length p) ps
 
--- Parts one after the other
-unfoldable pub join : List (List ℕ) → List ℕ
-join [] = []
-join (p ∷ ps) = p ++ join ps
-
--- The file of some parts: their number, the table, and the parts
+-- The file of some parts: their number, the table, and the parts one after the other
 unfoldable pub assemble : List (List ℕ) → List ℕ
-assemble parts = bytesOf 2 (length parts) ++ tableOf (2 + 4 * length parts) parts ++ join parts
+assemble parts = bytesOf 2 (length parts) ++ tableOf (2 + 4 * length parts) parts ++ flatten parts
 
 -- ---- reading
 

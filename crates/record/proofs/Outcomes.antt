@@ -25,7 +25,7 @@ use Rattle.lists.specs.Tests.{between, every, isZero}
 use Rattle.query.specs.Rule.{goodSet, blankDependency, goodRelations, goodDependency, goodQuery, headSafe, noPlace, placeWith}
 use Rattle.record.specs.Rule.{blankRecord, goodRecord, emptyRecord}
 use Rattle.refusals.specs.Refusals.{firstHolding, refused, gives}
-use Rattle.record.specs.Calls.{concluded, brokenRecord, unknownPlace, vacant, filled}
+use Rattle.record.specs.Calls.{concluded, brokenRecord, unknownPlace, vacant}
 use Rattle.record.specs.internal.Lookup.{placeAt, filledPlace, vacantPlace}
 use Rattle.record.specs.Calls.{withPlace, withDependency, openRecord, addDependency, putQuery, dropQuery, determinedColumns}
 use Rattle.closure.specs.internal.Closure.{growMask, rightNarrow}

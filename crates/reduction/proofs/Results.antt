@@ -22,7 +22,7 @@ use Rattle.lists.specs.Tests.{every, between}
 use Rattle.query.specs.Rule.{goodDependencies, goodQuery, headSafe, noCell, noPlace, placeWith}
 use Rattle.record.specs.Rule.{goodRecord}
 use Rattle.refusals.specs.Refusals.{firstHolding}
-use Rattle.record.specs.Calls.{unknownPlace, vacant, filled, isFilled, withPlace, storedAt}
+use Rattle.record.specs.Calls.{unknownPlace, vacant, isFilled, withPlace, storedAt}
 use Rattle.record.specs.internal.Lookup.{placeAt, filledPlace, vacantPlace}
 use Rattle.lists.proofs.Tests.{and-both}
 use Rattle.record.proofs.Good.{good-record}
