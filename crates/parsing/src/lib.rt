@@ -342,11 +342,7 @@ fn no_dependencies() -> DependenciesRead
     DependenciesRead {
         good: false,
         held: 0,
-        dependencies: [Dependency {
-            relation: 0,
-            left: 0,
-            right: 0,
-        }; 32],
+        dependencies: [query::NO_DEPENDENCY; 32],
     }
 }
 
@@ -359,11 +355,7 @@ pub fn read_dependencies(part: &[u8], count: u8, widths: [u8; 8]) -> Dependencie
         return no_dependencies();
     };
     let n = held as usize;
-    let mut dependencies = [Dependency {
-        relation: 0,
-        left: 0,
-        right: 0,
-    }; 32];
+    let mut dependencies = [query::NO_DEPENDENCY; 32];
     for i in 0..n {
         let DependencyRead::Found(d) = read_dependency(part, 1 + 3 * i, count, widths) else {
             return no_dependencies();

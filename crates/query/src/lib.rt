@@ -38,3 +38,10 @@ pub struct Dependency {
     pub left: u8,
     pub right: u8,
 }
+
+// The dependency of a slot that is not in use.
+pub const NO_DEPENDENCY: Dependency = Dependency {
+    relation: 0,
+    left: 0,
+    right: 0,
+};

@@ -101,11 +101,7 @@ fn with_dependency(given: Record, d: Dependency) -> Record
 fn opened(relations: u8, widths: [u8; 8]) -> Record
     ensures { λ r. ⌜ r ≡ emptyRecord relations widths ⌝ }
 {
-    let unused = Dependency {
-        relation: 0,
-        left: 0,
-        right: 0,
-    };
+    let unused = query::NO_DEPENDENCY;
     let vacant = no_place();
     Record {
         relations,
