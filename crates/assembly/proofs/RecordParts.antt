@@ -1,7 +1,7 @@
 -- The parts of a good record: their lengths, and the file as directory and parts.
 use mathlib.Core.Path.{_≡_, refl, ap, _∙_}
 use mathlib.Core.Bool.{true}
-use mathlib.Core.List.{List, _++_, map, append-assoc, flatMap}
+use mathlib.Core.List.{List, _++_, map, append-assoc, flatMap, flatten}
 use Prim.Native.Nat.{ℕ, suc, _+_, _*_, _≤_}
 use native.Mathlib.Omega.{arith}
 use lib.ListN.{length, take, length-append, length-map}
@@ -12,7 +12,7 @@ use Rattle.record.specs.Rule.{goodRecord}
 use Rattle.format.specs.Bytes.{bytesOf}
 use Rattle.format.specs.Format.{byte, sequence, padded}
 use Rattle.format.specs.Parts.{relations, dependency, dependencies}
-use Rattle.format.specs.File.{tableOf, join, assemble, putPlace, upToFilled, partsOf, fileOf}
+use Rattle.format.specs.File.{tableOf, assemble, putPlace, upToFilled, partsOf, fileOf}
 use Rattle.format.proofs.Numbers.{length-bytes}
 use Rattle.format.proofs.Directory.{length-table}
 use Rattle.format.proofs.Lengths.{length-flatMap, length-relations}
@@ -35,17 +35,17 @@ module _ (r : Record) (good : goodRecord r ≡ true) where
         let k : length (take (r .held) (r .dependencies)) ≡ r .held = length-take-le (r .held) (r .dependencies) (omega (arith, good-record r good .held)) in
         omega arith
 
-    pub parts-long : (n : ℕ) → length (partBytes r n) ≡ 1 + r .relations + (1 + 3 * r .held) + length (join (map (putPlace (schemaOf r)) (take n (r .places))))
+    pub parts-long : (n : ℕ) → length (partBytes r n) ≡ 1 + r .relations + (1 + 3 * r .held) + length (flatten (map (putPlace (schemaOf r)) (take n (r .places))))
     parts-long n =
         let a : List ℕ = relations .put (r .relations, r .widths) in
         let b : List ℕ = dependencyBytes (r .held) (r .dependencies) in
-        let c : List ℕ = join (map (putPlace (schemaOf r)) (take n (r .places))) in
+        let c : List ℕ = flatten (map (putPlace (schemaOf r)) (take n (r .places))) in
         omega (arith, length-append (a ++ b) c, length-append a b, first-long, second-long)
 
     -- the file is the directory and the parts
     pub file-split : (n : ℕ) → n ≡ upToFilled (r .places) → n ≤ length (r .places)
         → fileOf r ≡ directoryBytes n (1 + r .relations) (1 + 3 * r .held) (map (putPlace (schemaOf r)) (take n (r .places))) ++ partBytes r n
-    unfolding fileOf assemble partsOf tableOf join dependencies sequence byte padded dependency
+    unfolding fileOf assemble partsOf tableOf flatten dependencies sequence byte padded dependency
     file-split n e l =
         let ps : List (List ℕ) = map (putPlace (schemaOf r)) (take n (r .places)) in
         let few : length ps ≡ n = length-map (take n (r .places)) (putPlace (schemaOf r)) ∙ length-take-le n (r .places) l in
@@ -54,7 +54,7 @@ module _ (r : Record) (good : goodRecord r ≡ true) where
 
     -- the file's length
     pub file-long : (n others : ℕ) → n ≡ upToFilled (r .places) → n ≤ length (r .places)
-        → others ≡ length (join (map (putPlace (schemaOf r)) (take n (r .places))))
+        → others ≡ length (flatten (map (putPlace (schemaOf r)) (take n (r .places))))
         → (length (directoryBytes n (1 + r .relations) (1 + 3 * r .held) (map (putPlace (schemaOf r)) (take n (r .places)))) ≡ 2 + 4 * (n + 2))
         × (2 + 4 * (n + 2) + (1 + r .relations) + (1 + 3 * r .held) + others ≡ length (fileOf r))
     file-long n others e l eo =

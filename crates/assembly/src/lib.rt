@@ -7,7 +7,7 @@ use query::Place;
 use record::Record;
 ghost use mathlib.Core.Path.{_≡_};
 ghost use mathlib.Core.Bool.{true};
-ghost use mathlib.Core.List.{map};
+ghost use mathlib.Core.List.{map, flatten};
 ghost use Prim.Native.Nat.{_+_, _*_, _≤_};
 ghost use lib.ListN.{length, take};
 ghost use Rattle.lists.specs.Tests.{every};
@@ -15,7 +15,7 @@ ghost use Rattle.lists.specs.Over.{over};
 ghost use Rattle.query.specs.Rule.{goodRelations, goodPlace};
 ghost use Rattle.record.specs.Rule.{goodRecord};
 ghost use Rattle.format.specs.Parts.{relations};
-ghost use Rattle.format.specs.File.{tableOf, join, putPlace, upToFilled};
+ghost use Rattle.format.specs.File.{tableOf, putPlace, upToFilled};
 ghost use Rattle.assembly.specs.internal.Pieces.{putDependency, dependencyBytes, directoryBytes, partBytes};
 
 // ---- lengths
@@ -39,7 +39,7 @@ pub fn places_length(places: [Place; 8], n: usize, count: u8, widths: [u8; 8]) -
     requires { ⌜ goodRelations count widths ≡ true ⌝ }
     requires { ⌜ every (goodPlace (take count widths)) places ≡ true ⌝ }
     requires { ⌜ n ≤ 8 ⌝ }
-    ensures { λ r. ⌜ (r ≡ length (join (map (putPlace (take count widths)) (take n places)))) × (r ≤ 4272) ⌝ }
+    ensures { λ r. ⌜ (r ≡ length (flatten (map (putPlace (take count widths)) (take n places)))) × (r ≤ 4272) ⌝ }
 {
     let mut sum = 0;
     for k in 0..n {
@@ -126,8 +126,8 @@ fn put_places(
     requires { ⌜ goodRelations count widths ≡ true ⌝ }
     requires { ⌜ every (goodPlace (take count widths)) places ≡ true ⌝ }
     requires { ⌜ n ≤ 8 ⌝ }
-    requires { ⌜ start + length (join (map (putPlace (take count widths)) (take n places))) ≤ length (now buffer) ⌝ }
-    ensures { λ _. ⌜ now (buffer .exit) ≡ over (now (buffer .entry)) start (join (map (putPlace (take count widths)) (take n places))) ⌝ }
+    requires { ⌜ start + length (flatten (map (putPlace (take count widths)) (take n places))) ≤ length (now buffer) ⌝ }
+    ensures { λ _. ⌜ now (buffer .exit) ≡ over (now (buffer .entry)) start (flatten (map (putPlace (take count widths)) (take n places))) ⌝ }
 {
     let mut at = start;
     for k in 0..n {

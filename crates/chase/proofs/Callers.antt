@@ -1,6 +1,6 @@
 -- What a caller of the chase has to show, from the rule for the record: good relations, dependencies and query; and what it can conclude
 -- besides: the count is at most the number of different variables, and a safe head stays safe. Assumes nothing.
-use mathlib.Core.Path.{_≡_, refl, sym, subst}
+use mathlib.Core.Path.{_≡_, refl, sym}
 use mathlib.Core.Bool.{true, not, _&&_}
 use mathlib.Core.List.{List}
 use Prim.Native.Nat.{ℕ, _^_, _≤_, _<_}
@@ -13,7 +13,7 @@ use Rattle.query.specs.declared.Query.{Query}
 use Rattle.query.specs.declared.Dependency.{Dependency}
 use Rattle.query.specs.View.{queryOf, heldOf}
 use Rattle.lists.specs.Tests.{every, between, isZero, inUse}
-use Rattle.query.specs.Rule.{blankDependency, goodRelations, goodSet, goodDependency, goodDependencies, goodQuery, headSafe, noDependency}
+use Rattle.query.specs.Rule.{blankDependency, goodRelations, goodSet, goodDependency, goodDependencies, goodQuery, noDependency}
 use Rattle.chase.specs.declared.Chased.{Chased}
 use Rattle.first_step.specs.internal.Wide.{Chasable}
 use Rattle.chase.specs.internal.Outcome.{IsChased}
@@ -23,14 +23,12 @@ use Rattle.query.proofs.Good.{good-query}
 use Rattle.theory.specs.Query as theory
 use Rattle.theory.specs.Query.{constant, variable, rowEntries, variablesOf, variableCount, _∈_}
 use Rattle.theory.specs.Database as database
-use Rattle.theory.specs.Query.{subset}
 use Rattle.theory.specs.Chase.{Chases, rests, clashes, replaces}
 use Rattle.lists.proofs.Tests.{and-left, and-right}
 use Rattle.theory.proofs.Lists.{replicate-mem}
 use Rattle.theory.proofs.Entries.{constant-variable, variablesOf-mem}
 use Rattle.theory.proofs.Replacement.{replace-head-safe}
-use Rattle.theory.proofs.Chase.{chase-chases, chase-count-le}
-use Rattle.theory.proofs.Lists.{subset-true, subset-of}
+use Rattle.theory.proofs.Chase.{chase-count-le}
 
 -- The widths that good relations give are 1 to 8
 pub good-widths : (relations : ℕ) (widths : List ℕ) → goodRelations relations widths ≡ true → every (between 1 8) (take relations widths) ≡ true
@@ -104,17 +102,3 @@ chases-safe {q} (clashes is) safe =
     let n = length (q .head) in
     absurd (constant-variable 0 v (sym (replicate-mem n (constant 0) (variable v) (variablesOf-mem v (replicate n (constant 0)) at))))
 chases-safe {q} (replaces {v = v} {e = e} is later) safe = chases-safe later (replace-head-safe v e q safe)
-
--- so the head of a safe query stays safe
-pub chased-safe : {schema : List ℕ} {dependencies : List Dependency} {held : ℕ} {q : Query} {r : Chased} → IsChased schema dependencies held q r
-    → headSafe schema q ≡ true → headSafe schema (r .query) ≡ true
-unfolding headSafe
-chased-safe {schema} {dependencies} {held} {q} c safe =
-    let view = queryOf schema q in
-    subst
-    (λ (x : theory.Query). subset (variablesOf (x .head)) (variablesOf (rowEntries (x .rows))) ≡ true)
-    (sym (c .query-is))
-    (subset-of
-    _
-    _
-    (chases-safe (chase-chases (heldOf dependencies held) view) (subset-true (variablesOf (view .head)) (variablesOf (rowEntries (view .rows))) safe)))

@@ -19,11 +19,11 @@ use Rattle.query.specs.declared.Query as stored
 use Rattle.query.specs.View.{entryOf, entriesOf, queryOf, heldOf}
 use Rattle.lists.specs.Tests.{every, between}
 use Rattle.query.specs.Rule.{goodEntry, goodCell, goodQuery, neverQuery, noCell}
-use Rattle.first_step.specs.declared.Found.the-variants.{Rest, Step}
+use Rattle.first_step.specs.declared.NextStep.the-variants.{Rest, Step}
 use Rattle.replacement.specs.declared.Resolution.{Resolution}
 use Rattle.replacement.specs.declared.Resolution.the-variants.{Clash, Replace}
 use Rattle.chase.specs.declared.Chased as stored-chased
-use Rattle.first_step.specs.internal.Wide.{wideRow, wideRows, wideQuery, firstDiffering, foundOf, goodFound}
+use Rattle.first_step.specs.internal.Wide.{wideRow, wideRows, wideQuery, firstDiffering, nextStepOf, goodNextStep}
 use Rattle.replacement.specs.internal.Replacement.{resolutionOf, substituteEntry}
 use Rattle.replacement.specs.internal.Replacement.{substituteCell, mapCells}
 use Rattle.chase.specs.internal.Outcome.{IsChased}
@@ -136,11 +136,11 @@ under-start q ds =
 
 -- The step of a round from what the search found and how that was resolved
 pub step-some : (ds : List Dependency) (query : stored.Query) (a b : stored-entry.Entry) (r : Resolution)
-    → foundOf (Step a b) ≡ firstDiffering ds (wideQuery query .rows) → resolutionOf r ≡ resolve (inHead (wideQuery query)) (entryOf a) (entryOf b)
+    → nextStepOf (Step a b) ≡ firstDiffering ds (wideQuery query .rows) → resolutionOf r ≡ resolve (inHead (wideQuery query)) (entryOf a) (entryOf b)
     → step ds (wideQuery query) ≡ some (resolutionOf r)
 step-some ds query a b r found resolved = step-differing ds (wideQuery query) ∙ rw (← found, resolved)
 
-pub step-none : (ds : List Dependency) (query : stored.Query) → foundOf Rest ≡ firstDiffering ds (wideQuery query .rows) → step ds (wideQuery query) ≡ none
+pub step-none : (ds : List Dependency) (query : stored.Query) → nextStepOf Rest ≡ firstDiffering ds (wideQuery query .rows) → step ds (wideQuery query) ≡ none
 step-none ds query found = step-differing ds (wideQuery query) ∙ rw (← found)
 
 -- The entry that survives is one of the two, so it is good if they are
@@ -166,7 +166,7 @@ module _
     (a b : stored-entry.Entry)
     (v : ℕ)
     (e : stored-entry.Entry)
-    (found : foundOf (Step a b) ≡ firstDiffering ds (wideQuery query .rows))
+    (found : nextStepOf (Step a b) ≡ firstDiffering ds (wideQuery query .rows))
     (resolved : resolutionOf (Replace v e) ≡ resolve (inHead (wideQuery query)) (entryOf a) (entryOf b))
   where
     one-replaced : chase ds (wideQuery query) ≡ oneMore (chase ds (wideQuery (mapCells (substituteCell v e) query)))
@@ -178,7 +178,7 @@ module _
     replaced-count = ap (λ c. c .count) one-replaced
 
     pub under-replace : (count : ℕ) → Under q ds query count → q .size ≤ length (q .relations)
-        → (every goodCell (query .cells) ≡ true → goodFound (Step a b) ≡ true) → Under q ds (mapCells (substituteCell v e) query) (count + 1)
+        → (every goodCell (query .cells) ≡ true → goodNextStep (Step a b) ≡ true) → Under q ds (mapCells (substituteCell v e) query) (count + 1)
     under-replace count under fits good =
         let after = chase ds (wideQuery (mapCells (substituteCell v e) query)) in
         let one : count + suc (after .count) ≡ count + 1 + after .count = omega arith in
@@ -244,7 +244,7 @@ module _
     (widths : every (between 1 8) schema ≡ true)
   where
     -- Where the chase rests
-    pub under-rest : foundOf Rest ≡ firstDiffering (heldOf dependencies held) (wideQuery query .rows)
+    pub under-rest : nextStepOf Rest ≡ firstDiffering (heldOf dependencies held) (wideQuery query .rows)
         → IsChased schema dependencies held q (record { query = query; count = count })
     under-rest found =
         let ds = heldOf dependencies held in
@@ -266,7 +266,7 @@ module _
 
     -- Where it clashes
     pub under-clash : (a b : stored-entry.Entry) → q .arity ≤ 8 → q .arity ≤ length (q .head)
-        → foundOf (Step a b) ≡ firstDiffering (heldOf dependencies held) (wideQuery query .rows)
+        → nextStepOf (Step a b) ≡ firstDiffering (heldOf dependencies held) (wideQuery query .rows)
         → resolutionOf Clash ≡ resolve (inHead (wideQuery query)) (entryOf a) (entryOf b)
         → IsChased schema dependencies held q (record { query = neverQuery (q .arity); count = count })
     under-clash a b arity head found resolved =

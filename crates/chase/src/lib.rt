@@ -1,6 +1,6 @@
 // The chase of a stored query with functional dependencies (SPECIFICATION, The chase): step after step until none is left, or until two constants clash.
 use entries::never;
-use first_step::Found;
+use first_step::NextStep;
 use first_step::find_step;
 use query::Dependency;
 use query::Query;
@@ -32,7 +32,7 @@ pub fn chase(q: Query, dependencies: [Dependency; 32], held: usize) -> Chased
     let mut count: u8 = 0;
     loop {
         let found = find_step(query, dependencies, held);
-        let Found::Step(a, b) = found else {
+        let NextStep::Step(a, b) = found else {
             return Chased {
                 query: query,
                 count: count,

@@ -3,7 +3,7 @@ use query::Dependency;
 ghost use mathlib.Core.Path.{_≡_};
 ghost use mathlib.Core.Bool.{true};
 ghost use mathlib.Core.List.{map};
-ghost use Prim.Native.Nat.{_-_, _<_, _≤_};
+ghost use Prim.Native.Nat.{_<_, _≤_};
 ghost use lib.ListN.{take};
 ghost use Rattle.determination.specs.Determined.{adds};
 ghost use Rattle.query.specs.View.{columnsOf, dependencyOf};

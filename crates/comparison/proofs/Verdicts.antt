@@ -31,6 +31,7 @@ use Rattle.lists.proofs.Positions.{every-getD-else}
 use Rattle.theory.specs.Query as theory
 use Rattle.theory.specs.Answer as answer
 use Rattle.theory.specs.Containment as containment
+use Rattle.theory.specs.Database as database
 use Rattle.minimization.specs.Search as search
 use Rattle.minimization.proofs.Search.{mappable-exact}
 use Rattle.theory.proofs.Containment.{contained-of-mapping, counterexample}
@@ -197,12 +198,12 @@ module _ (r : Record) (p q : ℕ) (accepted : pairRefusal r p q ≡ none) where
         formed : theory.WellFormed (schemaOf r) (queryAt r p)
         formed = query-stored.well-formed (schemaOf r) (known .narrow) (storedAt r p) (known .good-p) fits (known .safe-p)
 
-        shown : containment.Counterexample (containment.Legal (schemaOf r) (dependenciesOf r)) (queryAt r p) (queryAt r q)
+        shown : containment.Counterexample (database.Legal (schemaOf r) (dependenciesOf r)) (queryAt r p) (queryAt r q)
             (containment.frozenRows base (queryOf (schemaOf r) query)) (containment.frozenHead base (queryOf (schemaOf r) query))
         shown =
             subst
             (λ (C : theory.Query).
-            containment.Counterexample (containment.Legal (schemaOf r) (dependenciesOf r)) (queryAt r p) (queryAt r q) (containment.frozenRows base C)
+            containment.Counterexample (database.Legal (schemaOf r) (dependenciesOf r)) (queryAt r p) (queryAt r q) (containment.frozenRows base C)
             (containment.frozenHead base C))
             (sym is)
             (counterexample (schemaOf r) (dependenciesOf r) (queryAt r p) (queryAt r q) base (formed .rows-fit)

@@ -90,7 +90,7 @@ pub record Compared (r : Record) (p q : ℕ) (c : Comparison) : Type 0 where
   pub no-query : (c .verdict ≡ Apart → ⊥) → c .query ≡ noQuery
   pub contained : SaysContained (c .verdict) → containment.Contained (database.Obeys (dependenciesOf r)) (queryAt r p) (queryAt r q)
   pub apart : c .verdict ≡ Apart
-      → containment.Counterexample (containment.Legal (schemaOf r) (dependenciesOf r)) (queryAt r p) (queryAt r q)
+      → containment.Counterexample (database.Legal (schemaOf r) (dependenciesOf r)) (queryAt r p) (queryAt r q)
       (containment.frozenRows base (queryOf (schemaOf r) (c .query))) (containment.frozenHead base (queryOf (schemaOf r) (c .query)))
 
 -- What each case of a check says: refused with a number, or yes or no

@@ -3,7 +3,6 @@
 use entries::no_query;
 use query::Cell;
 use query::Dependency;
-use query::Entry;
 use query::Query;
 use record::Lookup;
 use record::Record;
@@ -94,9 +93,7 @@ fn refusal(found: Pair) -> u8
 fn only(verdict: Verdict) -> Comparison
     ensures { λ r. ⌜ r ≡ bare verdict ⌝ }
 {
-    let blank = Cell {
-        entry: Entry::Constant(0),
-    };
+    let blank = query::NO_CELL;
     Comparison {
         verdict: verdict,
         images: [blank; 96],

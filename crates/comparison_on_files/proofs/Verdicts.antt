@@ -14,11 +14,11 @@ use Rattle.query.specs.declared.Cell.{Cell}
 use Rattle.query.specs.declared.Query.{Query}
 use Rattle.record.specs.declared.Record.{Record}
 use Rattle.record.specs.View.{schemaOf, dependenciesOf}
-use Rattle.query.specs.Rule.{headSafe}
+use Rattle.query.specs.Rule.{headSafe, placeWith}
 use Rattle.record.proofs.Kept.{filled-place}
 use Rattle.lists.specs.Over.{over}
 use Rattle.format.specs.Parts.{query}
-use Rattle.format.specs.File.{placeWith, putPlace, readFile}
+use Rattle.format.specs.File.{putPlace, readFile}
 use Rattle.lists.proofs.Over.{over-nil}
 use Rattle.comparison.specs.declared.Comparison.{Comparison}
 use Rattle.comparison.specs.declared.Verdict.the-variants as verdict

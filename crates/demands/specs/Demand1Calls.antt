@@ -15,8 +15,8 @@ use Rattle.record.specs.declared.Record.{Record}
 use Rattle.record.specs.declared.Outcome.{Outcome}
 use Rattle.record.specs.declared.Columns.{Columns}
 use Rattle.record.specs.View.{schemaOf, dependenciesOf}
-use Rattle.record.specs.Rule.{blankRecord}
-use Rattle.record.specs.Calls.{statusReply, emptyRecord, withPlace, queryAt}
+use Rattle.record.specs.Rule.{blankRecord, emptyRecord}
+use Rattle.record.specs.Calls.{statusReply, withPlace, queryAt}
 use Rattle.record.specs.Calls.{columnsReply, withDependency, determinedAt}
 use Rattle.record.specs.Calls.{openConditions, addConditions, putConditions, dropConditions, determinedConditions}
 use Rattle.comparison.specs.declared.Comparison.{Comparison}

@@ -23,8 +23,9 @@ use Rattle.writer.specs.declared.Written.{Written}
 use Rattle.writer.specs.Write.{lengthReply}
 use Rattle.file.specs.RoundTrip.{Reads, Writes}
 use Rattle.theory.specs.Query.{_∈_}
+use Rattle.theory.specs.Database.{Legal}
 use Rattle.theory.specs.Answer.{Answer}
-use Rattle.theory.specs.Containment.{Legal, Contained, Counterexample, frozenRows, frozenHead}
+use Rattle.theory.specs.Containment.{Contained, Counterexample, frozenRows, frozenHead}
 use Rattle.lists.specs.Over.{over}
 
 -- ---- containment

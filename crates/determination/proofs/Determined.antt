@@ -7,7 +7,7 @@
 use mathlib.Core.Path.{_≡_, refl, sym, _∙_, ap, ap₂}
 use mathlib.Core.Logic.{_↔_, _⊎_, inl, inr}
 use mathlib.Core.Bool.{Bool, true, false, cond, not, _&&_, true≢false}
-use mathlib.Core.List.{List, [], _∷_, List·Memᴰ·head, List·Memᴰ·tail, List·Memᴰ·not-nil, Memᴰ·cast}
+use mathlib.Core.List.{List, [], _∷_, List·Memᴰ·head, List·Memᴰ·tail, List·Memᴰ·not-nil}
 use mathlib.Core.Option.{Option, none, some}
 use Prim.Native.Nat.{ℕ, zero, suc, _+_, _≤_, _<_}
 use native.Mathlib.Omega.{arith}
@@ -19,7 +19,7 @@ use Rattle.lists.specs.Numbers.{numbersWhere}
 use Rattle.theory.specs.Query.{Row, column, member, subset, _∈_}
 use Rattle.theory.specs.Database.{Database, Dependency, Agree, Obeys, Sound}
 use Rattle.theory.specs.Chase.{firstPassing}
-use Rattle.determination.specs.Determined.{FitsColumns, Determines, Increasing, adds, growOn, growFor, closure, determined}
+use Rattle.determination.specs.Determined.{Determines, Determined, FitsColumns, Increasing, adds, growOn, growFor, closure, determined}
 use Rattle.lists.proofs.Tests.{and-left, and-right, and-both}
 use Rattle.lists.proofs.Numbers.{where-from, where-of}
 use Rattle.theory.proofs.Lists.{mem-cases, member-mem, mem-member, member-not-mem, subset-true, subset-of}
@@ -86,8 +86,8 @@ module _ (ds : List Dependency) (relation : ℕ) (D : Database) (obeys : Obeys d
 pub closure-sound : (widths : List ℕ) (ds : List Dependency) (relation : ℕ) (left : List ℕ) (c : ℕ) → c ∈ closure ds relation left
     → Determines widths ds relation left c
 unfolding closure
-closure-sound widths ds relation left c at D sound obeys r s r-in s-in r-of s-of agree =
-    agree-grown ds relation D obeys r s r-in s-in r-of s-of _ left agree c at
+closure-sound widths ds relation left c at D legal r s r-in s-in r-of s-of agree =
+    agree-grown ds relation D (legal .obeys) r s r-in s-in r-of s-of _ left agree c at
 
 -- ---- 3. closed
 
@@ -325,8 +325,8 @@ closure-complete : (widths : List ℕ) (ds : List Dependency) → ((d : Dependen
 unfolding two zeros marks
 closure-complete widths ds fits relation held left c less determines =
     known-marks relation (getD widths relation 0) (closure ds relation left) c less
-    (determines (two relation (getD widths relation 0) (closure ds relation left)) (two-sound widths relation (closure ds relation left) held)
-    (two-obeys widths ds fits relation left) (zeros relation (getD widths relation 0))
+    (determines (two relation (getD widths relation 0) (closure ds relation left))
+    (record { sound = two-sound widths relation (closure ds relation left) held; obeys = two-obeys widths ds fits relation left }) (zeros relation (getD widths relation 0))
     (marks relation (getD widths relation 0) (closure ds relation left)) (List·Memᴰ·head refl) (List·Memᴰ·tail (List·Memᴰ·head refl)) refl refl
     (λ b at. two-agree relation (getD widths relation 0) (closure ds relation left) b (closure-more ds relation left b at)))
 
@@ -345,15 +345,14 @@ where-ascending test start (suc n) = go (test start) (where-ascending test (suc 
 
 -- The determined columns are those of the relation that the left set determines
 pub determined-exact : (widths : List ℕ) (ds : List Dependency) → ((d : Dependency) → d ∈ ds → FitsColumns widths d) → (relation : ℕ) → relation < length widths
-    → (left : List ℕ) (width : ℕ) → width ≡ getD widths relation 0 → (c : ℕ)
-    → (c ∈ determined ds relation width left) ↔ ((c < width) × Determines widths ds relation left c)
+    → (left : List ℕ) (c : ℕ) → (c ∈ determined ds relation (getD widths relation 0) left) ↔ Determined widths ds relation left c
 unfolding determined
-determined-exact widths ds fits relation held left width same c = (
+determined-exact widths ds fits relation held left c = (
   (λ at.
-      let r = where-from (λ k. member k (closure ds relation left)) 0 width c at in
+      let r = where-from (λ k. member k (closure ds relation left)) 0 (getD widths relation 0) c at in
       (omega arith, closure-sound widths ds relation left c (member-mem c (closure ds relation left) (r .2)))),
-  λ p. where-of (λ k. member k (closure ds relation left)) 0 width c (omega arith) (omega arith)
-      (mem-member c (closure ds relation left) (closure-complete widths ds fits relation held left c (omega arith) (p .1))),
+  λ p. where-of (λ k. member k (closure ds relation left)) 0 (getD widths relation 0) c (omega arith) (omega arith)
+      (mem-member c (closure ds relation left) (closure-complete widths ds fits relation held left c (p .0) (p .1))),
 )
 
 -- each once and in ascending order, so their number is the length of the list

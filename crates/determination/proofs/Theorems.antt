@@ -1,5 +1,4 @@
 -- A proof of each statement of `DeterminedTheorems`. Assumes nothing.
-use mathlib.Core.Path.{refl}
 use lib.ListN.{getD}
 use Rattle.determination.specs.Determined.{determined}
 use Rattle.determination.specs.DeterminedTheorems as columns
@@ -8,7 +7,7 @@ use Rattle.determination.proofs.Determined.{determined-exact, determine
 -- ---- determined columns
 
 pub determined-exactly : columns.DeterminedExactly
-determined-exactly widths ds relation left fits held c = determined-exact widths ds fits relation held left (getD widths relation 0) refl c
+determined-exactly widths ds relation left fits held c = determined-exact widths ds fits relation held left c
 
 pub determined-is-ascending : columns.DeterminedAscending
 determined-is-ascending = determined-ascending

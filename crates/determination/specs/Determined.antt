@@ -8,14 +8,18 @@ use lib.Dec.{eqb}
 use lib.ListN.{length, getD}
 use Rattle.lists.specs.Numbers.{numbersWhere}
 use Rattle.theory.specs.Query.{Row, column, member, subset, _∈_}
-use Rattle.theory.specs.Database.{Database, Dependency, Agree, Obeys, Sound}
+use Rattle.theory.specs.Database.{Database, Dependency, Agree, Legal}
 use Rattle.theory.specs.Chase.{firstPassing}
 
--- The left set determines column c of a relation: two rows of it that agree on the left set agree on c, in every sound database that obeys the dependencies
+-- The left set determines column c of a relation: two rows of it that agree on the left set agree on c, in every legal database
 abbrev pub Determines : List ℕ → List Dependency → ℕ → List ℕ → ℕ → Type 0
 Determines widths ds relation left c =
-    (D : Database) → Sound widths D → Obeys ds D → (r s : Row ℕ) → r ∈ D → s ∈ D
+    (D : Database) → Legal widths ds D → (r s : Row ℕ) → r ∈ D → s ∈ D
     → r .relation ≡ relation → s .relation ≡ relation → Agree 0 left r s → column 0 r c ≡ column 0 s c
+
+-- The columns of a relation that the left set determines
+abbrev pub Determined : List ℕ → List Dependency → ℕ → List ℕ → ℕ → Type 0
+Determined widths ds relation left c = (c < getD widths relation 0) × Determines widths ds relation left c
 
 -- A dependency fits a schema: its relation is known, and its columns are columns of that relation
 pub record FitsColumns (widths : List ℕ) (d : Dependency) : Type 0 where

@@ -6,13 +6,9 @@ use Prim.Native.Nat.{ℕ, _<_}
 use lib.ListN.{length, getD}
 use Rattle.theory.specs.Query.{_∈_}
 use Rattle.theory.specs.Database.{Dependency}
-use Rattle.determination.specs.Determined.{FitsColumns, Determines, Increasing, determined}
+use Rattle.determination.specs.Determined.{Determined, FitsColumns, Increasing, determined}
 
--- The columns of a relation that a left set determines: those on which two rows that agree on the set agree in every sound database that obeys the dependencies
-abbrev pub Determined : List ℕ → List Dependency → ℕ → List ℕ → ℕ → Type 0
-Determined widths ds relation left c = (c < getD widths relation 0) × Determines widths ds relation left c
-
--- `determined` lists just these columns
+-- `determined` lists just the determined columns
 abbrev pub DeterminedExactly : Type 0
 DeterminedExactly =
     (widths : List ℕ) (ds : List Dependency) (relation : ℕ) (left : List ℕ)

@@ -74,9 +74,7 @@ fn row_of(cells: [Cell; 96], r: usize) -> Row
     requires { ⌜ r < 12 ⌝ }
     ensures { λ x. ⌜ x .cells ≡ take 8 (drop (8 * r) cells) ⌝ }
 {
-    let mut copy = [Cell {
-        entry: Entry::Constant(0),
-    }; 8];
+    let mut copy = [query::NO_CELL; 8];
     for c in 0..8 {
         copy[c] = cells[8 * r + c];
     }

@@ -1,7 +1,6 @@
 // Entries compared and as numbers, and the queries that have no rows.
 pub mod code; // code.rt: the code of an entry
 
-use query::Cell;
 use query::Entry;
 use query::Query;
 ghost use mathlib.Core.Path.{_≡_};
@@ -29,9 +28,7 @@ pub fn same_entry(a: Entry, b: Entry) -> bool
 pub fn never(arity: u8) -> Query
     ensures { λ r. ⌜ r ≡ neverQuery arity ⌝ }
 {
-    let blank = Cell {
-        entry: Entry::Constant(0),
-    };
+    let blank = query::NO_CELL;
     Query {
         arity: arity,
         size: 0,

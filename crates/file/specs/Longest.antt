@@ -7,6 +7,7 @@ use Rattle.query.specs.declared.Cell.{Cell}
 use Rattle.query.specs.declared.Query.{Query}
 use Rattle.record.specs.declared.Record.{Record}
 use Rattle.record.specs.View.{schemaOf}
+use Rattle.query.specs.Rule.{placeWith}
 use Rattle.record.specs.Rule.{goodRecord}
 use Rattle.format.specs.Parts.{query}
 use Rattle.format.specs.File.{shaped, fileOf}
@@ -28,7 +29,7 @@ longestRecord =
       widths = replicate 8 8;
       held = 32;
       dependencies = replicate 32 (record { relation = 0; left = 1; right = 1 });
-      places = replicate 8 (record { filled = true; query = longestQuery });
+      places = replicate 8 (placeWith longestQuery);
     }
 
 -- It keeps the record's rule, and its arrays are as long as its types say

@@ -17,11 +17,11 @@ use Rattle.record.specs.declared.Record.{Record}
 use Rattle.record.specs.View.{schemaOf}
 use Rattle.query.specs.View.{queryOf}
 use Rattle.lists.specs.Tests.{between, every}
-use Rattle.query.specs.Rule.{goodDependency, goodQuery, headSafe, goodPlace, noPlace, shapedQuery}
-use Rattle.record.specs.Rule.{goodRecord, blankRecord}
+use Rattle.query.specs.Rule.{goodDependency, goodQuery, headSafe, goodPlace, noPlace, shapedQuery, placeWith}
+use Rattle.record.specs.Rule.{goodRecord, blankRecord, emptyRecord}
 use Rattle.refusals.specs.Refusals.{_>>=_, badQuery, bufferTooShort, firstHolding, gives, refused, reply, Reply}
 use Rattle.record.specs.Calls.{queryAt, concluded, brokenRecord, unknownPlace, vacant, filled}
-use Rattle.record.specs.Calls.{withPlace, withDependency, emptyRecord, openRecord, addDependency, putQuery}
+use Rattle.record.specs.Calls.{withPlace, withDependency, openRecord, addDependency, putQuery}
 use Rattle.record.specs.Calls.{dropQuery}
 use Rattle.refusals.proofs.Refusals.{refused-gives}
 use Rattle.lists.proofs.Tests.{and-left, and-right, and-both, every-set}
@@ -30,7 +30,7 @@ use Rattle.record.proofs.Meaning.{open-keeps, add-keeps, put-keeps, drop-keeps}
 use Rattle.lists.specs.Over.{over}
 use Rattle.format.specs.Bytes.{Bytes}
 use Rattle.format.specs.Parts.{query}
-use Rattle.format.specs.File.{complete, isVacant, placeWith, safeQuery, readPlace, readFile, fileOf, shaped}
+use Rattle.format.specs.File.{complete, isVacant, safeQuery, readPlace, readFile, fileOf, shaped}
 use Rattle.format.proofs.Directory.{cond-ok}
 use Rattle.format.proofs.Parts.{Narrow, query-lawful}
 use Rattle.format.proofs.Places.{read-filled}

@@ -14,7 +14,8 @@ use Rattle.query.specs.View.{queryOf}
 use Rattle.record.specs.Calls.{openRecord, addDependency, dropQuery}
 use Rattle.format.specs.Bytes.{Bytes}
 use Rattle.refusals.specs.Refusals.{Reply, gives, _>>=_}
-use Rattle.format.specs.File.{placeWith, readPlace, readFile}
+use Rattle.query.specs.Rule.{placeWith}
+use Rattle.format.specs.File.{readPlace, readFile}
 use Rattle.comparison.specs.Comparison.{chasedAt, pairRefusal}
 use Rattle.reduction.specs.declared.Reduced.{Reduced}
 use Rattle.reduction.specs.Reduced.{reductionRefusal, IsReduced}

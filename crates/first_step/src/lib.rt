@@ -12,11 +12,11 @@ ghost use lib.ListN.{getD};
 ghost use Rattle.query.specs.View.{columnsOf, dependencyOf, heldOf};
 ghost use Rattle.query.specs.Rule.{noCell, goodCell};
 ghost use Rattle.lists.specs.Tests.{every};
-ghost use Rattle.first_step.specs.internal.Wide.{rowAt, wideRow, wideQuery, firstDiffering, foundOf, goodFound, Chasable};
+ghost use Rattle.first_step.specs.internal.Wide.{rowAt, wideRow, wideQuery, firstDiffering, nextStepOf, goodNextStep, Chasable};
 ghost use Rattle.theory.specs.Chase as chasing;
 
 // What the search for a step finds: the two different entries of the first broken pair, or nothing where the chase rests.
-pub enum Found {
+pub enum NextStep {
     Rest,
     Step(Entry, Entry),
 }
@@ -72,9 +72,9 @@ fn breaks(q: Query, d: Dependency, i: usize, j: usize) -> bool
 }
 
 // The first broken pair: by dependency in held order, then by the rows' positions i < j, by i and then j.
-pub fn find_step(q: Query, dependencies: [Dependency; 32], held: usize) -> Found
+pub fn find_step(q: Query, dependencies: [Dependency; 32], held: usize) -> NextStep
     requires { ⌜ Chasable q dependencies held ⌝ }
-    ensures { λ r. ⌜ (foundOf r ≡ firstDiffering (heldOf dependencies held) (wideQuery q .rows)) × (every goodCell (q .cells) ≡ true → goodFound r ≡ true) ⌝ }
+    ensures { λ r. ⌜ (nextStepOf r ≡ firstDiffering (heldOf dependencies held) (wideQuery q .rows)) × (every goodCell (q .cells) ≡ true → goodNextStep r ≡ true) ⌝ }
 {
     let size = q.size as usize;
     let cells = q.cells;
@@ -85,7 +85,7 @@ pub fn find_step(q: Query, dependencies: [Dependency; 32], held: usize) -> Found
             for i in 0..size {
                 for j in i + 1..size {
                     if breaks(q, dependency, i, j) {
-                        break 'search Found::Step(
+                        break 'search NextStep::Step(
                             entry_at(cells, 8 * i + right),
                             entry_at(cells, 8 * j + right),
                         );
@@ -93,6 +93,6 @@ pub fn find_step(q: Query, dependencies: [Dependency; 32], held: usize) -> Found
                 }
             }
         }
-        break 'search Found::Rest;
+        break 'search NextStep::Rest;
     }
 }

@@ -1,7 +1,7 @@
 -- The directory: the parts of an assembled file are found again, and a file whose directory is accepted is its parts assembled.
 use mathlib.Core.Path.{_≡_, refl, sym, ap, _∙_, subst}
 use mathlib.Core.Bool.{Bool, true, false, cond}
-use mathlib.Core.List.{List, [], _∷_, _++_, append-assoc}
+use mathlib.Core.List.{List, [], _∷_, _++_, append-assoc, flatten}
 use Prim.Native.Nat.{ℕ, zero, suc, _+_, _*_, _-_, _≤_, _<_}
 use native.Mathlib.Omega.{arith}
 use lib.Dec.{eqb, leb, ltb}
@@ -10,7 +10,7 @@ use lib.Seq.{take-at, drop-at, length-take-le, drop-drop, take-add, drop-length}
 use borrow.Author.Tests.{eqb-true, eq-eqb, leb-true, le-leb}
 use Rattle.refusals.specs.Refusals.{badOffsets, gives, refused, Reply}
 use Rattle.format.specs.Bytes.{number, bytesOf, Bytes}
-use Rattle.format.specs.File.{chained, stretches, tableFits, directory, tableOf, join, assemble}
+use Rattle.format.specs.File.{chained, stretches, tableFits, directory, tableOf, assemble}
 use Rattle.lists.proofs.Tests.{and-both, and-iff, every-drop}
 use Rattle.format.proofs.Numbers.{number-bytes, bytes-number, length-bytes}
 
@@ -23,7 +23,7 @@ length-table start (p ∷ ps) =
     simp (length-append, length-bytes) in
     rw e (omega arith)
 
-pub length-assemble : (parts : List (List ℕ)) → length (assemble parts) ≡ 2 + 4 * length parts + length (join parts)
+pub length-assemble : (parts : List (List ℕ)) → length (assemble parts) ≡ 2 + 4 * length parts + length (flatten parts)
 unfolding assemble
 length-assemble parts = simp (length-append, length-bytes, length-table)
 
@@ -55,28 +55,28 @@ module _ (start : ℕ) (p : List ℕ) (ps : List (List ℕ)) (rest : List ℕ) (
       ∙ drop-at (bytesOf 2 (length p)) more 2 (length-bytes 2 (length p))
 
 -- the table of parts that stand at the file's end
-chained-table : (parts : List (List ℕ)) (start : ℕ) (file rest : List ℕ) → length file ≡ start + length (join parts) → length file < 65536
+chained-table : (parts : List (List ℕ)) (start : ℕ) (file rest : List ℕ) → length file ≡ start + length (flatten parts) → length file < 65536
     → chained (length parts) start (length file) (tableOf start parts ++ rest) ≡ true
-unfolding chained join
+unfolding chained flatten
 chained-table [] start file rest l s = eq-eqb start (length file) (omega arith)
 chained-table (p ∷ ps) start file rest l s =
-    let l′ : length file ≡ start + (length p + length (join ps)) = rw length-append at l in
+    let l′ : length file ≡ start + (length p + length (flatten ps)) = rw length-append at l in
     let hs : start < 65536 = omega arith in
     let hl : length p < 65536 = omega arith in
     rw (first-offset start p ps rest hs hl, first-length start p ps rest hs hl, after-pair start p ps rest hs hl)
     (and-both _ _ (eq-eqb start start refl) (chained-table ps (start + length p) file rest (omega arith) s))
 
-stretches-table : (parts : List (List ℕ)) (start : ℕ) (front file rest : List ℕ) → front ++ join parts ≡ file → length front ≡ start → length file < 65536
+stretches-table : (parts : List (List ℕ)) (start : ℕ) (front file rest : List ℕ) → front ++ flatten parts ≡ file → length front ≡ start → length file < 65536
     → stretches (length parts) file (tableOf start parts ++ rest) ≡ parts
-unfolding stretches join
+unfolding stretches flatten
 stretches-table [] start front file rest e l s = refl
 stretches-table (p ∷ ps) start front file rest e l s =
-    let e′ : front ++ p ++ join ps ≡ file = append-assoc front p (join ps) ∙ e in
-    let le : length front + length p + length (join ps) ≡ length file = sym (length-append (front ++ p) (join ps) ∙ rw length-append) ∙ ap length e′ in
+    let e′ : front ++ p ++ flatten ps ≡ file = append-assoc front p (flatten ps) ∙ e in
+    let le : length front + length p + length (flatten ps) ≡ length file = sym (length-append (front ++ p) (flatten ps) ∙ rw length-append) ∙ ap length e′ in
     let hs : start < 65536 = omega arith in
     let hl : length p < 65536 = omega arith in
-    let d : drop start file ≡ p ++ join ps = rw (← e) (drop-at front (p ++ join ps) start l) in
-    let t : take (length p) (drop start file) ≡ p = rw d (take-at p (join ps) (length p) refl) in
+    let d : drop start file ≡ p ++ flatten ps = rw (← e) (drop-at front (p ++ flatten ps) start l) in
+    let t : take (length p) (drop start file) ≡ p = rw d (take-at p (flatten ps) (length p) refl) in
     let ih : stretches (length ps) file (tableOf (start + length p) ps ++ rest) ≡ ps =
     stretches-table ps (start + length p) (front ++ p) file rest e′ (length-append front p ∙ ap (λ (n : ℕ). n + length p) l) s in
     rw (first-offset start p ps rest hs hl, first-length start p ps rest hs hl, after-pair start p ps rest hs hl, t, ih)
@@ -86,10 +86,10 @@ pub directory-assemble : (parts : List (List ℕ)) → 2 ≤ length parts → le
 unfolding directory assemble
 directory-assemble parts low high small =
     let n : ℕ = length parts in
-    let table : List ℕ = tableOf (2 + 4 * n) parts ++ join parts in
-    let e : bytesOf 2 n ++ tableOf (2 + 4 * n) parts ++ join parts ≡ bytesOf 2 n ++ table =
-    append-assoc (bytesOf 2 n) (tableOf (2 + 4 * n) parts) (join parts) in
-    let l : length (bytesOf 2 n ++ table) ≡ 2 + 4 * n + length (join parts) = rw (← e) (length-assemble parts) in
+    let table : List ℕ = tableOf (2 + 4 * n) parts ++ flatten parts in
+    let e : bytesOf 2 n ++ tableOf (2 + 4 * n) parts ++ flatten parts ≡ bytesOf 2 n ++ table =
+    append-assoc (bytesOf 2 n) (tableOf (2 + 4 * n) parts) (flatten parts) in
+    let l : length (bytesOf 2 n ++ table) ≡ 2 + 4 * n + length (flatten parts) = rw (← e) (length-assemble parts) in
     let c : number 2 (bytesOf 2 n ++ table) ≡ n = number-bytes 2 n table (omega arith) in
     let d : drop 2 (bytesOf 2 n ++ table) ≡ table = drop-at (bytesOf 2 n) table 2 (length-bytes 2 n) in
     let s : length (bytesOf 2 n ++ table) < 65536 = rw e at small in
@@ -98,9 +98,9 @@ directory-assemble parts low high small =
     let t₃ : leb n 10 ≡ true = le-leb n 10 high in
     let t₄ : leb (2 + 4 * n) (length (bytesOf 2 n ++ table)) ≡ true = le-leb (2 + 4 * n) (length (bytesOf 2 n ++ table)) (omega arith) in
     let front : length (bytesOf 2 n ++ tableOf (2 + 4 * n) parts) ≡ 2 + 4 * n = simp (length-append, length-bytes, length-table) in
-    let h : chained n (2 + 4 * n) (length (bytesOf 2 n ++ table)) table ≡ true = chained-table parts (2 + 4 * n) (bytesOf 2 n ++ table) (join parts) l s in
+    let h : chained n (2 + 4 * n) (length (bytesOf 2 n ++ table)) table ≡ true = chained-table parts (2 + 4 * n) (bytesOf 2 n ++ table) (flatten parts) l s in
     let p : stretches n (bytesOf 2 n ++ table) table ≡ parts =
-    stretches-table parts (2 + 4 * n) (bytesOf 2 n ++ tableOf (2 + 4 * n) parts) (bytesOf 2 n ++ table) (join parts) e front s in
+    stretches-table parts (2 + 4 * n) (bytesOf 2 n ++ tableOf (2 + 4 * n) parts) (bytesOf 2 n ++ table) (flatten parts) e front s in
     rw (e, c, d, t₁, t₂, t₃, t₄, h, p)
 
 -- ---- an accepted file
@@ -112,9 +112,9 @@ cond-ok false o n a e = let z : _≡_ {A = ℕ} 0 1 = cc in absurd (omega arith)
 
 -- what the offset rule gives: the table and the parts are the file from the table on
 pub chained-back : (n due : ℕ) (file table : List ℕ) → Bytes table → 4 * n ≤ length table → chained n due (length file) table ≡ true
-    → (due ≤ length file) × (tableOf due (stretches n file table) ≡ take (4 * n) table) × (join (stretches n file table) ≡ drop due file)
+    → (due ≤ length file) × (tableOf due (stretches n file table) ≡ take (4 * n) table) × (flatten (stretches n file table) ≡ drop due file)
     × (length (stretches n file table) ≡ n)
-unfolding chained stretches tableOf join
+unfolding chained stretches tableOf flatten
 chained-back zero due file table hb hl h =
     let e : due ≡ length file = eqb-true due (length file) h in
     (omega arith, refl, sym (rw e (drop-length file)), refl)
@@ -138,7 +138,7 @@ chained-back (suc n) due file table hb hl h =
     rw (e, lp, g₁, g₂, tab, all, t₄) (omega arith, refl, j, ap suc len)
 
 pub assemble-directory : (file : List ℕ) (parts : List (List ℕ)) → Bytes file → directory file ≡ gives parts
-    → (assemble parts ≡ file) × (2 ≤ length parts) × (length parts ≤ 10) × Bytes (join parts)
+    → (assemble parts ≡ file) × (2 ≤ length parts) × (length parts ≤ 10) × Bytes (flatten parts)
 unfolding directory assemble
 assemble-directory file parts hb e =
     let n : ℕ = number 2 file in
@@ -155,8 +155,8 @@ assemble-directory file parts hb e =
     let l₂ : length (drop 2 file) ≡ length file - 2 = length-drop 2 file in
     let (_, tab, all, len) = chained-back n (2 + 4 * n) file (drop 2 file) b₂ (omega arith) h in
     let g : bytesOf 2 n ≡ take 2 file = bytes-number 2 file hb (omega arith) in
-    let same : bytesOf 2 n ++ tableOf (2 + 4 * n) ps ++ join ps ≡ file =
+    let same : bytesOf 2 n ++ tableOf (2 + 4 * n) ps ++ flatten ps ≡ file =
     rw (tab, all, g, ← take-add 2 (4 * n) file) (take-append-drop (2 + 4 * n) file) in
-    subst (λ (ps : List (List ℕ)). (bytesOf 2 (length ps) ++ tableOf (2 + 4 * length ps) ps ++ join ps ≡ file) × (2 ≤ length ps) × (length ps ≤ 10)
-    × Bytes (join ps)) p
+    subst (λ (ps : List (List ℕ)). (bytesOf 2 (length ps) ++ tableOf (2 + 4 * length ps) ps ++ flatten ps ≡ file) × (2 ≤ length ps) × (length ps ≤ 10)
+    × Bytes (flatten ps)) p
     (rw len same, rw len low, rw len high, rw all (every-drop (λ b. ltb b 256) (2 + 4 * n) file hb))

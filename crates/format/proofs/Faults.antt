@@ -9,7 +9,7 @@ use lib.ListN.{length, take, drop}
 use borrow.Author.Tests.{leb-true}
 use Rattle.query.specs.declared.Query.{Query}
 use Rattle.query.specs.declared.Dependency.{Dependency}
-use Rattle.query.specs.Rule.{headSafe, noQuery, noPlace}
+use Rattle.query.specs.Rule.{headSafe, noQuery, noPlace, placeWith}
 use Rattle.query.specs.declared.Place.{Place}
 use Rattle.refusals.specs.Refusals.{badDependency, badDirectory, badOffsets, badQuery, badRelations, unsafeHead, refusalIn}
 use Rattle.refusals.specs.Refusals.{Condition, firstHolding, Reply, refused, gives, _>>=_}
@@ -17,7 +17,7 @@ use Rattle.lists.proofs.Tests.{and-iff}
 use Rattle.format.specs.Bytes.{number}
 use Rattle.format.specs.Format.{Reading, none, got}
 use Rattle.format.specs.Parts.{relations, dependencies, query}
-use Rattle.format.specs.File.{chained, complete, directory, isVacant, noneLeft, placeWith, readAll, readFile, readParts, readPlace, readPlaces}
+use Rattle.format.specs.File.{chained, complete, directory, isVacant, noneLeft, readAll, readFile, readParts, readPlace, readPlaces}
 use Rattle.format.specs.File.{recordWith}
 use Rattle.format.specs.File.{safeQuery, stretches, tableFits}
 use Rattle.format.specs.Faults.{isWhole, valueOr, partAt, schemaIn, relationsFault, dependenciesFault, queryFault, headFault, placeConditions}

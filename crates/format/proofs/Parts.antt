@@ -1,14 +1,14 @@
 -- The two laws of each part of the file.
 use mathlib.Core.Path.{_≡_, refl, sym, ap, _∙_, subst}
 use mathlib.Core.Bool.{Bool, true, false, cond, _&&_}
-use mathlib.Core.List.{List, [], _∷_, _++_, map}
+use mathlib.Core.List.{List, [], _∷_, _++_, map, flatMap}
 use Prim.Native.Nat.{ℕ, zero, suc, _+_, _*_, _≤_}
 use native.Mathlib.Nat.{not-suc-le-zero, le-of-suc-le-suc}
 use native.Mathlib.Omega.{arith}
 use lib.Dec.{eqb, leb, ltb, lit≤}
 use lib.ListN.{length, take, drop, getD, replicate, length-append, take-append-drop}
 use lib.Seq.{take-at, drop-at, take-all}
-use borrow.Author.Tests.{eqb-true, eq-eqb, leb-true, le-leb}
+use borrow.Author.Tests.{eqb-true, eqb-false, eq-eqb, leb-true, le-leb}
 use Rattle.query.specs.declared.Entry.{Entry}
 use Rattle.query.specs.declared.Entry.the-variants.{Constant, Variable}
 use Rattle.query.specs.declared.Cell.{Cell}
@@ -92,9 +92,10 @@ entryFrom-put : (tag n : ℕ) (t : Bool) → eqb tag 0 ≡ t → isEntry tag n �
 unfolding putEntry
 entryFrom-put tag n true e h = let z : tag ≡ 0 = eqb-true tag 0 e in rw z (rw z at h, refl)
 entryFrom-put tag n false e h =
-    let k : (eqb tag 1 ≡ true) × (leb n 95 ≡ true) = simp and-iff at (rw e at h) in
-    let z : tag ≡ 1 = eqb-true tag 1 (k .0) in
-    rw z (k .1, refl)
+    let low : tag ≤ 1 = leb-true tag 1 (and-left (leb tag 1) (goodCell (entryFrom tag n)) h) in
+    let past : tag ≡ 0 → ⊥ = eqb-false tag 0 e in
+    let z : tag ≡ 1 = omega (arith, low, past) in
+    rw z (rw z at h, refl)
 
 pub entry-lawful : Lawful entry
 unfolding entry
@@ -105,10 +106,10 @@ entry-lawful =
           let tag : ℕ = getD bytes 0 0 in
           let n : ℕ = number 4 (drop 1 bytes) in
           let (t, ec, er) = gotIf-true (leb 5 (length bytes) && isEntry tag n) (entryFrom tag n) c (drop 5 bytes) rest e in
-          let k : (leb 5 (length bytes) ≡ true) × (isEntry tag n ≡ true) = simp and-iff at t in
-          let p : (goodCell (entryFrom tag n) ≡ true) × (putEntry (entryFrom tag n .entry) ≡ tag ∷ bytesOf 4 n) = entryFrom-put tag n (eqb tag 0) refl (k .1) in
+          let long : 5 ≤ length bytes = leb-true 5 (length bytes) (and-left (leb 5 (length bytes)) (isEntry tag n) t) in
+          let p = entryFrom-put tag n (eqb tag 0) refl (and-right (leb 5 (length bytes)) (isEntry tag n) t) in
           subst (λ (c : Cell). (goodCell c ≡ true) × (putEntry (c .entry) ++ rest ≡ bytes)) ec
-          (p .0, rw (p .1, ← er) (five bytes hb (leb-true 5 (length bytes) (k .0))));
+          (p .0, rw (p .1, ← er) (five bytes hb long));
     }
 
 pub entries-lawful : (n : ℕ) → n ≤ 8 → Lawful (entries n)
@@ -149,14 +150,14 @@ abbrev pub fullRow : ℕ × List Cell → Bool
 fullRow r = eqb (length (r .1)) 8
 
 pub chunk-flat : (rs : List (ℕ × List Cell)) → every fullRow rs ≡ true → chunk (map (λ r. r .0) rs) (flat rs) ≡ rs
-unfolding every chunk flat
+unfolding every chunk flatMap
 chunk-flat [] h = refl
 chunk-flat (r ∷ rs) h =
     let l : length (r .1) ≡ 8 = eqb-true (length (r .1)) 8 (and-left (fullRow r) (every fullRow rs) h) in
     rw (take-at (r .1) (flat rs) 8 l, drop-at (r .1) (flat rs) 8 l, chunk-flat rs (and-right (fullRow r) (every fullRow rs) h))
 
 pub length-flat : (rs : List (ℕ × List Cell)) → every fullRow rs ≡ true → length (flat rs) ≡ 8 * length rs
-unfolding every flat
+unfolding every flatMap
 length-flat [] h = refl
 length-flat (r ∷ rs) h =
     let l : length (r .1) ≡ 8 = eqb-true (length (r .1)) 8 (and-left (fullRow r) (every fullRow rs) h) in
@@ -169,7 +170,7 @@ map-chunk [] cells = refl
 map-chunk (r ∷ rs) cells = ap {B = List ℕ} (λ rs. r ∷ rs) (map-chunk rs (drop 8 cells))
 
 pub flat-chunk : (relations : List ℕ) (cells : List Cell) → flat (chunk relations cells) ≡ take (8 * length relations) cells
-unfolding chunk flat
+unfolding chunk flatMap
 flat-chunk [] cells = refl
 flat-chunk (r ∷ rs) cells =
     let n : 8 * length (r ∷ rs) ≡ 8 + 8 * length rs = omega arith in

@@ -1,7 +1,7 @@
 -- Query parts: what is written of a place is read back, and what is read is a good place, written as the same bytes.
 use mathlib.Core.Path.{_≡_, refl, sym, ap, _∙_, subst}
 use mathlib.Core.Bool.{Bool, true, false, cond, _&&_}
-use mathlib.Core.List.{List, [], _∷_, _++_, map}
+use mathlib.Core.List.{List, [], _∷_, _++_, map, flatten}
 use Prim.Native.Nat.{ℕ, zero, suc, _≤_}
 use native.Mathlib.Omega.{arith}
 use lib.Dec.{eqb, lit≤}
@@ -11,13 +11,13 @@ use borrow.Author.Tests.{eqb-true}
 use Rattle.query.specs.declared.Query.{Query}
 use Rattle.query.specs.declared.Place.{Place}
 use Rattle.lists.specs.Tests.{every}
-use Rattle.query.specs.Rule.{blankQuery, goodQuery, headSafe, noQuery, goodPlace, noPlace, shapedQuery}
+use Rattle.query.specs.Rule.{blankQuery, goodQuery, headSafe, noQuery, goodPlace, noPlace, shapedQuery, placeWith}
 use Rattle.refusals.specs.Refusals.{_>>=_, badQuery, gives, refused}
 use Rattle.format.specs.Bytes.{Bytes}
 use Rattle.lists.specs.Over.{pad}
 use Rattle.format.specs.Format.{byte, sequence, via}
 use Rattle.format.specs.Parts.{query}
-use Rattle.format.specs.File.{complete, isVacant, placeWith, safeQuery, readPlace, noneLeft, readPlaces, join, putPlace, oneMoreIfAny, upToFilled}
+use Rattle.format.specs.File.{complete, isVacant, safeQuery, readPlace, noneLeft, readPlaces, putPlace, oneMoreIfAny, upToFilled}
 use Rattle.lists.proofs.Tests.{and-left, and-right, and-both, and-iff}
 use Rattle.lists.proofs.Over.{pad-is}
 use Rattle.format.proofs.Bytes.{bytes-append}
@@ -64,10 +64,6 @@ read-filled schema hn last p h e =
     let w : complete badQuery (query schema .get (query schema .put (p .query))) ≡ gives (p .query) =
     complete-put badQuery (query schema) (query-lawful schema hn) (p .query) (query-good schema (p .query) (k .1) (g .0)) in
     rw (e, query-part schema (p .query), w) (rw (g .1))
-
-pub read-vacant : (schema : List ℕ) → readPlace schema false (255 ∷ []) ≡ gives noPlace
-unfolding readPlace isVacant
-read-vacant schema = refl
 
 -- the byte of a vacant place
 vacant-part : (part : List ℕ) → isVacant part ≡ true → part ≡ 255 ∷ []
@@ -130,10 +126,10 @@ one-more p ps rest (part ∷ parts) last l e = go (p .filled)
     go true = ap suc e
     go false = rw (e, l)
 
-pub read-places : (schema : List ℕ) → Narrow schema → (parts : List (List ℕ)) (places : List Place) → Bytes (join parts)
+pub read-places : (schema : List ℕ) → Narrow schema → (parts : List (List ℕ)) (places : List Place) → Bytes (flatten parts)
     → readPlaces schema parts ≡ gives places
     → AllRead schema parts places
-unfolding readPlaces every join
+unfolding readPlaces every flatten
 read-places schema hn [] places hb e =
     let same : [] ≡ places = cc in
     subst (AllRead schema []) same (refl, refl, none-filled)
@@ -141,7 +137,7 @@ read-places schema hn (part ∷ parts) places hb e =
     let (p, e₁, e₂) = bind-ok (readPlace schema (noneLeft parts) part) (λ place. readPlaces schema parts >>= (λ places. gives (place ∷ places))) places e in
     let (ps, e₃, e₄) = bind-ok (readPlaces schema parts) (λ places. gives (p ∷ places)) places e₂ in
     let same : p ∷ ps ≡ places = cc in
-    let (b₁, b₂) = bytes-append part (join parts) hb in
+    let (b₁, b₂) = bytes-append part (flatten parts) hb in
     let (good, put, last) = read-place schema hn (noneLeft parts) part p b₁ e₁ in
     let (goods, puts, upTo) = read-places schema hn parts ps b₂ e₃ in
     let l : length ps ≡ length parts = sym (length-map ps (putPlace schema)) ∙ ap length puts in

@@ -2,7 +2,7 @@
 -- same record. Also: what is read is a good record, and no file is longer than 4,420 bytes.
 use mathlib.Core.Path.{_≡_, refl, sym, ap, _∙_, subst}
 use mathlib.Core.Bool.{Bool, true, false, cond, _&&_}
-use mathlib.Core.List.{List, [], _∷_, _++_, map}
+use mathlib.Core.List.{List, [], _∷_, _++_, map, flatten}
 use Prim.Native.Nat.{ℕ, _+_, _*_, _-_, _≤_}
 use native.Mathlib.Nat.{lt-of-le-of-lt}
 use native.Mathlib.Omega.{arith}
@@ -22,7 +22,7 @@ use Rattle.refusals.specs.Refusals.{_>>=_, badDependency, badRelations, gives}
 use Rattle.format.specs.Bytes.{Bytes}
 use Rattle.lists.specs.Over.{pad}
 use Rattle.format.specs.Parts.{relations, dependencies, query}
-use Rattle.format.specs.File.{complete, directory, join, assemble, readPlaces, recordWith, readParts, readAll, readFile, putPlace, upToFilled, partsOf}
+use Rattle.format.specs.File.{complete, directory, assemble, readPlaces, recordWith, readParts, readAll, readFile, putPlace, upToFilled, partsOf}
 use Rattle.format.specs.File.{fileOf, shaped}
 use Rattle.lists.proofs.Tests.{and-left, and-right, and-both, and-iff, every-take, every-drop, every-both, every-weaken, every-replicate}
 use Rattle.lists.proofs.Tests.{every-append-is}
@@ -111,7 +111,7 @@ take-places ps last =
 
 -- the record of good parts
 read-fields : (part0 part1 : List ℕ) (parts : List (List ℕ)) (rs : ℕ × List ℕ) (ds : ℕ × List Dependency) (ps : List Place)
-    → Bytes part0 → Bytes part1 → Bytes (join parts) → length parts ≤ 8
+    → Bytes part0 → Bytes part1 → Bytes (flatten parts) → length parts ≤ 8
     → complete badRelations (relations .get part0) ≡ gives rs → complete badDependency (dependencies (take (rs .0) (rs .1)) .get part1) ≡ gives ds
     → readPlaces (take (rs .0) (rs .1)) parts ≡ gives ps
     → SoundRecord (recordWith rs ds ps) × (partsOf (recordWith rs ds ps) ≡ part0 ∷ part1 ∷ parts)
@@ -138,7 +138,7 @@ read-fields part0 part1 parts rs ds ps b₀ b₁ b few e₀ e₁ e₂ =
       rw (w₀, w₁, cut, w₂),
     )
 
-read-parts : (part0 part1 : List ℕ) (parts : List (List ℕ)) (r : Record) → Bytes part0 → Bytes part1 → Bytes (join parts) → length parts ≤ 8
+read-parts : (part0 part1 : List ℕ) (parts : List (List ℕ)) (r : Record) → Bytes part0 → Bytes part1 → Bytes (flatten parts) → length parts ≤ 8
     → readParts part0 part1 parts ≡ gives r → SoundRecord r × (partsOf r ≡ part0 ∷ part1 ∷ parts)
 unfolding readParts
 read-parts part0 part1 parts r b₀ b₁ b few e =
@@ -180,16 +180,16 @@ place-short schema p hn h = go (p .filled) (and-left (goodPlace schema p) (shape
     go false g = lit≤ tt
 
 join-short : (schema : List ℕ) (places : List Place) → Narrow schema → every (sound schema) places ≡ true
-    → length (join (map (putPlace schema) places)) ≤ 534 * length places
-unfolding join every
+    → length (flatten (map (putPlace schema) places)) ≤ 534 * length places
+unfolding flatten every
 join-short schema [] hn h = lit≤ tt
 join-short schema (p ∷ ps) hn h =
-    let ih : length (join (map (putPlace schema) ps)) ≤ 534 * length ps = join-short schema ps hn (and-right (sound schema p) (every (sound schema) ps) h) in
-    rw (length-append (putPlace schema p) (join (map (putPlace schema) ps)))
+    let ih : length (flatten (map (putPlace schema) ps)) ≤ 534 * length ps = join-short schema ps hn (and-right (sound schema p) (every (sound schema) ps) h) in
+    rw (length-append (putPlace schema p) (flatten (map (putPlace schema) ps)))
     (omega (arith, place-short schema p hn (and-left (sound schema p) (every (sound schema) ps) h)))
 
 file-short : (r : Record) → SoundRecord r → length (assemble (partsOf r)) ≤ 4420
-unfolding partsOf join
+unfolding partsOf flatten
 file-short r k =
     let schema : List ℕ = schemaOf r in
     let narrow : Narrow schema = good-narrow (r .relations) (r .widths) (k .relations) in
@@ -202,22 +202,22 @@ file-short r k =
     let l₀ : length part0 ≤ 9 = omega (arith, length-relations (r .relations) (r .widths), lib.ListN.length-take (r .relations) (r .widths), k .widths-long) in
     let l₁ : length part1 ≤ 97 =
     omega (arith, length-dependencies schema (r .held) (r .dependencies), lib.ListN.length-take (r .held) (r .dependencies), k .dependencies-long) in
-    let l₂ : length (join ps) ≤ 534 * length ps =
+    let l₂ : length (flatten ps) ≤ 534 * length ps =
     rw (length-map (take n (r .places)) (putPlace schema)) (join-short schema (take n (r .places)) narrow (every-take (sound schema) n (r .places) (k .places)))
     in
-    let e : length (part0 ++ (part1 ++ join ps)) ≡ length part0 + (length part1 + length (join ps)) = simp length-append in
+    let e : length (part0 ++ (part1 ++ flatten ps)) ≡ length part0 + (length part1 + length (flatten ps)) = simp length-append in
     omega (arith, length-assemble (part0 ∷ part1 ∷ ps))
 
 -- ---- the theorems
 
 -- a file has at least the count's two bytes, so its parts are split as the reader takes them
-split-parts : (parts : List (List ℕ)) (r : Record) → Bytes (join parts) → length parts ≤ 10 → readAll parts ≡ gives r → SoundRecord r × (partsOf r ≡ parts)
-unfolding readAll join
+split-parts : (parts : List (List ℕ)) (r : Record) → Bytes (flatten parts) → length parts ≤ 10 → readAll parts ≡ gives r → SoundRecord r × (partsOf r ≡ parts)
+unfolding readAll flatten
 split-parts [] r b few e = absurd (refused-gives e)
 split-parts (part0 ∷ []) r b few e = absurd (refused-gives e)
 split-parts (part0 ∷ part1 ∷ parts) r b few e =
-    let (b₀, b′) = bytes-append part0 (part1 ++ join parts) b in
-    let (b₁, b₂) = bytes-append part1 (join parts) b′ in
+    let (b₀, b′) = bytes-append part0 (part1 ++ flatten parts) b in
+    let (b₁, b₂) = bytes-append part1 (flatten parts) b′ in
     read-parts part0 part1 parts r b₀ b₁ b₂ (omega arith) e
 
 -- An accepted file gives a good record, and written back it is the same bytes

@@ -1,6 +1,6 @@
 -- The file: the directory of its parts, the reader with its refusals, and the bytes of a record (SPECIFICATION, The file and Refusals, 1 to 6).
 use mathlib.Core.Bool.{Bool, true, false, cond, _&&_}
-use mathlib.Core.List.{List, [], _∷_, _++_, map}
+use mathlib.Core.List.{List, [], _∷_, _++_, map, flatten}
 use Prim.Native.Nat.{ℕ, zero, suc, _+_, _*_}
 use lib.Dec.{eqb, leb}
 use lib.ListN.{length, take, drop}
@@ -11,7 +11,7 @@ use Rattle.record.specs.declared.Record.{Record}
 use Rattle.record.specs.View.{schemaOf}
 use Rattle.lists.specs.Tests.{between, every}
 use Rattle.lists.specs.Over.{pad}
-use Rattle.query.specs.Rule.{headSafe, shapedQuery, noPlace}
+use Rattle.query.specs.Rule.{headSafe, shapedQuery, noPlace, placeWith}
 use Rattle.record.specs.Rule.{blankRecord}
 use Rattle.refusals.specs.Refusals.{badDependency, badDirectory, badOffsets, badQuery, badRelations, unsafeHead, Reply, refused, gives, _>>=_}
 use Rattle.format.specs.Bytes.{number, bytesOf}
@@ -60,14 +60,9 @@ unfoldable pub tableOf : ℕ → List (List ℕ) → List ℕ
 tableOf start [] = []
 tableOf start (p ∷ ps) = bytesOf 2 start ++ bytesOf 2 (length p) ++ tableOf (start + length p) ps
 
--- Parts one after the other
-unfoldable pub join : List (List ℕ) → List ℕ
-join [] = []
-join (p ∷ ps) = p ++ join ps
-
--- The file of some parts: their number, the table, and the parts
+-- The file of some parts: their number, the table, and the parts one after the other
 unfoldable pub assemble : List (List ℕ) → List ℕ
-assemble parts = bytesOf 2 (length parts) ++ tableOf (2 + 4 * length parts) parts ++ join parts
+assemble parts = bytesOf 2 (length parts) ++ tableOf (2 + 4 * length parts) parts ++ flatten parts
 
 -- ---- reading
 
@@ -76,10 +71,6 @@ unfoldable pub isVacant : List ℕ → Bool
 isVacant [] = false
 isVacant (b ∷ []) = eqb b 255
 isVacant (b ∷ c ∷ bytes) = false
-
--- A place that holds a query
-abbrev pub placeWith : Query → Place
-placeWith q = record { filled = true; query = q }
 
 -- A query whose head is safe. Refused: 6, a head variable in no row
 unfoldable pub safeQuery : List ℕ → Query → Reply Place

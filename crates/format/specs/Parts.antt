@@ -1,7 +1,7 @@
 -- The parts of the file as formats: relations, dependencies and queries, as SPECIFICATION, The file, lists them.
 -- Arrays are those of the record: the elements in use are written, those after them are blank.
 use mathlib.Core.Bool.{Bool, cond, _&&_}
-use mathlib.Core.List.{List, [], _∷_, _++_, map}
+use mathlib.Core.List.{List, [], _∷_, map, flatMap}
 use Prim.Native.Nat.{ℕ}
 use lib.Dec.{eqb, ltb, leb}
 use lib.ListN.{length, getD, take, drop, replicate}
@@ -45,13 +45,13 @@ unfoldable pub putEntry : Entry → List ℕ
 putEntry (Constant n) = 0 ∷ bytesOf 4 n
 putEntry (Variable v) = 1 ∷ bytesOf 4 v
 
--- Whether a byte and a number stand for an entry
-abbrev pub isEntry : ℕ → ℕ → Bool
-isEntry tag n = cond (eqb tag 0) (leb n 2147483647) (eqb tag 1 && leb n 95)
-
 -- The entry that a byte and a number stand for
 abbrev pub entryFrom : ℕ → ℕ → Cell
 entryFrom tag n = record { entry = cond (eqb tag 0) (Constant n) (Variable n) }
+
+-- Whether they stand for a good one: the byte is 0 or 1, and the number keeps the limit
+abbrev pub isEntry : ℕ → ℕ → Bool
+isEntry tag n = leb tag 1 && goodCell (entryFrom tag n)
 
 -- An entry: a byte (0 constant, 1 variable) and 32 bits
 unfoldable pub entry : Format Cell
@@ -91,9 +91,8 @@ chunk [] cells = []
 chunk (r ∷ rs) cells = (r, take 8 cells) ∷ chunk rs (drop 8 cells)
 
 -- The cells of some rows, row by row
-unfoldable pub flat : List (ℕ × List Cell) → List Cell
-flat [] = []
-flat (r ∷ rs) = r .1 ++ flat rs
+abbrev pub flat : List (ℕ × List Cell) → List Cell
+flat rows = flatMap (λ r. r .1) rows
 
 -- A query's head length, row count, head and rows
 abbrev pub QueryFields : Type 0

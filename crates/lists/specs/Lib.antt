@@ -2,5 +2,6 @@
 pub mod Tests
 pub mod Numbers
 pub mod Over
+pub mod Examples
 -- What contracts of other crates' functions cite: what a test's result tells.
 pub mod internal

@@ -37,9 +37,7 @@ pub fn assign(source: [u32; 104], target: [Cell; 104], size: usize, chosen: [u8;
     requires { ⌜ (size ≤ 12) × ((r : ℕ) → r ≤ size → getD chosen r 0 < 12) × ((k : ℕ) → k < 104 → getD source k 0 < 2147483744) ⌝ }
     ensures { λ images. ⌜ Assigned source target size (choiceOf chosen) (size + 1) images ⌝ }
 {
-    let mut images = [Cell {
-        entry: Entry::Constant(0),
-    }; 96];
+    let mut images = [query::NO_CELL; 96];
     for r in 0..size + 1 {
         let d = chosen[r] as usize;
         let next = assign_row(

@@ -1,7 +1,6 @@
 // A query in one line: the cells of its rows, then those of its head; and their codes. Rows and head are 8 wide, blanks included.
 use entries::code::code;
 use query::Cell;
-use query::Entry;
 use query::Query;
 ghost use mathlib.Core.Path.{_≡_};
 ghost use Prim.Native.Nat.{ℕ, _<_};
@@ -16,9 +15,7 @@ pub fn flat(q: Query) -> [Cell; 104]
 {
     let cells = q.cells;
     let head = q.head;
-    let mut all = [Cell {
-        entry: Entry::Constant(0),
-    }; 104];
+    let mut all = [query::NO_CELL; 104];
     for k in 0..104 {
         if k < 96 {
             all[k] = cells[k];

@@ -12,7 +12,6 @@ use crate::cells::flat;
 use candidates::table::domains;
 use candidates::table::table;
 use query::Cell;
-use query::Entry;
 use query::Query;
 ghost use mathlib.Core.Path.{_≡_};
 ghost use Rattle.mapping.specs.internal.Mapped.{noMapping, Storable, Finds, Checks};
@@ -27,9 +26,7 @@ pub struct Mapped {
 pub fn no_mapping() -> Mapped
     ensures { λ r. ⌜ r ≡ noMapping ⌝ }
 {
-    let images = [Cell {
-        entry: Entry::Constant(0),
-    }; 96];
+    let images = [query::NO_CELL; 96];
     Mapped {
         found: false,
         images: images,

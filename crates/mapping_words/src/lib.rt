@@ -71,9 +71,7 @@ pub fn read_mapping(words: &[u32]) -> Mapped
     if words.len() != 192 {
         return no_mapping();
     }
-    let mut images = [Cell {
-        entry: Entry::Constant(0),
-    }; 96];
+    let mut images = [query::NO_CELL; 96];
     for i in 0..96 {
         match read_image(words, 2 * i) {
             ImageRead::Image(e) => {

@@ -112,7 +112,7 @@ holds-meaning (determines ds relation left columns) e =
       size = eqb-true (length (determined ds relation (getD schema relation 0) left)) columns (facts .2);
       exact =
           determined-exact schema ds (λ d at. fitsColumns-true schema d (every-member (fitsColumns schema) ds (facts .1) at)) relation
-          (ltb-true relation (length schema) (facts .0)) left (getD schema relation 0) refl;
+          (ltb-true relation (length schema) (facts .0)) left;
     }
 
 -- So every example of the table means what it says

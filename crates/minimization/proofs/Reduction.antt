@@ -25,7 +25,7 @@ use native.Mathlib.Decide.{decLe}
 use lib.ListN.{length, length-map}
 use lib.Seq.{append-snoc}
 use Rattle.theory.specs.Query.{Entry, constant, variable, Row, Query, mapRow, rowEntries, variablesOf, FitsSchema, WellFormed, _∈_, without}
-use Rattle.theory.specs.Database.{Database, Dependency, Obeys, Sound}
+use Rattle.theory.specs.Database.{Database, Dependency, Obeys, Legal}
 use Rattle.theory.specs.Answer.{valueOf, itself, Carries, Answer, Mapping}
 use Rattle.theory.specs.Chase.{chase}
 use Rattle.theory.specs.Containment.{freeze, frozenRows, frozenHead, ConstantsBelow}
@@ -111,9 +111,9 @@ module _ (ds : List Dependency) (S T : Query) (result : Reduction ds S T) where
       from : Answer D T t → Answer D (chase ds S .query) t
       from answer = answer-along D (chase ds S .query) T (result .receives (reduction-some-chased (answer .1 .not-never))) t answer
 
-  -- so the two have the same answers on every sound database that obeys
+  -- so the two have the same answers on every legal database
   pub reduction-equivalent : (widths : List ℕ) → Equivalent widths ds S T
-  reduction-equivalent widths D sound obeys t = Iff·trunc (reduction-answers D obeys t)
+  reduction-equivalent widths D legal t = Iff·trunc (reduction-answers D (legal .obeys) t)
 
   -- Unless the result is never, there is a mapping from the source query to it
   pub reduction-mapping : T .rows ≢ [] → Mapping S T
@@ -180,12 +180,12 @@ some-base q =
     } in
     (above entries, above-positive entries, below)
 
--- A part of a database is sound, and obeys, where the whole does
-pub sound-part : (widths : List ℕ) (D E : Database) → E ⊆ D → Sound widths D → Sound widths E
-sound-part widths D E part sound r at = sound r (part r at)
-
-pub obeys-part : (ds : List Dependency) (D E : Database) → E ⊆ D → Obeys ds D → Obeys ds E
-obeys-part ds D E part obeys d held r s atR atS = obeys d held r s (part r atR) (part s atS)
+-- A part of a legal database is legal
+legal-part : (widths : List ℕ) (ds : List Dependency) (D E : Database) → E ⊆ D → Legal widths ds D → Legal widths ds E
+legal-part widths ds D E part legal = record {
+  sound = λ r at. legal .sound r (part r at);
+  obeys = λ d held r s atR atS. legal .obeys d held r s (part r atR) (part s atS);
+}
 
 -- The same head and fewer rows have no new constants
 below-part : (base : ℕ) (q q' : Query) → q' .head ≡ q .head → q' .rows ⊆ q .rows → ConstantsBelow base q → ConstantsBelow base q'
@@ -223,27 +223,23 @@ module _ (T R : Query) (base : ℕ) (rival : Answer (frozenRows base T) R (froze
       let small : length (T .rows) ≤ length (P .rows) = core-least T P core refl part onto in
       omega (arith, small, length-map (images (rival .0) R) (mapRow (thaw base)), length-map (R .rows) (mapRow (valueOf itself (rival .0))))
 
--- If on every sound database that obeys, R has exactly the answers of T, and T is a core of which the frozen rows are sound and obey, then R has at
--- least as many rows as T.
+-- If on every legal database R has exactly the answers of T, and T is a core of which the frozen rows are legal, then R has at least as many rows as T.
 -- The conclusion is a proposition, so α and β may be taken from the truncations
 core-minimal : (widths : List ℕ) (ds : List Dependency) (T R : Query) (base : ℕ) → ConstantsBelow base T → Core T
-    → Sound widths (frozenRows base T) → Obeys ds (frozenRows base T) → Equivalent widths ds T R → T .rows ≢ [] → length (T .rows) ≤ length (R .rows)
-core-minimal widths ds T R base below core sound obeys same some =
-    ∥∥₁-elim (same (frozenRows base T) sound obeys (frozenHead base T) .0 ∣ frozen-answer base T some ∣₁) le-prop (λ rival.
+    → Legal widths ds (frozenRows base T) → Equivalent widths ds T R → T .rows ≢ [] → length (T .rows) ≤ length (R .rows)
+core-minimal widths ds T R base below core legal same some =
+    ∥∥₁-elim (same (frozenRows base T) legal (frozenHead base T) .0 ∣ frozen-answer base T some ∣₁) le-prop (λ rival.
     let part : images (rival .0) R ⊆ frozenRows base T = images-part T R base rival in
-    ∥∥₁-elim (same (images (rival .0) R) (sound-part widths (frozenRows base T) (images (rival .0) R) part sound)
-    (obeys-part ds (frozenRows base T) (images (rival .0) R) part obeys) (frozenHead base T) .1 ∣ images-answer T R base rival ∣₁)
+    ∥∥₁-elim (same (images (rival .0) R) (legal-part widths ds (frozenRows base T) (images (rival .0) R) part legal) (frozenHead base T) .1 ∣ images-answer T R base rival ∣₁)
     le-prop (images-length T R base rival below core))
 
--- Every query with the source's answers on all sound databases that obey has at least as many rows as a result, whatever its variables and constants
+-- Every query with the source's answers on all legal databases has at least as many rows as a result, whatever its variables and constants
 pub reduction-minimal : (widths : List ℕ) (ds : List Dependency) (S T : Query) → ((r : Row Entry) → r ∈ S .rows → FitsSchema widths r)
     → Reduction ds S T → Minimal widths ds S T
 reduction-minimal widths ds S T fit result R rival =
     list-cases (T .rows) (λ none. omega (arith, ap length none))
     (core-minimal widths ds T R base (below-part base (chase ds S .query) T (result .head) (result .rows) below) (result .core)
-    (frozen-sound widths base T (λ s at. chase-rows-fit widths ds S fit s (result .rows s at)))
-    (obeys-part ds (frozenRows base (chase ds S .query)) (frozenRows base T) frozen-part (chase-obeys ds S base (some-base (chase ds S .query) .1) below))
-    same)
+    (legal-part widths ds (frozenRows base (chase ds S .query)) (frozenRows base T) frozen-part legal) same)
   where
     base : ℕ
     base = some-base (chase ds S .query) .0
@@ -251,12 +247,17 @@ reduction-minimal widths ds S T fit result R rival =
     below : ConstantsBelow base (chase ds S .query)
     below = some-base (chase ds S .query) .2
 
+    legal : Legal widths ds (frozenRows base (chase ds S .query))
+    legal = record {
+      sound = frozen-sound widths base (chase ds S .query) (chase-rows-fit widths ds S fit);
+      obeys = chase-obeys ds S base (some-base (chase ds S .query) .1) below;
+    }
+
     frozen-part : frozenRows base T ⊆ frozenRows base (chase ds S .query)
     frozen-part = map-part (mapRow (freeze base)) (result .rows)
 
     same : Equivalent widths ds T R
-    same D sound obeys t =
-        Iff·trans (Iff·symm (reduction-equivalent ds S T result widths D sound obeys t)) (rival .same D sound obeys t)
+    same D legal t = Iff·trans (Iff·symm (reduction-equivalent ds S T result widths D legal t)) (rival .same D legal t)
 
 -- ---- 4. What a result keeps
 

@@ -15,9 +15,9 @@ use lib.Dec.{eqb}
 use borrow.Author.Tests.{eqb-true, eqb-false, eq-eqb}
 use Rattle.theory.specs.Query.{Entry, constant, variable, Row, Query, mapRow, sameEntry, FitsSchema, _∈_}
 use Rattle.theory.specs.Answer.{valueOf, Carries, Mapping}
-use Rattle.theory.specs.Database.{Database, Dependency}
+use Rattle.theory.specs.Database.{Database, Dependency, Legal}
 use Rattle.theory.specs.Chase.{chase}
-use Rattle.theory.specs.Containment.{Legal, Contained, Counterexample, frozenRows, frozenHead, ConstantsBelow}
+use Rattle.theory.specs.Containment.{Contained, Counterexample, frozenRows, frozenHead, ConstantsBelow}
 use Rattle.minimization.specs.Search.{PartialMapping, lookup, assignTo, sendEntry, sendEntries, sendRow, tryRows, placeRows, placeQuery}
 use Rattle.minimization.specs.Search.{isSome, mappable, containedOn, contained}
 use Rattle.theory.proofs.Entries.{sameEntry-eq, sameEntry-ne}

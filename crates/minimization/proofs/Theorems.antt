@@ -9,7 +9,7 @@ use Rattle.minimization.specs.ContainmentTheorems as containment
 use Rattle.minimization.specs.ReductionTheorems as reduction
 use Rattle.theory.proofs.Lists.{bool-cases}
 use Rattle.theory.proofs.Chase.{freeze-injective}
-use Rattle.theory.specs.Containment.{Legal}
+use Rattle.theory.specs.Database.{Legal}
 use Rattle.theory.proofs.Containment.{contained-iff, counterexample, contained-over, counterexample-over}
 use Rattle.minimization.proofs.Reduction.{core-repeats, reduction-answers, reduction-equivalent, reduction-head-length, reduction-minimal}
 use Rattle.minimization.proofs.Reduction.{reduction-same-size}

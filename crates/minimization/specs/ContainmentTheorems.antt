@@ -6,10 +6,10 @@ use mathlib.Core.Bool.{true, false}
 use mathlib.Core.List.{List, []}
 use Prim.Native.Nat.{ℕ, _<_}
 use Rattle.theory.specs.Query.{Entry, constant, Query, RowsFit}
-use Rattle.theory.specs.Database.{Database, Dependency}
+use Rattle.theory.specs.Database.{Database, Dependency, Legal}
 use Rattle.theory.specs.Answer.{Mapping}
 use Rattle.theory.specs.Chase.{chase}
-use Rattle.theory.specs.Containment.{Legal, Contained, Counterexample, freeze, frozenRows, frozenHead, ConstantsBelow, StandsFor}
+use Rattle.theory.specs.Containment.{Contained, Counterexample, freeze, frozenRows, frozenHead, ConstantsBelow, StandsFor}
 use Rattle.minimization.specs.Search.{mappable, contained}
 
 -- p chases to never, or q can be mapped to the chased p

@@ -5,16 +5,16 @@ use mathlib.Core.Path.{_≡_}
 use mathlib.Core.Logic.{_↔_}
 use mathlib.Core.Bool.{Bool, true, false, _&&_, Bool·beq}
 use mathlib.Core.List.{List, [], _∷_, _++_}
-use Prim.Native.Nat.{ℕ, _≤_, _<_}
+use Prim.Native.Nat.{ℕ, _≤_}
 use lib.Dec.{eqb, ltb}
 use lib.ListN.{length, getD}
 use Rattle.lists.specs.Tests.{every, sameLists}
 use Rattle.theory.specs.Query.{Entry, constant, variable, Row, Query, sameEntry, _∈_}
-use Rattle.theory.specs.Database.{Database, Dependency}
+use Rattle.theory.specs.Database.{Database, Dependency, Legal}
 use Rattle.theory.specs.Chase.{Chases, chase}
-use Rattle.theory.specs.Containment.{Legal, Contained, Counterexample}
+use Rattle.theory.specs.Containment.{Contained, Counterexample}
 use Rattle.minimization.specs.Reduction.{Reduction, Rival}
-use Rattle.determination.specs.Determined.{Determines, Increasing, determined}
+use Rattle.determination.specs.Determined.{Determined, Increasing, determined}
 use Rattle.minimization.specs.Search.{contained, reduce}
 use Rattle.minimization.specs.Checking.{sameRow}
 
@@ -48,7 +48,7 @@ pub record Counts (ds : List Dependency) (relation : ℕ) (left : List ℕ) (col
   pub set : List ℕ
   pub ascending : Increasing set
   pub size : length set ≡ columns
-  pub exact : (c : ℕ) → (c ∈ set) ↔ ((c < getD schema relation 0) × Determines schema ds relation left c)
+  pub exact : (c : ℕ) → (c ∈ set) ↔ Determined schema ds relation left c
 
 -- What an example says, over all databases. Where the first query is not contained in the second, a database shows it
 abbrev pub Meaning : Example → Type 0

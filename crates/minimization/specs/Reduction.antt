@@ -5,7 +5,7 @@ use mathlib.Core.List.{List, []}
 use Prim.Native.Nat.{ℕ, _≤_}
 use lib.ListN.{length}
 use Rattle.theory.specs.Query.{Entry, Row, Query, _∈_, without}
-use Rattle.theory.specs.Database.{Database, Dependency, Obeys, Sound}
+use Rattle.theory.specs.Database.{Database, Dependency, Legal}
 use Rattle.theory.specs.Answer.{Answer, Mapping}
 use Rattle.theory.specs.Chase.{chase}
 
@@ -38,13 +38,12 @@ pub record Reordered (T U : Query) : Type 0 where
   pub back : (r : Row Entry) → r ∈ U .rows → r ∈ T .rows
   pub size : length (U .rows) ≡ length (T .rows)
 
--- p and q have the same answers on every sound database that obeys the dependencies: t is an answer of the one exactly when it is one of the other.
+-- p and q have the same answers on every legal database: t is an answer of the one exactly when it is one of the other.
 -- `∥ ∥₁` asks only that there is an assignment, not which
 abbrev pub Equivalent : List ℕ → List Dependency → Query → Query → Type 0
-Equivalent widths ds p q = (D : Database) → Sound widths D → Obeys ds D → (t : List ℕ) → ∥ Answer D p t ∥₁ ↔ ∥ Answer D q t ∥₁
+Equivalent widths ds p q = (D : Database) → Legal widths ds D → (t : List ℕ) → ∥ Answer D p t ∥₁ ↔ ∥ Answer D q t ∥₁
 
--- R is a rival of S: a query of the same head length with the same answers on every sound database that obeys the dependencies,
--- whatever its rows, variables and constants.
+-- R is a rival of S: a query of the same head length with the same answers on every legal database, whatever its rows, variables and constants.
 -- `width` is what SPECIFICATION, The demands, asks of rivals; no proof needs it
 pub record Rival (widths : List ℕ) (ds : List Dependency) (S R : Query) : Type 0 where
   pub width : length (R .head) ≡ length (S .head)

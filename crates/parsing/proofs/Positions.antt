@@ -7,7 +7,7 @@ use native.Mathlib.Omega.{arith}
 use native.Mathlib.Nat.{add-zero}
 use lib.ListN.{length, getD, drop, drop-of-length-le, length-drop}
 use lib.Seq.{drop-cons, getD-drop, drop-drop}
-use borrow.Author.Tests.{le-leb, lt-leb, ne-eqb}
+use borrow.Author.Tests.{le-leb, lt-leb}
 use Rattle.lists.specs.Tests.{between}
 use Rattle.format.specs.Format.{Reading, none, got, gotIf, getByte}
 use Rattle.format.specs.Bytes.{number}
@@ -75,7 +75,7 @@ pub variable-bad : (tag n : ℕ) → tag ≡ 1 → 95 < n → isEntry tag n ≡ 
 variable-bad tag n z h = rw (z, lt-leb n 95 h)
 
 pub tag-bad : (tag n : ℕ) → (tag ≡ 0 → ⊥) → (tag ≡ 1 → ⊥) → isEntry tag n ≡ false
-tag-bad tag n z o = rw (ne-eqb tag 0 z, ne-eqb tag 1 o)
+tag-bad tag n z o = rw (lt-leb tag 1 (omega (arith, z, o)))
 
 -- the answers of the entry's reader
 module _ (s : List ℕ) (at n : ℕ) (h : 5 ≤ length s - at) (e : n ≡ number 4 (drop (at + 1) s)) where

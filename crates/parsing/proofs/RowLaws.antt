@@ -16,7 +16,7 @@ use Rattle.lists.specs.Over.{over, pad}
 use Rattle.format.specs.Bytes.{number}
 use Rattle.format.specs.Format.{Reading, none, got, mapReading, getTimes, getByte, byte, sequence, padded}
 use Rattle.format.specs.Parts.{entry, isEntry, entryFrom, entries, row, chunk}
-use Rattle.lists.proofs.Tests.{and-iff}
+use Rattle.lists.proofs.Tests.{and-left}
 use Rattle.lists.proofs.Over.{length-pad}
 use Rattle.lists.proofs.Loops.{replicate-drop}
 use Rattle.format.proofs.Parts.{Narrow, narrow-at}
@@ -74,8 +74,7 @@ entry-bounds bytes c rest e =
     let tag : ℕ = getD bytes 0 0 in
     let n : ℕ = number 4 (drop 1 bytes) in
     let (t, _, er) = gotIf-true (leb 5 (length bytes) && isEntry tag n) (entryFrom tag n) c (drop 5 bytes) rest e in
-    let k : (leb 5 (length bytes) ≡ true) × (isEntry tag n ≡ true) = simp and-iff at t in
-    (er, leb-true 5 (length bytes) (k .0))
+    (er, leb-true 5 (length bytes) (and-left (leb 5 (length bytes)) (isEntry tag n) t))
 
 -- Where n values of 5 bytes end
 abbrev Ends : ℕ → List ℕ → List Cell → List ℕ → Type 0

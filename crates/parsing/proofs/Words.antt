@@ -15,9 +15,6 @@ number-two s at =
     let b : getD (drop 1 (drop at s)) 0 0 ≡ getD s (at + 1) 0 = getD-drop 1 (drop at s) 0 0 ∙ getD-drop at s 1 0 in
     rw (a, b) (omega arith)
 
-drop-one : (n : ℕ) (s : List ℕ) → drop 1 (drop n s) ≡ drop (n + 1) s
-drop-one n s = drop-drop 1 n s
-
 halves : (s : List ℕ) → number 4 s ≡ number 2 s + 65536 * number 2 (drop 2 s)
 unfolding number
 halves s = rw (drop-drop 1 1 s, drop-drop 1 2 s) (omega arith)

@@ -116,9 +116,7 @@ fn read_entries(s: &[u8], at: usize, n: usize) -> CellsRead
     requires { ⌜ n ≤ 8 ⌝ }
     ensures { λ r. ⌜ r ≡ cellsRead (entries n .get (drop at (now (s .entry)))) ⌝ }
 {
-    let mut cells = [Cell {
-        entry: Entry::Constant(0),
-    }; 8];
+    let mut cells = [query::NO_CELL; 8];
     for i in 0..n {
         match read_entry(s, at + 5 * i) {
             EntryRead::Read(e) => {
@@ -127,9 +125,7 @@ fn read_entries(s: &[u8], at: usize, n: usize) -> CellsRead
             EntryRead::NoEntry => {
                 return CellsRead {
                     good: false,
-                    cells: [Cell {
-                        entry: Entry::Constant(0),
-                    }; 8],
+                    cells: [query::NO_CELL; 8],
                 };
             }
         }
@@ -155,9 +151,7 @@ fn no_rows() -> RowsRead
         good: false,
         whole: false,
         relations: [0; 12],
-        cells: [Cell {
-            entry: Entry::Constant(0),
-        }; 96],
+        cells: [query::NO_CELL; 96],
     }
 }
 
@@ -169,9 +163,7 @@ fn read_rows(part: &[u8], start: usize, size: usize, count: u8, widths: [u8; 8])
     ensures { λ r. ⌜ r ≡ rowsRead (rows (take count widths) size .get (drop start (now (part .entry)))) ⌝ }
 {
     let mut relations = [0; 12];
-    let mut cells = [Cell {
-        entry: Entry::Constant(0),
-    }; 96];
+    let mut cells = [query::NO_CELL; 96];
     let mut at = start;
     for r in 0..size {
         if part.len() <= at {
@@ -350,11 +342,7 @@ fn no_dependencies() -> DependenciesRead
     DependenciesRead {
         good: false,
         held: 0,
-        dependencies: [Dependency {
-            relation: 0,
-            left: 0,
-            right: 0,
-        }; 32],
+        dependencies: [query::NO_DEPENDENCY; 32],
     }
 }
 
@@ -367,11 +355,7 @@ pub fn read_dependencies(part: &[u8], count: u8, widths: [u8; 8]) -> Dependencie
         return no_dependencies();
     };
     let n = held as usize;
-    let mut dependencies = [Dependency {
-        relation: 0,
-        left: 0,
-        right: 0,
-    }; 32];
+    let mut dependencies = [query::NO_DEPENDENCY; 32];
     for i in 0..n {
         let DependencyRead::Found(d) = read_dependency(part, 1 + 3 * i, count, widths) else {
             return no_dependencies();

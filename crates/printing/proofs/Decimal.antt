@@ -9,6 +9,7 @@ use lib.Dec.{ltb}
 use lib.ListN.{length, getD, length-append, List·getD-append}
 use borrow.Author.Tests.{lt-ltb, le-ltb, ltb-true, ltb-false}
 use Rattle.printing.specs.Decimal.{digits, decimal}
+use Rattle.printing.specs.Meaning.{valueAfter, DecimalReadsBack, DecimalLeads}
 
 -- ---- how the digits end
 
@@ -51,18 +52,13 @@ by-digits P one more n = go (suc n) n (omega arith)
 
 -- ---- what the digits mean
 
--- The number that some digits stand for, after digits that stand for another
-unfoldable pub valueAfter : ℕ → List ℕ → ℕ
-valueAfter before [] = before
-valueAfter before (digit ∷ rest) = valueAfter (10 * before + (digit - 48)) rest
-
 value-append : (a : ℕ) (s t : List ℕ) → valueAfter a (s ++ t) ≡ valueAfter (valueAfter a s) t
 unfolding valueAfter
 value-append a [] t = refl
 value-append a (x ∷ s) t = value-append (10 * a + (x - 48)) s t
 
 -- A number in decimal reads back as the number
-pub decimal-reads-back : (n : ℕ) → valueAfter 0 (decimal n) ≡ n
+pub decimal-reads-back : DecimalReadsBack
 unfolding valueAfter
 decimal-reads-back n = by-digits (λ n. valueAfter 0 (decimal n) ≡ n) one more n
   where
@@ -73,7 +69,7 @@ decimal-reads-back n = by-digits (λ n. valueAfter 0 (decimal n) ≡ n) one more
     more n h ih = rw (decimal-more n h, value-append 0 (decimal (n / 10)) ((48 + n % 10) ∷ []), ih) (omega arith)
 
 -- There is a digit, and only 0 starts with the digit 0
-pub decimal-leads : (n : ℕ) → (0 < length (decimal n)) × (getD (decimal n) 0 0 ≡ 48 → n ≡ 0)
+pub decimal-leads : DecimalLeads
 decimal-leads n = by-digits (λ n. (0 < length (decimal n)) × (getD (decimal n) 0 0 ≡ 48 → n ≡ 0)) one more n
   where
     one : (n : ℕ) → n < 10 → (0 < length (decimal n)) × (getD (decimal n) 0 0 ≡ 48 → n ≡ 0)

@@ -1,4 +1,4 @@
--- The code of an entry: decoding undoes it, it tells entries within the limits apart, and which codes are a constant's and which a variable's.
+-- The code of an entry: how it is decoded, which codes are a constant's and which a variable's, and that it tells entries within the limits apart.
 -- Assumes nothing.
 use mathlib.Core.Path.{_≡_, refl, sym, _∙_, ap}
 use mathlib.Core.Bool.{Bool, true, false, cond}
@@ -11,25 +11,16 @@ use Rattle.theory.specs.Answer.{valueOf}
 use Rattle.theory.specs.Containment.{freeze}
 use Rattle.query.specs.declared.Entry.{Entry}
 use Rattle.query.specs.declared.Entry.the-variants.{Constant, Variable}
-use Rattle.query.specs.Rule.{goodEntry}
-use Rattle.query.specs.internal.Code.{codeOf, decoded}
-use Rattle.query.proofs.Stored.{Within, entry-within}
+use Rattle.query.specs.internal.Code.{decoded}
+use Rattle.query.proofs.Stored.{Within}
 
--- ---- the two ways
+-- ---- decoding
 
 pub decoded-constant : (n : ℕ) → n < 2147483648 → decoded n ≡ Constant n
 decoded-constant n h = ap (λ (t : Bool). cond t (Constant n) (Variable ((n - 2147483648) % 256))) (lt-ltb n 2147483648 h)
 
 pub decoded-variable : (n : ℕ) → 2147483648 ≤ n → decoded n ≡ Variable ((n - 2147483648) % 256)
 decoded-variable n h = ap (λ (t : Bool). cond t (Constant n) (Variable ((n - 2147483648) % 256))) (le-ltb n 2147483648 h)
-
--- Decoding undoes the code of a good entry
-pub decoded-code : (e : Entry) → goodEntry e ≡ true → decoded (codeOf e) ≡ e
-decoded-code (Constant n) good = decoded-constant n (entry-within (Constant n) good)
-decoded-code (Variable v) good =
-    let small : v < 96 = entry-within (Variable v) good in
-    let back : (2147483648 + v - 2147483648) % 256 ≡ v = omega arith in
-    decoded-variable (2147483648 + v) (omega arith) ∙ ap Variable back
 
 -- A constant's code is below 2,147,483,648, a variable's is not
 variable-constant : (v n : ℕ) → Variable v ≡ Constant n → ⊥

@@ -4,7 +4,7 @@
 use mathlib.Core.Path.{_≡_, refl, sym, ap, subst, _∙_}
 use mathlib.Core.Logic.{⊎-elim}
 use mathlib.Core.Bool.{Bool, true, false, cond}
-use mathlib.Core.List.{List, [], _∷_, _++_, map, List·Memᴰ·head, List·Memᴰ·tail, List·Memᴰ·append-cases, List·Memᴰ·cases-cons, List·Memᴰ·not-nil}
+use mathlib.Core.List.{List, [], _∷_, _++_, List·Memᴰ·head, List·Memᴰ·tail, List·Memᴰ·append-cases, List·Memᴰ·cases-cons, List·Memᴰ·not-nil}
 use Prim.Native.Nat.{ℕ, zero, suc, _+_, _*_, _/_, _%_, _^_, _≤_, _<_}
 use native.Mathlib.Nat.{le-of-suc-le-suc, not-suc-le-zero, two-pow-succ}
 use native.Mathlib.Omega.{arith}
@@ -14,19 +14,17 @@ use lib.Seq.{getD-take, take-add, take-take, drop-drop, length-take-le}
 use borrow.Author.Tests.{leb-true, ltb-true, eqb-true}
 use Rattle.theory.specs.Query as theory
 use Rattle.theory.specs.Query.{variablesOf, rowEntries, WellFormed, FitsSchema, _∈_}
-use Rattle.theory.specs.Database as database
 use Rattle.theory.specs.Containment.{ConstantsBelow}
 use Rattle.query.specs.declared.Entry.{Entry}
 use Rattle.query.specs.declared.Entry.the-variants.{Constant, Variable}
 use Rattle.query.specs.declared.Cell.{Cell}
 use Rattle.query.specs.declared.Query.{Query}
-use Rattle.query.specs.declared.Dependency.{Dependency}
-use Rattle.query.specs.View.{entryOf, entriesOf, rowsOf, queryOf, columnsFrom, dependencyOf}
+use Rattle.query.specs.View.{entryOf, entriesOf, rowsOf, queryOf, columnsFrom}
 use Rattle.lists.specs.Tests.{every, inUse}
-use Rattle.query.specs.Rule.{goodDependency, goodEntry, goodCell, blankEntry, blankCell, goodRow, goodRows, headInUse, goodQuery, headSafe}
+use Rattle.query.specs.Rule.{goodEntry, goodCell, blankEntry, blankCell, goodRow, goodRows, headInUse, goodQuery, headSafe}
 use Rattle.theory.proofs.Lists.{subset-true}
 use Rattle.lists.proofs.Tests.{and-left, and-right, and-both, every-append, used-whole, every-take, used-all, used-good}
-use Rattle.query.proofs.Good.{good-query, good-dependency}
+use Rattle.query.proofs.Good.{good-query}
 
 -- ---- 1. members of lists
 

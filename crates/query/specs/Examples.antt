@@ -14,7 +14,7 @@ use Rattle.query.specs.declared.Query.{Query}
 use Rattle.query.specs.declared.Dependency.{Dependency}
 use Rattle.query.specs.View.{entriesOf, queryOf, columnsOf, maskOf, dependencyOf, heldOf, imagesOf}
 use Rattle.query.specs.Rule.{blankCell, blankDependency, blankQuery, goodRelations, goodSet, goodDependency, goodDependencies, goodCell, goodQuery}
-use Rattle.query.specs.Rule.{headSafe, goodPlace, noCell, noDependency, noQuery, neverQuery, noPlace}
+use Rattle.query.specs.Rule.{headSafe, goodPlace, noCell, noDependency, noQuery, neverQuery, noPlace, placeWith}
 
 -- ---- values for the examples
 
@@ -102,7 +102,7 @@ goodCases =
     -- a head variable that stands in the row, and a constant that stands nowhere
     ∷ headSafe schema (asked (Variable 1 ∷ Constant 6 ∷ []))
     -- a filled place with such a query, and a vacant one
-    ∷ goodPlace schema (record { filled = true; query = asked (Variable 1 ∷ []) }) ∷ goodPlace schema noPlace ∷ []
+    ∷ goodPlace schema (placeWith (asked (Variable 1 ∷ []))) ∷ goodPlace schema noPlace ∷ []
 
 -- What does not
 abbrev pub badCases : List Bool
@@ -141,8 +141,8 @@ badCases =
     -- a head variable that stands in no row
     ∷ headSafe schema (asked (Variable 2 ∷ []))
     -- a filled place with such a query, and with a bad one; a vacant place that holds a query
-    ∷ goodPlace schema (record { filled = true; query = asked (Variable 2 ∷ []) })
-    ∷ goodPlace schema (record { filled = true; query = stored (Variable 96 ∷ []) (0 ∷ []) (replicate 2 (Variable 96) ∷ []) })
+    ∷ goodPlace schema (placeWith (asked (Variable 2 ∷ [])))
+    ∷ goodPlace schema (placeWith (stored (Variable 96 ∷ []) (0 ∷ []) (replicate 2 (Variable 96) ∷ [])))
     ∷ goodPlace schema (record { filled = false; query = asked [] }) ∷ []
 
 -- All of them

@@ -94,6 +94,10 @@ shapedQuery q = eqb (length (q .head)) 8 && eqb (length (q .relations)) 12 && eq
 
 -- ---- places
 
+-- A place that holds a query
+abbrev pub placeWith : Query → Place
+placeWith q = record { filled = true; query = q }
+
 -- A filled place holds a good query with a safe head, a vacant one holds nothing
 abbrev pub goodPlace : List ℕ → Place → Bool
 goodPlace schema p = cond (p .filled) (goodQuery schema (p .query) && headSafe schema (p .query)) (blankQuery (p .query))

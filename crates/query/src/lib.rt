@@ -11,6 +11,11 @@ pub struct Cell {
     pub entry: Entry,
 }
 
+// The cell of an entry that is not in use.
+pub const NO_CELL: Cell = Cell {
+    entry: Entry::Constant(0),
+};
+
 // A query: a head of `arity` entries and `size` rows. Row r is of relation relations[r], and its entries are cells[8 * r ..], one a column.
 // A query without rows is the never query. What is not in use holds 0, an entry constant 0.
 pub struct Query {
@@ -33,3 +38,10 @@ pub struct Dependency {
     pub left: u8,
     pub right: u8,
 }
+
+// The dependency of a slot that is not in use.
+pub const NO_DEPENDENCY: Dependency = Dependency {
+    relation: 0,
+    left: 0,
+    right: 0,
+};

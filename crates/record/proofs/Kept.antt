@@ -13,14 +13,14 @@ use Rattle.query.specs.declared.Place.{Place}
 use Rattle.record.specs.declared.Record.{Record}
 use Rattle.record.specs.View.{schemaOf}
 use Rattle.lists.specs.Tests.{every}
-use Rattle.query.specs.Rule.{goodRelations, goodDependency, blankDependency, goodQuery, headSafe, blankQuery, goodPlace, noPlace}
-use Rattle.record.specs.Rule.{goodRecord}
-use Rattle.record.specs.Calls.{withPlace, withDependency, emptyRecord}
+use Rattle.query.specs.Rule.{goodRelations, goodDependency, blankDependency, goodQuery, headSafe, blankQuery, goodPlace, noPlace, placeWith}
+use Rattle.record.specs.Rule.{goodRecord, emptyRecord}
+use Rattle.record.specs.Calls.{withPlace, withDependency}
 use Rattle.lists.proofs.Tests.{and-both, every-set, every-replicate, used-more}
 use Rattle.record.proofs.Good.{good-record, make-record}
 
 pub filled-place : (schema : List ℕ) (q : Query) → goodQuery schema q ≡ true → headSafe schema q ≡ true
-    → goodPlace schema (record { filled = true; query = q }) ≡ true
+    → goodPlace schema (placeWith q) ≡ true
 filled-place schema q good safe = and-both (goodQuery schema q) (headSafe schema q) good safe
 
 pub empty-place : (schema : List ℕ) → goodPlace schema noPlace ≡ true

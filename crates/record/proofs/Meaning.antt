@@ -14,17 +14,17 @@ use borrow.Author.Tests.{eqb-false, not-false}
 use Rattle.theory.specs.Query.{member, _∈_}
 use Rattle.theory.specs.Database as database
 use Rattle.theory.proofs.Lists.{member-mem, mem-member}
-use Rattle.determination.specs.Determined.{Determines, determined}
+use Rattle.determination.specs.Determined.{Determined, determined}
 use Rattle.determination.proofs.Determined.{determined-exact}
 use Rattle.record.specs.declared.Record.{Record}
 use Rattle.query.specs.View.{columnsFrom, columnsOf, maskOf}
 use Rattle.record.specs.View.{schemaOf, dependenciesOf}
 use Rattle.lists.specs.Tests.{between, every}
-use Rattle.query.specs.Rule.{goodSet, goodRelations, goodDependency, goodQuery, headSafe, noPlace}
-use Rattle.record.specs.Rule.{goodRecord, blankRecord}
+use Rattle.query.specs.Rule.{goodSet, goodRelations, goodDependency, goodQuery, headSafe, noPlace, placeWith}
+use Rattle.record.specs.Rule.{goodRecord, blankRecord, emptyRecord}
 use Rattle.refusals.specs.Refusals.{firstHolding, gives, reply}
 use Rattle.record.specs.Calls.{concluded, brokenRecord, unknownPlace, vacant, filled, withPlace, withDependency}
-use Rattle.record.specs.Calls.{emptyRecord, openRecord, addDependency, putQuery, dropQuery, determinedColumns}
+use Rattle.record.specs.Calls.{openRecord, addDependency, putQuery, dropQuery, determinedColumns}
 use Rattle.record.specs.Meaning.{OpenKeeps, AddKeeps, PutKeeps, DropKeeps, BlankBroken, DeterminedMeans}
 use Rattle.closure.specs.internal.Closure.{growMask}
 use Rattle.record.proofs.Good.{good-record}
@@ -78,13 +78,13 @@ put-keeps r place q e =
     let fit : Bool = goodQuery (schemaOf r) q in
     let safe : Bool = headSafe (schemaOf r) q in
     accepted (firstHolding (brokenRecord r ∷ unknownPlace place ∷ (not fit, 5) ∷ (not safe, 6) ∷ filled r place ∷ [])) r
-    (withPlace r place (record { filled = true; query = q })) e
+    (withPlace r place (placeWith q)) e
     (λ clear.
     let a = none-holds (brokenRecord r .0) 14 (unknownPlace place ∷ (not fit, 5) ∷ (not safe, 6) ∷ filled r place ∷ []) clear in
     let b = none-holds (unknownPlace place .0) 7 ((not fit, 5) ∷ (not safe, 6) ∷ filled r place ∷ []) (a .1) in
     let c = none-holds (not fit) 5 ((not safe, 6) ∷ filled r place ∷ []) (b .1) in
     let d = none-holds (not safe) 6 (filled r place ∷ []) (c .1) in
-    place-kept r place (record { filled = true; query = q }) (not-false (goodRecord r) (a .0))
+    place-kept r place (placeWith q) (not-false (goodRecord r) (a .0))
     (filled-place (schemaOf r) q (not-false fit (c .0)) (not-false safe (d .0))))
 
 -- Drop a query
@@ -162,9 +162,9 @@ determined-means r relation left mask n e =
     not-false (goodSet (schemaOf r) relation left) (none-holds (not (goodSet (schemaOf r) relation left)) 4 [] (b .1) .0)
     in
     let is : growMask (length (dependenciesOf r)) (dependenciesOf r) relation left ≡ mask = sym (masked r relation left good fit) ∙ a .1 in
-    let exact : (c : ℕ) → (c ∈ cs) ↔ ((c < getD (schemaOf r) relation 0) × Determines (schemaOf r) (dependenciesOf r) relation (columnsOf left) c) =
+    let exact : (c : ℕ) → (c ∈ cs) ↔ Determined (schemaOf r) (dependenciesOf r) relation (columnsOf left) c =
     determined-exact (schemaOf r) (dependenciesOf r) (dependencies-fit r good) relation (good-set (schemaOf r) relation left fit .relation-known)
-    (columnsOf left) (getD (schemaOf r) relation 0) refl
+    (columnsOf left)
     in
     let same : (c : ℕ) → member c (columnsOf mask) ≡ member c cs =
     λ c. ap (λ (k : ℕ). member c (columnsOf k)) (sym is) ∙ same-member r relation left good fit c

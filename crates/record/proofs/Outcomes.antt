@@ -22,12 +22,12 @@ use Rattle.record.specs.declared.Record.{Record}
 use Rattle.query.specs.View.{columnsOf, maskOf}
 use Rattle.record.specs.View.{schemaOf, dependenciesOf}
 use Rattle.lists.specs.Tests.{between, every, isZero}
-use Rattle.query.specs.Rule.{goodSet, blankDependency, goodRelations, goodDependency, goodQuery, headSafe, noPlace}
-use Rattle.record.specs.Rule.{blankRecord, goodRecord}
+use Rattle.query.specs.Rule.{goodSet, blankDependency, goodRelations, goodDependency, goodQuery, headSafe, noPlace, placeWith}
+use Rattle.record.specs.Rule.{blankRecord, goodRecord, emptyRecord}
 use Rattle.refusals.specs.Refusals.{firstHolding, refused, gives}
-use Rattle.record.specs.Calls.{concluded, brokenRecord, unknownPlace, vacant, filled}
+use Rattle.record.specs.Calls.{concluded, brokenRecord, unknownPlace, vacant}
 use Rattle.record.specs.internal.Lookup.{placeAt, filledPlace, vacantPlace}
-use Rattle.record.specs.Calls.{withPlace, withDependency, emptyRecord, openRecord, addDependency, putQuery, dropQuery, determinedColumns}
+use Rattle.record.specs.Calls.{withPlace, withDependency, openRecord, addDependency, putQuery, dropQuery, determinedColumns}
 use Rattle.closure.specs.internal.Closure.{growMask, rightNarrow}
 use Rattle.lists.proofs.Tests.{every-replicate, every-weaken, used-good}
 use Rattle.record.proofs.Good.{good-record}
@@ -128,7 +128,7 @@ module _ (r : Record) (place : ℕ) (q : Query) where
               rw (good, lt-ltb place 8 low, fit, safe, f .0, f .1)
 
           pub put-done : (at : ℕ) → vacantPlace r place ≡ lookup.At at
-              → concluded none (withPlace r at (record { filled = true; query = q })) (withPlace r at (record { filled = true; query = q })) ≡ putQuery r place
+              → concluded none (withPlace r at (placeWith q)) (withPlace r at (placeWith q)) ≡ putQuery r place
               q
           unfolding putQuery firstHolding
           put-done at e =

@@ -1,5 +1,5 @@
 -- What each call on the record alone answers: what it asks, in the order of SPECIFICATION, Refusals, and the record after it.
-use mathlib.Core.Bool.{Bool, true, not, _&&_}
+use mathlib.Core.Bool.{Bool, not, _&&_}
 use mathlib.Core.List.{List, [], _∷_, _++_}
 use mathlib.Core.Option.{Option, none, some}
 use Prim.Native.Nat.{ℕ, _+_, _-_}
@@ -19,8 +19,8 @@ use Rattle.record.specs.declared.Columns.the-variants as columns
 use Rattle.query.specs.View.{columnsOf, queryOf, maskOf}
 use Rattle.record.specs.View.{schemaOf, dependenciesOf}
 use Rattle.lists.specs.Tests.{between, every}
-use Rattle.query.specs.Rule.{goodSet, goodDependency, goodQuery, headSafe, noDependency, noPlace}
-use Rattle.record.specs.Rule.{goodRecord, blankRecord}
+use Rattle.query.specs.Rule.{goodSet, goodDependency, goodQuery, headSafe, noPlace, placeWith}
+use Rattle.record.specs.Rule.{goodRecord, emptyRecord, blankRecord}
 use Rattle.refusals.specs.Refusals.{badDependency, badQuery, badRecord, badRelations, dependenciesFull}
 use Rattle.refusals.specs.Refusals.{Condition, firstHolding, noSuchPlace, placeFilled, placeVacant, unsafeHead}
 use Rattle.refusals.specs.Refusals.{Reply, refused, gives, reply}
@@ -88,11 +88,6 @@ withDependency r d =
 
 -- ---- the calls
 
--- A record of the given relations, no dependencies, all places vacant
-abbrev pub emptyRecord : ℕ → List ℕ → Record
-emptyRecord relations widths =
-    record { relations = relations; widths = widths; held = 0; dependencies = replicate 32 noDependency; places = replicate 8 noPlace }
-
 -- What opening asks: 3 unless there are 1 to 8 widths, each 1 to 8
 abbrev pub openConditions : List ℕ → List Condition
 openConditions widths = (not (between 1 8 (length widths) && every (between 1 8) widths), badRelations) ∷ []
@@ -118,7 +113,7 @@ putConditions r place q =
 
 -- Put a query into a vacant place
 unfoldable pub putQuery : Record → ℕ → Query → Reply (Unit {0}) × Record
-putQuery r place q = concluded (firstHolding (putConditions r place q)) r (withPlace r place (record { filled = true; query = q }))
+putQuery r place q = concluded (firstHolding (putConditions r place q)) r (withPlace r place (placeWith q))
 
 -- What dropping a place asks: 14; 7; 11
 abbrev pub dropConditions : Record → ℕ → List Condition

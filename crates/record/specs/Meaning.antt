@@ -3,10 +3,10 @@ use mathlib.Core.Path.{_≡_}
 use mathlib.Core.Logic.{_↔_}
 use mathlib.Core.Bool.{true, false}
 use mathlib.Core.List.{List}
-use Prim.Native.Nat.{ℕ, _<_}
-use lib.ListN.{length, getD}
+use Prim.Native.Nat.{ℕ}
+use lib.ListN.{length}
 use Rattle.theory.specs.Query.{_∈_}
-use Rattle.determination.specs.Determined.{Determines}
+use Rattle.determination.specs.Determined.{Determined}
 use Rattle.query.specs.declared.Query.{Query}
 use Rattle.query.specs.declared.Dependency.{Dependency}
 use Rattle.record.specs.declared.Record.{Record}
@@ -40,9 +40,9 @@ DropKeeps = (r : Record) (place : ℕ) → LeavesGood (dropQuery r place)
 abbrev pub BlankBroken : Type 0
 BlankBroken = goodRecord blankRecord ≡ false
 
--- The columns answered are those of the relation that the left set determines in every database that obeys the dependencies, and their number is right
+-- The columns answered are those of the relation that the left set determines in every legal database, and their number is right
 abbrev pub DeterminedMeans : Type 0
 DeterminedMeans =
     (r : Record) (relation left mask n : ℕ) → determinedColumns r relation left ≡ gives (mask, n)
-    → ((c : ℕ) → (c ∈ columnsOf mask) ↔ ((c < getD (schemaOf r) relation 0) × Determines (schemaOf r) (dependenciesOf r) relation (columnsOf left) c))
+    → ((c : ℕ) → (c ∈ columnsOf mask) ↔ Determined (schemaOf r) (dependenciesOf r) relation (columnsOf left) c)
     × (n ≡ length (columnsOf mask))

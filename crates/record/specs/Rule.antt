@@ -1,5 +1,7 @@
 -- "The record" as tests on its fields: what refusal 14 judges. The lengths of the arrays are the types'.
 use mathlib.Core.Bool.{Bool, _&&_}
+use mathlib.Core.List.{List}
+use Prim.Native.Nat.{ℕ}
 use lib.ListN.{replicate}
 use Rattle.record.specs.declared.Record.{Record}
 use Rattle.record.specs.View.{schemaOf}
@@ -12,15 +14,13 @@ goodRecord r =
     goodRelations (r .relations) (r .widths) && goodDependencies (schemaOf r) (r .held) (r .dependencies)
     && every (goodPlace (schemaOf r)) (r .places)
 
--- ---- blank values
+-- ---- empty and blank
+
+-- A record of the given relations, no dependencies, all places vacant
+abbrev pub emptyRecord : ℕ → List ℕ → Record
+emptyRecord relations widths =
+    record { relations = relations; widths = widths; held = 0; dependencies = replicate 32 noDependency; places = replicate 8 noPlace }
 
 -- The blank record, all fields 0: what reading and opening return when they refuse
 abbrev pub blankRecord : Record
-blankRecord =
-    record {
-      relations = 0;
-      widths = replicate 8 0;
-      held = 0;
-      dependencies = replicate 32 noDependency;
-      places = replicate 8 noPlace;
-    }
+blankRecord = emptyRecord 0 (replicate 8 0)

@@ -11,8 +11,8 @@ ghost use mathlib.Core.Path.{_≡_};
 ghost use mathlib.Core.Option.{none, some};
 ghost use Prim.Native.Nat.{_<_};
 ghost use Rattle.query.specs.Rule.{noPlace};
-ghost use Rattle.record.specs.Rule.{blankRecord};
-ghost use Rattle.record.specs.Calls.{outcomeReply, columnsReply, concluded, storedAt, withPlace, withDependency, emptyRecord, openRecord, addDependency, putQuery, dropQuery, determinedColumns};
+ghost use Rattle.record.specs.Rule.{blankRecord, emptyRecord};
+ghost use Rattle.record.specs.Calls.{outcomeReply, columnsReply, concluded, storedAt, withPlace, withDependency, openRecord, addDependency, putQuery, dropQuery, determinedColumns};
 ghost use Rattle.record.specs.internal.Lookup.{placeAt, filledPlace, vacantPlace, numberOf};
 
 // A call is done.
@@ -101,11 +101,7 @@ fn with_dependency(given: Record, d: Dependency) -> Record
 fn opened(relations: u8, widths: [u8; 8]) -> Record
     ensures { λ r. ⌜ r ≡ emptyRecord relations widths ⌝ }
 {
-    let unused = Dependency {
-        relation: 0,
-        left: 0,
-        right: 0,
-    };
+    let unused = query::NO_DEPENDENCY;
     let vacant = no_place();
     Record {
         relations,

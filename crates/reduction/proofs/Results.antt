@@ -19,10 +19,10 @@ use Rattle.record.specs.declared.Lookup.the-variants as lookup
 use Rattle.query.specs.View.{queryOf, heldOf, imagesOf}
 use Rattle.record.specs.View.{schemaOf, dependenciesOf}
 use Rattle.lists.specs.Tests.{every, between}
-use Rattle.query.specs.Rule.{goodDependencies, goodQuery, headSafe, noCell, noPlace}
+use Rattle.query.specs.Rule.{goodDependencies, goodQuery, headSafe, noCell, noPlace, placeWith}
 use Rattle.record.specs.Rule.{goodRecord}
 use Rattle.refusals.specs.Refusals.{firstHolding}
-use Rattle.record.specs.Calls.{unknownPlace, vacant, filled, isFilled, withPlace, storedAt}
+use Rattle.record.specs.Calls.{unknownPlace, vacant, isFilled, withPlace, storedAt}
 use Rattle.record.specs.internal.Lookup.{placeAt, filledPlace, vacantPlace}
 use Rattle.lists.proofs.Tests.{and-both}
 use Rattle.record.proofs.Good.{good-record}
@@ -136,21 +136,21 @@ module _ (r : Record) (source target : ℕ) (able : Reducible r source target) (
       → ((schema : List ℕ) → every (between 1 8) schema ≡ true → goodQuery schema q ≡ true → headSafe schema q ≡ true
       → IsShortened schema (dependenciesOf r) q s)
       → ShortFormStored r source target
-      (record { answer = status.Done; «record» = withPlace r target (record { filled = true; query = s .query }); count = s .count; images = s .images })
+      (record { answer = status.Done; «record» = withPlace r target (placeWith (s .query)); count = s .count; images = s .images })
   stored-reduced q is s tells =
       let schema = schemaOf r in
-      let after = withPlace r target (record { filled = true; query = s .query }) in
+      let after = withPlace r target (placeWith (s .query)) in
       let told : IsShortened schema (dependenciesOf r) q s =
       tells schema (good-widths (r .relations) (r .widths) (good-record r (able .good) .relations)) (ap (goodQuery schema) is ∙ source-parts .0)
       (ap (headSafe schema) is ∙ source-parts .1)
       in
       let read : s .query ≡ storedAt after target =
-      sym (ap (λ (p : Place). p .query) (place-read r target (record { filled = true; query = s .query }) noPlace (omega (arith, able .target-low))))
+      sym (ap (λ (p : Place). p .query) (place-read r target (placeWith (s .query)) noPlace (omega (arith, able .target-low))))
       in
       record {
         done = refl;
-        unchanged = ap (λ (x : Query). withPlace r target (record { filled = true; query = x })) read;
-        good = place-kept r target (record { filled = true; query = s .query }) (able .good) (filled-place schema (s .query) (told .good) (told .safe));
+        unchanged = ap (λ (x : Query). withPlace r target (placeWith x)) read;
+        good = place-kept r target (placeWith (s .query)) (able .good) (filled-place schema (s .query) (told .good) (told .safe));
         reduces =
             subst (λ (x : Query). ReducesTo schema (dependenciesOf r) (queryOf schema (storedAt r source)) (queryOf schema x) (s .count)
             (imagesOf (s .images))) read

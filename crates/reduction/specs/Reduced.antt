@@ -11,7 +11,7 @@ use Rattle.query.specs.declared.Cell.{Cell}
 use Rattle.query.specs.View.{imagesOf}
 use Rattle.record.specs.View.{schemaOf, dependenciesOf}
 use Rattle.record.specs.Rule.{goodRecord}
-use Rattle.query.specs.Rule.{noCell}
+use Rattle.query.specs.Rule.{noCell, placeWith}
 use Rattle.refusals.specs.Refusals.{Condition, firstHolding, Reply, refused, gives}
 use Rattle.record.specs.Calls.{statusReply, brokenRecord, unknownPlace, vacant, filled, withPlace, storedAt, queryAt}
 use Rattle.reduction.specs.declared.Reduced.{Reduced}
@@ -56,7 +56,7 @@ pub record ReducesTo (schema : List ℕ) (ds : List database.Dependency) (S T : 
 pub record ShortFormStored (r : Record) (source target : ℕ) (o : Reduced) : Type 0 where
   pub done : statusReply (o .answer) ≡ gives tt
   -- the target place holds a query, and nothing else in the record has changed
-  pub unchanged : o .«record» ≡ withPlace r target (record { filled = true; query = storedAt (o .«record») target })
+  pub unchanged : o .«record» ≡ withPlace r target (placeWith (storedAt (o .«record») target))
   -- the record keeps its rule
   pub good : goodRecord (o .«record») ≡ true
   -- that query is the short form of the source query

@@ -2,7 +2,6 @@
 // query as it was stored.
 use query::Cell;
 use query::Dependency;
-use query::Entry;
 use query::Place;
 use query::Query;
 use record::Lookup;
@@ -40,9 +39,7 @@ struct Shortened {
 fn refused(number: u8, given: Record) -> Reduced
     ensures { λ o. ⌜ reducedReply o ≡ refusal given number ⌝ }
 {
-    let blank = Cell {
-        entry: Entry::Constant(0),
-    };
+    let blank = query::NO_CELL;
     Reduced {
         answer: Status::Refused(number),
         record: given,

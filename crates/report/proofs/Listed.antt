@@ -13,7 +13,7 @@ use Rattle.record.specs.declared.Record.{Record}
 use Rattle.record.specs.View.{schemaOf, dependenciesOf}
 use Rattle.query.specs.View.{queryOf, imagesOf}
 use Rattle.lists.specs.Tests.{every}
-use Rattle.query.specs.Rule.{goodCell, goodQuery, headSafe, noPlace}
+use Rattle.query.specs.Rule.{goodCell, goodQuery, headSafe, noPlace, placeWith}
 use Rattle.record.specs.Rule.{goodRecord}
 use Rattle.record.specs.Calls.{isFilled, storedAt, queryAt}
 use Rattle.query.proofs.Good.{good-query}
@@ -61,7 +61,7 @@ module _ (r : Record) (place : ℕ) (low : place < 8) (good : goodRecord r ≡ t
   result-filled =
       ap (λ (x : Record). isFilled x (otherPlace place)) (alone-reduced .accepted accepted .unchanged)
       ∙ ap (λ (p : Place). p .filled)
-      (getD-set-same (aloneIn r place .places) (otherPlace place) (record { filled = true; query = storedAt (o .«record») (otherPlace place) }) noPlace
+      (getD-set-same (aloneIn r place .places) (otherPlace place) (placeWith (storedAt (o .«record») (otherPlace place))) noPlace
       (rw alone-long (other-low place)))
 
   result-good : goodQuery (schemaOf r) result ≡ true

@@ -175,11 +175,7 @@ pub fn first_violation(
     }
     let used = &mut heads[..buckets];
     let mut keys = Keys {
-        list: [Dependency {
-            relation: 0,
-            left: 0,
-            right: 0,
-        }; 32],
+        list: [query::NO_DEPENDENCY; 32],
         count: 0,
     };
     let mut k: usize = 0;

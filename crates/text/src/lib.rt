@@ -56,9 +56,7 @@ fn row_cells(cells: [Cell; 96], start: usize) -> [Cell; 8]
     requires { ⌜ start + 8 ≤ 96 ⌝ }
     ensures { λ r. ⌜ r ≡ take 8 (drop start cells) ⌝ }
 {
-    let blank = Cell {
-        entry: Entry::Constant(0),
-    };
+    let blank = query::NO_CELL;
     let mut row = [blank; 8];
     for i in 0..8 {
         row[i] = cells[start + i];

@@ -3,7 +3,7 @@
 use mathlib.Core.Path.{_≡_, refl, sym, _∙_, ap}
 use mathlib.Core.Logic.{_≢_}
 use mathlib.Core.Bool.{cond}
-use mathlib.Core.List.{List, [], _++_, map, map-map, map-id, Memᴰ·cast, Memᴰ·map, Memᴰ·append-left, Memᴰ·append-right}
+use mathlib.Core.List.{List, [], _++_, map, map-map, map-id, Memᴰ·cast, Memᴰ·append-left, Memᴰ·append-right}
 use Prim.Native.Nat.{ℕ}
 use Rattle.theory.specs.Query.{Entry, constant, variable, Row, Query, mapRow, rowEntries, variables, member, _∈_}
 use Rattle.theory.specs.Answer.{valueOf, Carries, Mapping}
@@ -55,18 +55,6 @@ pub carries-compose : {A : Type 0} (fixed g : ℕ → A) (f : ℕ → Entry) (S 
 carries-compose fixed g f S T rows image s t =
     carries-onto constant f fixed (λ v. valueOf fixed g (f v)) (valueOf fixed g) S (T .rows) rows (T .head) image
     (λ e at. sym (valueOf-compose fixed g f e)) (t .to-rows) (t .to-head) s
-
--- A map that agrees with the constants carries the image on
-pub carries-map : {A B : Type 0} (fixedA assign : ℕ → A) (fixedB : ℕ → B) (h : A → B) → ((n : ℕ) → h (fixedA n) ≡ fixedB n)
-    → (q : Query) (rows : List (Row A)) (image : List A) → Carries fixedA assign q rows image
-    → Carries fixedB (λ v. h (assign v)) q (map (mapRow h) rows) (map h image)
-carries-map {A} fixedA assign fixedB h fix q rows image c =
-    carries-onto fixedA assign fixedB (λ v. h (assign v)) h q rows (map (mapRow h) rows) image (map h image)
-    (λ e at. onEntry e) (λ r at. Memᴰ·map (mapRow h) at) refl c
-  where
-    onEntry : (e : Entry) → valueOf fixedB (λ v. h (assign v)) e ≡ h (valueOf fixedA assign e)
-    onEntry (constant n) = sym (fix n)
-    onEntry (variable v) = refl
 
 -- A query with the same head and fewer rows, but some, is carried by the same assignment
 pub carries-fewer : {A : Type 0} (fixed assign : ℕ → A) (q q' : Query) (rows : List (Row A)) (image : List A)

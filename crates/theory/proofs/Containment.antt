@@ -19,10 +19,10 @@ use lib.Dec.{ltb}
 use lib.ListN.{length-map}
 use borrow.Author.Tests.{lt-ltb, le-ltb}
 use Rattle.theory.specs.Query.{Entry, constant, variable, Row, Query, mapRow, rowEntries, FitsSchema, _∈_}
-use Rattle.theory.specs.Database.{Database, Dependency, Obeys, Sound}
+use Rattle.theory.specs.Database.{Database, Dependency, Obeys, Sound, Legal}
 use Rattle.theory.specs.Answer.{valueOf, itself, Carries, Answer, Mapping}
 use Rattle.theory.specs.Chase.{chase}
-use Rattle.theory.specs.Containment.{Legal, Contained, Counterexample, freeze, frozenRows, frozenHead, ConstantsBelow, StandsFor}
+use Rattle.theory.specs.Containment.{Contained, Counterexample, freeze, frozenRows, frozenHead, ConstantsBelow, StandsFor}
 use Rattle.theory.proofs.Lists.{map-agree, list-cases}
 use Rattle.theory.proofs.Entries.{row-rowEntries}
 use Rattle.theory.proofs.Carry.{carries-onto, carries-compose, mapping-of, mapRow-id, mapRow-compose}

@@ -178,11 +178,11 @@ chase-maps ds q result count c = chases-mapping c
 pub chased-well-formed : chases.ChasedWellFormed
 chased-well-formed widths ds q result count c well = (chases-wellformed widths c well, chases-head-length c)
 
-pub chased-obeys : chases.ChasedObeys
-chased-obeys widths ds q result count base c fit positive below = (
-  frozen-sound widths base result (chases-rows-fit widths c fit),
-  rests-obeys ds result base (chases-rests c) positive (chases-constants base positive c below),
-)
+pub chased-legal : chases.ChasedLegal
+chased-legal widths ds q result count base c fit positive below = record {
+  sound = frozen-sound widths base result (chases-rows-fit widths c fit);
+  obeys = rests-obeys ds result base (chases-rests c) positive (chases-constants base positive c below);
+}
 
 pub a-constant-survives : chases.ConstantSurvives
 a-constant-survives = constant-survives

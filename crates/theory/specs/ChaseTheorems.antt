@@ -6,7 +6,7 @@ use mathlib.Core.Option.{none, some}
 use Prim.Native.Nat.{ℕ, zero, suc, _+_, _≤_, _<_}
 use lib.ListN.{length}
 use Rattle.theory.specs.Query.{Entry, constant, variable, Row, Query, never, mapQuery, variablesOf, variableCount, RowsFit, WellFormed, _∈_}
-use Rattle.theory.specs.Database.{Database, Dependency, Obeys, Sound}
+use Rattle.theory.specs.Database.{Database, Dependency, Obeys, Legal}
 use Rattle.theory.specs.Answer.{Answer, Mapping}
 use Rattle.theory.specs.Chase.{clash, replace, resolve, inHead, substitute, step, Chases, chase}
 use Rattle.theory.specs.Containment.{frozenRows, ConstantsBelow}
@@ -99,11 +99,11 @@ ChasedWellFormed =
     (widths : List ℕ) (ds : List Dependency) (q result : Query) (count : ℕ) → Chases ds q result count
     → WellFormed widths q → WellFormed widths result × (length (result .head) ≡ length (q .head))
 
--- Read as a database it is sound and obeys the dependencies
-abbrev pub ChasedObeys : Type 0
-ChasedObeys =
+-- Read as a database it is legal
+abbrev pub ChasedLegal : Type 0
+ChasedLegal =
     (widths : List ℕ) (ds : List Dependency) (q result : Query) (count base : ℕ) → Chases ds q result count
-    → RowsFit widths q → 0 < base → ConstantsBelow base q → Sound widths (frozenRows base result) × Obeys ds (frozenRows base result)
+    → RowsFit widths q → 0 < base → ConstantsBelow base q → Legal widths ds (frozenRows base result)
 
 -- ---- the survivor
 

@@ -3,13 +3,8 @@ use mathlib.Core.Logic.{_≢_, _↔_}
 use mathlib.Core.List.{List, [], map}
 use Prim.Native.Nat.{ℕ, _+_, _<_}
 use Rattle.theory.specs.Query.{Entry, constant, Query, mapRow, rowEntries, _∈_}
-use Rattle.theory.specs.Database.{Database, Dependency, Obeys, Sound}
+use Rattle.theory.specs.Database.{Database}
 use Rattle.theory.specs.Answer.{Answer, valueOf, itself}
-
--- A database of the record's kind: its rows fit the relations, and it obeys the dependencies
-pub record Legal (widths : List ℕ) (ds : List Dependency) (D : Database) : Type 0 where
-  pub sound : Sound widths D
-  pub obeys : Obeys ds D
 
 -- p is contained in q over a class of databases: on each of them, each answer of p is an answer of q
 abbrev pub Contained : (Database → Type 0) → Query → Query → Type 0

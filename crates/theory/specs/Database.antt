@@ -1,4 +1,4 @@
--- Databases of whole numbers, functional dependencies, and what obeying them means.
+-- Databases of whole numbers, functional dependencies, what obeying them means, and the legal databases of a record.
 use mathlib.Core.Path.{_≡_}
 use mathlib.Core.List.{List}
 use Prim.Native.Nat.{ℕ}
@@ -32,3 +32,8 @@ Obeys ds D = (d : Dependency) → d ∈ ds → ObeysOne d D
 -- A sound database: each row is of a known relation and of its width
 abbrev pub Sound : List ℕ → Database → Type 0
 Sound widths D = (r : Row ℕ) → r ∈ D → FitsSchema widths r
+
+-- A database of the record's kind: its rows fit the relations, and it obeys the dependencies
+pub record Legal (widths : List ℕ) (ds : List Dependency) (D : Database) : Type 0 where
+  pub sound : Sound widths D
+  pub obeys : Obeys ds D

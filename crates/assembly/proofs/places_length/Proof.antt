@@ -1,13 +1,13 @@
 use borrow.Author.Needs.{needs}
 use mathlib.Core.Path.{_≡_, ap, _∙_}
-use mathlib.Core.List.{List, map}
+use mathlib.Core.List.{List, map, flatten}
 use Prim.Native.Nat.{ℕ, _+_, _*_, _-_, _≤_, _<_}
 use native.Mathlib.Nat.{zero-add}
 use native.Mathlib.Omega.{arith}
 use lib.ListN.{length, take, drop, getD, length-append}
 use Rattle.query.specs.declared.Place.{Place}
 use Rattle.query.specs.Rule.{goodPlace}
-use Rattle.format.specs.File.{join, putPlace}
+use Rattle.format.specs.File.{putPlace}
 use Rattle.lists.proofs.Tests.{every-getD}
 use Rattle.query.proofs.Shape.{pastPlace}
 use Rattle.assembly.proofs.FirstPlaces.{parts-next, parts-end}
@@ -15,21 +15,21 @@ use Rattle.assembly.proofs.places_length.Statement.{statement}
 use Rattle.assembly.proofs.places_length.Tie as tie
 
 next : (schema : List ℕ) (places : List Place) (n k : ℕ) → n ≤ length places → k < n
-    → length (join (map (putPlace schema) (drop k (take n places))))
-    ≡ length (putPlace schema (getD places k pastPlace)) + length (join (map (putPlace schema) (drop (k + 1) (take n places))))
-unfolding join
+    → length (flatten (map (putPlace schema) (drop k (take n places))))
+    ≡ length (putPlace schema (getD places k pastPlace)) + length (flatten (map (putPlace schema) (drop (k + 1) (take n places))))
+unfolding flatten
 next schema places n k l h =
-    ap (λ (ps : List (List ℕ)). length (join ps)) (parts-next schema places n k l h)
-    ∙ length-append (putPlace schema (getD places k pastPlace)) (join (map (putPlace schema) (drop (k + 1) (take n places))))
+    ap (λ (ps : List (List ℕ)). length (flatten ps)) (parts-next schema places n k l h)
+    ∙ length-append (putPlace schema (getD places k pastPlace)) (flatten (map (putPlace schema) (drop (k + 1) (take n places))))
 
-none-left : (schema : List ℕ) (places : List Place) (n k : ℕ) → n ≤ length places → n ≤ k → length (join (map (putPlace schema) (drop k (take n places)))) ≡ 0
-unfolding join
-none-left schema places n k l h = ap (λ (ps : List (List ℕ)). length (join ps)) (parts-end schema places n k l h)
+none-left : (schema : List ℕ) (places : List Place) (n k : ℕ) → n ≤ length places → n ≤ k → length (flatten (map (putPlace schema) (drop k (take n places)))) ≡ 0
+unfolding flatten
+none-left schema places n k l h = ap (λ (ps : List (List ℕ)). length (flatten ps)) (parts-end schema places n k l h)
 
 abbrev Inv-loop : tie.InvT-loop
 Inv-loop n count widths places sum₀ k₀ sum k =
     (k ≤ n) × (sum ≤ 534 * k)
-    × (length (join (map (putPlace (take count widths)) (take n places))) ≡ sum + length (join (map (putPlace (take count widths)) (drop k (take n places)))))
+    × (length (flatten (map (putPlace (take count widths)) (take n places))) ≡ sum + length (flatten (map (putPlace (take count widths)) (drop k (take n places)))))
 
 abbrev μ-loop : tie.MeasureT-loop
 μ-loop n count widths places sum₀ k₀ sum k = n - k

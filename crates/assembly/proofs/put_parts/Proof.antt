@@ -1,12 +1,12 @@
 use borrow.Author.Needs.{needs}
 use mathlib.Core.Path.{_≡_, refl}
-use mathlib.Core.List.{List, [], _++_, map}
+use mathlib.Core.List.{List, [], _++_, map, flatten}
 use Prim.Native.Nat.{ℕ, _+_, _*_, _^_, _≤_, _<_}
 use native.Mathlib.Omega.{arith}
 use lib.ListN.{length, take}
 use Rattle.record.specs.View.{schemaOf}
 use Rattle.format.specs.Parts.{relations}
-use Rattle.format.specs.File.{join, putPlace}
+use Rattle.format.specs.File.{putPlace}
 use Rattle.assembly.specs.internal.Pieces.{dependencyBytes}
 use Rattle.lists.proofs.Loops.{mapped-length}
 use Rattle.record.proofs.Good.{good-record}
@@ -31,7 +31,7 @@ abbrev listBytes : tie.Start → List ℕ
 listBytes c = dependencyBytes (c .args .given .held) (c .args .given .dependencies)
 
 abbrev placeBytes : tie.Start → List ℕ
-placeBytes c = join (map (putPlace (schemaOf (c .args .given))) (take (c .args .n) (c .args .given .places)))
+placeBytes c = flatten (map (putPlace (schemaOf (c .args .given))) (take (c .args .n) (c .args .given .places)))
 
 -- Where the second part starts, and the third
 abbrev second : tie.Start → ℕ

@@ -1,6 +1,6 @@
 use borrow.Author.Needs.{needs}
 use mathlib.Core.Path.{_≡_, sym, ap, refl, _∙_}
-use mathlib.Core.List.{List, [], _∷_, _++_, map, flatMap}
+use mathlib.Core.List.{List, [], _∷_, _++_, map, flatMap, flatten}
 use Prim.Native.Nat.{ℕ, _+_, _-_, _≤_, _<_}
 use native.Mathlib.Omega.{arith}
 use lib.ListN.{length, take, getD}
@@ -8,15 +8,15 @@ use lib.Seq.{length-take-le, getD-take}
 use Rattle.query.specs.declared.Place.{Place}
 use Rattle.query.specs.Rule.{goodPlace}
 use Rattle.lists.specs.Over.{over}
-use Rattle.format.specs.File.{join, putPlace}
+use Rattle.format.specs.File.{putPlace}
 use Rattle.lists.proofs.Tests.{every-getD}
 use Rattle.query.proofs.Shape.{pastPlace}
 use Rattle.encoder.proofs.Stores.{Writing, writing-starts, writing-room, writing-turns, writing-ends}
 use Rattle.assembly.proofs.put_places.Statement.{statement}
 use Rattle.assembly.proofs.put_places.Tie as tie
 
-joined : (f : Place → List ℕ) (ps : List Place) → join (map f ps) ≡ flatMap f ps
-unfolding join flatMap
+joined : (f : Place → List ℕ) (ps : List Place) → flatten (map f ps) ≡ flatMap f ps
+unfolding flatten flatMap
 joined f [] = refl
 joined f (p ∷ ps) = ap (λ (t : List ℕ). f p ++ t) (joined f ps)
 

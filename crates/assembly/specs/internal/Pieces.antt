@@ -1,5 +1,5 @@
 -- The bytes that the functions write, piece by piece.
-use mathlib.Core.List.{List, [], _∷_, _++_, map, flatMap}
+use mathlib.Core.List.{List, [], _∷_, _++_, map, flatMap, flatten}
 use Prim.Native.Nat.{ℕ, _+_, _*_}
 use lib.ListN.{take}
 use Rattle.query.specs.declared.Dependency.{Dependency}
@@ -7,7 +7,7 @@ use Rattle.record.specs.declared.Record.{Record}
 use Rattle.record.specs.View.{schemaOf}
 use Rattle.format.specs.Bytes.{bytesOf}
 use Rattle.format.specs.Parts.{relations}
-use Rattle.format.specs.File.{tableOf, join, putPlace}
+use Rattle.format.specs.File.{tableOf, putPlace}
 
 -- The bytes of a dependency
 abbrev pub putDependency : Dependency → List ℕ
@@ -26,4 +26,4 @@ directoryBytes n first second parts =
 -- The parts of a record, n of them query parts, one after the other
 abbrev pub partBytes : Record → ℕ → List ℕ
 partBytes r n =
-    relations .put (r .relations, r .widths) ++ dependencyBytes (r .held) (r .dependencies) ++ join (map (putPlace (schemaOf r)) (take n (r .places)))
+    relations .put (r .relations, r .widths) ++ dependencyBytes (r .held) (r .dependencies) ++ flatten (map (putPlace (schemaOf r)) (take n (r .places)))

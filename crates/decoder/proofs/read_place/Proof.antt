@@ -10,12 +10,12 @@ use lib.ListN.{length, take}
 use Rattle.refusals.specs.Refusals.{_>>=_, badQuery, gives, refused, unsafeHead}
 use Rattle.query.specs.declared.Query.{Query}
 use Rattle.record.specs.declared.Status.the-variants.{Done}
-use Rattle.query.specs.Rule.{headSafe, noPlace}
+use Rattle.query.specs.Rule.{headSafe, noPlace, placeWith}
 use Rattle.query.proofs.Good as stored
 use Rattle.format.specs.Bytes.{Bytes}
 use Rattle.format.specs.Format.{Reading, none, got}
 use Rattle.format.specs.Parts.{query}
-use Rattle.format.specs.File.{complete, isVacant, placeWith, safeQuery, readPlace}
+use Rattle.format.specs.File.{complete, isVacant, safeQuery, readPlace}
 use Rattle.format.proofs.Bytes.{bytes-known}
 use Rattle.format.proofs.Parts.{Narrow, query-lawful}
 use Rattle.format.proofs.Rules.{good-query, good-narrow}

@@ -11,8 +11,8 @@ use Rattle.query.specs.declared.Query.{Query}
 use Rattle.query.specs.declared.Dependency.{Dependency}
 use Rattle.query.specs.View.{entryOf, entriesOf}
 use Rattle.query.specs.Rule.{goodEntry, noDependency}
-use Rattle.first_step.specs.declared.Found.{Found}
-use Rattle.first_step.specs.declared.Found.the-variants.{Rest, Step}
+use Rattle.first_step.specs.declared.NextStep.{NextStep}
+use Rattle.first_step.specs.declared.NextStep.the-variants.{Rest, Step}
 use Rattle.theory.specs.Query as theory
 use Rattle.theory.specs.Database as database
 use Rattle.theory.specs.Chase as chasing
@@ -48,14 +48,14 @@ abbrev pub firstDiffering : List database.Dependency → List (theory.Row theory
 firstDiffering ds rows = Option·map differing (chasing.firstBroken ds rows)
 
 -- What the answer of the search stands for
-abbrev pub foundOf : Found → Option (theory.Entry × theory.Entry)
-foundOf Rest = none
-foundOf (Step a b) = some (entryOf a, entryOf b)
+abbrev pub nextStepOf : NextStep → Option (theory.Entry × theory.Entry)
+nextStepOf Rest = none
+nextStepOf (Step a b) = some (entryOf a, entryOf b)
 
 -- Whether the entries found are within the limits (SPECIFICATION, Limits)
-abbrev pub goodFound : Found → Bool
-goodFound Rest = true
-goodFound (Step a b) = goodEntry a && goodEntry b
+abbrev pub goodNextStep : NextStep → Bool
+goodNextStep Rest = true
+goodNextStep (Step a b) = goodEntry a && goodEntry b
 
 -- ---- what the search asks
 

@@ -59,9 +59,6 @@ After-codes = lts.After-codes claims reads.Pre reads.Post
 abbrev After-codes2 : Type 0
 After-codes2 = lts.After-codes2 claims reads.Pre reads.Post
 
-abbrev After-domains : Type 0
-After-domains = lts.After-domains claims reads.Pre reads.Post
-
 abbrev After-table : Type 0
 After-table = lts.After-table claims reads.Pre reads.Post
 
@@ -82,12 +79,6 @@ from-long c = search needs
 
 to-long : (c : After-codes2) → length (c .codes2 .result) ≡ 104
 to-long c = search needs
-
-domain-long : (c : After-domains) → length (c .domains .result) ≡ 13
-domain-long c = search needs
-
-table-long : (c : After-table) → length (c .table .result) ≡ 2028
-table-long c = search needs
 
 images-long : (c : After-assign) → length (c .assign .result) ≡ 96
 images-long c = search needs

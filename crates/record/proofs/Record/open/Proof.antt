@@ -8,7 +8,8 @@ use borrow.Author.Tests.{not-true, not-false}
 use borrow.Author.Needs.{needs}
 use Rattle.record.specs.declared.Record.{Record}
 use Rattle.query.specs.Rule.{goodRelations}
-use Rattle.record.specs.Calls.{concluded, emptyRecord}
+use Rattle.record.specs.Rule.{emptyRecord}
+use Rattle.record.specs.Calls.{concluded}
 use Rattle.record.proofs.Outcomes.{open-many, open-unfit, open-done}
 use Rattle.record.proofs.Record.open.Statement.{statement}
 use Rattle.record.proofs.Record.open.Tie as tie
