@@ -2,14 +2,15 @@
 use mathlib.Core.Path.{_≡_, refl, ap, sym, _∙_}
 use mathlib.Core.Logic.{_⊎_, ⊎-elim}
 use mathlib.Core.List.{List, [], _∷_, List·Memᴰ·head, List·Memᴰ·tail}
-use Prim.Native.Nat.{ℕ, suc, _+_, _-_, _*_, _/_, _%_, _^_, _≤_, _<_}
-use native.Mathlib.Nat.{mod-lt}
+use Prim.Native.Nat.{ℕ, zero, suc, _+_, _-_, _*_, _/_, _%_, _^_, _≤_, _<_}
+use native.Mathlib.Nat.{mod-lt, div-lt-iff-lt-mul, pow-suc}
 use native.Mathlib.Omega.{arith}
 use lib.ListN.{drop, getD}
 use lib.Seq.{getD-take, getD-drop}
 use Rattle.theory.specs.Query.{Row, column}
 use Rattle.theory.specs.Database.{Dependency, Agree}
 use Rattle.query.specs.View.{columnsFrom, columnsOf}
+use Rattle.query.proofs.Stored.{no-columns}
 use Rattle.words.specs.internal.Rows.{spanAt}
 use Rattle.words.proofs.Columns.{columns-short, columns-set, columns-clear}
 use Rattle.grouping.specs.internal.Hash.{hashFrom, spread}
@@ -26,6 +27,17 @@ hash-agree factor (c ∷ cs) h r s a =
 -- so they are in one group
 pub together-agree : (buckets : ℕ) (d : Dependency) (r s : Row ℕ) → Agree 0 (d .left) r s → Together buckets d r s
 together-agree buckets d r s a = (ap (spread buckets) (hash-agree 1000003 (d .left) 0 r s a), hash-agree 2654435761 (d .left) 0 r s a)
+
+-- a mask that is not 0 has a column below n, and what is left of it without its first bit is below n - 1
+pub mask-some : (n mask : ℕ) → mask < 2 ^ n → (mask ≡ 0 → ⊥) → 0 < n
+mask-some zero mask below left = absurd (left (omega arith))
+mask-some (suc n) mask below left = omega arith
+
+pub mask-half : (n mask : ℕ) → 0 < n → mask < 2 ^ n → mask / 2 < 2 ^ (n - 1)
+mask-half zero mask some below = absurd (omega arith)
+mask-half (suc n) mask some below =
+    let e : suc n - 1 ≡ n = omega arith in
+    rw e (div-lt-iff-lt-mul {k = 2} {x = mask} {y = 2 ^ n} (omega arith) .1 (rw (pow-suc 2 n) at below))
 
 -- column c of the row at a word
 pub span-value : (width : ℕ) (words : List ℕ) (at c : ℕ) → c < width → column 0 (spanAt width words at) c ≡ getD words (at + 1 + c) 0
@@ -60,9 +72,9 @@ module _ (factor width : ℕ) (words : List ℕ) (a : ℕ) where
       (ap (λ (x : ℕ). hashFrom factor (columnsFrom (suc c) (width - suc c) (mask / 2)) ((h * factor + x) % 4294967296) (spanAt width words a))
       (span-value width words a c l))
 
-  pub hash-end : (c mask h : ℕ) → width ≤ c → hashAt c mask h ≡ h
-  unfolding hashAt hashFrom columnsFrom
-  hash-end c mask h l = let e : width - c ≡ 0 = omega arith in rw e
+  pub hash-end : (c mask h : ℕ) → mask ≡ 0 → hashAt c mask h ≡ h
+  unfolding hashAt hashFrom
+  hash-end c mask h e = rw (e, no-columns c (width - c))
 
   -- one column passed: its value is mixed in if it is in the mask
   abbrev pub Mixed : ℕ → ℕ → ℕ → ℕ → Type 0

@@ -78,7 +78,7 @@ fn sought_of(words: &[u32], width: usize, d: Dependency, a: usize, buckets: usiz
     let mut tag: u64 = 0;
     let mut left = d.left;
     let mut c: usize = 0;
-    while c < width {
+    while left != 0 {
         if left % 2 == 1 {
             let x = words::value(words, a, c) as u64;
             h = (h * 1000003 + x) % 4294967296;

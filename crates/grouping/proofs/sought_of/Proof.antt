@@ -1,9 +1,9 @@
 -- `sought_of` takes two hashes of a row's left values, and its right value. Invariant: the hashes of what is left of the left set, begun with h and tag,
 -- are the whole hashes.
 -- Assumes nothing.
-use mathlib.Core.Path.{_≡_, refl, sym, ap, ap₂, _∙_}
+use mathlib.Core.Path.{_≡_, refl, sym, ap, subst, _∙_}
 use mathlib.Core.Logic.{⊎-elim, inl, inr}
-use Prim.Native.Nat.{ℕ, _≤_, _-_, _+_, _*_, _/_, _%_, _<_}
+use Prim.Native.Nat.{ℕ, _≤_, _-_, _+_, _*_, _/_, _%_, _^_, _<_}
 use native.Mathlib.Nat.{mod-lt, div-le-self}
 use native.Mathlib.Omega.{arith}
 use Rattle.theory.specs.Query.{column}
@@ -11,18 +11,18 @@ use Rattle.query.specs.View.{columnsOf}
 use Rattle.words.specs.internal.Rows.{spanAt}
 use Rattle.grouping.specs.internal.Hash.{hashFrom, spread}
 use Rattle.grouping.specs.declared.Sought.{Sought}
-use Rattle.grouping.proofs.Hashes.{span-value, hashAt, Mixed, hash-start, hash-on, hash-low, hash-end}
+use Rattle.grouping.proofs.Hashes.{mask-some, mask-half, span-value, hashAt, Mixed, hash-start, hash-on, hash-low, hash-end}
 use borrow.Author.Needs.{needs}
 use Rattle.grouping.proofs.sought_of.Statement.{statement}
 use Rattle.grouping.proofs.sought_of.Tie as tie
 
 abbrev Inv-loop : tie.InvT-loop
-Inv-loop words width d a buckets h₀ tag₀ left₀ c₀ h tag left c = (c ≤ width) × (h < 4294967296) × (tag < 4294967296)
+Inv-loop words width d a buckets h₀ tag₀ left₀ c₀ h tag left c = (c ≤ width) × (left < 2 ^ (width - c)) × (h < 4294967296) × (tag < 4294967296)
     × (hashAt 1000003 width words a 0 left₀ 0 ≡ hashAt 1000003 width words a c left h)
     × (hashAt 2654435761 width words a 0 left₀ 0 ≡ hashAt 2654435761 width words a c left tag)
 
 abbrev μ-loop : tie.MeasureT-loop
-μ-loop words width d a buckets h₀ tag₀ left₀ c₀ h tag left c = width - c
+μ-loop words width d a buckets h₀ tag₀ left₀ c₀ h tag left c = left
 
 -- Equal parts make equal wholes
 abbrev made : ℕ → ℕ → ℕ → Sought
@@ -32,10 +32,17 @@ same : {b b' t t' r r' : ℕ} → b ≡ b' → t ≡ t' → r ≡ r' → made b 
 same {b} {b'} {t} {t'} {r} {r'} e f g = ap (λ (x : ℕ). made x t r) e ∙ ap (λ (x : ℕ). made b' x r) f ∙ ap (made b' t') g
 
 loop-holds : tie.Need-loop-holds Inv-loop μ-loop
-loop-holds c = (search needs, search needs, search needs, refl, refl)
+loop-holds c = let s = c .before in
+    let all : s .args .width - 0 ≡ s .args .width = omega arith in
+    (search needs, subst (λ (n : ℕ). s .args .d .left < 2 ^ n) (sym all) (s .pre .1 .1), search needs, search needs, refl, refl)
+
+-- A column of the left set is left
+inside : (c : tie.In-loop Inv-loop μ-loop) → c .before .loop .c < c .before .before .before .args .width
+inside c = let l = c .before .loop in
+    omega (arith, mask-some (c .before .before .before .args .width - l .c) (l .left) (l .inv .1) (c .loop-test .taken))
 
 value-requires : tie.Need-value-requires Inv-loop μ-loop
-value-requires c κs = search needs
+value-requires c κs = omega (arith, inside (c .before), c .before .before .before .before .pre .0)
 
 cast-x : tie.Need-cast-x Inv-loop μ-loop
 cast-x c = search needs
@@ -53,7 +60,7 @@ add-tag : tie.Need-add-tag Inv-loop μ-loop
 add-tag c = search needs
 
 add-c : tie.Need-add-c Inv-loop μ-loop
-add-c c = search needs
+add-c c = omega (arith, inside (c .before), c .before .before .before .before .fits .width)
 
 loop-less : tie.Need-loop-less Inv-loop μ-loop
 loop-less c = search needs
@@ -75,22 +82,24 @@ loop-again : tie.Need-loop-again Inv-loop μ-loop
 loop-again c = let a = c .before .before .before .before .args in
     let l = c .before .before .loop in
     let W = a .words .now in
-    let inside : l .c < a .width = c .before .loop-test .taken in (
-      search needs,
-      hash-low 1000003 (a .width) W (a .a) (l .c) (l .left) (l .h) (c .if1 .h) (l .inv .1) (mixed-h c),
-      hash-low 2654435761 (a .width) W (a .a) (l .c) (l .left) (l .tag) (c .if1 .tag) (l .inv .2) (mixed-tag c),
-      l .inv .3 ∙ hash-on 1000003 (a .width) W (a .a) (l .c) (l .left) (l .h) (c .if1 .h) inside (mixed-h c),
-      l .inv .4 ∙ hash-on 2654435761 (a .width) W (a .a) (l .c) (l .left) (l .tag) (c .if1 .tag) inside (mixed-tag c),
+    let low : l .c < a .width = inside (c .before) in
+    let less : a .width - l .c - 1 ≡ a .width - (l .c + 1) = omega arith in (
+      omega arith,
+      subst (λ (n : ℕ). l .left / 2 < 2 ^ n) less (mask-half (a .width - l .c) (l .left) (omega arith) (l .inv .1)),
+      hash-low 1000003 (a .width) W (a .a) (l .c) (l .left) (l .h) (c .if1 .h) (l .inv .2) (mixed-h c),
+      hash-low 2654435761 (a .width) W (a .a) (l .c) (l .left) (l .tag) (c .if1 .tag) (l .inv .3) (mixed-tag c),
+      l .inv .4 ∙ hash-on 1000003 (a .width) W (a .a) (l .c) (l .left) (l .h) (c .if1 .h) low (mixed-h c),
+      l .inv .5 ∙ hash-on 2654435761 (a .width) W (a .a) (l .c) (l .left) (l .tag) (c .if1 .tag) low (mixed-tag c),
     )
 
 div-t17 : tie.Need-div-t17 Inv-loop μ-loop
 div-t17 c = search needs
 
 mul-t18 : tie.Need-mul-t18 Inv-loop μ-loop
-mul-t18 c = omega (arith, c .before .loop .inv .1, div-le-self (c .before .loop .h) (c .before .before .before .args .buckets))
+mul-t18 c = omega (arith, c .before .loop .inv .2, div-le-self (c .before .loop .h) (c .before .before .before .args .buckets))
 
 add-t19 : tie.Need-add-t19 Inv-loop μ-loop
-add-t19 c = omega (arith, c .before .loop .inv .1, div-le-self (c .before .loop .h) (c .before .before .before .args .buckets))
+add-t19 c = omega (arith, c .before .loop .inv .2, div-le-self (c .before .loop .h) (c .before .before .before .args .buckets))
 
 rem-t20 : tie.Need-rem-t20 Inv-loop μ-loop
 rem-t20 c = search needs
@@ -111,12 +120,12 @@ returns c = let e = c .before .before in
     let a = s .args in
     let W = a .words .now in
     let r = spanAt (a .width) W (a .a) in
-    let done : a .width ≤ l .c = e .loop-test .left in
+    let done : l .left ≡ 0 = e .loop-test .left in
     let h : hashFrom 1000003 (columnsOf (a .d .left)) 0 r ≡ l .h =
-    hash-start 1000003 (a .width) W (a .a) (a .d .left) (s .pre .1 .0) (s .pre .1 .1) ∙ l .inv .3
+    hash-start 1000003 (a .width) W (a .a) (a .d .left) (s .pre .1 .0) (s .pre .1 .1) ∙ l .inv .4
     ∙ hash-end 1000003 (a .width) W (a .a) (l .c) (l .left) (l .h) done in
     let tag : hashFrom 2654435761 (columnsOf (a .d .left)) 0 r ≡ l .tag =
-    hash-start 2654435761 (a .width) W (a .a) (a .d .left) (s .pre .1 .0) (s .pre .1 .1) ∙ l .inv .4
+    hash-start 2654435761 (a .width) W (a .a) (a .d .left) (s .pre .1 .0) (s .pre .1 .1) ∙ l .inv .5
     ∙ hash-end 2654435761 (a .width) W (a .a) (l .c) (l .left) (l .tag) done in
     let right : column 0 r (a .d .right) ≡ c .value2 .result = span-value (a .width) W (a .a) (a .d .right) (s .pre .1 .2) ∙ sym (c .value2 .ensures) in (
       sym (same (ap (spread (a .buckets)) h) tag right),
