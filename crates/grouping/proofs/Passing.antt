@@ -1,33 +1,32 @@
 -- Passing the rows one by one: how the table of leaders and what is known of the groups go on. Assumes nothing.
 use mathlib.Core.Path.{_≡_, refl, ap, ap₂, sym, subst, _∙_}
-use mathlib.Core.Bool.{Bool, true, false, cond, false≢true}
+use mathlib.Core.Bool.{Bool, true, false, false≢true}
 use mathlib.Core.List.{List, [], _∷_}
 use Prim.Native.Nat.{ℕ, zero, suc, _+_, _-_, _*_, _≤_, _<_}
 use native.Mathlib.Omega.{arith}
-use lib.Dec.{eqb, ltb}
-use borrow.Author.Tests.{eqb-true, eqb-false, ltb-true, ltb-false}
+use lib.Dec.{eqb}
+use borrow.Author.Tests.{eqb-true, eqb-false}
 use lib.ListN.{length, take, drop, getD, set, length-set, length-drop, drop-of-length-le}
 use lib.Seq.{getD-drop, drop-drop, drop-length, take-all}
 use Rattle.theory.specs.Query.{Row, column}
-use Rattle.theory.specs.Database.{Database, Agree}
-use Rattle.query.specs.View.{dependencyOf, columnsOf}
+use Rattle.theory.specs.Database.{Database}
+use Rattle.query.specs.View.{dependencyOf}
 use Rattle.query.specs.declared.Dependency.{Dependency}
 use Rattle.words.specs.Words.{spellsRows, rowsFrom, databaseOf, spellsRowsFrom}
-use Rattle.words.specs.internal.Rows.{spanAt, rowAt, Next, agreeRows}
+use Rattle.words.specs.internal.Rows.{spanAt, rowAt, Next}
 use Rattle.words.specs.Testing.{firstPairFrom}
 use Rattle.words.specs.internal.Found.{From}
 use Rattle.words.proofs.Spelling.{next-row}
-use Rattle.words.proofs.Obeys.{agree-true, agree-all}
-use Rattle.grouping.specs.internal.Hash.{bucketOf}
+use Rattle.grouping.specs.internal.Hash.{bucketOf, tagOf}
 use Rattle.grouping.specs.internal.Chains.{Chained}
-use Rattle.grouping.specs.internal.Table.{linkOf, offsetOf, numberOf, leaderOf, withLeader, keyOf, agrees}
-use Rattle.grouping.specs.internal.Groups.{Groups, KeyBelow, Key}
+use Rattle.grouping.specs.internal.Table.{soughtOf, linkOf, numberOf, rightIn, tagIn, withLeader, leaderOf, keyOf, Leads}
+use Rattle.grouping.specs.internal.Groups.{Together, Groups, KeyBelow, Key}
 use Rattle.words.specs.Broken.{nthRow}
-use Rattle.grouping.specs.internal.Walked.{Placed, Member, Walked, earlierOf, Skips}
+use Rattle.grouping.specs.internal.Walked.{Placed, Member, Walked, Skips}
 use Rattle.grouping.specs.declared.Position.{Position}
+use Rattle.grouping.specs.declared.Sought.{Sought}
 use Rattle.grouping.specs.declared.Walk.{Walk}
-use Rattle.grouping.proofs.Hashes.{span-value}
-use Rattle.grouping.proofs.Entering.{enter-length, enter-below, enter-link, enter-offset, enter-number}
+use Rattle.grouping.proofs.Entering.{enter-length, enter-below, enter-link, enter-number, enter-right, enter-tag}
 use Rattle.grouping.proofs.Chains.{chained-none, chained-agree, chained-more}
 use Rattle.grouping.proofs.Leading.{groups-start, groups-other, groups-member, groups-full, groups-new, key-other, key-new, pairs-skip}
 
@@ -39,31 +38,7 @@ rows-few schema zero (relation ∷ words) = let i : length (rowsFrom schema (get
     (getD schema relation 0) words in omega arith
 rows-few schema (suc due) (word ∷ words) = let i : length (rowsFrom schema due words) ≤ length words = rows-few schema due words in omega arith
 
--- ---- the position that comes first
-
-earlier-left : (p q : Position) → earlierOf p q .number ≤ p .number
-earlier-left p q = go (ltb (q .number) (p .number)) refl
-  where
-    go : (b : Bool) → ltb (q .number) (p .number) ≡ b → cond b q p .number ≤ p .number
-    go true e = let l : q .number < p .number = ltb-true (q .number) (p .number) e in omega arith
-    go false e = omega arith
-
-earlier-right : (p q : Position) → earlierOf p q .number ≤ q .number
-earlier-right p q = go (ltb (q .number) (p .number)) refl
-  where
-    go : (b : Bool) → ltb (q .number) (p .number) ≡ b → cond b q p .number ≤ q .number
-    go true e = omega arith
-    go false e = let l : p .number ≤ q .number = ltb-false (q .number) (p .number) e in omega arith
-
-earlier-placed : (schema words : List ℕ) (p q : Position) → Placed schema words (p .at) (p .number) → Placed schema words (q .at) (q .number)
-    → Placed schema words (earlierOf p q .at) (earlierOf p q .number)
-earlier-placed schema words p q hp hq = go (ltb (q .number) (p .number))
-  where
-    go : (b : Bool) → Placed schema words (cond b q p .at) (cond b q p .number)
-    go true = hq
-    go false = hp
-
-module _ (schema words : List ℕ) (d : Dependency) where
+module _ (schema words : List ℕ) where
   -- ---- rows in their places
 
   -- the first row
@@ -97,6 +72,7 @@ module _ (schema words : List ℕ) (d : Dependency) where
       ap (λ (m : ℕ). getD (databaseOf schema words) m z) (sym e) ∙ sym (getD-drop n (databaseOf schema words) 0 z)
       ∙ ap (λ (l : Database). getD l 0 z) (p .read ∙ next .read)
 
+module _ (schema words : List ℕ) (d : Dependency) where
   module _ (at n : ℕ) (m : Member schema words d at n) where
     member-next : Next schema words at (at + 1 + getD schema (d .relation) 0)
     member-next =
@@ -108,64 +84,26 @@ module _ (schema words : List ℕ) (d : Dependency) where
 
     pub member-row : nthRow (databaseOf schema words) n ≡ spanAt (getD schema (d .relation) 0) words at
     member-row =
-        placed-row at (at + 1 + getD schema (d .relation) 0) n (m .placed) member-next
+        placed-row schema words at (at + 1 + getD schema (d .relation) 0) n (m .placed) member-next
         ∙ ap (λ (r : ℕ). spanAt (getD schema r 0) words at) (m .relation)
-
-    member-relation : nthRow (databaseOf schema words) n .relation ≡ d .relation
-    member-relation = ap (λ (r : Row ℕ). r .relation) member-row ∙ m .relation
-
-    member-value : (c : ℕ) → c < getD schema (d .relation) 0 → column 0 (nthRow (databaseOf schema words) n) c ≡ getD words (at + 1 + c) 0
-    member-value c h = ap (λ (r : Row ℕ). column 0 r c) member-row ∙ span-value (getD schema (d .relation) 0) words at c h
-
-  -- two rows of the relation agree as their spans do
-  agreed : (at n o k : ℕ) → Member schema words d at n → Member schema words d o k
-      → agreeRows (dependencyOf d) (spanAt (getD schema (d .relation) 0) words o) (spanAt (getD schema (d .relation) 0) words at) ≡ true
-      → Agree 0 (columnsOf (d .left)) (nthRow (databaseOf schema words) k) (nthRow (databaseOf schema words) n)
-  agreed at n o k m l e =
-      let W : ℕ = getD schema (d .relation) 0 in
-      let a : Agree 0 (columnsOf (d .left)) (spanAt W words o) (spanAt W words at) = agree-all (columnsOf (d .left)) (spanAt W words o) (spanAt W words at) e in
-      λ c h. ap (λ (r : Row ℕ). column 0 r c) (member-row o k l) ∙ a c h ∙ sym (ap (λ (r : Row ℕ). column 0 r c) (member-row at n m))
-
-  disagreed : (at n o k : ℕ) → Member schema words d at n → Member schema words d o k
-      → agreeRows (dependencyOf d) (spanAt (getD schema (d .relation) 0) words o) (spanAt (getD schema (d .relation) 0) words at) ≡ false
-      → Agree 0 (columnsOf (d .left)) (nthRow (databaseOf schema words) k) (nthRow (databaseOf schema words) n) → ⊥
-  disagreed at n o k m l e a =
-      let W : ℕ = getD schema (d .relation) 0 in
-      let b : Agree 0 (columnsOf (d .left)) (spanAt W words o) (spanAt W words at) =
-      λ c h. sym (ap (λ (r : Row ℕ). column 0 r c) (member-row o k l)) ∙ a c h ∙ ap (λ (r : Row ℕ). column 0 r c) (member-row at n m) in
-      false≢true (sym e ∙ agree-true (columnsOf (d .left)) (spanAt W words o) (spanAt W words at) b)
 
   -- ---- one more row
 
   module _ (w : Walk) (H N : List ℕ) (h : Walked schema words d w H N) (after : ℕ) (next : Next schema words (w .row .at) after) where
     -- no leader is new
-    walked-on : (p : Position) (b : Bool) → Placed schema words (p .at) (p .number)
-        → Groups (dependencyOf d) (databaseOf schema words) (w .row .number + 1) (p .number) (w .count) (numberOf N)
-        → (b ≡ true → (p .number ≡ length words) × KeyBelow (dependencyOf d) (databaseOf schema words) (w .row .number + 1))
+    walked-on : (p : ℕ) (b : Bool)
+        → Groups (length H) (dependencyOf d) (databaseOf schema words) (w .row .number + 1) p (w .count) (numberOf N)
+        → (b ≡ true → (p ≡ length words) × KeyBelow (dependencyOf d) (databaseOf schema words) (w .row .number + 1))
         → Walked schema words d (record { row = record { at = after; number = w .row .number + 1 }; count = w .count; least = p; key = b }) H N
-    walked-on p b placed groups key =
+    walked-on p b groups key =
         record {
           bucket = h .bucket;
-          placed = placed-next (w .row .at) after (w .row .number) (h .placed) next;
+          placed = placed-next schema words (w .row .at) after (w .row .number) (h .placed) next;
           few = omega (arith, h .few);
           table = h .table;
-          members = h .members;
           groups = groups;
-          least = placed;
           key = key;
         }
-
-    -- no leader is new, and a row may be the first of a broken pair
-    walked-earlier : (p q : Position) → p ≡ earlierOf (w .least) q → Placed schema words (q .at) (q .number)
-        → ((low : ℕ) → low ≤ w .least .number → low ≤ q .number
-        → Groups (dependencyOf d) (databaseOf schema words) (w .row .number + 1) low (w .count) (numberOf N))
-        → Walked schema words d (record { row = record { at = after; number = w .row .number + 1 }; count = w .count; least = p; key = false }) H N
-    walked-earlier p q e placed groups =
-        walked-on p false
-        (subst (λ (x : Position). Placed schema words (x .at) (x .number)) (sym e) (earlier-placed schema words (w .least) q (h .least) placed))
-        (groups (p .number) (subst (λ (x : Position). x .number ≤ w .least .number) (sym e) (earlier-left (w .least) q))
-        (subst (λ (x : Position). x .number ≤ q .number) (sym e) (earlier-right (w .least) q)))
-        (λ t. absurd (false≢true t))
 
     -- the row is of another relation
     pub walked-other : (getD words (w .row .at) 0 ≡ d .relation → ⊥)
@@ -174,10 +112,10 @@ module _ (schema words : List ℕ) (d : Dependency) where
         let D : Database = databaseOf schema words in
         let n : ℕ = w .row .number in
         let differs : nthRow D n .relation ≡ d .relation → ⊥ =
-        λ e. other (sym (ap (λ (r : Row ℕ). r .relation) (placed-row (w .row .at) after n (h .placed) next)) ∙ e) in
-        walked-on (w .least) (w .key) (h .least)
-        (groups-other (dependencyOf d) D n (w .least .number) (w .count) (numberOf N) (h .groups) differs)
-        (λ t. (h .key t .0, key-other (dependencyOf d) D n (w .least .number) (w .count) (numberOf N) (h .groups) differs (h .key t .1)))
+        λ e. other (sym (ap (λ (r : Row ℕ). r .relation) (placed-row schema words (w .row .at) after n (h .placed) next)) ∙ e) in
+        walked-on (w .least) (w .key)
+        (groups-other (length H) (dependencyOf d) D n (w .least) (w .count) (numberOf N) (h .groups) differs)
+        (λ t. (h .key t .0, key-other (length H) (dependencyOf d) D n (w .least) (w .count) (numberOf N) (h .groups) differs (h .key t .1)))
 
     module _ (relation : getD words (w .row .at) 0 ≡ d .relation) where
       member : Member schema words d (w .row .at) (w .row .number)
@@ -186,149 +124,165 @@ module _ (schema words : List ℕ) (d : Dependency) where
       pub row-room : w .row .at + 1 + getD schema (d .relation) 0 ≤ length words
       row-room = member-room (w .row .at) (w .row .number) member
 
-      -- it is in the group of leader s
-      grouped : (s : ℕ) → s < w .count → agrees (getD schema (d .relation) 0) words d N (w .row .at) s ≡ true
-          → Agree 0 (columnsOf (d .left)) (nthRow (databaseOf schema words) (numberOf N s)) (nthRow (databaseOf schema words) (w .row .number))
-      grouped s below agree = agreed (w .row .at) (w .row .number) (offsetOf N s) (numberOf N s) member (h .members s below) agree
+      -- the row, as it is compared with the leaders
+      module _ (q : Sought) (is : q ≡ soughtOf (length H) (dependencyOf d) (spanAt (getD schema (d .relation) 0) words (w .row .at))) where
+        row-is : q ≡ soughtOf (length H) (dependencyOf d) (nthRow (databaseOf schema words) (w .row .number))
+        row-is = is ∙ ap (soughtOf (length H) (dependencyOf d)) (sym (member-row (w .row .at) (w .row .number) member))
 
-      -- and agrees with it on the right column
-      pub walked-same : (s : ℕ) → s < w .count → d .right < getD schema (d .relation) 0
-          → agrees (getD schema (d .relation) 0) words d N (w .row .at) s ≡ true
-          → getD words (offsetOf N s + 1 + d .right) 0 ≡ getD words (w .row .at + 1 + d .right) 0
-          → Walked schema words d (record { row = record { at = after; number = w .row .number + 1 }; count = w .count; least = w .least; key = false }) H N
-      walked-same s below fits agree same =
-          walked-on (w .least) false (h .least)
-          (groups-member (dependencyOf d) (databaseOf schema words) (w .row .number) (w .least .number) (w .count) (numberOf N) (h .groups)
-          (w .least .number) s (omega arith) below (grouped s below agree)
-          (λ _. member-value (offsetOf N s) (numberOf N s) (h .members s below) (d .right) fits ∙ same
-          ∙ sym (member-value (w .row .at) (w .row .number) member (d .right) fits)))
-          (λ t. absurd (false≢true t))
+        bucket-is : q .bucket ≡ bucketOf (length H) (dependencyOf d) (nthRow (databaseOf schema words) (w .row .number))
+        bucket-is = ap (λ (x : Sought). x .bucket) row-is
 
-      -- and may differ from it
-      pub walked-differ : (s : ℕ) → s < w .count → agrees (getD schema (d .relation) 0) words d N (w .row .at) s ≡ true
-          → (p : Position) → p ≡ earlierOf (w .least) (leaderOf N s)
-          → Walked schema words d (record { row = record { at = after; number = w .row .number + 1 }; count = w .count; least = p; key = false }) H N
-      walked-differ s below agree p e =
-          walked-earlier p (leaderOf N s) e (h .members s below .placed)
-          (λ low left right. groups-member (dependencyOf d) (databaseOf schema words) (w .row .number) (w .least .number) (w .count) (numberOf N) (h .groups)
-          low s left below (grouped s below agree) (λ i. absurd (omega arith)))
+        tag-is : q .tag ≡ tagOf (dependencyOf d) (nthRow (databaseOf schema words) (w .row .number))
+        tag-is = ap (λ (x : Sought). x .tag) row-is
 
-      module _ (absent : (s : ℕ) → s < w .count → agrees (getD schema (d .relation) 0) words d N (w .row .at) s ≡ false) where
-        alone : (s : ℕ) → s < w .count
-            → Agree 0 (columnsOf (d .left)) (nthRow (databaseOf schema words) (numberOf N s)) (nthRow (databaseOf schema words) (w .row .number)) → ⊥
-        alone s below = disagreed (w .row .at) (w .row .number) (offsetOf N s) (numberOf N s) member (h .members s below) (absent s below)
+        right-is : q .right ≡ column 0 (nthRow (databaseOf schema words) (w .row .number)) (d .right)
+        right-is = ap (λ (x : Sought). x .right) row-is
 
-        -- it would be a leader, and there is no room for it
-        pub walked-full : (p : Position) → p ≡ earlierOf (w .least) (w .row)
+        -- leader s is that of its group
+        grouped : (s : ℕ) → s < w .count → Leads (keyOf (dependencyOf d) (databaseOf schema words) (length H) N) N q s
+            → Together (length H) (dependencyOf d) (leaderOf (databaseOf schema words) N s) (nthRow (databaseOf schema words) (w .row .number))
+        grouped s below leads = (leads .0 ∙ bucket-is, sym (h .table .tags s below) ∙ leads .1 ∙ tag-is)
+
+        -- and has its right value
+        pub walked-same : (s : ℕ) → s < w .count → Leads (keyOf (dependencyOf d) (databaseOf schema words) (length H) N) N q s → rightIn N s ≡ q .right
+            → Walked schema words d (record { row = record { at = after; number = w .row .number + 1 }; count = w .count; least = w .least; key = false }) H N
+        walked-same s below leads same =
+            walked-on (w .least) false
+            (groups-member (length H) (dependencyOf d) (databaseOf schema words) (w .row .number) (w .least) (w .count) (numberOf N) (h .groups)
+            (w .least) s (omega arith) below (grouped s below leads) (λ _. sym (h .table .rights s below) ∙ same ∙ right-is))
+            (λ t. absurd (false≢true t))
+
+        -- and may have another
+        pub walked-differ : (s : ℕ) → s < w .count → Leads (keyOf (dependencyOf d) (databaseOf schema words) (length H) N) N q s
+            → (p : ℕ) → p ≤ w .least → p ≤ numberOf N s
             → Walked schema words d (record { row = record { at = after; number = w .row .number + 1 }; count = w .count; least = p; key = false }) H N
-        walked-full p e =
-            walked-earlier p (w .row) e (h .placed)
-            (λ low left right. groups-full (dependencyOf d) (databaseOf schema words) (w .row .number) (w .least .number) (w .count) (numberOf N) (h .groups)
-            low left right alone)
+        walked-differ s below leads p left right =
+            walked-on p false
+            (groups-member (length H) (dependencyOf d) (databaseOf schema words) (w .row .number) (w .least) (w .count) (numberOf N) (h .groups)
+            p s left below (grouped s below leads) (λ i. absurd (omega arith)))
+            (λ t. absurd (false≢true t))
 
-        -- it is a leader
-        module _ (b : ℕ) (inside : b < length H) (room : 3 * w .count + 2 < length N)
-            (bucket : b ≡ bucketOf (length H) (dependencyOf d) (spanAt (getD schema (d .relation) 0) words (w .row .at))) where
-          heads : List ℕ
-          heads = set H b (w .count + 1)
+        module _ (absent : (s : ℕ) → s < w .count → Leads (keyOf (dependencyOf d) (databaseOf schema words) (length H) N) N q s → ⊥) where
+          alone : (s : ℕ) → s < w .count
+              → Together (length H) (dependencyOf d) (leaderOf (databaseOf schema words) N s) (nthRow (databaseOf schema words) (w .row .number)) → ⊥
+          alone s below t = absent s below (t .0 ∙ sym bucket-is, h .table .tags s below ∙ t .1 ∙ sym tag-is)
 
-          nodes : List ℕ
-          nodes = withLeader N (w .count) (getD H b 0) (w .row .at) (w .row .number)
+          -- it would be a leader, and there is no room for it
+          pub walked-full : (p : ℕ) → p ≤ w .least → p ≤ w .row .number
+              → Walked schema words d (record { row = record { at = after; number = w .row .number + 1 }; count = w .count; least = p; key = false }) H N
+          walked-full p left right =
+              walked-on p false
+              (groups-full (length H) (dependencyOf d) (databaseOf schema words) (w .row .number) (w .least) (w .count) (numberOf N) (h .groups)
+              p left right alone)
+              (λ t. absurd (false≢true t))
 
-          old-offset : (s : ℕ) → s < w .count → offsetOf nodes s ≡ offsetOf N s
-          unfolding nodes
-          old-offset s low = enter-below N (w .count) (getD H b 0) (w .row .at) (w .row .number) (3 * s + 1) (omega arith)
+          -- it is a leader
+          module _ (inside : q .bucket < length H) (room : 4 * w .count + 3 < length N) where
+            heads : List ℕ
+            heads = set H (q .bucket) (w .count + 1)
 
-          old-number : (s : ℕ) → s < w .count → numberOf nodes s ≡ numberOf N s
-          unfolding nodes
-          old-number s low = enter-below N (w .count) (getD H b 0) (w .row .at) (w .row .number) (3 * s + 2) (omega arith)
+            nodes : List ℕ
+            nodes = withLeader N (w .count) (getD H (q .bucket) 0) (w .row .number) q
 
-          new-offset : offsetOf nodes (w .count) ≡ w .row .at
-          unfolding nodes
-          new-offset = enter-offset N (w .count) (getD H b 0) (w .row .at) (w .row .number) room
+            old-word : (i : ℕ) → i < 4 * w .count → getD nodes i 0 ≡ getD N i 0
+            unfolding nodes
+            old-word = enter-below N (w .count) (getD H (q .bucket) 0) (w .row .number) q
 
-          new-number : numberOf nodes (w .count) ≡ w .row .number
-          unfolding nodes
-          new-number = enter-number N (w .count) (getD H b 0) (w .row .at) (w .row .number) room
+            old-number : (s : ℕ) → s < w .count → numberOf nodes s ≡ numberOf N s
+            old-number s low = old-word (4 * s + 1) (omega arith)
 
-          new-member : (s : ℕ) → s < w .count + 1 → (t : Bool) → eqb s (w .count) ≡ t → Member schema words d (offsetOf nodes s) (numberOf nodes s)
-          new-member s below true e =
-              let here : s ≡ w .count = eqb-true s (w .count) e in
-              subst (λ (x : ℕ). Member schema words d (offsetOf nodes x) (numberOf nodes x)) (sym here)
-              (subst (λ (x : ℕ). Member schema words d x (numberOf nodes (w .count))) (sym new-offset)
-              (subst (λ (x : ℕ). Member schema words d (w .row .at) x) (sym new-number) member))
-          new-member s below false e =
-              let apart : s ≡ w .count → ⊥ = eqb-false s (w .count) e in
-              let low : s < w .count = omega arith in
-              subst (λ (x : ℕ). Member schema words d x (numberOf nodes s)) (sym (old-offset s low))
-              (subst (λ (x : ℕ). Member schema words d (offsetOf N s) x) (sym (old-number s low)) (h .members s low))
+            new-number : numberOf nodes (w .count) ≡ w .row .number
+            unfolding nodes
+            new-number = enter-number N (w .count) (getD H (q .bucket) 0) (w .row .number) q room
 
-          new-chained : Chained (keyOf (getD schema (d .relation) 0) words d (length heads) nodes) heads (linkOf nodes) (w .count + 1)
-          unfolding heads nodes
-          new-chained =
-              let W : ℕ = getD schema (d .relation) 0 in
-              let size : length heads ≡ length H = length-set H b (w .count + 1) in
-              let K : ℕ → ℕ = keyOf W words d (length H) N in
-              let K' : ℕ → ℕ = keyOf W words d (length heads) nodes in
-              chained-more K' H (linkOf N) (w .count)
-              (chained-agree K H (linkOf N) (w .count) (h .table .chained) K'
-              (λ s low. ap₂ {C = ℕ} (λ (x y : ℕ). bucketOf x (dependencyOf d) (spanAt W words y)) (sym size) (sym (old-offset s low))))
-              b inside (ap₂ {C = ℕ} (λ (x y : ℕ). bucketOf x (dependencyOf d) (spanAt W words y)) size new-offset ∙ sym bucket) (linkOf nodes)
-              (λ s low. enter-below N (w .count) (getD H b 0) (w .row .at) (w .row .number) (3 * s) (omega arith))
-              (enter-link N (w .count) (getD H b 0) (w .row .at) (w .row .number) room)
+            -- what holds of the words of the leaders before it, and of its own, holds of all
+            all-leaders : (f : ℕ → ℕ) (g : Row ℕ → ℕ) → ((s : ℕ) → s < w .count → f s ≡ g (leaderOf (databaseOf schema words) N s))
+                → f (w .count) ≡ g (nthRow (databaseOf schema words) (w .row .number))
+                → (s : ℕ) → s < w .count + 1 → (t : Bool) → eqb s (w .count) ≡ t → f s ≡ g (leaderOf (databaseOf schema words) nodes s)
+            all-leaders f g old new s below true e =
+                subst (λ (x : ℕ). f x ≡ g (leaderOf (databaseOf schema words) nodes x)) (sym (eqb-true s (w .count) e))
+                (new ∙ ap (λ (x : ℕ). g (nthRow (databaseOf schema words) x)) (sym new-number))
+            all-leaders f g old new s below false e =
+                let apart : s ≡ w .count → ⊥ = eqb-false s (w .count) e in
+                let low : s < w .count = omega arith in
+                old s low ∙ ap (λ (x : ℕ). g (nthRow (databaseOf schema words) x)) (sym (old-number s low))
 
-          new-key : w .key ≡ true → (w .least .number ≡ length words) × KeyBelow (dependencyOf d) (databaseOf schema words) (w .row .number + 1)
-          new-key t =
-              let all : w .least .number ≡ length words = h .key t .0 in
-              let low : w .row .number ≤ w .least .number = omega (arith, h .placed .from .counted, h .placed .from .inside) in (
-                all,
-                key-new (dependencyOf d) (databaseOf schema words) (w .row .number) (w .least .number) (w .count) (numberOf N) (h .groups) low alone
-                    (h .key t .1),
-              )
+            new-chained : Chained (keyOf (dependencyOf d) (databaseOf schema words) (length heads) nodes) heads (linkOf nodes) (w .count + 1)
+            unfolding heads nodes
+            new-chained =
+                let D : Database = databaseOf schema words in
+                let size : length heads ≡ length H = length-set H (q .bucket) (w .count + 1) in
+                let K : ℕ → ℕ = keyOf (dependencyOf d) D (length H) N in
+                let K' : ℕ → ℕ = keyOf (dependencyOf d) D (length heads) nodes in
+                chained-more K' H (linkOf N) (w .count)
+                (chained-agree K H (linkOf N) (w .count) (h .table .chained) K'
+                (λ s low. ap₂ {C = ℕ} (λ (x y : ℕ). bucketOf x (dependencyOf d) (nthRow D y)) (sym size) (sym (old-number s low))))
+                (q .bucket) inside (ap₂ {C = ℕ} (λ (x y : ℕ). bucketOf x (dependencyOf d) (nthRow D y)) size new-number ∙ sym bucket-is) (linkOf nodes)
+                (λ s low. old-word (4 * s) (omega arith))
+                (enter-link N (w .count) (getD H (q .bucket) 0) (w .row .number) q room)
 
-          pub walked-new : Walked schema words d
-              (record { row = record { at = after; number = w .row .number + 1 }; count = w .count + 1; least = w .least; key = w .key })
-              (set H b (w .count + 1)) (withLeader N (w .count) (getD H b 0) (w .row .at) (w .row .number))
-          unfolding heads nodes
-          walked-new =
-              let some : 0 < length H = h .bucket in
-              let sizeH : length heads ≡ length H = length-set H b (w .count + 1) in
-              let sizeN : length nodes ≡ length N = enter-length N (w .count) (getD H b 0) (w .row .at) (w .row .number) in
-              record {
-                bucket = omega arith;
-                placed = placed-next (w .row .at) after (w .row .number) (h .placed) next;
-                few = omega (arith, h .few);
-                table = record {
-                  stored = omega arith;
-                  fits = λ s low. member-room (offsetOf nodes s) (numberOf nodes s) (new-member s low (eqb s (w .count)) refl);
-                  chained = new-chained;
-                };
-                members = λ s low. new-member s low (eqb s (w .count)) refl;
-                groups = groups-new (dependencyOf d) (databaseOf schema words) (w .row .number) (w .least .number) (w .count) (numberOf N) (h .groups)
-                    (numberOf nodes) old-number new-number (member-relation (w .row .at) (w .row .number) member) alone;
-                least = h .least;
-                key = new-key;
-              }
+            new-key : w .key ≡ true → (w .least ≡ length words) × KeyBelow (dependencyOf d) (databaseOf schema words) (w .row .number + 1)
+            new-key t =
+                let all : w .least ≡ length words = h .key t .0 in
+                let low : w .row .number ≤ w .least = omega (arith, h .placed .from .counted, h .placed .from .inside) in (
+                  all,
+                  key-new (length H) (dependencyOf d) (databaseOf schema words) (w .row .number) (w .least) (w .count) (numberOf N) (h .groups) low alone
+                      (h .key t .1),
+                )
+
+            new-groups : Groups (length heads) (dependencyOf d) (databaseOf schema words) (w .row .number + 1) (w .least) (w .count + 1) (numberOf nodes)
+            unfolding heads
+            new-groups =
+                subst
+                (λ (x : ℕ). Groups x (dependencyOf d) (databaseOf schema words) (w .row .number + 1) (w .least) (w .count + 1) (numberOf nodes))
+                (sym (length-set H (q .bucket) (w .count + 1)))
+                (groups-new (length H) (dependencyOf d) (databaseOf schema words) (w .row .number) (w .least) (w .count) (numberOf N) (h .groups)
+                (numberOf nodes) old-number new-number alone)
+
+            pub walked-new : Walked schema words d
+                (record { row = record { at = after; number = w .row .number + 1 }; count = w .count + 1; least = w .least; key = w .key })
+                (set H (q .bucket) (w .count + 1)) (withLeader N (w .count) (getD H (q .bucket) 0) (w .row .number) q)
+            unfolding heads nodes
+            walked-new =
+                let some : 0 < length H = h .bucket in
+                let sizeH : length heads ≡ length H = length-set H (q .bucket) (w .count + 1) in
+                let sizeN : length nodes ≡ length N = enter-length N (w .count) (getD H (q .bucket) 0) (w .row .number) q in
+                record {
+                  bucket = omega arith;
+                  placed = placed-next schema words (w .row .at) after (w .row .number) (h .placed) next;
+                  few = omega (arith, h .few);
+                  table = record {
+                    stored = omega arith;
+                    rights = λ s low.
+                        all-leaders (rightIn nodes) (λ (r : Row ℕ). column 0 r (d .right))
+                        (λ t l. old-word (4 * t + 2) (omega arith) ∙ h .table .rights t l)
+                        (enter-right N (w .count) (getD H (q .bucket) 0) (w .row .number) q room ∙ right-is) s low (eqb s (w .count)) refl;
+                    tags = λ s low.
+                        all-leaders (tagIn nodes) (tagOf (dependencyOf d)) (λ t l. old-word (4 * t + 3) (omega arith) ∙ h .table .tags t l)
+                        (enter-tag N (w .count) (getD H (q .bucket) 0) (w .row .number) q room ∙ tag-is) s low (eqb s (w .count)) refl;
+                    chained = new-chained;
+                  };
+                  groups = new-groups;
+                  key = new-key;
+                }
 
   -- ---- from the first row to the last
 
   -- no row is passed
   pub walked-start : (H N : List ℕ) → spellsRows schema words ≡ true → 0 < length H → ((b : ℕ) → b < length H → getD H b 0 ≡ 0)
-      → Walked schema words d
-      (record { row = record { at = 0; number = 0 }; count = 0; least = record { at = length words; number = length words }; key = true }) H N
+      → Walked schema words d (record { row = record { at = 0; number = 0 }; count = 0; least = length words; key = true }) H N
   walked-start H N good bucket clear =
       record {
         bucket = bucket;
-        placed = placed-start good;
+        placed = placed-start schema words good;
         few = omega arith;
         table = record {
           stored = omega arith;
-          fits = λ s low. absurd (omega arith);
-          chained = chained-none (keyOf (getD schema (d .relation) 0) words d (length H) N) H (linkOf N) clear;
+          rights = λ s low. absurd (omega arith);
+          tags = λ s low. absurd (omega arith);
+          chained = chained-none (keyOf (dependencyOf d) (databaseOf schema words) (length H) N) H (linkOf N) clear;
         };
-        members = λ s low. absurd (omega arith);
-        groups = groups-start (dependencyOf d) (databaseOf schema words) (length words) (numberOf N);
-        least = placed-end;
+        groups = groups-start (length H) (dependencyOf d) (databaseOf schema words) (length words) (numberOf N);
         key = λ t. (refl, λ i j before below. absurd (omega arith));
       }
 
@@ -343,15 +297,17 @@ module _ (schema words : List ℕ) (d : Dependency) where
       let zero-size : length (drop n (databaseOf schema words)) ≡ 0 = ap (λ (l : Database). length l) none in
       omega arith
 
-  pub walked-end : (w : Walk) (H N : List ℕ) → Walked schema words d w H N → length words ≤ w .row .at → Skips schema words d (w .least)
-  walked-end w H N h end =
+  -- no row before one that is not beyond the least is the first of a broken pair
+  pub walked-end : (w : Walk) (H N : List ℕ) → Walked schema words d w H N → length words ≤ w .row .at → (p : Position)
+      → Placed schema words (p .at) (p .number) → p .number ≤ w .least → Skips schema words d p
+  walked-end w H N h end p placed low =
       let all : length (databaseOf schema words) ≤ w .row .number = all-passed w H N h end in
       record {
-        from = h .least .from;
+        from = placed .from;
         same = λ m.
-            pairs-skip (dependencyOf d) m (w .least .number) (databaseOf schema words)
-            (λ k j before below low. h .groups .kept k j before (omega arith) low)
-            ∙ ap (λ (l : Database). firstPairFrom (dependencyOf d) (m + w .least .number) l) (h .least .read);
+            pairs-skip (dependencyOf d) m (p .number) (databaseOf schema words)
+            (λ k j before below first. h .groups .kept k j before (omega arith) (omega arith))
+            ∙ ap (λ (l : Database). firstPairFrom (dependencyOf d) (m + p .number) l) (placed .read);
       }
 
   -- and the left columns told them apart
@@ -365,7 +321,7 @@ module _ (schema words : List ℕ) (d : Dependency) where
   pub skips-none : spellsRows schema words ≡ true → Skips schema words d (record { at = 0; number = 0 })
   skips-none good =
       record {
-        from = placed-start good .from;
+        from = placed-start schema words good .from;
         same = λ m. let e : m ≡ m + 0 = omega arith in ap (λ (x : ℕ). firstPairFrom (dependencyOf d) x (databaseOf schema words)) e;
       }
 

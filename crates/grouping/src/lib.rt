@@ -1,9 +1,10 @@
-// Groups of rows and their leaders, by hashing. A group is the rows of a dependency's relation that agree on its left columns; its leader is its
-// first row. If two rows of a group differ on the right column, one of them differs from the leader: so the first leader that a row of its group
-// differs from is the first row of the first broken pair.
-// The leaders stand in lent slices, as hash chains over their left values: `heads` has a word for each bucket, and `nodes` three for each leader: its
-// link, the word at which it begins, and its position among the rows. A leader is written as its number plus 1, and 0 is the end of a chain.
-// A row for which there is no room, or whose word is beyond 32 bits, is one that may be the first of a broken pair.
+// Groups of rows and their leaders, by hashing. A row's left values give it a bucket and a tag, two hashes. A group is the rows of a dependency's
+// relation that have the same bucket and the same tag; its leader is its first row. Rows that agree on the left columns are in one group, so if two
+// of them differ on the right column, one of them differs from the leader: no row before the first leader that a row of its group differs from is
+// the first row of a broken pair. Rows of a group that do not agree are rare; they cost time and never a wrong answer.
+// The leaders stand in lent slices, as hash chains: `heads` has a word for each bucket, and `nodes` four for each leader: its link, its position
+// among the rows, its right value and its tag; so the words of a leader are not looked at again. A leader is written as its number plus 1, and 0 is
+// the end of a chain. A row for which there is no room, or whose position is beyond 32 bits, is one that may be the first of a broken pair.
 // If every row of the relation is a leader, the left columns are a key: no two rows agree on them.
 use query::Dependency;
 ghost use mathlib.Core.Path.{_≡_};
@@ -14,10 +15,10 @@ ghost use Rattle.query.specs.View.{dependencyOf};
 ghost use Rattle.words.specs.Words.{spellsRows, databaseOf};
 ghost use Rattle.words.specs.internal.Rows.{spanAt};
 ghost use Rattle.words.specs.internal.Found.{Testable};
-ghost use Rattle.grouping.specs.internal.Hash.{bucketOf};
-ghost use Rattle.grouping.specs.internal.Table.{Table, Compared, withLeader};
+ghost use Rattle.grouping.specs.internal.Chains.{Chained};
+ghost use Rattle.grouping.specs.internal.Table.{linkOf, soughtOf, Compared, withLeader};
 ghost use Rattle.grouping.specs.internal.Groups.{Key};
-ghost use Rattle.grouping.specs.internal.Walked.{Walked, earlierOf, Skips};
+ghost use Rattle.grouping.specs.internal.Walked.{Placed, Walked, Skips};
 
 // A row: the word at which it begins, and its position among the rows.
 pub struct Position {
@@ -31,26 +32,26 @@ pub struct Skipped {
     pub key: bool,
 }
 
-// How far a walk is: the row that comes next, how many leaders are entered, the first row known that may be the first of a broken pair, and
-// whether every row of the relation was entered.
+// How far a walk is: the row that comes next, how many leaders are entered, the position of the first row known that may be the first of a broken
+// pair, and whether every row of the relation was entered.
 struct Walk {
     row: Position,
     count: usize,
-    least: Position,
+    least: usize,
     key: bool,
 }
 
-// A row that is compared with the leaders: the width of its relation, the word at which it begins, and its bucket.
+// A row that is compared with the leaders: its bucket and its tag, and its right value.
 struct Sought {
-    width: usize,
-    at: usize,
     bucket: usize,
+    tag: u32,
+    right: u32,
 }
 
-// A row beside the leader of its group: it has the leader's value in the right column, or another, or there is no such leader.
+// A row beside the leader of its group: it has the leader's right value, or another, and then where the leader stands; or there is no such leader.
 enum Comparison {
     Same,
-    Differs(Position),
+    Differs(usize),
     Alone,
 }
 
@@ -66,85 +67,77 @@ fn clear(heads: &mut [u32])
     }
 }
 
-// The bucket of the row at `a`, by its left values. Neighbouring values of one column are in neighbouring buckets.
-fn bucket_of(words: &[u32], width: usize, d: Dependency, a: usize, buckets: usize) -> usize
+// What is compared of the row at `a`. Neighbouring values of one column are in neighbouring buckets, and are their own tags.
+fn sought_of(words: &[u32], width: usize, d: Dependency, a: usize, buckets: usize) -> Sought
     requires { ⌜ a + 1 + width ≤ length (now words) ⌝ }
-    requires { ⌜ (width ≤ 8) × (d .left < 2 ^ width) × (0 < buckets) ⌝ }
-    ensures { λ r. ⌜ r ≡ bucketOf buckets (dependencyOf d) (spanAt width (now (words .entry)) a) ⌝ }
-    ensures { λ r. ⌜ r < buckets ⌝ }
+    requires { ⌜ (width ≤ 8) × (d .left < 2 ^ width) × (d .right < width) × (0 < buckets) ⌝ }
+    ensures { λ r. ⌜ r ≡ soughtOf buckets (dependencyOf d) (spanAt width (now (words .entry)) a) ⌝ }
+    ensures { λ r. ⌜ r .bucket < buckets ⌝ }
 {
     let mut h: u64 = 0;
+    let mut tag: u64 = 0;
     let mut left = d.left;
     let mut c: usize = 0;
-    while c < width {
+    while left != 0 {
         if left % 2 == 1 {
-            h = (h * 1000003 + words::value(words, a, c) as u64) % 4294967296;
+            let x = words::value(words, a, c) as u64;
+            h = (h * 1000003 + x) % 4294967296;
+            tag = (tag * 2654435761 + x) % 4294967296;
         }
         left = left / 2;
         c += 1;
     }
     let n = buckets as u64;
-    ((h + h / n * 2654435761) % n) as usize
+    Sought {
+        bucket: ((h + h / n * 2654435761) % n) as usize,
+        tag: tag as u32,
+        right: words::value(words, a, d.right as usize),
+    }
 }
 
 // Compares a row with the leader of its group, if that is among the first `count` leaders.
-fn compare(
-    words: &[u32],
-    d: Dependency,
-    sought: Sought,
-    heads: &[u32],
-    nodes: &[u32],
-    count: usize,
-) -> Comparison
-    requires { ⌜ (sought .at + 1 + sought .width ≤ length (now words)) × (sought .width ≤ 8) × (d .left < 2 ^ sought .width) × (d .right < sought .width) ⌝ }
-    requires { ⌜ (sought .bucket ≡ bucketOf (length (now heads)) (dependencyOf d) (spanAt (sought .width) (now words) (sought .at))) × (sought .bucket < length
-        (now heads)) ⌝ }
-    requires { ⌜ Table (sought .width) (now words) d (now heads) (now nodes) count ⌝ }
-    ensures { λ r. ⌜ Compared (sought .width) (now (words .entry)) d (now (nodes .entry)) count (sought .at) r ⌝ }
+fn compare(sought: Sought, heads: &[u32], nodes: &[u32], count: usize) -> Comparison
+    requires { ⌜ (sought .bucket < length (now heads)) × (4 * count ≤ length (now nodes)) ⌝ }
+    requires { ⌜ ((key : ℕ → ℕ) × Chained key (now heads) (linkOf (now nodes)) count) ⌝ }
+    ensures { λ r. ⌜ ((key : ℕ → ℕ) → Chained key (now (heads .entry)) (linkOf (now (nodes .entry))) count → Compared key (now (nodes .entry)) count sought r) ⌝ }
 {
-    let width = sought.width;
-    let at = sought.at;
     let bucket = sought.bucket;
     let mut node = heads[bucket] as usize;
     while node != 0 {
-        let s = 3 * (node - 1);
-        let leader = nodes[s + 1] as usize;
-        if words::agrees_at(words, width, d, leader, at) {
-            let right = d.right as usize;
-            if words::value(words, leader, right) == words::value(words, at, right) {
+        let s = 4 * (node - 1);
+        if nodes[s + 3] == sought.tag {
+            if nodes[s + 2] == sought.right {
                 return Comparison::Same;
             }
-            return Comparison::Differs(Position {
-                at: leader,
-                number: nodes[s + 2] as usize,
-            });
+            return Comparison::Differs(nodes[s + 1] as usize);
         }
         node = nodes[s] as usize;
     }
     Comparison::Alone
 }
 
-// Enters a row as leader number `count`, at the head of the chain of its bucket.
-fn enter(heads: &mut [u32], nodes: &mut [u32], count: usize, bucket: usize, row: Position)
-    requires { ⌜ (bucket < length (now heads)) × (3 * count + 1 < length (now nodes)) × (3 * count + 2 < length (now nodes)) ⌝ }
-    requires { ⌜ (count + 1 < 4294967296) × (row .at < 4294967296) × (row .number < 4294967296) ⌝ }
-    ensures { λ _. ⌜ now (heads .exit) ≡ set (now (heads .entry)) bucket (count + 1) ⌝ }
-    ensures { λ _. ⌜ now (nodes .exit) ≡ withLeader (now (nodes .entry)) count (getD (now (heads .entry)) bucket 0) (row .at) (row .number) ⌝ }
+// Enters the row at position `number` as leader number `count`, at the head of the chain of its bucket.
+fn enter(heads: &mut [u32], nodes: &mut [u32], count: usize, sought: Sought, number: usize)
+    requires { ⌜ (sought .bucket < length (now heads)) ⌝ }
+    requires { ⌜ (4 * count + 1 < length (now nodes)) × (4 * count + 2 < length (now nodes)) × (4 * count + 3 < length (now nodes)) ⌝ }
+    requires { ⌜ (count + 1 < 4294967296) × (number < 4294967296) ⌝ }
+    ensures { λ _. ⌜ now (heads .exit) ≡ set (now (heads .entry)) (sought .bucket) (count + 1) ⌝ }
+    ensures { λ _. ⌜ now (nodes .exit) ≡ withLeader (now (nodes .entry)) count (getD (now (heads .entry)) (sought .bucket) 0) number sought ⌝ }
 {
-    let at = row.at as u32;
-    let number = row.number as u32;
-    let s = 3 * count;
+    let bucket = sought.bucket;
+    let s = 4 * count;
     nodes[s] = heads[bucket];
-    nodes[s + 1] = at;
-    nodes[s + 2] = number;
+    nodes[s + 1] = number as u32;
+    nodes[s + 2] = sought.right;
+    nodes[s + 3] = sought.tag;
     heads[bucket] = (count + 1) as u32;
 }
 
-// The position of the two that comes first.
-fn earlier(p: Position, q: Position) -> Position
-    ensures { λ r. ⌜ r ≡ earlierOf p q ⌝ }
+// The lesser of two positions.
+fn lesser(p: usize, q: usize) -> usize
+    ensures { λ r. ⌜ (r ≤ p) × (r ≤ q) ⌝ }
 {
-    if q.number < p.number { q } else { p }
+    if q < p { q } else { p }
 }
 
 // Passes one row. If it is of the dependency's relation, it is compared with the leader of its group, or is a leader.
@@ -163,9 +156,10 @@ fn step(
     ensures { λ r. ⌜ walk .row .at < r .row .at ⌝ }
 {
     let at = walk.row.at;
+    let number = walk.row.number;
     let row = Position {
         at: words::next(schema, words, at),
-        number: walk.row.number + 1,
+        number: number + 1,
     };
     let count = walk.count;
     let least = walk.least;
@@ -180,8 +174,8 @@ fn step(
         };
     }
     let width = schema[index] as usize;
-    let bucket = bucket_of(words, width, d, at, heads.len());
-    let found = compare(words, d, Sought { width, at, bucket }, heads, nodes, count);
+    let sought = sought_of(words, width, d, at, heads.len());
+    let found = compare(sought, heads, nodes, count);
     match found {
         Comparison::Same => Walk {
             row,
@@ -192,13 +186,12 @@ fn step(
         Comparison::Differs(p) => Walk {
             row,
             count,
-            least: earlier(least, p),
+            least: lesser(least, p),
             key: false,
         },
         Comparison::Alone => {
-            let here = walk.row;
-            if 3 <= nodes.len() - 3 * count && at < 4294967295 {
-                enter(heads, nodes, count, bucket, here);
+            if 4 <= nodes.len() - 4 * count && number < 4294967295 {
+                enter(heads, nodes, count, sought, number);
                 return Walk {
                     row,
                     count: count + 1,
@@ -209,15 +202,29 @@ fn step(
             Walk {
                 row,
                 count,
-                least: earlier(least, here),
+                least: lesser(least, number),
                 key: false,
             }
         }
     }
 }
 
-// A row before which none is the first of a broken pair, or the end of the words. With room for all leaders it is the first row of the first
-// broken pair, and a key is seen; without a bucket it is the first row.
+// The row at position `number`, or the end of the words if there are fewer rows.
+fn locate(schema: &[u8], words: &[u32], number: usize) -> Position
+    requires { ⌜ spellsRows (now schema) (now words) ≡ true ⌝ }
+    ensures { λ r. ⌜ Placed (now (schema .entry)) (now (words .entry)) (r .at) (r .number) × (r .number ≤ number) ⌝ }
+{
+    let mut at: usize = 0;
+    let mut n: usize = 0;
+    while n < number && at < words.len() {
+        at = words::next(schema, words, at);
+        n += 1;
+    }
+    Position { at, number: n }
+}
+
+// A row before which none is the first of a broken pair, or the end of the words. With room for all leaders it is, but for rows that share a bucket
+// and a tag by chance, the first row of the first broken pair, and a key is seen; without a bucket it is the first row.
 pub fn skip(
     schema: &[u8],
     words: &[u32],
@@ -237,20 +244,32 @@ pub fn skip(
             key: false,
         };
     }
-    clear(heads);
+    // no more buckets than rows of the relation at most: few stay in the caches
+    let mut buckets = words.len() / (schema[d.relation as usize] as usize + 1) + 1;
+    if heads.len() < buckets {
+        buckets = heads.len();
+    }
+    let used = &mut heads[..buckets];
+    clear(used);
     let mut walk = Walk {
         row: first,
         count: 0,
-        least: Position {
-            at: words.len(),
-            number: words.len(),
-        },
+        least: words.len(),
         key: true,
     };
     while walk.row.at < words.len() {
-        walk = step(schema, words, d, walk, heads, nodes);
+        walk = step(schema, words, d, walk, used, nodes);
     }
-    let row = walk.least;
     let key = walk.key;
+    if walk.least == words.len() {
+        return Skipped {
+            row: Position {
+                at: words.len(),
+                number: words.len(),
+            },
+            key,
+        };
+    }
+    let row = locate(schema, words, walk.least);
     Skipped { row, key }
 }

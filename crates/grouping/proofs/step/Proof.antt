@@ -1,14 +1,16 @@
 -- `step` passes one row: it is of another relation, or of a group with a leader, or it is a leader, or there is no room for it as one.
 -- Assumes nothing.
-use mathlib.Core.Path.{_≡_, ap, sym, subst, _∙_}
+use mathlib.Core.Path.{_≡_, sym, subst, _∙_}
 use mathlib.Core.List.{List}
 use Prim.Native.Nat.{ℕ, _≤_, _+_, _*_, _<_}
 use native.Mathlib.Omega.{arith}
 use lib.ListN.{length, getD, set}
 use borrow.Author.Tests.{ltb-true}
+use Rattle.query.specs.View.{dependencyOf}
+use Rattle.words.specs.Words.{databaseOf}
 use Rattle.words.specs.internal.Rows.{Next}
-use Rattle.grouping.specs.internal.Table.{Compared}
-use Rattle.grouping.specs.internal.Walked.{earlierOf, Walked}
+use Rattle.grouping.specs.internal.Table.{keyOf, Compared}
+use Rattle.grouping.specs.internal.Walked.{Walked}
 use Rattle.grouping.specs.declared.Comparison.{Comparison}
 use Rattle.grouping.specs.declared.Walk.{Walk}
 use Rattle.grouping.proofs.Passing.{row-room, walked-other, walked-same, walked-differ, walked-full, walked-new}
@@ -18,14 +20,14 @@ use Rattle.grouping.proofs.step.Tie as tie
 
 -- Where the call began
 abbrev begun : tie.After-shared-slice-known3 → tie.Start
-begun c = c .before .before .before .before .before .before .before .before .before
+begun c = c .before .before .before .before .before .before .before
 
 -- Where the next row begins
 abbrev after : tie.After-shared-slice-known3 → ℕ
-after c = c .before .before .before .before .next .result
+after c = c .before .before .next .result
 
 next : (c : tie.After-shared-slice-known3) → Next (begun c .args .schema .now) (begun c .args .words .now) (begun c .args .walk .row .at) (after c)
-next c = c .before .before .before .before .next .ensures
+next c = c .before .before .next .ensures
 
 on : (c : tie.After-shared-slice-known3) → begun c .args .walk .row .at < after c
 on c = omega (arith, next c .place)
@@ -71,21 +73,25 @@ room c = let s = begun (c .before) in
 abbrev compared : tie.After-compare → tie.Else1
 compared c = c .before .before .before .before .before
 
+abbrev key : tie.Else1 → ℕ → ℕ
+key c = let a = begun (c .before) .args in
+    keyOf (dependencyOf (a .d)) (databaseOf (a .schema .now) (a .words .now)) (length (a .heads .now)) (a .nodes .now)
+
 said : (c : tie.After-compare) (x : Comparison) → c .compare .result ≡ x
-    → Compared (getD (begun (compared c .before) .args .schema .now) (begun (compared c .before) .args .d .relation) 0)
-    (begun (compared c .before) .args .words .now) (begun (compared c .before) .args .d) (begun (compared c .before) .args .nodes .now)
-    (begun (compared c .before) .args .walk .count) (begun (compared c .before) .args .walk .row .at) x
-said c x e = let a = begun (compared c .before) .args in
-    subst (λ (y : Comparison). Compared (getD (a .schema .now) (a .d .relation) 0) (a .words .now) (a .d) (a .nodes .now) (a .walk .count) (a .walk .row .at) y)
-    e (c .compare .ensures)
+    → Compared (key (compared c)) (begun (compared c .before) .args .nodes .now) (begun (compared c .before) .args .walk .count)
+    (c .before .before .before .sought-of .result) x
+said c x e = let s = begun (compared c .before) in
+    let a = s .args in
+    subst (λ (y : Comparison). Compared (key (compared c)) (a .nodes .now) (a .walk .count) (c .before .before .before .sought-of .result) y) e
+    (c .compare .ensures (key (compared c)) (s .pre .1 .1 .table .chained))
 
 -- The leaders are in the nodes, and there may be room for one more
-stored : (c : tie.After-here) → 3 * begun (compared (c .before .before .before) .before) .args .walk .count
-    ≤ length (begun (compared (c .before .before .before) .before) .args .nodes .now)
-stored c = begun (compared (c .before .before .before) .before) .pre .1 .1 .table .stored
+stored : (c : tie.After-enum-told2) → 4 * begun (compared (c .before .before) .before) .args .walk .count
+    ≤ length (begun (compared (c .before .before) .before) .args .nodes .now)
+stored c = begun (compared (c .before .before) .before) .pre .1 .1 .table .stored
 
-free : (c : tie.Then2) → 3 * begun (compared (c .before .before .before .before) .before) .args .walk .count + 2
-    < length (begun (compared (c .before .before .before .before) .before) .args .nodes .now)
+free : (c : tie.Then2) → 4 * begun (compared (c .before .before .before) .before) .args .walk .count + 3
+    < length (begun (compared (c .before .before .before) .before) .args .nodes .now)
 free c = omega (arith, stored (c .before), c .if2 .taken)
 
 shared-slice-read-width : tie.Need-shared-slice-read-width
@@ -94,15 +100,14 @@ shared-slice-read-width c = omega (arith, begun (c .before .before) .pre .0 .kno
 cast-width : tie.Need-cast-width
 cast-width c = search needs
 
-bucket-of-requires : tie.Need-bucket-of-requires
-bucket-of-requires c κs = let T = begun (c .before .before) .pre .0 in
-    (room (c .before), (T .narrow, T .left-fits, begun (c .before .before) .pre .1 .1 .bucket))
+sought-of-requires : tie.Need-sought-of-requires
+sought-of-requires c κs = let T = begun (c .before .before) .pre .0 in
+    (room (c .before), (T .narrow, T .left-fits, T .right-fits, begun (c .before .before) .pre .1 .1 .bucket))
 
 compare-requires : tie.Need-compare-requires
 compare-requires c κs = let e = c .before .before .before .before in
-    let s = begun (e .before) in
-    let T = s .pre .0 in
-    ((room e, T .narrow, T .left-fits, T .right-fits), (c .before .before .bucket-of .ensures, s .pre .1 .1 .table))
+    let h = begun (e .before) .pre .1 .1 in
+    ((c .before .before .sought-of .ensures .1, h .table .stored), (key e, h .table .chained))
 
 enum-told : tie.Need-enum-told
 enum-told c = search needs
@@ -110,33 +115,33 @@ enum-told c = search needs
 enum-known-found : tie.Need-enum-known-found
 enum-known-found c = search needs
 
-earlier-requires : tie.Need-earlier-requires
-earlier-requires c κs = search needs
+lesser-requires : tie.Need-lesser-requires
+lesser-requires c κs = search needs
 
 enum-told-2 : tie.Need-enum-told-2
 enum-told-2 c = search needs
 
 mul-if2 : tie.Need-mul-if2
-mul-if2 c = omega (arith, stored c, begun (compared (c .before .before .before) .before) .good .1 .1 .1 .1 .1 .0)
+mul-if2 c = omega (arith, stored c, begun (compared (c .before .before) .before) .good .1 .1 .1 .1 .1 .0)
 
 sub-if2 : tie.Need-sub-if2
 sub-if2 c = omega (arith, stored c)
 
+-- The row's position, and so the leader's number, is in 32 bits
+low : (c : tie.Then3) → begun (compared (c .before .before .before .before) .before) .args .walk .row .number < 4294967295
+low c = ltb-true (begun (compared (c .before .before .before .before) .before) .args .walk .row .number) 4294967295 (c .if3 .taken)
+
+few : (c : tie.Then3) → begun (compared (c .before .before .before .before) .before) .args .walk .count < 4294967295
+few c = omega (arith, low c, begun (compared (c .before .before .before .before) .before) .pre .1 .1 .few)
+
 enter-requires : tie.Need-enter-requires
 enter-requires c κs = let t = c .before .before in
-    let k = t .before .before .before .before .before in
-    let e = compared k in
-    let h = begun (e .before) .pre .1 .1 in
-    let w = begun (e .before) .args .walk in
-    let low : w .row .at < 4294967295 = ltb-true (w .row .at) 4294967295 (t .if3 .taken) in
-    let counted : w .row .number ≤ w .row .at = h .placed .from .counted in
-    let few : w .count ≤ w .row .number = h .few in
+    let k = t .before .before .before .before in
     let more = free (t .before) in
-    ((k .before .before .before .bucket-of .ensures .1, omega arith, more), (omega arith, omega arith, omega arith))
+    (k .before .before .before .sought-of .ensures .1, ((omega arith, omega arith, more), (omega (arith, few t), omega (arith, low t))))
 
-add-t42 : tie.Need-add-t42
-add-t42 c = let t = c .before .before .before .before .before .before .before .before in
-    omega (arith, free t, begun (compared (t .before .before .before .before) .before) .good .1 .1 .1 .1 .1 .0)
+add-t41 : tie.Need-add-t41
+add-t41 c = omega (arith, few (c .before .before .before .before .before .before .before))
 
 same-length : tie.Need-same-length
 same-length c = search needs
@@ -146,12 +151,12 @@ same-length-2 c = search needs
 
 returns-2 : tie.Need-returns-2
 returns-2 c = let u = c .before .before .before .before in
-    let h = u .before .before .before .before .before in
-    let k = h .before .before .before in
+    let t = u .before .before .before in
+    let k = t .before .before .before .before in
     let e = compared k in
     let s = begun (e .before) in
     let a = s .args in
-    let b = k .before .before .before .bucket-of in
+    let q = k .before .before .before .sought-of in
     let w : Walk = record {
       row = record { at = after (e .before); number = a .walk .row .number + 1 };
       count = a .walk .count + 1;
@@ -159,15 +164,15 @@ returns-2 c = let u = c .before .before .before .before in
       key = a .walk .key;
     } in (
       subst (λ (x : List ℕ). Walked (a .schema .now) (a .words .now) (a .d) w x (u .enter .last .1 .0)) (sym (u .enter .ensures .0))
-          (subst (λ (x : List ℕ). Walked (a .schema .now) (a .words .now) (a .d) w (set (a .heads .now) (b .result) (a .walk .count + 1)) x)
+          (subst (λ (x : List ℕ). Walked (a .schema .now) (a .words .now) (a .d) w (set (a .heads .now) (q .result .bucket) (a .walk .count + 1)) x)
           (sym (u .enter .ensures .1))
           (walked-new (a .schema .now) (a .words .now) (a .d) (a .walk) (a .heads .now) (a .nodes .now) (s .pre .1 .1) (after (e .before)) (next (e .before))
-          (relation e) (said k _ (h .before .enum-told2 .given .1)) (b .result) (b .ensures .1) (free (u .before .before .before .before)) (b .ensures .0))),
+          (relation e) (q .result) (q .ensures .0) (said k _ (t .before .before .enum-told2 .given .1)) (q .ensures .1) (free (t .before)))),
       on (e .before),
     )
 
-earlier-requires-2 : tie.Need-earlier-requires-2
-earlier-requires-2 c κs = search needs
+lesser-requires-2 : tie.Need-lesser-requires-2
+lesser-requires-2 c κs = search needs
 
 same-length-3 : tie.Need-same-length-3
 same-length-3 c = search needs
@@ -180,9 +185,10 @@ returns-3 c = let k = c .before .before in
     let e = compared k in
     let s = begun (e .before) in
     let a = s .args in
+    let q = k .before .before .before .sought-of in
     let l = said k _ (c .enum-told .given .1) in (
       walked-same (a .schema .now) (a .words .now) (a .d) (a .walk) (a .heads .now) (a .nodes .now) (s .pre .1 .1) (after (e .before)) (next (e .before))
-          (relation e) (l .0) (l .1) (s .pre .0 .right-fits) (l .2) (l .3),
+          (relation e) (q .result) (q .ensures .0) (l .0) (l .1) (l .2) (l .3),
       on (e .before),
     )
 
@@ -198,9 +204,11 @@ returns-4 c = let f = c .before .before in
     let e = compared k in
     let s = begun (e .before) in
     let a = s .args in
+    let q = k .before .before .before .sought-of in
     let l = said k _ (f .found .given .1) in (
       walked-differ (a .schema .now) (a .words .now) (a .d) (a .walk) (a .heads .now) (a .nodes .now) (s .pre .1 .1) (after (e .before)) (next (e .before))
-          (relation e) (l .0) (l .1) (l .2) (c .earlier .result) (c .earlier .ensures ∙ ap (earlierOf (a .walk .least)) (l .3)),
+          (relation e) (q .result) (q .ensures .0) (l .0) (l .1) (l .2) (c .lesser .result) (c .lesser .ensures .0)
+          (omega (arith, c .lesser .ensures .1, l .3)),
       on (e .before),
     )
 
@@ -212,12 +220,13 @@ same-length-8 c = search needs
 
 returns-5 : tie.Need-returns-5
 returns-5 c = let h = c .before .before in
-    let k = h .before .before .before in
+    let k = h .before .before in
     let e = compared k in
     let s = begun (e .before) in
-    let a = s .args in (
+    let a = s .args in
+    let q = k .before .before .before .sought-of in (
       walked-full (a .schema .now) (a .words .now) (a .d) (a .walk) (a .heads .now) (a .nodes .now) (s .pre .1 .1) (after (e .before)) (next (e .before))
-          (relation e) (said k _ (h .before .enum-told2 .given .1)) (c .earlier2 .result) (c .earlier2 .ensures),
+          (relation e) (q .result) (q .ensures .0) (said k _ (h .enum-told2 .given .1)) (c .lesser2 .result) (c .lesser2 .ensures .0) (c .lesser2 .ensures .1),
       on (e .before),
     )
 
@@ -234,20 +243,20 @@ step-spec =
     returns
     shared-slice-read-width
     cast-width
-    bucket-of-requires
+    sought-of-requires
     compare-requires
     enum-told
     enum-known-found
-    earlier-requires
+    lesser-requires
     enum-told-2
     mul-if2
     sub-if2
     enter-requires
-    add-t42
+    add-t41
     same-length
     same-length-2
     returns-2
-    earlier-requires-2
+    lesser-requires-2
     same-length-3
     same-length-4
     returns-3

@@ -1,16 +1,15 @@
 -- A walk over the rows of the words that enters the leaders of groups into a table, and keeps the first row that may break the dependency.
 use mathlib.Core.Path.{_≡_}
-use mathlib.Core.Bool.{true, cond}
+use mathlib.Core.Bool.{true}
 use mathlib.Core.List.{List}
 use Prim.Native.Nat.{ℕ, _+_, _≤_, _<_}
-use lib.Dec.{ltb}
 use lib.ListN.{length, drop, getD}
 use Rattle.query.specs.View.{dependencyOf}
 use Rattle.query.specs.declared.Dependency.{Dependency}
 use Rattle.words.specs.Words.{databaseOf}
 use Rattle.words.specs.Testing.{firstPairFrom}
 use Rattle.words.specs.internal.Found.{From}
-use Rattle.grouping.specs.internal.Table.{offsetOf, numberOf, Table}
+use Rattle.grouping.specs.internal.Table.{numberOf, Table}
 use Rattle.grouping.specs.internal.Groups.{Groups, KeyBelow}
 use Rattle.grouping.specs.declared.Position.{Position}
 use Rattle.grouping.specs.declared.Walk.{Walk}
@@ -31,15 +30,9 @@ pub record Walked (schema words : List ℕ) (d : Dependency) (w : Walk) (heads n
   pub bucket : 0 < length heads
   pub placed : Placed schema words (w .row .at) (w .row .number)
   pub few : w .count ≤ w .row .number
-  pub table : Table (getD schema (d .relation) 0) words d heads nodes (w .count)
-  pub members : (s : ℕ) → s < w .count → Member schema words d (offsetOf nodes s) (numberOf nodes s)
-  pub groups : Groups (dependencyOf d) (databaseOf schema words) (w .row .number) (w .least .number) (w .count) (numberOf nodes)
-  pub least : Placed schema words (w .least .at) (w .least .number)
-  pub key : w .key ≡ true → (w .least .number ≡ length words) × KeyBelow (dependencyOf d) (databaseOf schema words) (w .row .number)
-
--- The position of the two that comes first
-abbrev pub earlierOf : Position → Position → Position
-earlierOf p q = cond (ltb (q .number) (p .number)) q p
+  pub table : Table (dependencyOf d) (databaseOf schema words) heads nodes (w .count)
+  pub groups : Groups (length heads) (dependencyOf d) (databaseOf schema words) (w .row .number) (w .least) (w .count) (numberOf nodes)
+  pub key : w .key ≡ true → (w .least ≡ length words) × KeyBelow (dependencyOf d) (databaseOf schema words) (w .row .number)
 
 -- No row before the position is the first of a broken pair
 pub record Skips (schema words : List ℕ) (d : Dependency) (p : Position) : Type 0 where
