@@ -10,7 +10,7 @@ use Rattle.query.specs.declared.Cell.{Cell}
 use Rattle.query.specs.declared.Dependency.{Dependency}
 use Rattle.query.specs.declared.Query.{Query}
 use Rattle.query.specs.View.{entriesOf, maskOf}
-use Rattle.query.specs.Rule.{noCell, noQuery, noPlace}
+use Rattle.query.specs.Rule.{noCell, noQuery, noPlace, placeWith}
 use Rattle.record.specs.declared.Record.{Record}
 use Rattle.record.specs.declared.Outcome.{Outcome}
 use Rattle.record.specs.declared.Columns.{Columns}
@@ -58,7 +58,7 @@ AddMeets r d o = Meets (addConditions r d) addAsks (refusalIn (statusReply (o .a
 abbrev pub PutMeets : Record → ℕ → Query → Outcome → Type 0
 PutMeets r place q o =
     Meets (putConditions r place q) putAsks (refusalIn (statusReply (o .answer))) (o .«record» ≡ r)
-    (o .«record» ≡ withPlace r place (record { filled = true; query = q }))
+    (o .«record» ≡ withPlace r place (placeWith q))
 
 -- Dropping a query
 abbrev pub DropMeets : Record → ℕ → Outcome → Type 0
