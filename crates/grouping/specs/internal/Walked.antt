@@ -19,12 +19,6 @@ pub record Placed (schema words : List ℕ) (at n : ℕ) : Type 0 where
   pub from : From schema words at n
   pub read : drop n (databaseOf schema words) ≡ databaseOf schema (drop at words)
 
--- The row at `at`, at position n, is of the dependency's relation
-pub record Member (schema words : List ℕ) (d : Dependency) (at n : ℕ) : Type 0 where
-  pub placed : Placed schema words at n
-  pub inside : at < length words
-  pub relation : getD words at 0 ≡ d .relation
-
 -- What holds once the rows before the walk's row are passed
 pub record Walked (schema words : List ℕ) (d : Dependency) (w : Walk) (heads nodes : List ℕ) : Type 0 where
   pub bucket : 0 < length heads
