@@ -3,7 +3,7 @@ use mathlib.Core.Path.{_≡_}
 use mathlib.Core.Bool.{true}
 use mathlib.Core.List.{List}
 use Prim.Native.Nat.{ℕ, _+_, _≤_, _<_}
-use lib.ListN.{length, drop, getD}
+use lib.ListN.{length, drop}
 use Rattle.query.specs.View.{dependencyOf}
 use Rattle.query.specs.declared.Dependency.{Dependency}
 use Rattle.words.specs.Words.{databaseOf}
