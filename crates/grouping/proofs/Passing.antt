@@ -22,7 +22,7 @@ use Rattle.grouping.specs.internal.Chains.{Chained}
 use Rattle.grouping.specs.internal.Table.{soughtOf, linkOf, numberOf, rightIn, tagIn, withLeader, leaderOf, keyOf, Leads}
 use Rattle.grouping.specs.internal.Groups.{Together, Groups, KeyBelow, Key}
 use Rattle.words.specs.Broken.{nthRow}
-use Rattle.grouping.specs.internal.Walked.{Placed, Member, Walked, Skips}
+use Rattle.grouping.specs.internal.Walked.{Placed, Walked, Skips}
 use Rattle.grouping.specs.declared.Position.{Position}
 use Rattle.grouping.specs.declared.Sought.{Sought}
 use Rattle.grouping.specs.declared.Walk.{Walk}
@@ -71,6 +71,12 @@ module _ (schema words : List ℕ) where
       let e : n + 0 ≡ n = omega arith in
       ap (λ (m : ℕ). getD (databaseOf schema words) m z) (sym e) ∙ sym (getD-drop n (databaseOf schema words) 0 z)
       ∙ ap (λ (l : Database). getD l 0 z) (p .read ∙ next .read)
+
+-- The row at `at`, at position n, is of the dependency's relation
+pub record Member (schema words : List ℕ) (d : Dependency) (at n : ℕ) : Type 0 where
+  pub placed : Placed schema words at n
+  pub inside : at < length words
+  pub relation : getD words at 0 ≡ d .relation
 
 module _ (schema words : List ℕ) (d : Dependency) where
   module _ (at n : ℕ) (m : Member schema words d at n) where

@@ -1,4 +1,4 @@
--- The groups of rows that agree on the left columns of a dependency, and their leaders.
+-- The groups of rows whose left values have the same hashes, and their leaders.
 pub mod Hash
 pub mod Chains
 pub mod Table

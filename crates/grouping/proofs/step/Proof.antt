@@ -1,6 +1,6 @@
 -- `step` passes one row: it is of another relation, or of a group with a leader, or it is a leader, or there is no room for it as one.
 -- Assumes nothing.
-use mathlib.Core.Path.{_≡_, sym, subst, _∙_}
+use mathlib.Core.Path.{_≡_, sym, subst}
 use mathlib.Core.List.{List}
 use Prim.Native.Nat.{ℕ, _≤_, _+_, _*_, _<_}
 use native.Mathlib.Omega.{arith}

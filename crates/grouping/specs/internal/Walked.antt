@@ -3,7 +3,7 @@ use mathlib.Core.Path.{_≡_}
 use mathlib.Core.Bool.{true}
 use mathlib.Core.List.{List}
 use Prim.Native.Nat.{ℕ, _+_, _≤_, _<_}
-use lib.ListN.{length, drop, getD}
+use lib.ListN.{length, drop}
 use Rattle.query.specs.View.{dependencyOf}
 use Rattle.query.specs.declared.Dependency.{Dependency}
 use Rattle.words.specs.Words.{databaseOf}
@@ -18,12 +18,6 @@ use Rattle.grouping.specs.declared.Walk.{Walk}
 pub record Placed (schema words : List ℕ) (at n : ℕ) : Type 0 where
   pub from : From schema words at n
   pub read : drop n (databaseOf schema words) ≡ databaseOf schema (drop at words)
-
--- The row at `at`, at position n, is of the dependency's relation
-pub record Member (schema words : List ℕ) (d : Dependency) (at n : ℕ) : Type 0 where
-  pub placed : Placed schema words at n
-  pub inside : at < length words
-  pub relation : getD words at 0 ≡ d .relation
 
 -- What holds once the rows before the walk's row are passed
 pub record Walked (schema words : List ℕ) (d : Dependency) (w : Walk) (heads nodes : List ℕ) : Type 0 where
