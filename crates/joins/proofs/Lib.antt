@@ -2,3 +2,4 @@
 pub mod Repeats
 
 pub mod Choices
+pub mod Obeying
