@@ -3,3 +3,4 @@ pub mod Repeats
 
 pub mod Choices
 pub mod Obeying
+pub mod JoinChase
