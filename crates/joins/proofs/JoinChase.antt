@@ -10,7 +10,7 @@ use mathlib.Core.Path.{_≡_, refl, sym, _∙_, ap, subst}
 use mathlib.Core.Logic.{_≢_, _↔_, _⊎_, inl, inr, ⊎-elim, Iff·trans}
 use mathlib.Core.Bool.{true, false, cond}
 use mathlib.Core.List.{List, [], _∷_, _++_, map, List·Memᴰ·head, List·Memᴰ·tail, List·Memᴰ·not-nil, List·Memᴰ·append-cases, Memᴰ·cast}
-use mathlib.Core.List.{Memᴰ·append-left, Memᴰ·append-right}
+use mathlib.Core.List.{Memᴰ·append-left, Memᴰ·append-right, cons≢nil}
 use mathlib.Core.Option.{Option, none, some, Option·none-ne-some, Option·some-injective}
 use Prim.Native.Nat.{ℕ, zero, suc, _+_, _-_, _*_, _≤_, _<_}
 use native.Mathlib.Nat.{mul-le-mul-right, suc-mul}
@@ -243,3 +243,238 @@ joins-by-rounds {widths} {ds} {js} {limit} P last round {q} (adds {mid = mid} {n
     go (chased result) holds = round q mid n r result c (nextRow-found widths js (withoutRepeats js mid .rows) r is) less holds
     go overflow holds = tt
 joins-by-rounds P last round (exceeds c is past) = tt
+
+-- Without repeats there are rows where there were
+repeats-some : (js : List JoinDependency) (q : Query) → q .rows ≢ [] → withoutRepeats js q .rows ≢ []
+repeats-some js q nonempty =
+    let first = member-of-some (q .rows) nonempty in
+    some-of-member (withoutRepeats js q .rows) (repeats-back js q (first .0) (first .1))
+
+some-repeats : (js : List JoinDependency) (q : Query) → withoutRepeats js q .rows ≢ [] → q .rows ≢ []
+some-repeats js q nonempty =
+    let first = member-of-some (withoutRepeats js q .rows) nonempty in
+    some-of-member (q .rows) (repeats-into js q (first .0) (first .1))
+
+-- Repeated rows ask nothing of an answer
+repeats-answers : (js : List JoinDependency) (q : Query) (D : Database) (t : List ℕ) → Answer D q t ↔ Answer D (withoutRepeats js q) t
+repeats-answers js q D t = (
+  λ a. (
+    a .0,
+    carries-fewer itself (a .0) q (withoutRepeats js q) D t (repeats-head js q) (repeats-some js q (a .1 .not-never)) (repeats-into js q) (a .1),
+  ),
+  λ a. (
+    a .0,
+    carries-fewer itself (a .0) (withoutRepeats js q) q D t (sym (repeats-head js q)) (some-repeats js q (a .1 .not-never)) (repeats-back js q) (a .1),
+  ),
+)
+
+module _ (widths : List ℕ) (js : List JoinDependency) (fit : JoinsFit widths js) where
+  -- A row that is added asks nothing of an answer on a database that obeys: its image is in the join, so it is there
+  added-answers : (q : Query) (r : Row Entry) → Added widths js (q .rows) r → (D : Database) → ObeysJoins widths js D → (t : List ℕ)
+      → Answer D q t ↔ Answer D (addRow q r) t
+  added-answers q r a D obeys t = (
+    λ answer. (
+      answer .0,
+      record {
+        not-never = λ none. answer .1 .not-never (append-none (q .rows) none);
+        to-head = answer .1 .to-head;
+        to-rows = λ s at. ⊎-elim (answer .1 .to-rows s)
+            (λ last. Memᴰ·cast (ap (mapRow (valueOf itself (answer .0))) (mem-cases last (λ here. here) (λ later. absurd (List·Memᴰ·not-nil later))))
+            (there (answer .0) (answer .1)))
+            (List·Memᴰ·append-cases (q .rows) at);
+      },
+    ),
+    λ answer. (
+      answer .0,
+      carries-fewer itself (answer .0) (addRow q r) q D t refl (added-some widths js fit a) (λ s at. Memᴰ·append-left (r ∷ []) at) (answer .1),
+    ),
+  )
+    where
+      append-none : (rows : List (Row Entry)) → rows ++ r ∷ [] ≡ [] → rows ≡ []
+      append-none [] empty = refl
+      append-none (s ∷ rows) empty = absurd (cons≢nil empty)
+
+      there : (assign : ℕ → ℕ) → Carries itself assign q D t → mapRow (valueOf itself assign) r ∈ D
+      there assign c =
+          let j = a .dependency in
+          let y = yields widths j (a .choice) in
+          let wide = yields-fits widths j (a .choice) (fit j (a .held) .known) in
+          Memᴰ·cast (ap (mapRow (valueOf itself assign)) (a .row))
+          (obeys j (a .held) (mapRow (valueOf itself assign) y) (wide .0, length-map (y .values) (valueOf itself assign) ∙ wide .1)
+          (yields-relation widths j (a .choice)) .1
+          (yields-in-join widths j (q .rows) (a .choice) assign D (c .to-rows) (a .tried) (a .together)))
+
+module _ {widths : List ℕ} {ds : List Dependency} {js : List JoinDependency} {limit : ℕ} (fit : JoinsFit widths js) where
+  -- Answers
+  pub joins-answers : {q result : Query} → JoinChases widths ds js limit q (chased result)
+      → (D : Database) → LegalForBoth widths ds js D → (t : List ℕ) → Answer D q t ↔ Answer D result t
+  joins-answers =
+      joins-by-rounds (λ q result. (D : Database) → LegalForBoth widths ds js D → (t : List ℕ) → Answer D q t ↔ Answer D result t)
+      (λ q mid n c is D legal t. Iff·trans (chases-answers c D (legal .legal .obeys) t) (repeats-answers js mid D t))
+      (λ q mid n r result c a less rest D legal t.
+      Iff·trans (chases-answers c D (legal .legal .obeys) t)
+      (Iff·trans (repeats-answers js mid D t)
+      (Iff·trans (added-answers widths js fit (withoutRepeats js mid) r a D (legal .joins) t) (rest D legal t))))
+
+  -- A mapping to the chased query
+  pub joins-mapping : {q result : Query} → JoinChases widths ds js limit q (chased result) → result .rows ≢ [] → Mapping q result
+  joins-mapping =
+      joins-by-rounds (λ q result. result .rows ≢ [] → Mapping q result)
+      (λ q mid n c is nonempty.
+      let there = some-repeats js mid nonempty in
+      mapping-compose q mid (withoutRepeats js mid) (chases-mapping c there)
+      (mapping-inclusion mid (withoutRepeats js mid) there (repeats-head js mid) (repeats-back js mid)))
+      (λ q mid n r result c a less rest nonempty.
+      let settled = withoutRepeats js mid in
+      let there = some-repeats js mid (added-some widths js fit a) in
+      mapping-compose q mid result (chases-mapping c there)
+      (mapping-compose mid (addRow settled r) result
+      (mapping-inclusion mid (addRow settled r) there (repeats-head js mid) (λ s at. Memᴰ·append-left (r ∷ []) (repeats-back js mid s at)))
+      (rest nonempty)))
+
+  -- Relations and widths of rows
+  pub joins-rows-fit : {q result : Query} → JoinChases widths ds js limit q (chased result) → RowsFit widths q → RowsFit widths result
+  joins-rows-fit =
+      joins-by-rounds (λ q result. RowsFit widths q → RowsFit widths result)
+      (λ q mid n c is fits s at. chases-rows-fit widths c fits s (repeats-into js mid s at))
+      (λ q mid n r result c a less rest fits. rest (added-rows c a (chases-rows-fit widths c fits)))
+    where
+      added-rows : {q mid : Query} {n : ℕ} {r : Row Entry} → Chases ds q mid n → Added widths js (withoutRepeats js mid .rows) r
+          → RowsFit widths mid → RowsFit widths (addRow (withoutRepeats js mid) r)
+      added-rows {mid = mid} {r = r} c a fits s at =
+          ⊎-elim
+          (λ old. fits s (repeats-into js mid s old))
+          (λ new. mem-cases new (λ here. subst (FitsSchema widths) (sym here) (added-fits widths js fit a)) (λ later. absurd (List·Memᴰ·not-nil later)))
+          (List·Memᴰ·append-cases (withoutRepeats js mid .rows) at)
+
+  -- Constants below a base
+  pub joins-constants : (base : ℕ) → 0 < base → {q result : Query} → JoinChases widths ds js limit q (chased result)
+      → ConstantsBelow base q → ConstantsBelow base result
+  joins-constants base positive =
+      joins-by-rounds (λ q result. ConstantsBelow base q → ConstantsBelow base result)
+      (λ q mid n c is below. kept mid (chases-constants base positive c below))
+      (λ q mid n r result c a less rest below. rest (grown mid r a (kept mid (chases-constants base positive c below))))
+    where
+      kept : (mid : Query) → ConstantsBelow base mid → ConstantsBelow base (withoutRepeats js mid)
+      kept mid below = record {
+        of-head = λ n at. below .of-head n (subst (λ l. constant n ∈ l) (repeats-head js mid) at);
+        of-rows = λ n at. below .of-rows n (rowEntries-part (repeats-into js mid) (constant n) at);
+      }
+
+      grown : (mid : Query) (r : Row Entry) → Added widths js (withoutRepeats js mid .rows) r → ConstantsBelow base (withoutRepeats js mid)
+          → ConstantsBelow base (addRow (withoutRepeats js mid) r)
+      grown mid r a below = record {
+        of-head = below .of-head;
+        of-rows = λ n at.
+            ⊎-elim (λ zero. let is : n ≡ 0 = constant-same zero in omega arith) (below .of-rows n) (added-entry widths js fit a (constant n) at);
+      }
+
+  -- Well-formed queries
+  pub joins-wellformed : {q result : Query} → JoinChases widths ds js limit q (chased result) → WellFormed widths q → WellFormed widths result
+  joins-wellformed {q} {result} chase well = record {
+    rows-fit = joins-rows-fit chase (well .rows-fit);
+    head-safe =
+        joins-by-rounds (λ q result. WellFormed widths q → (v : ℕ) → v ∈ variablesOf (result .head) → v ∈ variablesOf (rowEntries (result .rows)))
+        (λ q mid n c is well. kept mid (chases-wellformed widths c well .head-safe))
+        (λ q mid n r result c a less rest well.
+        let before = chases-wellformed widths c well in
+        rest (record {
+          rows-fit = λ s at.
+              ⊎-elim
+              (λ old. before .rows-fit s (repeats-into js mid s old))
+              (λ new. mem-cases new (λ here. subst (FitsSchema widths) (sym here) (added-fits widths js fit a)) (λ later. absurd (List·Memᴰ·not-nil later)))
+              (List·Memᴰ·append-cases (withoutRepeats js mid .rows) at);
+          head-safe = λ v at. more (withoutRepeats js mid .rows) (addRow (withoutRepeats js mid) r .rows) (λ s there. Memᴰ·append-left (r ∷ []) there) v
+              (kept mid (before .head-safe) v at);
+        }))
+        chase well;
+  }
+    where
+      more : (rows rows' : List (Row Entry)) → rows ⊆ rows' → (v : ℕ) → v ∈ variablesOf (rowEntries rows) → v ∈ variablesOf (rowEntries rows')
+      more rows rows' part' v at = mem-variablesOf v (rowEntries rows') (rowEntries-part part' (variable v) (variablesOf-mem v (rowEntries rows) at))
+
+      kept : (mid : Query) → ((v : ℕ) → v ∈ variablesOf (mid .head) → v ∈ variablesOf (rowEntries (mid .rows)))
+          → (v : ℕ) → v ∈ variablesOf (withoutRepeats js mid .head) → v ∈ variablesOf (rowEntries (withoutRepeats js mid .rows))
+      kept mid safe v at =
+          more (mid .rows) (withoutRepeats js mid .rows) (repeats-back js mid) v (safe v (subst (λ l. v ∈ variablesOf l) (repeats-head js mid) at))
+
+module _ {widths : List ℕ} {ds : List Dependency} {js : List JoinDependency} {limit : ℕ} where
+  -- The head's length
+  pub joins-head-length : {q result : Query} → JoinChases widths ds js limit q (chased result) → length (result .head) ≡ length (q .head)
+  joins-head-length =
+      joins-by-rounds (λ q result. length (result .head) ≡ length (q .head))
+      (λ q mid n c is. ap length (repeats-head js mid) ∙ chases-head-length c)
+      (λ q mid n r result c a less rest. rest ∙ ap length (repeats-head js mid) ∙ chases-head-length c)
+
+  -- The number of rows
+  pub joins-length : {q result : Query} (most : ℕ) → JoinChases widths ds js limit q (chased result) → limit ≤ most → length (q .rows) ≤ most
+      → length (result .rows) ≤ most
+  joins-length most chase enough =
+      joins-by-rounds (λ q result. length (q .rows) ≤ most → length (result .rows) ≤ most)
+      (λ q mid n c is short. omega (arith, repeats-length js mid, shorter c))
+      (λ q mid n r result c a less rest short. rest (omega (arith, length-append (withoutRepeats js mid .rows) (r ∷ []))))
+      chase
+    where
+      shorter : {q mid : Query} {n : ℕ} → Chases ds q mid n → length (mid .rows) ≤ length (q .rows)
+      shorter {q} {mid} {n} c = subst (λ p. length (p .rows) ≤ length (q .rows)) (sym (chases-unique ds q mid n c .0)) (chase-length-le ds q)
+
+-- ---- 4. no step is left
+
+-- A query on which the functional chase rests, without repeats, and with no row to be added
+pub record Complete (widths : List ℕ) (ds : List Dependency) (js : List JoinDependency) (result : Query) : Type 0 where
+  pub resting : Query
+  pub rests-there : step ds resting ≡ none
+  pub without-repeats : result ≡ withoutRepeats js resting
+  pub nothing-missing : nextRow widths js (result .rows) ≡ none
+
+-- The chase ends in such a query
+pub joins-complete : {widths : List ℕ} {ds : List Dependency} {js : List JoinDependency} {limit : ℕ} {q result : Query}
+    → JoinChases widths ds js limit q (chased result) → Complete widths ds js result
+joins-complete {widths} {ds} {js} =
+    joins-by-rounds (λ q result. Complete widths ds js result)
+    (λ q mid n c is. record { resting = mid; rests-there = chases-rests c; without-repeats = refl; nothing-missing = is })
+    (λ q mid n r result c a less rest. rest)
+
+-- Constants in a column are below the base too, also where constant 0 stands in
+column-below : (q : Query) (base : ℕ) → 0 < base → ConstantsBelow base q → (r : Row Entry) → r ∈ q .rows → (c n : ℕ)
+    → column (constant 0) r c ≡ constant n → n < base
+column-below q base positive below r at c n is =
+    ⊎-elim
+    (λ default. let zero : n ≡ 0 = constant-same (sym is ∙ default) in omega arith)
+    (λ there. below .of-rows n (Memᴰ·cast (sym is) there))
+    (column-rowEntries (q .rows) r c at)
+
+module _ (widths : List ℕ) (ds : List Dependency) (js : List JoinDependency) (fit : JoinsFit widths js) where
+  -- Such a query, read as a database, is legal for both kinds
+  pub complete-legal : (q : Query) (base : ℕ) → Complete widths ds js q → RowsFit widths q → 0 < base → ConstantsBelow base q
+      → LegalForBoth widths ds js (frozenRows base q)
+  complete-legal q base final fits positive below = record {
+    legal = record {
+      sound = frozen-sound widths base q fits;
+      obeys = λ d held r s at at'. rests-obeys ds mid base (final .rests-there) positive below-mid d held r s (part' r at) (part' s at');
+    };
+    joins = λ j held.
+        no-missing-obeys widths j (fit j held) (q .rows) fits (λ v. base + v) apart
+        (nextRow-nothing widths js (q .rows) (final .nothing-missing) j held);
+  }
+    where
+      mid : Query
+      mid = final .resting
+
+      into-mid : q .rows ⊆ mid .rows
+      into-mid r at = repeats-into js mid r (subst (λ (p : Query). r ∈ p .rows) (final .without-repeats) at)
+
+      part' : frozenRows base q ⊆ frozenRows base mid
+      part' = map-part (mapRow (freeze base)) into-mid
+
+      below-mid : ConstantsBelow base mid
+      below-mid = record {
+        of-head = λ n at. below .of-head n (subst (λ l. constant n ∈ l) (sym (ap (λ p. p .head) (final .without-repeats) ∙ repeats-head js mid)) at);
+        of-rows = λ n at. below .of-rows n (rowEntries-part
+            (λ r there. subst (λ (p : Query). r ∈ p .rows) (sym (final .without-repeats)) (repeats-back js mid r there)) (constant n) at);
+      }
+
+      apart : KeepsApart (λ v. base + v) (q .rows)
+      apart r s at at' c same =
+          freeze-injective base (column (constant 0) r c) (column (constant 0) s c) (column-below q base positive below r at c)
+          (column-below q base positive below s at' c) same

@@ -4,3 +4,5 @@ pub mod Repeats
 pub mod Choices
 pub mod Obeying
 pub mod JoinChase
+pub mod Order
+pub mod Theorems

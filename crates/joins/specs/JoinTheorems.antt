@@ -1,10 +1,11 @@
 -- What is proved of join dependencies and of the chase with both kinds. Each statement is proved in `proofs/Theorems`.
 use mathlib.Core.Path.{_≡_}
 use mathlib.Core.Logic.{_≢_, _↔_, _⊎_}
-use mathlib.Core.Bool.{Bool, true, false}
+use mathlib.Core.Bool.{Bool, true, false, _&&_}
 use mathlib.Core.List.{List, [], _∷_, _++_, map}
 use mathlib.Core.Option.{none, some}
 use Prim.Native.Nat.{ℕ, _≤_, _<_}
+use lib.Dec.{eqb}
 use lib.ListN.{length, getD}
 use Rattle.theory.specs.Query.{Entry, constant, Row, Query, column, mapRow, RowsFit, WellFormed, _∈_}
 use Rattle.theory.specs.Database.{Database, Dependency, Sound}
@@ -179,9 +180,13 @@ ConsistentPairwise =
     × ((p s : List ℕ × Row Entry) → p ∈ choice → s ∈ choice → (c : ℕ) → c ∈ p .0 → c ∈ s .0
     → column (constant 0) (p .1) c ≡ column (constant 0) (s .1) c))
 
--- The choices with, for each set, only the earliest row with the same entries in its columns
+-- Whether two rows are of one relation and have the same entries in a set of columns
+abbrev pub sameOn : List ℕ → Row Entry → Row Entry → Bool
+sameOn set r s = eqb (r .relation) (s .relation) && agree set r s
+
+-- The choices with, for each set, only the earliest of the rows that are the same on it
 abbrev pub earliestChoices : List (List ℕ) → List (Row Entry) → List Choice
-earliestChoices sets rows = picks (map (λ set. map (λ r. (set, r)) (keepFirst (agree set) [] rows)) sets)
+earliestChoices sets rows = picks (map (λ set. map (λ r. (set, r)) (keepFirst (sameOn set) [] rows)) sets)
 
 -- To try only these finds the same
 abbrev pub EarliestEnough : Type 0

@@ -1,0 +1,124 @@
+-- A proof of each statement of `JoinTheorems` and of `Examples`. Most are proved in the files before; here they have the form in which they are stated.
+-- Assumes nothing.
+use mathlib.Core.Path.{_≡_, refl, sym, _∙_, ap, subst}
+use mathlib.Core.Logic.{_≢_, _↔_, _⊎_, inl, inr, ⊎-elim}
+use mathlib.Core.Bool.{Bool, true, false, true≢false}
+use mathlib.Core.List.{List, [], _∷_, cons≢nil}
+use mathlib.Core.Option.{Option, none, some, Option·none-ne-some, Option·some-injective}
+use Prim.Native.Nat.{ℕ, _<_}
+use Rattle.theory.specs.Query.{Entry, Row, Query, RowsFit}
+use Rattle.theory.specs.Database.{Database, Dependency}
+use Rattle.theory.specs.Answer.{Mapping}
+use Rattle.theory.specs.Chase.{chase, firstFound}
+use Rattle.theory.specs.Containment.{Contained, Counterexample, frozenRows, frozenHead, ConstantsBelow, StandsFor}
+use Rattle.theory.proofs.Lists.{bool-cases}
+use Rattle.theory.proofs.Chase.{chase-chases, chases-unique}
+use Rattle.theory.proofs.Containment.{contained-over, counterexample-over}
+use Rattle.minimization.specs.Checking.{sameRow}
+use Rattle.minimization.specs.Search.{mappable, containedOn}
+use Rattle.minimization.proofs.Checking.{sameRow-eq, sameRow-self}
+use Rattle.minimization.proofs.Search.{both-below, mappable-exact}
+use Rattle.joins.specs.Join.{JoinDependency, LegalForBoth, JoinsFit}
+use Rattle.joins.specs.JoinChase.{withoutRepeats, firstUnmet, nextRow, settle, Outcome, chased, overflow, JoinChases, complete, adds, exceeds}
+use Rattle.joins.specs.JoinChase.{joinChase, containedIn, joinContained}
+use Rattle.joins.specs.JoinTheorems as joins
+use Rattle.joins.proofs.Repeats.{snoc-there, snoc-new}
+use Rattle.joins.proofs.Choices.{choices-of, choice-tried, missing-exact}
+use Rattle.joins.proofs.Obeying.{obeys-join-exact}
+use Rattle.joins.proofs.JoinChase.{joins-computed, joins-unique, joins-answers, joins-mapping, joins-rows-fit, joins-constants, joins-wellformed}
+use Rattle.joins.proofs.JoinChase.{joins-head-length, joins-length, joins-complete, complete-legal}
+use Rattle.joins.proofs.Order.{firstPassing-first, nextRow-first, consistent-pairs, firstMissing-earliest}
+
+-- ---- the chase ends, in one way
+
+pub join-chase-ends : joins.JoinChaseEnds
+join-chase-ends widths ds js limit q fit = (joinChase widths ds js limit q, joins-computed widths ds js limit fit q)
+
+pub join-chase-unique : joins.JoinChaseUnique
+join-chase-unique widths ds js limit q one other = joins-unique widths ds js limit
+
+pub join-chase-computes : joins.JoinChaseComputes
+join-chase-computes widths ds js limit q outcome fit = (
+  λ c. joins-unique widths ds js limit (joins-computed widths ds js limit fit q) c,
+  λ same. subst (JoinChases widths ds js limit q) same (joins-computed widths ds js limit fit q),
+)
+
+-- With no join dependency the first round is the last
+pub without-joins : joins.WithoutJoins
+unfolding nextRow firstUnmet firstFound withoutRepeats
+without-joins widths ds limit q outcome =
+    let only : JoinChases widths ds [] limit q (chased (chase ds q .query)) = complete (chase-chases ds q) refl in
+    (λ c. joins-unique widths ds [] limit c only, λ same. subst (JoinChases widths ds [] limit q) (sym same) only)
+
+-- ---- answers
+
+pub join-chase-keeps-answers : joins.JoinChaseKeepsAnswers
+join-chase-keeps-answers widths ds js limit q result fit c = joins-answers fit c
+
+pub never-means-no-answers : joins.NeverMeansNoAnswers
+never-means-no-answers widths ds js limit q result fit c empty D legal t a = joins-answers fit c D legal t .0 a .1 .not-never empty
+
+pub join-chase-maps : joins.JoinChaseMaps
+join-chase-maps widths ds js limit q result fit c = joins-mapping fit c
+
+-- ---- the chased query
+
+pub join-chased-legal : joins.JoinChasedLegal
+join-chased-legal widths ds js limit q result base fit c fits positive below =
+    complete-legal widths ds js fit result base (joins-complete c) (joins-rows-fit fit c fits) positive (joins-constants fit base positive c below)
+
+pub join-chased-well-formed : joins.JoinChasedWellFormed
+join-chased-well-formed widths ds js limit q result fit c well = (joins-wellformed fit c well, joins-head-length c)
+
+pub join-chased-length : joins.JoinChasedLength
+join-chased-length widths ds js limit q result most c = joins-length most c
+
+-- ---- containment
+
+pub join-chased-stands : joins.JoinChasedStands
+join-chased-stands widths ds js limit q result base fit c fits positive below = record {
+  answers = joins-answers fit c;
+  frozen = λ nonempty. join-chased-legal widths ds js limit q result base fit c fits positive below;
+  below = joins-constants fit base positive c below;
+}
+
+pub join-contained-exactly : joins.JoinContainedExactly
+join-contained-exactly widths ds js limit p q result fit c fits =
+    let common = both-below p q in
+    contained-over (LegalForBoth widths ds js) (common .0) p q result
+    (join-chased-stands widths ds js limit p result (common .0) fit c fits (common .1) (common .2)) (common .3)
+
+pub join-chased-counterexample : joins.JoinChasedCounterexample
+join-chased-counterexample widths ds js limit p q result base fit c fits belowP belowQ positive =
+    counterexample-over (LegalForBoth widths ds js) base p q result
+    (join-chased-stands widths ds js limit p result base fit c fits positive belowP) belowQ
+
+-- ---- the order of search
+
+pub first-passing-is-first : joins.FirstPassingIsFirst
+first-passing-is-first A = firstPassing-first
+
+pub next-row-is-first : joins.NextRowIsFirst
+next-row-is-first = nextRow-first
+
+pub choices-exactly : joins.ChoicesExactly
+choices-exactly sets rows choice = (choices-of sets rows choice, choice-tried sets rows choice)
+
+pub missing-exactly : joins.MissingExactly
+missing-exactly widths j rows choice = missing-exact widths j choice rows
+
+pub consistent-pairwise : joins.ConsistentPairwise
+consistent-pairwise = consistent-pairs
+
+pub earliest-are-enough : joins.EarliestEnough
+earliest-are-enough = firstMissing-earliest
+
+-- ---- repeated rows
+
+pub repeats-go : joins.RepeatsGo
+repeats-go rows r = (snoc-there sameRow sameRow-eq sameRow-self rows r, snoc-new sameRow sameRow-eq sameRow-self rows r)
+
+-- ---- databases
+
+pub obeys-join-exactly : joins.ObeysJoinExactly
+obeys-join-exactly widths j D fits sound = obeys-join-exact widths j fits D sound
