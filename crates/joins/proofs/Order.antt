@@ -5,7 +5,7 @@ use mathlib.Core.Path.{_≡_, refl, sym, _∙_, ap, ap₂, subst, fun-ext}
 use mathlib.Core.Logic.{_⊎_, inl, inr, ⊎-elim, _↔_}
 use mathlib.Core.Bool.{Bool, true, false, cond, not, _&&_}
 use mathlib.Core.List.{List, [], _∷_, _++_, map, List·Memᴰ·head, List·Memᴰ·tail, List·Memᴰ·not-nil, append-nil}
-use mathlib.Core.Option.{Option, none, some, orElse, Option·map, Option·none-ne-some, Option·some-injective, map-eq-some-iff, map-eq-none-iff}
+use mathlib.Core.Option.{Option, none, some, orElse, Option·map, map-eq-some-iff}
 use Prim.Native.Nat.{ℕ, _<_}
 use lib.Dec.{eqb}
 use lib.ListN.{getD}
@@ -19,41 +19,76 @@ use Rattle.theory.specs.Database.{Agree}
 use Rattle.theory.specs.Chase.{firstPassing, firstFound, agree}
 use Rattle.theory.specs.OrderTheorems.{FirstFound}
 use Rattle.theory.proofs.Lists.{bool-cases, option-cases, mem-cases, member-mem}
-use Rattle.theory.proofs.Step.{agree-all, firstPassing-nil, firstPassing-true, firstPassing-false}
+use Rattle.theory.proofs.Step.{agree-all, firstPassing-nil, firstPassing-found, firstPassing-nothing}
 use Rattle.theory.proofs.Order.{firstFound-first}
 use Rattle.minimization.specs.Checking.{standsIn}
 use Rattle.joins.specs.Join.{JoinDependency}
-use Rattle.joins.specs.JoinChase.{before, picks, Choice, choices, chosenEntry, yields, fitsChoice, consistent, missing, firstMissing, firstUnmet, nextRow}
+use Rattle.joins.specs.JoinChase.{before, picks, Choice, candidates, choices, chosenEntry, yields, fitsChoice, consistent, missing, firstMissing, firstUnmet, nextRow}
 use Rattle.joins.specs.JoinChase.{keepFirst}
-use Rattle.joins.specs.JoinTheorems.{FirstPassing, FirstAdded, sameOn, earliestChoices}
+use Rattle.joins.specs.JoinTheorems.{FirstPick, FirstAdded, sameOn, earliestChoices}
 use Rattle.joins.proofs.Repeats.{keepOne-cases}
 use Rattle.joins.proofs.Choices.{chosen-entry-in, consistent-true, true-consistent, yields-column}
 
+-- ---- the search by the first element
+
+-- The search in two lists one after the other, and in a list whose elements are changed
+firstPassing-append : {A : Type 0} (test : A → Bool) (xs ys : List A)
+    → firstPassing test (xs ++ ys) ≡ orElse (firstPassing test xs) (firstPassing test ys)
+unfolding firstPassing orElse
+firstPassing-append test [] ys = refl
+firstPassing-append test (x ∷ xs) ys = bool-cases (test x) (λ p. rw p refl) (λ p. rw p (firstPassing-append test xs ys))
+
+firstPassing-map : {A B : Type 0} (test : B → Bool) (f : A → B) (xs : List A)
+    → firstPassing test (map f xs) ≡ Option·map f (firstPassing (λ x. test (f x)) xs)
+unfolding firstPassing
+firstPassing-map test f [] = refl
+firstPassing-map test f (x ∷ xs) = bool-cases (test (f x)) (λ p. rw p refl) (λ p. rw p (firstPassing-map test f xs))
+
+-- The rest that is found for a first element
+abbrev restFor : {A : Type 0} → (List A → Bool) → List (List A) → A → Option (List A)
+restFor test rests x = firstPassing (λ l. test (x ∷ l)) rests
+
+-- Each first element in turn
+before-first : {A : Type 0} (test : List A → Bool) (xs : List A) (rests : List (List A))
+    → firstPassing test (before xs rests) ≡ Option·map (λ found. found .0 ∷ found .1) (firstFound (restFor test rests) xs)
+unfolding before firstFound orElse
+before-first test [] rests = firstPassing-nil test
+before-first {A} test (x ∷ xs) rests =
+    firstPassing-append test (map (λ l. x ∷ l) rests) (before xs rests)
+    ∙ ap₂ orElse (firstPassing-map test (λ l. x ∷ l) rests) (before-first test xs rests) ∙ go (restFor test rests x)
+  where
+    later : Option (A × List A)
+    later = firstFound (restFor test rests) xs
+
+    go : (o : Option (List A)) → orElse (Option·map (λ l. x ∷ l) o) (Option·map (λ found. found .0 ∷ found .1) later)
+        ≡ Option·map (λ found. found .0 ∷ found .1) (orElse (Option·map (λ l. (x, l)) o) later)
+    go none = refl
+    go (some l) = refl
+
 -- ---- what is found is the first
 
-pub firstPassing-first : {A : Type 0} (test : A → Bool) (xs : List A) (x : A) → firstPassing test xs ≡ some x → FirstPassing test xs x
-firstPassing-first test [] x e = absurd (Option·none-ne-some x (sym (firstPassing-nil test) ∙ e))
-firstPassing-first test (y ∷ ys) x e =
-    bool-cases
-    (test y)
-    (λ p.
-    let same : y ≡ x = Option·some-injective _ _ (sym (firstPassing-true test y ys p) ∙ e) in
-    record {
-      earlier = [];
-      later = ys;
-      places = ap (λ z. z ∷ ys) same;
-      passes = sym (ap test same) ∙ p;
-      none-earlier = λ z at. absurd (List·Memᴰ·not-nil at);
-    })
-    (λ p.
-    let rest = firstPassing-first test ys x (sym (firstPassing-false test y ys p) ∙ e) in
-    record {
-      earlier = y ∷ rest .earlier;
-      later = rest .later;
-      places = ap (λ l. y ∷ l) (rest .places);
-      passes = rest .passes;
-      none-earlier = λ z at. mem-cases at (λ here. ap test here ∙ p) (rest .none-earlier z);
-    })
+pub firstPick-first : {A : Type 0} (test : List A → Bool) (xss : List (List A)) (l : List A) → firstPassing test (picks xss) ≡ some l → FirstPick test xss l
+unfolding picks
+firstPick-first test [] l e =
+    let found = firstPassing-found test l ([] ∷ []) e in
+    let empty : l ≡ [] = mem-cases (found .0) (λ here. here) (λ later. absurd (List·Memᴰ·not-nil later)) in
+    (empty, ap test (sym empty) ∙ found .1)
+firstPick-first test (xs ∷ xss) l e =
+    let from = map-eq-some-iff (λ found. found .0 ∷ found .1) (firstFound (restFor test (picks xss)) xs) .0 (sym (before-first test xs (picks xss)) ∙ e) in
+    let x = from .0 .0 in
+    let rest = from .0 .1 in
+    let first = firstFound-first (restFor test (picks xss)) xs x rest (from .1) in (
+      x,
+      rest,
+      sym (from .2),
+      record {
+        earlier = first .before;
+        later = first .after;
+        places = first .places;
+        none-earlier = λ y at m there. firstPassing-nothing (λ m. test (y ∷ m)) (picks xss) (first .none-before y at) m there;
+      },
+      firstPick-first (λ m. test (x ∷ m)) xss rest (first .found),
+    )
 
 pub nextRow-first : (widths : List ℕ) (js : List JoinDependency) (rows : List (Row Entry)) (r : Row Entry) → nextRow widths js rows ≡ some r
     → FirstAdded widths js rows r
@@ -65,7 +100,7 @@ nextRow-first widths js rows r e =
       dependency = from .0 .0;
       choice = from .0 .1;
       held = held;
-      first = firstPassing-first (missing widths (from .0 .0) rows) (choices (from .0 .0 .sets) rows) (from .0 .1) (held .found);
+      first = firstPick-first (missing widths (from .0 .0) rows) (candidates (from .0 .0 .sets) rows) (from .0 .1) (held .found);
       row = sym (from .2);
     }
 
@@ -89,68 +124,46 @@ consistent-pairs widths j choice within = (
 
 -- ---- the earliest rows are enough
 
--- The search in two lists one after the other, and in a list whose elements are changed
-firstPassing-append : {A : Type 0} (test : A → Bool) (xs ys : List A)
-    → firstPassing test (xs ++ ys) ≡ orElse (firstPassing test xs) (firstPassing test ys)
-unfolding firstPassing orElse
-firstPassing-append test [] ys = refl
-firstPassing-append test (x ∷ xs) ys = bool-cases (test x) (λ p. rw p refl) (λ p. rw p (firstPassing-append test xs ys))
-
-firstPassing-map : {A B : Type 0} (test : B → Bool) (f : A → B) (xs : List A)
-    → firstPassing test (map f xs) ≡ Option·map f (firstPassing (λ x. test (f x)) xs)
-unfolding firstPassing
-firstPassing-map test f [] = refl
-firstPassing-map test f (x ∷ xs) = bool-cases (test (f x)) (λ p. rw p refl) (λ p. rw p (firstPassing-map test f xs))
-
 -- Tests that agree find the same
 firstPassing-same : {A : Type 0} (test other : A → Bool) → ((x : A) → test x ≡ other x) → (xs : List A) → firstPassing test xs ≡ firstPassing other xs
 firstPassing-same test other same xs = ap (λ t. firstPassing t xs) (fun-ext same)
 
--- The first thing that a function gives along a list
-firstSome : {A B : Type 0} → (A → Option B) → List A → Option B
-firstSome f [] = none
-firstSome f (x ∷ xs) = orElse (f x) (firstSome f xs)
+-- An element for which nothing is found, as nothing is found for an earlier one, can be left out
+firstFound-without : {D A : Type 0} (find : D → Option A) (kept : List D) (x : D) (xs : List D) → find x ≡ none
+    → firstFound find (kept ++ x ∷ xs) ≡ firstFound find (kept ++ xs)
+unfolding firstFound orElse
+firstFound-without find [] x xs is = rw is refl
+firstFound-without find (k ∷ kept) x xs is = ap (orElse (Option·map (λ a. (k, a)) (find k))) (firstFound-without find kept x xs is)
 
-firstSome-map : {A B C : Type 0} (f : B → Option C) (g : A → B) (xs : List A) → firstSome f (map g xs) ≡ firstSome (λ x. f (g x)) xs
-unfolding firstSome
-firstSome-map f g [] = refl
-firstSome-map f g (x ∷ xs) = ap (orElse (f (g x))) (firstSome-map f g xs)
+firstFound-skip : {D A : Type 0} (find : D → Option A) (kept : List D) (x y : D) (xs : List D) → y ∈ kept → (find y ≡ none → find x ≡ none)
+    → firstFound find (kept ++ x ∷ xs) ≡ firstFound find (kept ++ xs)
+unfolding firstFound orElse
+firstFound-skip find (z ∷ kept) x y xs (List·Memᴰ·head e) nothing =
+    option-cases (find z) (λ b is. rw is refl) (λ is. rw is (firstFound-without find kept x xs (nothing (ap find e ∙ is))))
+firstFound-skip find (z ∷ kept) x y xs (List·Memᴰ·tail at) nothing =
+    ap (orElse (Option·map (λ a. (z, a)) (find z))) (firstFound-skip find kept x y xs at nothing)
 
--- The search that begins with each of the first elements in turn
-abbrev beginning : {A : Type 0} → (List A → Bool) → List (List A) → A → Option (List A)
-beginning test rests x = Option·map (λ l. x ∷ l) (firstPassing (λ l. test (x ∷ l)) rests)
-
-before-first : {A : Type 0} (test : List A → Bool) (xs : List A) (rests : List (List A))
-    → firstPassing test (before xs rests) ≡ firstSome (beginning test rests) xs
-unfolding before firstSome
-before-first test [] rests = firstPassing-nil test
-before-first test (x ∷ xs) rests =
-    firstPassing-append test (map (λ l. x ∷ l) rests) (before xs rests)
-    ∙ ap₂ orElse (firstPassing-map test (λ l. x ∷ l) rests) (before-first test xs rests)
-
--- An element for which nothing is given where nothing is given for an earlier one can be left out
-firstSome-skip : {A B : Type 0} (f : A → Option B) (kept : List A) (x y : A) (xs : List A) → y ∈ kept → (f y ≡ none → f x ≡ none)
-    → firstSome f (kept ++ x ∷ xs) ≡ firstSome f (kept ++ xs)
-unfolding firstSome orElse
-firstSome-skip f (z ∷ kept) x y xs (List·Memᴰ·head e) nothing =
-    option-cases (f z) (λ b is. rw is refl) (λ is. rw is (after kept (nothing (ap f e ∙ is))))
-  where
-    after : (ks : List _) → f x ≡ none → firstSome f (ks ++ x ∷ xs) ≡ firstSome f (ks ++ xs)
-    after [] is = rw is refl
-    after (k ∷ ks) is = ap (orElse (f k)) (after ks is)
-firstSome-skip f (z ∷ kept) x y xs (List·Memᴰ·tail at) nothing = ap (orElse (f z)) (firstSome-skip f kept x y xs at nothing)
-
--- So where nothing is given for an element when nothing is given for one that is the same, only the earliest are wanted
-firstSome-earliest : {A B : Type 0} (same : A → A → Bool) (f : A → Option B) → ((x y : A) → same x y ≡ true → f y ≡ none → f x ≡ none)
-    → (kept rest : List A) → firstSome f (kept ++ rest) ≡ firstSome f (keepFirst same kept rest)
+-- So where nothing is found for an element when nothing is found for one that is the same, only the earliest are wanted
+firstFound-earliest : {D A : Type 0} (same : D → D → Bool) (find : D → Option A) → ((x y : D) → same x y ≡ true → find y ≡ none → find x ≡ none)
+    → (kept rest : List D) → firstFound find (kept ++ rest) ≡ firstFound find (keepFirst same kept rest)
 unfolding keepFirst
-firstSome-earliest same f like kept [] = ap (firstSome f) (append-nil kept)
-firstSome-earliest same f like kept (x ∷ xs) =
+firstFound-earliest same find like kept [] = ap (firstFound find) (append-nil kept)
+firstFound-earliest same find like kept (x ∷ xs) =
     keepOne-cases same kept x
-    (λ y at is e. firstSome-skip f kept x y xs at (like x y is) ∙ firstSome-earliest same f like kept xs ∙ ap (λ l. firstSome f (keepFirst same l xs)) (sym e))
+    (λ y at is e.
+    firstFound-skip find kept x y xs at (like x y is) ∙ firstFound-earliest same find like kept xs
+    ∙ ap (λ l. firstFound find (keepFirst same l xs)) (sym e))
     (λ new e.
-    ap (firstSome f) (sym (append-snoc kept x xs)) ∙ firstSome-earliest same f like (kept ++ x ∷ []) xs
-    ∙ ap (λ l. firstSome f (keepFirst same l xs)) (sym e))
+    ap (firstFound find) (sym (append-snoc kept x xs)) ∙ firstFound-earliest same find like (kept ++ x ∷ []) xs
+    ∙ ap (λ l. firstFound find (keepFirst same l xs)) (sym e))
+
+-- The first row for a set
+firstFound-rows : (set : List ℕ) (find : (List ℕ × Row Entry) → Option Choice) (rows : List (Row Entry))
+    → Option·map (λ found. found .0 ∷ found .1) (firstFound find (map (λ r. (set, r)) rows))
+    ≡ Option·map (λ found. (set, found .0) ∷ found .1) (firstFound (λ r. find (set, r)) rows)
+unfolding firstFound orElse
+firstFound-rows set find [] = refl
+firstFound-rows set find (r ∷ rows) = option-cases (find (set, r)) (λ c is. rw is refl) (λ is. rw is (firstFound-rows set find rows))
 
 -- A test of a choice that reads of each row no more than its relation and its set's columns
 abbrev ReadsSets : (Choice → Bool) → Type 0
@@ -167,21 +180,18 @@ earliest-enough rows (set ∷ sets) test reads =
     let kept : Choice = map (λ r. (set, r)) (keepFirst (sameOn set) [] rows) in
     let few = earliestChoices sets rows in
     before-first test all (choices sets rows)
-    ∙ ap (λ f. firstSome f all)
-    (fun-ext (λ (p : List ℕ × Row Entry).
-    ap (Option·map (λ l. p ∷ l)) (earliest-enough rows sets (λ l. test (p ∷ l)) (λ front back. reads (p ∷ front) back))))
-    ∙ firstSome-map (beginning test few) (λ r. (set, r)) rows
-    ∙ firstSome-earliest (sameOn set) (λ r. beginning test few (set, r)) (like few) [] rows
-    ∙ sym (firstSome-map (beginning test few) (λ r. (set, r)) (keepFirst (sameOn set) [] rows)) ∙ sym (before-first test kept few)
+    ∙ ap (λ find. Option·map (λ found. found .0 ∷ found .1) (firstFound find all))
+    (fun-ext (λ (p : List ℕ × Row Entry). earliest-enough rows sets (λ l. test (p ∷ l)) (λ front back. reads (p ∷ front) back)))
+    ∙ firstFound-rows set (restFor test few) rows
+    ∙ ap (Option·map (λ found. (set, found .0) ∷ found .1)) (firstFound-earliest (sameOn set) (λ r. restFor test few (set, r)) (like few) [] rows)
+    ∙ sym (firstFound-rows set (restFor test few) (keepFirst (sameOn set) [] rows)) ∙ sym (before-first test kept few)
   where
-    like : (few : List Choice) (r s : Row Entry) → sameOn set r s ≡ true → beginning test few (set, s) ≡ none → beginning test few (set, r) ≡ none
+    like : (few : List Choice) (r s : Row Entry) → sameOn set r s ≡ true → restFor test few (set, s) ≡ none → restFor test few (set, r) ≡ none
     like few r s is nothing =
         let a = eqb (r .relation) (s .relation) in
         let relation = eqb-true (r .relation) (s .relation) (and-left a (agree set r s) is) in
         let columns = agree-all set r s (and-right a (agree set r s) is) in
-        map-eq-none-iff (λ l. (set, r) ∷ l) (firstPassing (λ l. test ((set, r) ∷ l)) few) .1
-        (firstPassing-same (λ l. test ((set, r) ∷ l)) (λ l. test ((set, s) ∷ l)) (λ l. reads [] l set r s relation columns) few
-        ∙ map-eq-none-iff (λ l. (set, s) ∷ l) (firstPassing (λ l. test ((set, s) ∷ l)) few) .0 nothing)
+        firstPassing-same (λ l. test ((set, r) ∷ l)) (λ l. test ((set, s) ∷ l)) (λ l. reads [] l set r s relation columns) few ∙ nothing
 
 -- `missing` reads no more
 chosenEntry-reads : (front back : Choice) (set : List ℕ) (r s : Row Entry) → Agree (constant 0) set r s → (c : ℕ)

@@ -6,6 +6,7 @@ use mathlib.Core.Bool.{Bool, true, false, true≢false}
 use mathlib.Core.List.{List, [], _∷_, cons≢nil}
 use mathlib.Core.Option.{Option, none, some, Option·none-ne-some, Option·some-injective}
 use Prim.Native.Nat.{ℕ, _<_}
+use native.Mathlib.Omega.{arith}
 use Rattle.theory.specs.Query.{Entry, Row, Query, RowsFit}
 use Rattle.theory.specs.Database.{Database, Dependency}
 use Rattle.theory.specs.Answer.{Mapping}
@@ -17,7 +18,8 @@ use Rattle.theory.proofs.Containment.{contained-over, counterexample-over}
 use Rattle.minimization.specs.Checking.{sameRow}
 use Rattle.minimization.specs.Search.{mappable, containedOn}
 use Rattle.minimization.proofs.Checking.{sameRow-eq, sameRow-self}
-use Rattle.minimization.proofs.Search.{both-below, mappable-exact}
+use Rattle.minimization.proofs.Search.{both-below, containedOn-mapping}
+use Rattle.minimization.proofs.Theorems.{counterexample-refutes}
 use Rattle.joins.specs.Join.{JoinDependency, LegalForBoth, JoinsFit}
 use Rattle.joins.specs.JoinChase.{withoutRepeats, firstUnmet, nextRow, settle, Outcome, chased, overflow, JoinChases, complete, adds, exceeds}
 use Rattle.joins.specs.JoinChase.{joinChase, containedIn, joinContained}
@@ -27,7 +29,7 @@ use Rattle.joins.proofs.Choices.{choices-of, choice-tried, missing-exac
 use Rattle.joins.proofs.Obeying.{obeys-join-exact}
 use Rattle.joins.proofs.JoinChase.{joins-computed, joins-unique, joins-answers, joins-mapping, joins-rows-fit, joins-constants, joins-wellformed}
 use Rattle.joins.proofs.JoinChase.{joins-head-length, joins-length, joins-complete, complete-legal}
-use Rattle.joins.proofs.Order.{firstPassing-first, nextRow-first, consistent-pairs, firstMissing-earliest}
+use Rattle.joins.proofs.Order.{firstPick-first, nextRow-first, consistent-pairs, firstMissing-earliest}
 
 -- ---- the chase ends, in one way
 
@@ -93,10 +95,59 @@ join-chased-counterexample widths ds js limit p q result base fit c fits belowP 
     counterexample-over (LegalForBoth widths ds js) base p q result
     (join-chased-stands widths ds js limit p result base fit c fits positive belowP) belowQ
 
+-- A chase that does not overflow ends in a query, and what `joinContained` tells is whether that is never or q maps to it
+computed-cases : {C : Type 0} (widths : List ℕ) (ds : List Dependency) (js : List JoinDependency) (limit : ℕ) (p q : Query) → JoinsFit widths js
+    → ((result : Query) → joinChase widths ds js limit p ≡ chased result → JoinChases widths ds js limit p (chased result)
+    → joinContained widths ds js limit p q ≡ some (containedOn (result .rows) result q) → C)
+    → (joinChase widths ds js limit p ≡ overflow → joinContained widths ds js limit p q ≡ none → C) → C
+unfolding joinContained containedIn
+computed-cases {C} widths ds js limit p q fit ended over = go (joinChase widths ds js limit p) refl
+  where
+    go : (o : Outcome) → joinChase widths ds js limit p ≡ o → C
+    go (chased result) e = ended result e (subst (JoinChases widths ds js limit p) e (joins-computed widths ds js limit fit p)) (ap (containedIn q) e)
+    go overflow e = over e (ap (containedIn q) e)
+
+chased-overflow : {result : Query} → chased result ≡ overflow → ⊥
+chased-overflow e = let z : _≡_ {A = ℕ} 0 1 = cc in absurd (omega arith)
+
+pub join-contained-computes : joins.JoinContainedComputes
+join-contained-computes widths ds js limit p q fit fits =
+    computed-cases widths ds js limit p q fit
+    (λ result e c is.
+    let exact = join-contained-exactly widths ds js limit p q result fit c fits in
+    let search = containedOn-mapping result q (result .rows) in (
+      λ told. (λ o. chased-overflow (sym e ∙ o), exact .0 (search .0 (Option·some-injective _ _ (sym is ∙ told)))),
+      λ both. is ∙ ap some (search .1 (exact .1 (both .1))),
+    ))
+    (λ e is. (λ told. absurd (Option·none-ne-some true (sym is ∙ told)), λ both. absurd (both .0 e)))
+
+pub join-not-contained-computes : joins.JoinNotContainedComputes
+join-not-contained-computes widths ds js limit p q fit fits =
+    computed-cases widths ds js limit p q fit
+    (λ result e c is.
+    let exact = join-contained-exactly widths ds js limit p q result fit c fits in
+    let search = containedOn-mapping result q (result .rows) in
+    let common = both-below p q in (
+      λ told.
+          let neither : ((result .rows ≡ []) ⊎ Mapping q result) → ⊥ =
+          λ either. true≢false (sym (search .1 either) ∙ Option·some-injective _ _ (sym is ∙ told)) in (
+            λ o. chased-overflow (sym e ∙ o),
+            frozenRows (common .0) result,
+            frozenHead (common .0) result,
+            join-chased-counterexample widths ds js limit p q result (common .0) fit c fits (common .2) (common .3) (common .1)
+                (λ empty. neither (inl empty)) (λ f. neither (inr f)),
+          ),
+      λ shown.
+          bool-cases (containedOn (result .rows) result q)
+          (λ yes. absurd (counterexample-refutes (LegalForBoth widths ds js) p q (shown .1) (shown .2) (shown .3) (exact .0 (search .0 yes))))
+          (λ no. is ∙ ap some no),
+    ))
+    (λ e is. (λ told. absurd (Option·none-ne-some false (sym is ∙ told)), λ both. absurd (both .0 e)))
+
 -- ---- the order of search
 
-pub first-passing-is-first : joins.FirstPassingIsFirst
-first-passing-is-first A = firstPassing-first
+pub first-pick-is-first : joins.FirstPickIsFirst
+first-pick-is-first A = firstPick-first
 
 pub next-row-is-first : joins.NextRowIsFirst
 next-row-is-first = nextRow-first

@@ -32,9 +32,13 @@ picks (xs ∷ xss) = before xs (picks xss)
 abbrev pub Choice : Type 0
 Choice = List (List ℕ × Row Entry)
 
+-- For each set all rows
+abbrev pub candidates : List (List ℕ) → List (Row Entry) → List Choice
+candidates sets rows = map (λ set. map (λ r. (set, r)) rows) sets
+
 -- The choices among some rows, in order
 abbrev pub choices : List (List ℕ) → List (Row Entry) → List Choice
-choices sets rows = picks (map (λ set. map (λ r. (set, r)) rows) sets)
+choices sets rows = picks (candidates sets rows)
 
 -- ---- the row that a choice yields
 

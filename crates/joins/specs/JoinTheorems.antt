@@ -15,7 +15,7 @@ use Rattle.theory.specs.Containment.{Legal, Contained, Counterexample, frozenRo
 use Rattle.theory.specs.OrderTheorems.{FirstFound}
 use Rattle.minimization.specs.Checking.{sameRow}
 use Rattle.joins.specs.Join.{JoinDependency, InJoin, ObeysJoin, ObeysJoins, LegalForBoth, JoinFits, JoinsFit}
-use Rattle.joins.specs.JoinChase.{Choice, picks, choices, yields, consistent, missing, firstMissing, firstUnmet, nextRow, keepFirst, withoutRepeats}
+use Rattle.joins.specs.JoinChase.{Choice, picks, candidates, choices, yields, consistent, missing, firstMissing, firstUnmet, nextRow, keepFirst, withoutRepeats}
 use Rattle.joins.specs.JoinChase.{Outcome, chased, overflow, JoinChases, joinChase, joinContained}
 
 -- ---- the chase ends, in one way
@@ -128,24 +128,30 @@ JoinNotContainedComputes =
 
 -- ---- the order of search
 
--- x stands in a list and passes a test, and none before it does
-pub record FirstPassing {A : Type 0} (test : A → Bool) (xs : List A) (x : A) : Type 0 where
+-- x stands in a list, and no list that begins with an element before it, and goes on as one of the rests, passes a test
+pub record FirstElement {A : Type 0} (test : List A → Bool) (xs : List A) (rests : List (List A)) (x : A) : Type 0 where
   pub earlier : List A
   pub later : List A
   pub places : xs ≡ earlier ++ x ∷ later
-  pub passes : test x ≡ true
-  pub none-earlier : (y : A) → y ∈ earlier → test y ≡ false
+  pub none-earlier : (y : A) → y ∈ earlier → (rest : List A) → rest ∈ rests → test (y ∷ rest) ≡ false
 
--- What is found first is the first
-abbrev pub FirstPassingIsFirst : Type 1
-FirstPassingIsFirst = (A : Type 0) (test : A → Bool) (xs : List A) (x : A) → firstPassing test xs ≡ some x → FirstPassing test xs x
+-- l takes one element of each list and passes a test, and none before it does: none that begins with an earlier element of the first list, and,
+-- among those that begin as l does, none before it in the other lists
+abbrev pub FirstPick : {A : Type 0} → (List A → Bool) → List (List A) → List A → Type 0
+FirstPick test [] l = (l ≡ []) × (test [] ≡ true)
+FirstPick {A} test (xs ∷ xss) l =
+    (x : A) × (rest : List A) × (l ≡ x ∷ rest) × FirstElement test xs (picks xss) x × FirstPick (λ m. test (x ∷ m)) xss rest
+
+-- What is found in `picks` is the first
+abbrev pub FirstPickIsFirst : Type 1
+FirstPickIsFirst = (A : Type 0) (test : List A → Bool) (xss : List (List A)) (l : List A) → firstPassing test (picks xss) ≡ some l → FirstPick test xss l
 
 -- The row to be added is what the first missing choice yields, of the first join dependency that has one
 pub record FirstAdded (widths : List ℕ) (js : List JoinDependency) (rows : List (Row Entry)) (r : Row Entry) : Type 0 where
   pub dependency : JoinDependency
   pub choice : Choice
   pub held : FirstFound (firstMissing widths rows) js dependency choice
-  pub first : FirstPassing (missing widths dependency rows) (choices (dependency .sets) rows) choice
+  pub first : FirstPick (missing widths dependency rows) (candidates (dependency .sets) rows) choice
   pub row : r ≡ yields widths dependency choice
 
 -- A row that is added is so
