@@ -6,3 +6,4 @@ pub mod Obeying
 pub mod JoinChase
 pub mod Order
 pub mod Theorems
+pub mod Examples

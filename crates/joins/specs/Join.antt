@@ -1,12 +1,17 @@
 -- Join dependencies, and the databases that obey them. With functional ones alone see `Database` and `Containment` of the theory.
 use mathlib.Core.Path.{_≡_}
 use mathlib.Core.Logic.{_≢_, _↔_}
-use mathlib.Core.List.{List, []}
+use mathlib.Core.Bool.{Bool, true, false, cond, _&&_}
+use mathlib.Core.List.{List, [], _∷_}
 use Prim.Native.Nat.{ℕ, _<_}
+use lib.Dec.{ltb}
 use lib.ListN.{length, getD}
-use Rattle.theory.specs.Query.{Row, FitsSchema, _∈_}
+use Rattle.lists.specs.Tests.{every}
+use Rattle.lists.specs.Numbers.{numbersWhere}
+use Rattle.theory.specs.Query.{Row, member, FitsSchema, _∈_}
 use Rattle.theory.specs.Database.{Database, Dependency, Agree}
 use Rattle.theory.specs.Containment.{Legal}
+use Rattle.minimization.specs.Checking.{nonempty}
 
 -- A join dependency of a relation: the relation is the join of its projections on the sets of columns
 pub record JoinDependency : Type 0 where
@@ -39,3 +44,14 @@ pub record JoinFits (widths : List ℕ) (j : JoinDependency) : Type 0 where
 -- Each of some join dependencies fits
 abbrev pub JoinsFit : List ℕ → List JoinDependency → Type 0
 JoinsFit widths js = (j : JoinDependency) → j ∈ js → JoinFits widths j
+
+-- Whether a column stands in one of some sets
+unfoldable pub inSome : ℕ → List (List ℕ) → Bool
+inSome c [] = false
+inSome c (set ∷ sets) = cond (member c set) true (inSome c sets)
+
+-- Whether a join dependency fits a schema
+unfoldable pub joinFits : List ℕ → JoinDependency → Bool
+joinFits widths j =
+    ltb (j .relation) (length widths) && nonempty (j .sets)
+    && every (λ c. inSome c (j .sets)) (numbersWhere (λ c. true) 0 (getD widths (j .relation) 0))

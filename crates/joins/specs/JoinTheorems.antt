@@ -14,7 +14,7 @@ use Rattle.theory.specs.Chase.{firstPassing, agree, Chases, chase}
 use Rattle.theory.specs.Containment.{Legal, Contained, Counterexample, frozenRows, frozenHead, ConstantsBelow, StandsFor}
 use Rattle.theory.specs.OrderTheorems.{FirstFound}
 use Rattle.minimization.specs.Checking.{sameRow}
-use Rattle.joins.specs.Join.{JoinDependency, InJoin, ObeysJoin, ObeysJoins, LegalForBoth, JoinFits, JoinsFit}
+use Rattle.joins.specs.Join.{JoinDependency, InJoin, ObeysJoin, ObeysJoins, LegalForBoth, JoinFits, JoinsFit, joinFits}
 use Rattle.joins.specs.JoinChase.{Choice, picks, candidates, choices, yields, consistent, missing, firstMissing, firstUnmet, nextRow, keepFirst, withoutRepeats}
 use Rattle.joins.specs.JoinChase.{Outcome, chased, overflow, JoinChases, joinChase, joinContained}
 
@@ -210,6 +210,10 @@ RepeatsGo =
     × ((r ∈ rows → ⊥) → keepFirst sameRow [] (rows ++ r ∷ []) ≡ keepFirst sameRow [] rows ++ r ∷ [])
 
 -- ---- databases
+
+-- `joinFits` tests whether a join dependency fits
+abbrev pub JoinFitsExactly : Type 0
+JoinFitsExactly = (widths : List ℕ) (j : JoinDependency) → (joinFits widths j ≡ true) ↔ JoinFits widths j
 
 -- A join dependency with no missing choice is obeyed, and where there is a missing choice it is not. The numbers are read as constants
 abbrev pub ObeysJoinExactly : Type 0
