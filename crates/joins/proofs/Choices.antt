@@ -2,22 +2,21 @@
 -- Assumes nothing.
 use mathlib.Core.Path.{_≡_, refl, sym, _∙_, ap, ap₂, subst}
 use mathlib.Core.Logic.{_⊎_, inl, inr, ⊎-elim, _↔_}
-use mathlib.Core.Bool.{Bool, true, false, cond, not, _&&_, true≢false}
-use mathlib.Core.List.{List, [], _∷_, _++_, map, List·Memᴰ·head, List·Memᴰ·tail, List·Memᴰ·not-nil, List·Memᴰ·append-cases, Memᴰ·cast}
+use mathlib.Core.Bool.{true, false, cond, not, _&&_, true≢false}
+use mathlib.Core.List.{List, [], _∷_, map, List·Memᴰ·head, List·Memᴰ·tail, List·Memᴰ·not-nil, List·Memᴰ·append-cases, Memᴰ·cast}
 use mathlib.Core.List.{Memᴰ·append-left, Memᴰ·append-right, Memᴰ·map, Memᴰ·of-map}
-use mathlib.Core.Option.{Option, none, some, Option·map, map-eq-none-iff, map-eq-some-iff}
+use mathlib.Core.Option.{none, some, map-eq-none-iff, map-eq-some-iff}
 use Prim.Native.Nat.{ℕ, zero, suc, _+_, _≤_, _<_}
 use native.Mathlib.Omega.{arith}
 use lib.Dec.{eqb}
 use lib.ListN.{length, getD, length-map, List·getD-eq-default}
 use borrow.Author.Tests.{eqb-true, eq-eqb, not-true}
-use Rattle.lists.specs.Tests.{every}
 use Rattle.lists.specs.Numbers.{numbersWhere}
-use Rattle.lists.proofs.Tests.{and-left, and-right, and-both, every-made, every-member, below-or-past}
+use Rattle.lists.proofs.Tests.{and-left, and-right, and-both, every-made, every-member}
 use Rattle.lists.proofs.Positions.{getD-in}
 use Rattle.theory.specs.Query.{Entry, constant, Row, column, member, FitsSchema, rowEntries, _∈_}
 use Rattle.theory.specs.Database.{Agree}
-use Rattle.theory.specs.Chase.{firstPassing, firstFound, agree}
+use Rattle.theory.specs.Chase.{firstFound, agree}
 use Rattle.theory.proofs.Lists.{bool-cases, mem-cases, member-mem, member-not-mem}
 use Rattle.theory.proofs.Step.{agree-all, all-agree, firstPassing-found, firstPassing-nothing, firstFound-found, firstFound-nothing}
 use Rattle.theory.proofs.Entries.{column-rowEntries}
@@ -113,7 +112,8 @@ chosen-entry (p ∷ ps) c =
     ⊎-elim
     (λ found. inl (found .0, List·Memᴰ·tail (found .1), found .2, same ∙ found .3))
     (λ nothing. inr (
-      λ s at there. mem-cases at (λ here. member-not-mem c (p .0) is (subst (λ (s : List ℕ × Row Entry). c ∈ s .0) here there)) (λ later. nothing .0 s later there),
+      λ s at there. mem-cases at (λ here. member-not-mem c (p .0) is (subst (λ (s : List ℕ × Row Entry). c ∈ s .0) here there))
+          (λ later. nothing .0 s later there),
       same ∙ nothing .1,
     ))
     (chosen-entry ps c))
@@ -168,7 +168,8 @@ module _ (widths : List ℕ) (j : JoinDependency) (choice : Choice) where
       ⊎-elim
       (λ found.
       let same : e ≡ column (constant 0) (found .0 .1) (from .0) = sym (from .2) ∙ found .3 in
-      ⊎-elim (λ default. inl (same ∙ default)) (λ there. inr (Memᴰ·cast same there)) (column-rowEntries rows (found .0 .1) (from .0) (all (found .0) (found .1))))
+      ⊎-elim (λ default. inl (same ∙ default)) (λ there. inr (Memᴰ·cast same there))
+      (column-rowEntries rows (found .0 .1) (from .0) (all (found .0) (found .1))))
       (λ nothing. inl (sym (from .2) ∙ nothing .1))
       (chosen-entry choice (from .0))
 
@@ -196,7 +197,8 @@ true-fitsChoice j choice r all =
     (λ i h.
     let p = getD choice i d in
     let fits = all p (getD-in choice i d h) in
-    and-both (eqb (p .1 .relation) (j .relation)) (agree (p .0) (p .1) r) (eq-eqb (p .1 .relation) (j .relation) (fits .0)) (all-agree (p .0) (p .1) r (fits .1)))
+    and-both (eqb (p .1 .relation) (j .relation)) (agree (p .0) (p .1) r) (eq-eqb (p .1 .relation) (j .relation) (fits .0))
+    (all-agree (p .0) (p .1) r (fits .1)))
 
 module _ (widths : List ℕ) (j : JoinDependency) (choice : Choice) where
   pub consistent-true : consistent widths j choice ≡ true → (p : List ℕ × Row Entry) → p ∈ choice → Fits j (yields widths j choice) p

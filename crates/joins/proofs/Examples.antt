@@ -2,12 +2,12 @@
 -- Assumes nothing.
 use mathlib.Core.Path.{_≡_, refl, sym, _∙_, ap, subst}
 use mathlib.Core.Logic.{_↔_}
-use mathlib.Core.Bool.{Bool, true, false, cond, _&&_, Bool·beq, false≢true}
-use mathlib.Core.List.{List, [], _∷_, List·Memᴰ·head, List·Memᴰ·tail, List·Memᴰ·not-nil, cons≢nil, cons-ne-nil}
+use mathlib.Core.Bool.{Bool, true, false, cond, _&&_, false≢true}
+use mathlib.Core.List.{List, [], _∷_, List·Memᴰ·head, List·Memᴰ·tail, cons-ne-nil}
 use mathlib.Core.Option.{Option, none, some, bind, orElse}
-use Prim.Native.Nat.{ℕ, _<_}
+use Prim.Native.Nat.{ℕ}
 use native.Mathlib.Omega.{arith}
-use lib.Dec.{eqb, ltb}
+use lib.Dec.{ltb}
 use lib.ListN.{length, getD}
 use borrow.Author.Tests.{eqb-true, ltb-true, lt-ltb}
 use Rattle.lists.specs.Tests.{every, sameLists}
@@ -15,7 +15,7 @@ use Rattle.lists.specs.Numbers.{numbersWhere}
 use Rattle.lists.proofs.Tests.{and-left, and-right, and-both, every-member, every-made}
 use Rattle.lists.proofs.Numbers.{where-from, where-of}
 use Rattle.lists.proofs.Positions.{getD-in}
-use Rattle.theory.specs.Query.{Entry, Row, Query, sameEntry, variablesOf, rowEntries, member, distinct, RowsFit, _∈_}
+use Rattle.theory.specs.Query.{Query, sameEntry, variablesOf, rowEntries, member, distinct, RowsFit, _∈_}
 use Rattle.theory.specs.Database.{Dependency}
 use Rattle.theory.specs.Chase.{firstPassing, firstPair, firstFound, agree, breaks, firstBroken, survives, resolve, substitute, step, chaseOn, chaseFor, chase}
 use Rattle.theory.proofs.Lists.{bool-cases, and-three, beq-true, member-mem, mem-member}
@@ -23,9 +23,10 @@ use Rattle.minimization.specs.Checking.{sameRow, standsIn, nonempty}
 use Rattle.minimization.specs.Search.{lookup, assignTo, sendEntry, sendEntries, sendRow, tryRows, placeRows, placeQuery, mappable, containedOn}
 use Rattle.minimization.specs.Examples.{schema, sameQuery, fitsColumns, fitsSchema, overSchema}
 use Rattle.minimization.proofs.Examples.{sameQuery-true, rows-fit}
-use Rattle.joins.specs.Join.{JoinDependency, JoinFits, JoinsFit, inSome, joinFits}
+use Rattle.joins.specs.Join.{JoinDependency, JoinsFit, inSome, joinFits}
 use Rattle.joins.specs.JoinChase.{before, picks, chosenEntry, yields, fitsChoice, consistent, missing, firstMissing, firstUnmet, nextRow, keepFirst}
-use Rattle.joins.specs.JoinChase.{withoutRepeats, Outcome, chased, overflow, JoinChases, joinOn, settle, joinChaseFor, joinChase, containedIn, joinContained}
+use Rattle.joins.specs.JoinChase.{withoutRepeats, Outcome, chased, overflow, joinOn, settle, joinChaseFor, joinChase, containedIn}
+use Rattle.joins.specs.JoinChase.{joinContained}
 use Rattle.joins.specs.Examples.{Example, chasesTo, grows, compares, Meaning, sameOutcome, hasRows, isAnswer, overBoth, holds, examples}
 use Rattle.joins.specs.Examples.{ExamplesMean, YieldsFirst, FirstChoice, NoChoice, FitsNot}
 use Rattle.joins.specs.JoinTheorems.{JoinFitsExactly}

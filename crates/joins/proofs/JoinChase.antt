@@ -7,25 +7,23 @@
 --   4. Where it ends no step of either kind is left, so that its result, read as a database, obeys both.
 -- Assumes nothing.
 use mathlib.Core.Path.{_≡_, refl, sym, _∙_, ap, subst}
-use mathlib.Core.Logic.{_≢_, _↔_, _⊎_, inl, inr, ⊎-elim, Iff·trans}
-use mathlib.Core.Bool.{true, false, cond}
-use mathlib.Core.List.{List, [], _∷_, _++_, map, List·Memᴰ·head, List·Memᴰ·tail, List·Memᴰ·not-nil, List·Memᴰ·append-cases, Memᴰ·cast}
+use mathlib.Core.Logic.{_≢_, _↔_, _⊎_, inr, ⊎-elim, Iff·trans}
+use mathlib.Core.List.{List, [], _∷_, _++_, List·Memᴰ·not-nil, List·Memᴰ·append-cases, Memᴰ·cast}
 use mathlib.Core.List.{Memᴰ·append-left, Memᴰ·append-right, cons≢nil}
 use mathlib.Core.Option.{Option, none, some, Option·none-ne-some, Option·some-injective}
 use Prim.Native.Nat.{ℕ, zero, suc, _+_, _-_, _*_, _≤_, _<_}
 use native.Mathlib.Nat.{mul-le-mul-right, suc-mul}
 use native.Mathlib.Omega.{arith}
 use lib.Dec.{ltb}
-use lib.ListN.{length, getD, length-append, length-map}
-use borrow.Author.Tests.{ltb-true, ltb-false, lt-ltb, le-ltb}
-use Rattle.lists.proofs.Tests.{below-or-past}
+use lib.ListN.{length, length-append, length-map}
+use borrow.Author.Tests.{ltb-true, ltb-false}
 use Rattle.theory.specs.Query.{Entry, constant, variable, Row, Query, column, mapRow, rowEntries, variablesOf, variables, distinct, variableCount}
 use Rattle.theory.specs.Query.{FitsSchema, RowsFit, WellFormed, _∈_}
-use Rattle.theory.specs.Database.{Database, Dependency, Obeys}
+use Rattle.theory.specs.Database.{Database, Dependency}
 use Rattle.theory.specs.Answer.{valueOf, itself, Carries, Answer, Mapping}
 use Rattle.theory.specs.Chase.{step, Chases, rests, clashes, replaces, chase}
-use Rattle.theory.specs.Containment.{Legal, freeze, frozenRows, ConstantsBelow}
-use Rattle.theory.proofs.Lists.{bool-cases, option-cases, mem-cases, nodup-length-le, mem-distinct, distinct-mem, distinct-nodup}
+use Rattle.theory.specs.Containment.{freeze, frozenRows, ConstantsBelow}
+use Rattle.theory.proofs.Lists.{bool-cases, mem-cases, nodup-length-le, mem-distinct, distinct-mem, distinct-nodup}
 use Rattle.theory.proofs.Entries.{row-rowEntries, constant-same, constant-variable, variablesOf-mem, mem-variablesOf, column-rowEntries}
 use Rattle.theory.proofs.Members.{_⊆_, map-part, member-of-some, some-of-member, row-of-entry, rowEntries-part}
 use Rattle.theory.proofs.Carry.{carries-fewer, mapping-inclusion, mapping-compose}
@@ -78,7 +76,18 @@ module _ (widths : List ℕ) (js : List JoinDependency) (fit : JoinsFit widths j
       ⊎-elim (λ zero. absurd (constant-variable 0 v (sym zero))) (λ old. Memᴰ·append-right (q .head) old) (added-entry a (variable v) there))
       (List·Memᴰ·append-cases (q .head) (variablesOf-mem v (q .head ++ rowEntries (q .rows ++ r ∷ [])) at)))
 
--- Without repeats there is no other variable
+-- Without repeats there are rows where there were
+repeats-some : (js : List JoinDependency) (q : Query) → q .rows ≢ [] → withoutRepeats js q .rows ≢ []
+repeats-some js q nonempty =
+    let first = member-of-some (q .rows) nonempty in
+    some-of-member (withoutRepeats js q .rows) (repeats-back js q (first .0) (first .1))
+
+some-repeats : (js : List JoinDependency) (q : Query) → withoutRepeats js q .rows ≢ [] → q .rows ≢ []
+some-repeats js q nonempty =
+    let first = member-of-some (withoutRepeats js q .rows) nonempty in
+    some-of-member (q .rows) (repeats-into js q (first .0) (first .1))
+
+-- nor is there another variable
 repeats-variables : (js : List JoinDependency) (q : Query) (v : ℕ) → v ∈ variables (withoutRepeats js q) → v ∈ variables q
 repeats-variables js q v at =
     let p = withoutRepeats js q in
@@ -134,8 +143,7 @@ module _ (widths : List ℕ) (ds : List Dependency) (js : List JoinDependency) (
   round-falls fit {q} {mid} {n} {r} c is less =
       let settled = withoutRepeats js mid in
       let a = nextRow-found widths js (settled .rows) r is in
-      let first = member-of-some (settled .rows) (added-some widths js fit a) in
-      let nonempty = some-of-member (mid .rows) (repeats-into js mid (first .0) (first .1)) in
+      let nonempty = some-repeats js mid (added-some widths js fit a) in
       let fewer = count-le (addRow settled r) mid (λ v at. repeats-variables js mid v (added-variables widths js fit settled a v at)) in
       let long : length (withoutRepeats js (addRow settled r) .rows) ≡ suc (length (settled .rows)) =
       ap length (repeats-add js mid r (a .new)) ∙ length-append (settled .rows) (r ∷ []) ∙ omega arith in
@@ -222,6 +230,24 @@ module _ (widths : List ℕ) (ds : List Dependency) (js : List JoinDependency) (
   pub joins-unique : {q : Query} {one other : Outcome} → JoinChases widths ds js limit q one → JoinChases widths ds js limit q other → one ≡ other
   joins-unique c d = joins-same c (first-round d)
 
+-- The chase by its first round, for a loop that chases what is left
+module _ (widths : List ℕ) (ds : List Dependency) (js : List JoinDependency) (limit : ℕ) (fit : JoinsFit widths js) (q : Query) where
+  pub join-at-end : nextRow widths js (settle ds js q .rows) ≡ none → joinChase widths ds js limit q ≡ chased (settle ds js q)
+  unfolding settle
+  join-at-end is = joins-unique widths ds js limit (joins-computed widths ds js limit fit q) (complete (chase-chases ds q) is)
+
+  pub join-at-row : (r : Row Entry) → nextRow widths js (settle ds js q .rows) ≡ some r → length (settle ds js q .rows) < limit
+      → joinChase widths ds js limit q ≡ joinChase widths ds js limit (addRow (settle ds js q) r)
+  unfolding settle
+  join-at-row r is less =
+      joins-unique widths ds js limit (joins-computed widths ds js limit fit q)
+      (adds (chase-chases ds q) is less (joins-computed widths ds js limit fit (addRow (settle ds js q) r)))
+
+  pub join-at-limit : (r : Row Entry) → nextRow widths js (settle ds js q .rows) ≡ some r → limit ≤ length (settle ds js q .rows)
+      → joinChase widths ds js limit q ≡ overflow
+  unfolding settle
+  join-at-limit r is past = joins-unique widths ds js limit (joins-computed widths ds js limit fit q) (exceeds (chase-chases ds q) is past)
+
 -- ---- 3. what the chase keeps
 
 -- What holds of a query and its outcome, where that is a query
@@ -243,17 +269,6 @@ joins-by-rounds {widths} {ds} {js} {limit} P last round {q} (adds {mid = mid} {n
     go (chased result) holds = round q mid n r result c (nextRow-found widths js (withoutRepeats js mid .rows) r is) less holds
     go overflow holds = tt
 joins-by-rounds P last round (exceeds c is past) = tt
-
--- Without repeats there are rows where there were
-repeats-some : (js : List JoinDependency) (q : Query) → q .rows ≢ [] → withoutRepeats js q .rows ≢ []
-repeats-some js q nonempty =
-    let first = member-of-some (q .rows) nonempty in
-    some-of-member (withoutRepeats js q .rows) (repeats-back js q (first .0) (first .1))
-
-some-repeats : (js : List JoinDependency) (q : Query) → withoutRepeats js q .rows ≢ [] → q .rows ≢ []
-some-repeats js q nonempty =
-    let first = member-of-some (withoutRepeats js q .rows) nonempty in
-    some-of-member (q .rows) (repeats-into js q (first .0) (first .1))
 
 -- Repeated rows ask nothing of an answer
 repeats-answers : (js : List JoinDependency) (q : Query) (D : Database) (t : List ℕ) → Answer D q t ↔ Answer D (withoutRepeats js q) t

@@ -4,22 +4,21 @@
 --   3. A database is its rows as rows of constants, read back; so it obeys exactly where no choice is missing.
 -- Assumes nothing.
 use mathlib.Core.Path.{_≡_, refl, sym, _∙_, ap, subst}
-use mathlib.Core.Logic.{_⊎_, inl, inr, ⊎-elim, _↔_}
+use mathlib.Core.Logic.{⊎-elim, _↔_}
 use mathlib.Core.Bool.{true}
-use mathlib.Core.List.{List, [], _∷_, map, map-map, map-id, List·Memᴰ·not-nil, Memᴰ·cast, Memᴰ·map, Memᴰ·of-map}
-use mathlib.Core.Option.{none, some}
-use Prim.Native.Nat.{ℕ, _≤_, _<_}
+use mathlib.Core.List.{List, [], _∷_, map, map-map, Memᴰ·cast, Memᴰ·map, Memᴰ·of-map}
+use mathlib.Core.Option.{none}
+use Prim.Native.Nat.{ℕ, _<_}
 use native.Mathlib.Omega.{arith}
 use lib.ListN.{length, getD, length-map, List·getD-map, List·getD-eq-default}
 use lib.Seq.{ext-getD}
 use Rattle.lists.specs.Numbers.{numbersWhere}
 use Rattle.lists.proofs.Tests.{below-or-past}
-use Rattle.theory.specs.Query.{Entry, constant, variable, Row, column, mapRow, FitsSchema, _∈_}
+use Rattle.theory.specs.Query.{Entry, constant, Row, column, mapRow, FitsSchema, _∈_}
 use Rattle.theory.specs.Database.{Database, Sound}
 use Rattle.theory.specs.Answer.{valueOf, itself}
 use Rattle.theory.proofs.Lists.{option-cases}
 use Rattle.theory.proofs.Carry.{mapRow-compose, mapRow-id}
-use Rattle.theory.proofs.Entries.{constant-same}
 use Rattle.joins.specs.Join.{JoinDependency, InJoin, ObeysJoin, JoinFits}
 use Rattle.joins.specs.JoinChase.{Choice, chosenEntry, yields, consistent, firstMissing}
 use Rattle.joins.specs.JoinTheorems.{ChoiceOf}
@@ -76,24 +75,28 @@ module _ (widths : List ℕ) (j : JoinDependency) (fits : JoinFits widths j) (ro
   -- so the choice goes together
   reads-consistent : (r : Row ℕ) (choice : Choice) → ChoiceOf (j .sets) rows choice → ((p : List ℕ × Row Entry) → p ∈ choice → Reads r (p .0) (p .1))
       → consistent widths j choice ≡ true
-  reads-consistent r choice of all = true-consistent widths j choice (λ p at. (all p at .0, λ c there. ⊎-elim
-      (λ less.
-      let found = chosen-entry-in choice c p at there in
-      apart (p .1) (found .0 .1) (of .of-rows p at) (of .of-rows (found .0) (found .1)) c
-      (all p at .1 c there ∙ sym (all (found .0) (found .1) .1 c (found .2)))
-      ∙ sym (found .3) ∙ sym (yields-column widths j choice c less))
-      (λ past.
-      let wide = fit (p .1) (of .of-rows p at) .1 in
-      let same = ap (λ n. getD widths n 0) (all p at .0) in
-      List·getD-eq-default (p .1 .values) (constant 0) (omega (arith, wide, same)) ∙ sym (yields-beyond widths j choice c past))
-      (below-or-past c (getD widths (j .relation) 0))))
+  reads-consistent r choice of all = true-consistent widths j choice (λ p at. (
+    all p at .0,
+    λ c there. ⊎-elim
+        (λ less.
+        let found = chosen-entry-in choice c p at there in
+        apart (p .1) (found .0 .1) (of .of-rows p at) (of .of-rows (found .0) (found .1)) c
+        (all p at .1 c there ∙ sym (all (found .0) (found .1) .1 c (found .2)))
+        ∙ sym (found .3) ∙ sym (yields-column widths j choice c less))
+        (λ past.
+        let wide = fit (p .1) (of .of-rows p at) .1 in
+        let same = ap (λ n. getD widths n 0) (all p at .0) in
+        List·getD-eq-default (p .1 .values) (constant 0) (omega (arith, wide, same)) ∙ sym (yields-beyond widths j choice c past))
+        (below-or-past c (getD widths (j .relation) 0)),
+  ))
 
   -- and yields the row
   reads-row : (r : Row ℕ) (choice : Choice) → FitsSchema widths r → r .relation ≡ j .relation → ChoiceOf (j .sets) rows choice
       → ((p : List ℕ × Row Entry) → p ∈ choice → Reads r (p .0) (p .1)) → readRow assign (yields widths j choice) ≡ r
   reads-row r choice wide relation of all =
       let y = yields widths j choice in
-      let long : length (readRow assign y .values) ≡ getD widths (j .relation) 0 = length-map (y .values) (valueOf itself assign) ∙ yields-length widths j choice
+      let long : length (readRow assign y .values) ≡ getD widths (j .relation) 0 =
+      length-map (y .values) (valueOf itself assign) ∙ yields-length widths j choice
       in
       let values : readRow assign y .values ≡ r .values =
       ext-getD 0 (readRow assign y .values) (r .values) (long ∙ sym (wide .1 ∙ ap (λ n. getD widths n 0) relation))

@@ -1,10 +1,10 @@
 -- The order of the search for a missing row: what is found is the first; and to try for each set only the earliest row with the same entries in its
 -- columns finds the same, for the choice with the earlier row comes first and is missing exactly where the other is.
 -- Assumes nothing.
-use mathlib.Core.Path.{_≡_, refl, sym, _∙_, ap, ap₂, subst, fun-ext}
-use mathlib.Core.Logic.{_⊎_, inl, inr, ⊎-elim, _↔_}
-use mathlib.Core.Bool.{Bool, true, false, cond, not, _&&_}
-use mathlib.Core.List.{List, [], _∷_, _++_, map, List·Memᴰ·head, List·Memᴰ·tail, List·Memᴰ·not-nil, append-nil}
+use mathlib.Core.Path.{_≡_, refl, sym, _∙_, ap, ap₂, fun-ext}
+use mathlib.Core.Logic.{_↔_}
+use mathlib.Core.Bool.{Bool, true, cond, not, _&&_}
+use mathlib.Core.List.{List, [], _∷_, _++_, map, map-map, map-append, List·Memᴰ·head, List·Memᴰ·tail, List·Memᴰ·not-nil, append-nil}
 use mathlib.Core.Option.{Option, none, some, orElse, Option·map, map-eq-some-iff}
 use Prim.Native.Nat.{ℕ, _<_}
 use lib.Dec.{eqb}
@@ -17,14 +17,13 @@ use Rattle.lists.specs.Numbers.{numbersWhere}
 use Rattle.theory.specs.Query.{Entry, constant, Row, column, member, sameEntry, _∈_}
 use Rattle.theory.specs.Database.{Agree}
 use Rattle.theory.specs.Chase.{firstPassing, firstFound, agree}
-use Rattle.theory.specs.OrderTheorems.{FirstFound}
 use Rattle.theory.proofs.Lists.{bool-cases, option-cases, mem-cases, member-mem}
 use Rattle.theory.proofs.Step.{agree-all, firstPassing-nil, firstPassing-found, firstPassing-nothing}
 use Rattle.theory.proofs.Order.{firstFound-first}
 use Rattle.minimization.specs.Checking.{standsIn}
 use Rattle.joins.specs.Join.{JoinDependency}
-use Rattle.joins.specs.JoinChase.{before, picks, Choice, candidates, choices, chosenEntry, yields, fitsChoice, consistent, missing, firstMissing, firstUnmet, nextRow}
-use Rattle.joins.specs.JoinChase.{keepFirst}
+use Rattle.joins.specs.JoinChase.{before, picks, Choice, candidates, choices, chosenEntry, yields, fitsChoice, consistent}
+use Rattle.joins.specs.JoinChase.{missing, firstMissing, firstUnmet, nextRow, keepFirst}
 use Rattle.joins.specs.JoinTheorems.{FirstPick, FirstAdded, sameOn, earliestChoices}
 use Rattle.joins.proofs.Repeats.{keepOne-cases}
 use Rattle.joins.proofs.Choices.{chosen-entry-in, consistent-true, true-consistent, yields-column}
@@ -45,11 +44,11 @@ firstPassing-map test f [] = refl
 firstPassing-map test f (x ∷ xs) = bool-cases (test (f x)) (λ p. rw p refl) (λ p. rw p (firstPassing-map test f xs))
 
 -- The rest that is found for a first element
-abbrev restFor : {A : Type 0} → (List A → Bool) → List (List A) → A → Option (List A)
+abbrev pub restFor : {A : Type 0} → (List A → Bool) → List (List A) → A → Option (List A)
 restFor test rests x = firstPassing (λ l. test (x ∷ l)) rests
 
 -- Each first element in turn
-before-first : {A : Type 0} (test : List A → Bool) (xs : List A) (rests : List (List A))
+pub before-first : {A : Type 0} (test : List A → Bool) (xs : List A) (rests : List (List A))
     → firstPassing test (before xs rests) ≡ Option·map (λ found. found .0 ∷ found .1) (firstFound (restFor test rests) xs)
 unfolding before firstFound orElse
 before-first test [] rests = firstPassing-nil test
@@ -90,6 +89,23 @@ firstPick-first test (xs ∷ xss) l e =
       firstPick-first (λ m. test (x ∷ m)) xss rest (first .found),
     )
 
+-- Among images
+before-map : {A B : Type 0} (f : A → B) (xs : List A) (rests : List (List A)) → before (map f xs) (map (map f) rests) ≡ map (map f) (before xs rests)
+unfolding before
+before-map f [] rests = refl
+before-map f (x ∷ xs) rests =
+    ap₂ _++_ (map-map (λ l. f x ∷ l) (map f) rests ∙ sym (map-map (map f) (λ l. x ∷ l) rests)) (before-map f xs rests)
+    ∙ sym (map-append (map f) (map (λ l. x ∷ l) rests) (before xs rests))
+
+picks-map : {A B : Type 0} (f : A → B) (xss : List (List A)) → picks (map (map f) xss) ≡ map (map f) (picks xss)
+unfolding picks
+picks-map f [] = refl
+picks-map f (xs ∷ xss) = ap (before (map f xs)) (picks-map f xss) ∙ before-map f xs (picks xss)
+
+pub firstPick-along : {A B : Type 0} (f : A → B) (test : List B → Bool) (xss : List (List A))
+    → firstPassing test (picks (map (map f) xss)) ≡ Option·map (map f) (firstPassing (λ l. test (map f l)) (picks xss))
+firstPick-along f test xss = ap (firstPassing test) (picks-map f xss) ∙ firstPassing-map test (map f) (picks xss)
+
 pub nextRow-first : (widths : List ℕ) (js : List JoinDependency) (rows : List (Row Entry)) (r : Row Entry) → nextRow widths js rows ≡ some r
     → FirstAdded widths js rows r
 unfolding nextRow firstUnmet firstMissing
@@ -117,9 +133,12 @@ consistent-pairs widths j choice within = (
   λ together.
       let fits = consistent-true widths j choice together in
       (λ p at. fits p at .0, λ p s at at' c there there'. fits p at .1 c there ∙ sym (fits s at' .1 c there')),
-  λ pairs. true-consistent widths j choice (λ p at. (pairs .0 p at, λ c there.
-      let found = chosen-entry-in choice c p at there in
-      pairs .1 p (found .0) at (found .1) c there (found .2) ∙ sym (found .3) ∙ sym (yields-column widths j choice c (within p at c there)))),
+  λ pairs. true-consistent widths j choice (λ p at. (
+    pairs .0 p at,
+    λ c there.
+        let found = chosen-entry-in choice c p at there in
+        pairs .1 p (found .0) at (found .1) c there (found .2) ∙ sym (found .3) ∙ sym (yields-column widths j choice c (within p at c there)),
+  )),
 )
 
 -- ---- the earliest rows are enough
@@ -144,7 +163,7 @@ firstFound-skip find (z ∷ kept) x y xs (List·Memᴰ·tail at) nothing =
     ap (orElse (Option·map (λ a. (z, a)) (find z))) (firstFound-skip find kept x y xs at nothing)
 
 -- So where nothing is found for an element when nothing is found for one that is the same, only the earliest are wanted
-firstFound-earliest : {D A : Type 0} (same : D → D → Bool) (find : D → Option A) → ((x y : D) → same x y ≡ true → find y ≡ none → find x ≡ none)
+pub firstFound-earliest : {D A : Type 0} (same : D → D → Bool) (find : D → Option A) → ((x y : D) → same x y ≡ true → find y ≡ none → find x ≡ none)
     → (kept rest : List D) → firstFound find (kept ++ rest) ≡ firstFound find (keepFirst same kept rest)
 unfolding keepFirst
 firstFound-earliest same find like kept [] = ap (firstFound find) (append-nil kept)
@@ -166,12 +185,12 @@ firstFound-rows set find [] = refl
 firstFound-rows set find (r ∷ rows) = option-cases (find (set, r)) (λ c is. rw is refl) (λ is. rw is (firstFound-rows set find rows))
 
 -- A test of a choice that reads of each row no more than its relation and its set's columns
-abbrev ReadsSets : (Choice → Bool) → Type 0
+abbrev pub ReadsSets : (Choice → Bool) → Type 0
 ReadsSets test =
     (front back : Choice) (set : List ℕ) (r s : Row Entry) → r .relation ≡ s .relation → Agree (constant 0) set r s
     → test (front ++ (set, r) ∷ back) ≡ test (front ++ (set, s) ∷ back)
 
-earliest-enough : (rows : List (Row Entry)) (sets : List (List ℕ)) (test : Choice → Bool) → ReadsSets test
+pub earliest-enough : (rows : List (Row Entry)) (sets : List (List ℕ)) (test : Choice → Bool) → ReadsSets test
     → firstPassing test (choices sets rows) ≡ firstPassing test (earliestChoices sets rows)
 unfolding picks
 earliest-enough rows [] test reads = refl
@@ -215,7 +234,7 @@ fitsChoice-reads j y [] back set r s relation same =
 fitsChoice-reads j y (p ∷ front) back set r s relation same =
     ap (λ b. eqb (p .1 .relation) (j .relation) && agree (p .0) (p .1) y && b) (fitsChoice-reads j y front back set r s relation same)
 
-missing-reads : (widths : List ℕ) (j : JoinDependency) (rows : List (Row Entry)) → ReadsSets (missing widths j rows)
+pub missing-reads : (widths : List ℕ) (j : JoinDependency) (rows : List (Row Entry)) → ReadsSets (missing widths j rows)
 unfolding missing consistent yields
 missing-reads widths j rows front back set r s relation same =
     let one = front ++ (set, r) ∷ back in

@@ -3,19 +3,18 @@
 use mathlib.Core.Path.{_≡_, refl, sym, _∙_, ap, subst}
 use mathlib.Core.Logic.{_⊎_, inl, inr, ⊎-elim}
 use mathlib.Core.Bool.{Bool, true, false, cond, true≢false}
-use mathlib.Core.List.{List, [], _∷_, _++_, append-nil, List·Memᴰ·head, List·Memᴰ·tail, List·Memᴰ·not-nil, List·Memᴰ·append-cases, Memᴰ·cast}
+use mathlib.Core.List.{List, [], _∷_, _++_, List·Memᴰ·head, List·Memᴰ·tail, List·Memᴰ·not-nil, List·Memᴰ·append-cases, Memᴰ·cast}
 use mathlib.Core.List.{Memᴰ·append-left, Memᴰ·append-right}
-use Prim.Native.Nat.{ℕ, suc, _+_, _≤_}
+use Prim.Native.Nat.{_+_, _≤_}
 use native.Mathlib.Omega.{arith}
 use lib.ListN.{length, length-append}
-use lib.Seq.{append-snoc}
 use Rattle.theory.specs.Query.{Entry, Row, Query, _∈_}
 use Rattle.theory.specs.Chase.{firstPassing}
-use Rattle.theory.proofs.Lists.{bool-cases, option-cases, mem-cases, Nodup}
+use Rattle.theory.proofs.Lists.{option-cases, mem-cases}
 use Rattle.theory.proofs.Step.{firstPassing-found, firstPassing-nothing}
-use Rattle.minimization.specs.Checking.{sameRow, standsIn}
+use Rattle.minimization.specs.Checking.{sameRow}
 use Rattle.minimization.specs.Search.{isSome}
-use Rattle.minimization.proofs.Checking.{sameRow-eq, sameRow-self, stands-in, in-stands}
+use Rattle.minimization.proofs.Checking.{sameRow-eq, sameRow-self}
 use Rattle.joins.specs.Join.{JoinDependency}
 use Rattle.joins.specs.JoinChase.{keepFirst, withoutRepeats}
 

@@ -1,27 +1,27 @@
 -- A proof of each statement of `JoinTheorems` and of `Examples`. Most are proved in the files before; here they have the form in which they are stated.
 -- Assumes nothing.
 use mathlib.Core.Path.{_≡_, refl, sym, _∙_, ap, subst}
-use mathlib.Core.Logic.{_≢_, _↔_, _⊎_, inl, inr, ⊎-elim}
-use mathlib.Core.Bool.{Bool, true, false, true≢false}
-use mathlib.Core.List.{List, [], _∷_, cons≢nil}
-use mathlib.Core.Option.{Option, none, some, Option·none-ne-some, Option·some-injective}
-use Prim.Native.Nat.{ℕ, _<_}
+use mathlib.Core.Logic.{_⊎_, inl, inr}
+use mathlib.Core.Bool.{true, false, true≢false}
+use mathlib.Core.List.{List, []}
+use mathlib.Core.Option.{none, some, Option·none-ne-some, Option·some-injective}
+use Prim.Native.Nat.{ℕ}
 use native.Mathlib.Omega.{arith}
-use Rattle.theory.specs.Query.{Entry, Row, Query, RowsFit}
-use Rattle.theory.specs.Database.{Database, Dependency}
+use Rattle.theory.specs.Query.{Query}
+use Rattle.theory.specs.Database.{Dependency}
 use Rattle.theory.specs.Answer.{Mapping}
 use Rattle.theory.specs.Chase.{chase, firstFound}
-use Rattle.theory.specs.Containment.{Contained, Counterexample, frozenRows, frozenHead, ConstantsBelow, StandsFor}
+use Rattle.theory.specs.Containment.{frozenRows, frozenHead}
 use Rattle.theory.proofs.Lists.{bool-cases}
-use Rattle.theory.proofs.Chase.{chase-chases, chases-unique}
+use Rattle.theory.proofs.Chase.{chase-chases}
 use Rattle.theory.proofs.Containment.{contained-over, counterexample-over}
 use Rattle.minimization.specs.Checking.{sameRow}
-use Rattle.minimization.specs.Search.{mappable, containedOn}
+use Rattle.minimization.specs.Search.{containedOn}
 use Rattle.minimization.proofs.Checking.{sameRow-eq, sameRow-self}
 use Rattle.minimization.proofs.Search.{both-below, containedOn-mapping}
 use Rattle.minimization.proofs.Theorems.{counterexample-refutes}
 use Rattle.joins.specs.Join.{JoinDependency, LegalForBoth, JoinsFit}
-use Rattle.joins.specs.JoinChase.{withoutRepeats, firstUnmet, nextRow, settle, Outcome, chased, overflow, JoinChases, complete, adds, exceeds}
+use Rattle.joins.specs.JoinChase.{withoutRepeats, firstUnmet, nextRow, Outcome, chased, overflow, JoinChases, complete}
 use Rattle.joins.specs.JoinChase.{joinChase, containedIn, joinContained}
 use Rattle.joins.specs.JoinTheorems as joins
 use Rattle.joins.proofs.Repeats.{snoc-there, snoc-new}
@@ -29,7 +29,7 @@ use Rattle.joins.proofs.Choices.{choices-of, choice-tried, missing-exac
 use Rattle.joins.proofs.Obeying.{obeys-join-exact}
 use Rattle.joins.proofs.JoinChase.{joins-computed, joins-unique, joins-answers, joins-mapping, joins-rows-fit, joins-constants, joins-wellformed}
 use Rattle.joins.proofs.JoinChase.{joins-head-length, joins-length, joins-complete, complete-legal}
-use Rattle.joins.proofs.Order.{firstPick-first, nextRow-first, consistent-pairs, firstMissing-earliest}
+use Rattle.joins.proofs.Order.{firstPick-first, firstPick-along, nextRow-first, consistent-pairs, firstMissing-earliest}
 
 -- ---- the chase ends, in one way
 
@@ -148,6 +148,9 @@ join-not-contained-computes widths ds js limit p q fit fits =
 
 pub first-pick-is-first : joins.FirstPickIsFirst
 first-pick-is-first A = firstPick-first
+
+pub first-pick-along : joins.FirstPickAlong
+first-pick-along A B = firstPick-along
 
 pub next-row-is-first : joins.NextRowIsFirst
 next-row-is-first = nextRow-first

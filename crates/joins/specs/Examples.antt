@@ -3,13 +3,13 @@
 -- and c, B has a and b.
 use mathlib.Core.Path.{_≡_}
 use mathlib.Core.Bool.{Bool, true, false, _&&_, Bool·beq}
-use mathlib.Core.List.{List, [], _∷_, _++_, map}
+use mathlib.Core.List.{List, [], _∷_, _++_}
 use mathlib.Core.Option.{Option, none, some}
 use Prim.Native.Nat.{ℕ}
 use lib.Dec.{eqb}
 use lib.ListN.{length}
 use Rattle.lists.specs.Tests.{every}
-use Rattle.theory.specs.Query.{Entry, constant, variable, Row, Query, mapRow, _∈_}
+use Rattle.theory.specs.Query.{Entry, constant, variable, Row, Query, _∈_}
 use Rattle.theory.specs.Database.{Database, Dependency}
 use Rattle.theory.specs.Containment.{Contained, Counterexample}
 use Rattle.minimization.specs.Examples.{schema, sameQuery, overSchema}
@@ -177,27 +177,45 @@ limits =
     -- 24 rows are reached, and a 25th is one too many
     ∷ grows [] (R·a·b ∷ []) 24 (query [] (R (v 0) (v 10) ∷ R (v 1) (v 11) ∷ R (v 2) (v 12) ∷ R (v 3) (v 13) ∷ R (v 3) (v 14) ∷ R (v 3) (v 15) ∷ [])) 24
     ∷ chasesTo [] (R·a·b ∷ []) 24 (query [] (R (v 0) (v 10) ∷ R (v 1) (v 11) ∷ R (v 2) (v 12) ∷ R (v 3) (v 13) ∷ R (v 4) (v 14) ∷ [])) overflow
-    -- also where it would meet a clash or a row that is there: a determines b in S, and R asks for a fifth row
+    -- also where a clash would come later: R, held first, asks for a fifth row; held last it comes too late
     ∷ chasesTo (S·ab→c ∷ []) (R·a·b ∷ S·ab·ac ∷ []) 4 (query [] (R (v 0) (v 1) ∷ R (v 2) (v 3) ∷ S (v 0) (v 1) (k 3) ∷ S (v 0) (v 2) (k 4) ∷ [])) overflow
+    ∷ chasesTo (S·ab→c ∷ []) (S·ab·ac ∷ R·a·b ∷ []) 5 (query [] (R (v 0) (v 1) ∷ R (v 2) (v 3) ∷ S (v 0) (v 1) (k 3) ∷ S (v 0) (v 2) (k 4) ∷ [])) (ends [])
     ∷ []
 
--- Both kinds together, after document 000's example: the join of a, b with a, c and a, b determining c give that a determines c
+-- The c of two rows of S with one a
+abbrev twoC : Query
+twoC = query (v 2 ∷ v 4 ∷ []) (S (v 0) (v 1) (v 2) ∷ S (v 0) (v 3) (v 4) ∷ [])
+
+-- The c of a row of S, twice
+abbrev sameC : Query
+sameC = query (v 0 ∷ v 0 ∷ []) (S (v 1) (v 2) (v 0) ∷ [])
+
+-- The a and b of a row of S with the c of a row with the same a
+abbrev crossed : Query
+crossed = query (v 0 ∷ v 1 ∷ v 4 ∷ []) (S (v 0) (v 1) (v 2) ∷ S (v 0) (v 3) (v 4) ∷ [])
+
+-- The rows of S
+abbrev straight : Query
+straight = query (v 0 ∷ v 1 ∷ v 2 ∷ []) (S (v 0) (v 1) (v 2) ∷ [])
+
+-- Both kinds together, after a well-known example of the literature: the join of a, b with a, c and a, b determining c give that a determines c
 abbrev pub both : List Example
 both =
     -- the row that is added lets the functional step make c one, and becomes the first row
     chasesTo (S·ab→c ∷ []) (S·ab·ac ∷ []) 24 (query (v 0 ∷ v 1 ∷ v 2 ∷ []) (S (v 0) (v 1) (v 2) ∷ S (v 0) (v 3) (v 4) ∷ []))
     (chased (query (v 0 ∷ v 1 ∷ v 2 ∷ []) (S (v 0) (v 1) (v 2) ∷ S (v 0) (v 3) (v 2) ∷ [])))
     -- as a comparison: two rows with one a have one c
-    ∷ compares (S·ab→c ∷ []) (S·ab·ac ∷ []) (query (v 2 ∷ v 4 ∷ []) (S (v 0) (v 1) (v 2) ∷ S (v 0) (v 3) (v 4) ∷ [])) (query (v 0 ∷ v 0 ∷ []) (S (v 1) (v 2) (v 0) ∷ [])) true
+    ∷ compares (S·ab→c ∷ []) (S·ab·ac ∷ []) twoC sameC true
     -- which neither kind gives alone
-    ∷ compares (S·ab→c ∷ []) [] (query (v 2 ∷ v 4 ∷ []) (S (v 0) (v 1) (v 2) ∷ S (v 0) (v 3) (v 4) ∷ [])) (query (v 0 ∷ v 0 ∷ []) (S (v 1) (v 2) (v 0) ∷ [])) false
-    ∷ compares [] (S·ab·ac ∷ []) (query (v 2 ∷ v 4 ∷ []) (S (v 0) (v 1) (v 2) ∷ S (v 0) (v 3) (v 4) ∷ [])) (query (v 0 ∷ v 0 ∷ []) (S (v 1) (v 2) (v 0) ∷ [])) false
+    ∷ compares (S·ab→c ∷ []) [] twoC sameC false
+    ∷ compares [] (S·ab·ac ∷ []) twoC sameC false
     -- a clash that only the added row brings, and never, which stays
     ∷ chasesTo (S·ab→c ∷ []) (S·ab·ac ∷ []) 24 (query (v 0 ∷ []) (S (v 0) (v 1) (k 3) ∷ S (v 0) (v 2) (k 4) ∷ [])) (chased (query (k 0 ∷ []) []))
     ∷ chasesTo (S·ab→c ∷ []) (S·ab·ac ∷ R·a·b ∷ []) 24 (query (k 0 ∷ k 0 ∷ []) []) (chased (query (k 0 ∷ k 0 ∷ []) []))
-    -- a join dependency alone: the two queries that it makes equivalent
-    ∷ compares [] (S·ab·ac ∷ []) (query (v 0 ∷ v 1 ∷ v 4 ∷ []) (S (v 0) (v 1) (v 2) ∷ S (v 0) (v 3) (v 4) ∷ [])) (query (v 0 ∷ v 1 ∷ v 2 ∷ []) (S (v 0) (v 1) (v 2) ∷ [])) true
-    ∷ compares [] [] (query (v 0 ∷ v 1 ∷ v 4 ∷ []) (S (v 0) (v 1) (v 2) ∷ S (v 0) (v 3) (v 4) ∷ [])) (query (v 0 ∷ v 1 ∷ v 2 ∷ []) (S (v 0) (v 1) (v 2) ∷ [])) false
+    -- a join dependency alone: two queries that it makes equivalent
+    ∷ compares [] (S·ab·ac ∷ []) crossed straight true
+    ∷ compares [] (S·ab·ac ∷ []) straight crossed true
+    ∷ compares [] [] crossed straight false
     ∷ []
 
 -- The whole table

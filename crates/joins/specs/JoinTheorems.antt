@@ -3,19 +3,19 @@ use mathlib.Core.Path.{_≡_}
 use mathlib.Core.Logic.{_≢_, _↔_, _⊎_}
 use mathlib.Core.Bool.{Bool, true, false, _&&_}
 use mathlib.Core.List.{List, [], _∷_, _++_, map}
-use mathlib.Core.Option.{none, some}
+use mathlib.Core.Option.{none, some, Option·map}
 use Prim.Native.Nat.{ℕ, _≤_, _<_}
 use lib.Dec.{eqb}
 use lib.ListN.{length, getD}
 use Rattle.theory.specs.Query.{Entry, constant, Row, Query, column, mapRow, RowsFit, WellFormed, _∈_}
 use Rattle.theory.specs.Database.{Database, Dependency, Sound}
 use Rattle.theory.specs.Answer.{Answer, Mapping}
-use Rattle.theory.specs.Chase.{firstPassing, agree, Chases, chase}
-use Rattle.theory.specs.Containment.{Legal, Contained, Counterexample, frozenRows, frozenHead, ConstantsBelow, StandsFor}
+use Rattle.theory.specs.Chase.{firstPassing, agree, chase}
+use Rattle.theory.specs.Containment.{Contained, Counterexample, frozenRows, frozenHead, ConstantsBelow, StandsFor}
 use Rattle.theory.specs.OrderTheorems.{FirstFound}
 use Rattle.minimization.specs.Checking.{sameRow}
-use Rattle.joins.specs.Join.{JoinDependency, InJoin, ObeysJoin, ObeysJoins, LegalForBoth, JoinFits, JoinsFit, joinFits}
-use Rattle.joins.specs.JoinChase.{Choice, picks, candidates, choices, yields, consistent, missing, firstMissing, firstUnmet, nextRow, keepFirst, withoutRepeats}
+use Rattle.joins.specs.Join.{JoinDependency, ObeysJoin, LegalForBoth, JoinFits, JoinsFit, joinFits}
+use Rattle.joins.specs.JoinChase.{Choice, picks, candidates, choices, yields, consistent, missing, firstMissing, nextRow, keepFirst}
 use Rattle.joins.specs.JoinChase.{Outcome, chased, overflow, JoinChases, joinChase, joinContained}
 
 -- ---- the chase ends, in one way
@@ -145,6 +145,12 @@ FirstPick {A} test (xs ∷ xss) l =
 -- What is found in `picks` is the first
 abbrev pub FirstPickIsFirst : Type 1
 FirstPickIsFirst = (A : Type 0) (test : List A → Bool) (xss : List (List A)) (l : List A) → firstPassing test (picks xss) ≡ some l → FirstPick test xss l
+
+-- To look through the images of some elements finds the image of what is found through them: so with rows that carry their positions
+abbrev pub FirstPickAlong : Type 1
+FirstPickAlong =
+    (A B : Type 0) (f : A → B) (test : List B → Bool) (xss : List (List A))
+    → firstPassing test (picks (map (map f) xss)) ≡ Option·map (map f) (firstPassing (λ l. test (map f l)) (picks xss))
 
 -- The row to be added is what the first missing choice yields, of the first join dependency that has one
 pub record FirstAdded (widths : List ℕ) (js : List JoinDependency) (rows : List (Row Entry)) (r : Row Entry) : Type 0 where
