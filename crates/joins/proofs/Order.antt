@@ -1,32 +1,33 @@
--- The order of the search for a missing row: what is found is the first; and to try for each set only the earliest row with the same entries in its
--- columns finds the same, for the choice with the earlier row comes first and is missing exactly where the other is.
+-- The order of the search for a missing row: what is found is the first. Two shorter searches find the same: one that tries for each set only the
+-- earliest row with the same entries in its columns, for the choice with the earlier row comes first and is missing exactly where the other is; and one
+-- that goes no further with a beginning whose rows do not go together.
 -- Assumes nothing.
-use mathlib.Core.Path.{_≡_, refl, sym, _∙_, ap, ap₂, fun-ext}
-use mathlib.Core.Logic.{_↔_}
-use mathlib.Core.Bool.{Bool, true, cond, not, _&&_}
-use mathlib.Core.List.{List, [], _∷_, _++_, map, map-map, map-append, List·Memᴰ·head, List·Memᴰ·tail, List·Memᴰ·not-nil, append-nil}
+use mathlib.Core.Path.{_≡_, refl, sym, _∙_, ap, ap₂, subst, fun-ext}
+use mathlib.Core.Logic.{_↔_, ⊎-elim}
+use mathlib.Core.Bool.{Bool, true, false, cond, not, _&&_, true≢false}
+use mathlib.Core.List.{List, [], _∷_, _++_, map, map-map, map-append, List·Memᴰ·head, List·Memᴰ·tail, List·Memᴰ·not-nil, Memᴰ·append-left, append-nil}
 use mathlib.Core.Option.{Option, none, some, orElse, Option·map, map-eq-some-iff}
 use Prim.Native.Nat.{ℕ, _<_}
 use lib.Dec.{eqb}
 use lib.ListN.{getD}
 use lib.Seq.{append-snoc}
-use borrow.Author.Tests.{eqb-true}
-use Rattle.lists.proofs.Tests.{and-left, and-right}
+use borrow.Author.Tests.{eqb-true, not-true}
+use Rattle.lists.proofs.Tests.{and-left, and-right, below-or-past}
 use Rattle.lists.specs.Tests.{every}
 use Rattle.lists.specs.Numbers.{numbersWhere}
 use Rattle.theory.specs.Query.{Entry, constant, Row, column, member, sameEntry, _∈_}
 use Rattle.theory.specs.Database.{Agree}
 use Rattle.theory.specs.Chase.{firstPassing, firstFound, agree}
-use Rattle.theory.proofs.Lists.{bool-cases, option-cases, mem-cases, member-mem}
-use Rattle.theory.proofs.Step.{agree-all, firstPassing-nil, firstPassing-found, firstPassing-nothing}
+use Rattle.theory.proofs.Lists.{bool-cases, option-cases, mem-cases, member-mem, member-not-mem}
+use Rattle.theory.proofs.Step.{agree-all, firstPassing-nil, firstPassing-false, firstPassing-found, firstPassing-nothing}
 use Rattle.theory.proofs.Order.{firstFound-first}
 use Rattle.minimization.specs.Checking.{standsIn}
 use Rattle.joins.specs.Join.{JoinDependency}
 use Rattle.joins.specs.JoinChase.{before, picks, Choice, candidates, choices, chosenEntry, yields, fitsChoice, consistent}
 use Rattle.joins.specs.JoinChase.{missing, firstMissing, firstUnmet, nextRow, keepFirst}
-use Rattle.joins.specs.JoinTheorems.{FirstPick, FirstAdded, sameOn, earliestChoices}
+use Rattle.joins.specs.JoinTheorems.{FirstPick, FirstAdded, sameOn, earliest, searchFrom}
 use Rattle.joins.proofs.Repeats.{keepOne-cases}
-use Rattle.joins.proofs.Choices.{chosen-entry-in, consistent-true, true-consistent, yields-column}
+use Rattle.joins.proofs.Choices.{chosen-entry-in, consistent-true, true-consistent, missing-exact, yields-column, yields-beyond}
 
 -- ---- the search by the first element
 
@@ -191,13 +192,13 @@ ReadsSets test =
     → test (front ++ (set, r) ∷ back) ≡ test (front ++ (set, s) ∷ back)
 
 pub earliest-enough : (rows : List (Row Entry)) (sets : List (List ℕ)) (test : Choice → Bool) → ReadsSets test
-    → firstPassing test (choices sets rows) ≡ firstPassing test (earliestChoices sets rows)
+    → firstPassing test (choices sets rows) ≡ firstPassing test (picks (earliest sets rows))
 unfolding picks
 earliest-enough rows [] test reads = refl
 earliest-enough rows (set ∷ sets) test reads =
     let all : Choice = map (λ r. (set, r)) rows in
     let kept : Choice = map (λ r. (set, r)) (keepFirst (sameOn set) [] rows) in
-    let few = earliestChoices sets rows in
+    let few = picks (earliest sets rows) in
     before-first test all (choices sets rows)
     ∙ ap (λ find. Option·map (λ found. found .0 ∷ found .1) (firstFound find all))
     (fun-ext (λ (p : List ℕ × Row Entry). earliest-enough rows sets (λ l. test (p ∷ l)) (λ front back. reads (p ∷ front) back)))
@@ -246,6 +247,101 @@ missing-reads widths j rows front back set r s relation same =
     (fitsChoice-reads j (yields widths j one) front back set r s relation same ∙ ap (fitsChoice j other) row) row
 
 pub firstMissing-earliest : (widths : List ℕ) (rows : List (Row Entry)) (j : JoinDependency)
-    → firstMissing widths rows j ≡ firstPassing (missing widths j rows) (earliestChoices (j .sets) rows)
+    → firstMissing widths rows j ≡ firstPassing (missing widths j rows) (picks (earliest (j .sets) rows))
 unfolding firstMissing
 firstMissing-earliest widths rows j = earliest-enough rows (j .sets) (missing widths j rows) (missing-reads widths j rows)
+
+-- ---- beginnings that are cut off
+
+-- A search in which all fail
+firstPassing-none : {A : Type 0} (test : A → Bool) → ((x : A) → test x ≡ false) → (xs : List A) → firstPassing test xs ≡ none
+firstPassing-none test fails [] = firstPassing-nil test
+firstPassing-none test fails (x ∷ xs) = firstPassing-false test x xs (fails x) ∙ firstPassing-none test fails xs
+
+-- What is found for each element, with the element put to it
+firstFound-with : {D A B : Type 0} (g : D → A → B) (find : D → Option A) (xs : List D)
+    → Option·map (λ found. found .1) (firstFound (λ x. Option·map (g x) (find x)) xs) ≡ Option·map (λ found. g (found .0) (found .1)) (firstFound find xs)
+unfolding firstFound orElse
+firstFound-with g find [] = refl
+firstFound-with g find (x ∷ xs) = option-cases (find x) (λ a is. rw is refl) (λ is. rw is (firstFound-with g find xs))
+
+map-twice : {A B C : Type 0} (g : B → C) (f : A → B) (o : Option A) → Option·map g (Option·map f o) ≡ Option·map (λ x. g (f x)) o
+map-twice g f none = refl
+map-twice g f (some x) = refl
+
+-- The search from a beginning finds what `picks` has first
+abbrev FromFront : {A : Type 0} → (List A → Bool) → (List A → Bool) → List A → List (List A) → Type 0
+FromFront cut test front xss = searchFrom cut test front xss ≡ Option·map (λ l. front ++ l) (firstPassing (λ l. test (front ++ l)) (picks xss))
+
+-- Cut off or not, what is found for an element is the rest that goes with it
+from-element : {A : Type 0} (cut test : List A → Bool) → ((front rest : List A) → cut front ≡ true → test (front ++ rest) ≡ false)
+    → (front : List A) (xss : List (List A)) (x : A) → FromFront cut test (front ++ x ∷ []) xss
+    → cond (cut (front ++ x ∷ [])) none (searchFrom cut test (front ++ x ∷ []) xss)
+    ≡ Option·map (λ l. front ++ x ∷ l) (restFor (λ l. test (front ++ l)) (picks xss) x)
+from-element {A} cut test sound front xss x again =
+    let longer = front ++ x ∷ [] in
+    let moved : _≡_ {A = List A → List A} (λ l. longer ++ l) (λ l. front ++ x ∷ l) = fun-ext (λ l. append-snoc front x l) in
+    let shown : Option·map (λ l. longer ++ l) (firstPassing (λ l. test (longer ++ l)) (picks xss))
+    ≡ Option·map (λ l. front ++ x ∷ l) (restFor (λ l. test (front ++ l)) (picks xss) x) =
+    ap (λ (join : List A → List A). Option·map join (firstPassing (λ l. test (join l)) (picks xss))) moved in
+    bool-cases (cut longer)
+    (λ p.
+    let nothing = firstPassing-none (λ l. test (longer ++ l)) (λ l. sound longer l p) (picks xss) in
+    ap (λ b. cond b none (searchFrom cut test longer xss)) p ∙ sym (ap (Option·map (λ l. longer ++ l)) nothing) ∙ shown)
+    (λ p. ap (λ b. cond b none (searchFrom cut test longer xss)) p ∙ again ∙ shown)
+
+-- A search that cuts off only beginnings that no passing list has finds the first that passes
+searchFrom-first : {A : Type 0} (cut test : List A → Bool) → ((front rest : List A) → cut front ≡ true → test (front ++ rest) ≡ false)
+    → (front : List A) (xss : List (List A)) → FromFront cut test front xss
+unfolding searchFrom picks firstPassing
+searchFrom-first cut test sound front [] =
+    let same = append-nil front in
+    bool-cases (test front)
+    (λ p. rw (p, ap test same ∙ p) (ap some (sym same)))
+    (λ p. rw (p, ap test same ∙ p) refl)
+searchFrom-first {A} cut test sound front (xs ∷ xss) =
+    let T : List A → Bool = λ l. test (front ++ l) in
+    ap (λ find. Option·map (λ found. found .1) (firstFound find xs))
+    (fun-ext (λ x. from-element cut test sound front xss x (searchFrom-first cut test sound (front ++ x ∷ []) xss)))
+    ∙ firstFound-with (λ x l. front ++ x ∷ l) (restFor T (picks xss)) xs
+    ∙ sym (map-twice (λ l. front ++ l) (λ found. found .0 ∷ found .1) (firstFound (restFor T (picks xss)) xs))
+    ∙ ap (Option·map (λ l. front ++ l)) (sym (before-first T xs (picks xss)))
+
+-- What a beginning has in a column of one of its sets the whole choice has
+chosenEntry-front : (front back : Choice) (c : ℕ) (p : List ℕ × Row Entry) → p ∈ front → c ∈ p .0
+    → chosenEntry (front ++ back) c ≡ chosenEntry front c
+unfolding chosenEntry
+chosenEntry-front (q ∷ front) back c p at there =
+    bool-cases (member c (q .0)) (λ is. rw is refl)
+    (λ is. rw is (mem-cases at (λ here. absurd (member-not-mem c (q .0) is (subst (λ (s : List ℕ × Row Entry). c ∈ s .0) here there)))
+    (λ later. chosenEntry-front front back c p later there)))
+
+-- The rows of a beginning of a choice that goes together go together
+consistent-front : (widths : List ℕ) (j : JoinDependency) (front back : Choice) → consistent widths j (front ++ back) ≡ true
+    → consistent widths j front ≡ true
+consistent-front widths j front back together =
+    true-consistent widths j front (λ p at.
+    let fits = consistent-true widths j (front ++ back) together p (Memᴰ·append-left back at) in (
+      fits .0,
+      λ c there. fits .1 c there ∙ ⊎-elim
+          (λ less. yields-column widths j (front ++ back) c less ∙ chosenEntry-front front back c p at there ∙ sym (yields-column widths j front c less))
+          (λ past. yields-beyond widths j (front ++ back) c past ∙ sym (yields-beyond widths j front c past))
+          (below-or-past c (getD widths (j .relation) 0)),
+    ))
+
+pub cut-enough : (widths : List ℕ) (j : JoinDependency) (rows : List (Row Entry)) (tried : List Choice)
+    → firstPassing (missing widths j rows) (picks tried) ≡ searchFrom (λ front. not (consistent widths j front)) (missing widths j rows) [] tried
+cut-enough widths j rows tried =
+    sym (map-self (firstPassing (missing widths j rows) (picks tried)))
+    ∙ sym (searchFrom-first (λ front. not (consistent widths j front)) (missing widths j rows) sound [] tried)
+  where
+    map-self : {A : Type 0} (o : Option A) → Option·map (λ x. x) o ≡ o
+    map-self none = refl
+    map-self (some x) = refl
+
+    sound : (front rest : Choice) → not (consistent widths j front) ≡ true → missing widths j rows (front ++ rest) ≡ false
+    sound front rest e =
+        bool-cases (missing widths j rows (front ++ rest))
+        (λ p. absurd (true≢false (sym (consistent-front widths j front rest (missing-exact widths j (front ++ rest) rows .0 p .0))
+        ∙ not-true (consistent widths j front) e)))
+        (λ p. p)

@@ -29,7 +29,7 @@ use Rattle.joins.proofs.Choices.{choices-of, choice-tried, missing-exac
 use Rattle.joins.proofs.Obeying.{obeys-join-exact}
 use Rattle.joins.proofs.JoinChase.{joins-computed, joins-unique, joins-answers, joins-mapping, joins-rows-fit, joins-constants, joins-wellformed}
 use Rattle.joins.proofs.JoinChase.{joins-head-length, joins-length, joins-complete, complete-legal}
-use Rattle.joins.proofs.Order.{firstPick-first, firstPick-along, nextRow-first, consistent-pairs, firstMissing-earliest}
+use Rattle.joins.proofs.Order.{firstPick-first, firstPick-along, nextRow-first, consistent-pairs, firstMissing-earliest, cut-enough}
 
 -- ---- the chase ends, in one way
 
@@ -166,6 +166,9 @@ consistent-pairwise = consistent-pairs
 
 pub earliest-are-enough : joins.EarliestEnough
 earliest-are-enough = firstMissing-earliest
+
+pub cut-is-enough : joins.CutEnough
+cut-is-enough = cut-enough
 
 -- ---- repeated rows
 

@@ -1,16 +1,16 @@
 -- What is proved of join dependencies and of the chase with both kinds. Each statement is proved in `proofs/Theorems`.
 use mathlib.Core.Path.{_≡_}
 use mathlib.Core.Logic.{_≢_, _↔_, _⊎_}
-use mathlib.Core.Bool.{Bool, true, false, _&&_}
+use mathlib.Core.Bool.{Bool, true, false, cond, not, _&&_}
 use mathlib.Core.List.{List, [], _∷_, _++_, map}
-use mathlib.Core.Option.{none, some, Option·map}
+use mathlib.Core.Option.{Option, none, some, Option·map}
 use Prim.Native.Nat.{ℕ, _≤_, _<_}
 use lib.Dec.{eqb}
 use lib.ListN.{length, getD}
 use Rattle.theory.specs.Query.{Entry, constant, Row, Query, column, mapRow, RowsFit, WellFormed, _∈_}
 use Rattle.theory.specs.Database.{Database, Dependency, Sound}
 use Rattle.theory.specs.Answer.{Answer, Mapping}
-use Rattle.theory.specs.Chase.{firstPassing, agree, chase}
+use Rattle.theory.specs.Chase.{firstPassing, firstFound, agree, chase}
 use Rattle.theory.specs.Containment.{Contained, Counterexample, frozenRows, frozenHead, ConstantsBelow, StandsFor}
 use Rattle.theory.specs.OrderTheorems.{FirstFound}
 use Rattle.minimization.specs.Checking.{sameRow}
@@ -196,15 +196,28 @@ ConsistentPairwise =
 abbrev pub sameOn : List ℕ → Row Entry → Row Entry → Bool
 sameOn set r s = eqb (r .relation) (s .relation) && agree set r s
 
--- The choices with, for each set, only the earliest of the rows that are the same on it
-abbrev pub earliestChoices : List (List ℕ) → List (Row Entry) → List Choice
-earliestChoices sets rows = picks (map (λ set. map (λ r. (set, r)) (keepFirst (sameOn set) [] rows)) sets)
+-- For each set only the earliest of the rows that are the same on it
+abbrev pub earliest : List (List ℕ) → List (Row Entry) → List Choice
+earliest sets rows = map (λ set. map (λ r. (set, r)) (keepFirst (sameOn set) [] rows)) sets
 
 -- To try only these finds the same
 abbrev pub EarliestEnough : Type 0
 EarliestEnough =
     (widths : List ℕ) (rows : List (Row Entry)) (j : JoinDependency)
-    → firstMissing widths rows j ≡ firstPassing (missing widths j rows) (earliestChoices (j .sets) rows)
+    → firstMissing widths rows j ≡ firstPassing (missing widths j rows) (picks (earliest (j .sets) rows))
+
+-- A search that takes an element of each list in turn, and goes no further with a beginning that is cut off
+unfoldable pub searchFrom : {A : Type 0} → (List A → Bool) → (List A → Bool) → List A → List (List A) → Option (List A)
+searchFrom cut test front [] = cond (test front) (some front) none
+searchFrom cut test front (xs ∷ xss) =
+    Option·map (λ found. found .1)
+    (firstFound (λ x. cond (cut (front ++ x ∷ [])) none (searchFrom cut test (front ++ x ∷ []) xss)) xs)
+
+-- To cut off beginnings whose rows do not go together finds the same, whichever rows are tried for each set
+abbrev pub CutEnough : Type 0
+CutEnough =
+    (widths : List ℕ) (j : JoinDependency) (rows : List (Row Entry)) (tried : List Choice)
+    → firstPassing (missing widths j rows) (picks tried) ≡ searchFrom (λ front. not (consistent widths j front)) (missing widths j rows) [] tried
 
 -- ---- repeated rows
 
