@@ -29,14 +29,14 @@ sameRow-eq r s e =
     let values : r .values ≡ s .values = sameLists-true sameEntry sameEntry-eq (r .values) (s .values) (and-right a b e) in
     λ i. record { relation = relation i; values = values i }
 
-sameRow-self : (r : Row Entry) → sameRow r r ≡ true
+pub sameRow-self : (r : Row Entry) → sameRow r r ≡ true
 unfolding sameRow
 sameRow-self r =
     and-both (eqb (r .relation) (r .relation)) (sameLists sameEntry (r .values) (r .values)) (eq-eqb (r .relation) (r .relation) refl)
     (sameLists-self sameEntry sameEntry-refl (r .values))
 
 -- A row that the test finds stands there
-stands-in : (r : Row Entry) (rows : List (Row Entry)) → standsIn r rows ≡ true → r ∈ rows
+pub stands-in : (r : Row Entry) (rows : List (Row Entry)) → standsIn r rows ≡ true → r ∈ rows
 unfolding standsIn
 stands-in r [] e = absurd (false≢true e)
 stands-in r (s ∷ rows) e =
@@ -46,7 +46,7 @@ stands-in r (s ∷ rows) e =
     (λ p. List·Memᴰ·tail (stands-in r rows (sym (ap (λ t. cond t true (standsIn r rows)) p) ∙ e)))
 
 -- and one that stands there is found
-in-stands : (r : Row Entry) (rows : List (Row Entry)) → r ∈ rows → standsIn r rows ≡ true
+pub in-stands : (r : Row Entry) (rows : List (Row Entry)) → r ∈ rows → standsIn r rows ≡ true
 unfolding standsIn
 in-stands r [] at = absurd (List·Memᴰ·not-nil at)
 in-stands r (s ∷ rows) at =

@@ -42,7 +42,7 @@ examples-hold = refl
 
 -- ---- what they mean
 
-sameQuery-true : (p q : Query) → sameQuery p q ≡ true → p ≡ q
+pub sameQuery-true : (p q : Query) → sameQuery p q ≡ true → p ≡ q
 unfolding sameQuery
 sameQuery-true p q e =
     let heads = sameLists sameEntry (p .head) (q .head) in
@@ -70,7 +70,7 @@ fitsSchema-true widths r e =
     let full = eqb (length (r .values)) (getD widths (r .relation) 0) in
     (ltb-true (r .relation) (length widths) (and-left known full e), eqb-true (length (r .values)) (getD widths (r .relation) 0) (and-right known full e))
 
-rows-fit : (ds : List Dependency) (q : Query) → overSchema ds q ≡ true → (r : Row Entry) → r ∈ q .rows → FitsSchema schema r
+pub rows-fit : (ds : List Dependency) (q : Query) → overSchema ds q ≡ true → (r : Row Entry) → r ∈ q .rows → FitsSchema schema r
 unfolding overSchema
 rows-fit ds q e r at =
     fitsSchema-true schema r

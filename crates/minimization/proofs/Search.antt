@@ -281,18 +281,20 @@ mappable-exact S T = placed-exact (S .head) (S .rows) T
 pub mappable-false : (S T : Query) → mappable S T ≡ false → Mapping S T → ⊥
 mappable-false S T e m = true≢false (sym (mappable-exact S T .1 m) ∙ e)
 
--- `contained` passes exactly where p chases to never or q maps to the chased p
-pub contained-mapping : (ds : List Dependency) (p q : Query) → (contained ds p q ≡ true) ↔ ((chase ds p .query .rows ≡ []) ⊎ Mapping q (chase ds p .query))
-unfolding contained containedOn
-contained-mapping ds p q = go (chase ds p .query .rows)
+-- `containedOn` passes exactly where there are no rows or q maps to the chased query
+pub containedOn-mapping : (chased q : Query) (rows : List (Row Entry)) → (containedOn rows chased q ≡ true) ↔ ((rows ≡ []) ⊎ Mapping q chased)
+unfolding containedOn
+containedOn-mapping chased q [] = ((λ e. inl refl), λ either. refl)
+containedOn-mapping chased q (r ∷ rs) = ((λ e. inr (mappable-exact q chased .0 e)), either)
   where
-    go : (rows : List (Row Entry)) → (containedOn rows (chase ds p .query) q ≡ true) ↔ ((rows ≡ []) ⊎ Mapping q (chase ds p .query))
-    go [] = ((λ e. inl refl), λ either. refl)
-    go (r ∷ rs) = ((λ e. inr (mappable-exact q (chase ds p .query) .0 e)), either)
-      where
-        either : ((r ∷ rs ≡ []) ⊎ Mapping q (chase ds p .query)) → mappable q (chase ds p .query) ≡ true
-        either (inl e) = absurd (cons≢nil e)
-        either (inr m) = mappable-exact q (chase ds p .query) .1 m
+    either : ((r ∷ rs ≡ []) ⊎ Mapping q chased) → mappable q chased ≡ true
+    either (inl e) = absurd (cons≢nil e)
+    either (inr m) = mappable-exact q chased .1 m
+
+-- so `contained` passes exactly where p chases to never or q maps to the chased p
+pub contained-mapping : (ds : List Dependency) (p q : Query) → (contained ds p q ≡ true) ↔ ((chase ds p .query .rows ≡ []) ⊎ Mapping q (chase ds p .query))
+unfolding contained
+contained-mapping ds p q = containedOn-mapping (chase ds p .query) q (chase ds p .query .rows)
 
 -- What is below a base is below a higher one
 below-more : (base higher : ℕ) (q : Query) → base ≤ higher → ConstantsBelow base q → ConstantsBelow higher q
