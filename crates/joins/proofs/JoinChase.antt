@@ -27,8 +27,9 @@ use Rattle.theory.proofs.Lists.{bool-cases, mem-cases, nodup-length-le, mem-dis
 use Rattle.theory.proofs.Entries.{row-rowEntries, constant-same, constant-variable, variablesOf-mem, mem-variablesOf, column-rowEntries}
 use Rattle.theory.proofs.Members.{_⊆_, map-part, member-of-some, some-of-member, row-of-entry, rowEntries-part}
 use Rattle.theory.proofs.Carry.{carries-fewer, mapping-inclusion, mapping-compose}
-use Rattle.theory.proofs.Chase.{chase-chases, chases-unique, chases-count, chases-answers, chases-mapping, chases-rests, freeze-injective, rests-obeys}
+use Rattle.theory.proofs.Chase.{chase-chases, chases-unique, chases-answers, chases-mapping, chases-rests, freeze-injective, rests-obeys}
 use Rattle.theory.proofs.Chase.{chases-rows-fit, chases-wellformed, chases-head-length, chases-constants, chase-length-le}
+use Rattle.theory.proofs.Replacement.{step-count}
 use Rattle.theory.proofs.Containment.{frozen-sound}
 use Rattle.minimization.specs.Checking.{sameRow}
 use Rattle.minimization.proofs.Checking.{sameRow-eq, sameRow-self}
@@ -119,6 +120,13 @@ repeats-add [] q r new = refl
 repeats-add (j ∷ js) q r new =
     snoc-new sameRow sameRow-eq sameRow-self (keepFirst sameRow [] (q .rows)) r new
     ∙ ap (λ l. l ++ r ∷ []) (keepFirst-twice sameRow sameRow-eq sameRow-self (q .rows))
+
+-- Without a clash the functional chase loses a variable with each replacement
+chases-count : {ds : List Dependency} {q result : Query} {count : ℕ} → Chases ds q result count → result .rows ≢ []
+    → count + variableCount result ≡ variableCount q
+chases-count (rests is) nonempty = omega arith
+chases-count (clashes is) nonempty = absurd (nonempty refl)
+chases-count {ds} {q} (replaces {v} {e} is c) nonempty = let rest = chases-count c nonempty in omega (arith, rest, step-count ds q v e is)
 
 -- The measure of a round, in plain numbers: with n fewer variables, and without any fewer with one row more
 measure-falls : (limit n before after rows rows' : ℕ) → n + after ≤ before → rows' < limit → (n ≡ 0 → rows ≡ rows')

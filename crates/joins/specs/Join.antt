@@ -9,8 +9,7 @@ use lib.ListN.{length, getD}
 use Rattle.lists.specs.Tests.{every}
 use Rattle.lists.specs.Numbers.{numbersWhere}
 use Rattle.theory.specs.Query.{Row, member, FitsSchema, _∈_}
-use Rattle.theory.specs.Database.{Database, Dependency, Agree}
-use Rattle.theory.specs.Containment.{Legal}
+use Rattle.theory.specs.Database.{Database, Dependency, Agree, Legal}
 use Rattle.minimization.specs.Checking.{nonempty}
 
 -- A join dependency of a relation: the relation is the join of its projections on the sets of columns
