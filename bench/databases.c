@@ -141,7 +141,7 @@ static double engine_evaluate(size_t *count) {
 static double engine_test(int *obeys_out) {
     double best = 1e9;
     uint8_t obeys;
-    size_t d, i, j, heads_size = word_count / 2, nodes_size = word_count * 3 / 2;
+    size_t d, i, j, heads_size = word_count / 2, nodes_size = 2 * word_count;
     for (int k = 0; k < turns(); k++) {
         double t = now();
         uint32_t *heads = lent(heads_size), *nodes = lent(nodes_size);

@@ -34,7 +34,7 @@
  * be of any length, 0 too, and with less they take longer. Where a call is refused with another number than 10 it is as it was, and otherwise it may hold anything.
  * The calls without it have some of their own, for some ten thousand rows and four thousand words of answers; beyond that their time grows as the square.
  * For a database of n words lend:
- *   heads     n / 2 words, and nodes 3 n / 2: then a test takes time in proportion to n for each dependency, unless values are chosen so that they collide
+ *   heads     n / 2 words, and nodes 2 n: then a test takes time in proportion to n for each dependency, unless values are chosen so that they collide
  *   index     2 n words for each row of the query but the first, and 112 more; no more than 4294967294 are used, and none for a database of 4294967295 words or more
  *   states    n words and 65536 more, if the query has more than two rows; else none. They are cleared, so that more than that only costs time
  *   batch     twice the words of the answers, and 64 more: with fewer the database is searched again for each batch. A count wants as much as an evaluation

@@ -397,7 +397,7 @@ def test(file: bytes, words: Words) -> Optional[Tuple[int, int, int]]:
     obeys = ctypes.c_uint8()
     found = [ctypes.c_size_t() for _ in range(3)]
     outs = [ctypes.byref(obeys), *(ctypes.byref(place) for place in found)]
-    number = _number("test_lent", *_slice(file), *_words(words), *_flat(_lent(words, [len(words) // 2, len(words) * 3 // 2])), *outs)
+    number = _number("test_lent", *_slice(file), *_words(words), *_flat(_lent(words, [len(words) // 2, 2 * len(words)])), *outs)
     if number != 0:
         raise Refused(number)
     if obeys.value == 1:
