@@ -49,7 +49,7 @@ struct Sought {
 }
 
 // A row beside the leader of its group: it has the leader's right value, or another, and then where the leader stands; or there is no such leader.
-enum Comparison {
+enum Beside {
     Same,
     Differs(usize),
     Alone,
@@ -96,7 +96,7 @@ fn sought_of(words: &[u32], width: usize, d: Dependency, a: usize, buckets: usiz
 }
 
 // Compares a row with the leader of its group, if that is among the first `count` leaders.
-fn compare(sought: Sought, heads: &[u32], nodes: &[u32], count: usize) -> Comparison
+fn compare(sought: Sought, heads: &[u32], nodes: &[u32], count: usize) -> Beside
     requires { ⌜ (sought .bucket < length (now heads)) × (4 * count ≤ length (now nodes)) ⌝ }
     requires { ⌜ ((key : ℕ → ℕ) × Chained key (now heads) (linkOf (now nodes)) count) ⌝ }
     ensures { λ r. ⌜ ((key : ℕ → ℕ) → Chained key (now (heads .entry)) (linkOf (now (nodes .entry))) count → Compared key (now (nodes .entry)) count sought r) ⌝ }
@@ -107,13 +107,13 @@ fn compare(sought: Sought, heads: &[u32], nodes: &[u32], count: usize) -> Compar
         let s = 4 * (node - 1);
         if nodes[s + 3] == sought.tag {
             if nodes[s + 2] == sought.right {
-                return Comparison::Same;
+                return Beside::Same;
             }
-            return Comparison::Differs(nodes[s + 1] as usize);
+            return Beside::Differs(nodes[s + 1] as usize);
         }
         node = nodes[s] as usize;
     }
-    Comparison::Alone
+    Beside::Alone
 }
 
 // Enters the row at position `number` as leader number `count`, at the head of the chain of its bucket.
@@ -177,19 +177,19 @@ fn step(
     let sought = sought_of(words, width, d, at, heads.len());
     let found = compare(sought, heads, nodes, count);
     match found {
-        Comparison::Same => Walk {
+        Beside::Same => Walk {
             row,
             count,
             least,
             key: false,
         },
-        Comparison::Differs(p) => Walk {
+        Beside::Differs(p) => Walk {
             row,
             count,
             least: lesser(least, p),
             key: false,
         },
-        Comparison::Alone => {
+        Beside::Alone => {
             if 4 <= nodes.len() - 4 * count && number < 4294967295 {
                 enter(heads, nodes, count, sought, number);
                 return Walk {

@@ -9,8 +9,8 @@ use Rattle.words.specs.Broken.{nthRow}
 use Rattle.grouping.specs.internal.Hash.{bucketOf, tagOf}
 use Rattle.grouping.specs.internal.Chains.{Chained}
 use Rattle.grouping.specs.declared.Sought.{Sought}
-use Rattle.grouping.specs.declared.Comparison.{Comparison}
-use Rattle.grouping.specs.declared.Comparison.the-variants as comparison
+use Rattle.grouping.specs.declared.Beside.{Beside}
+use Rattle.grouping.specs.declared.Beside.the-variants as beside
 
 -- What is compared of a row
 abbrev pub soughtOf : ℕ → Dependency → Row ℕ → Sought
@@ -53,7 +53,7 @@ abbrev pub Leads : (ℕ → ℕ) → List ℕ → Sought → ℕ → Type 0
 Leads key nodes q s = (key s ≡ q .bucket) × (tagIn nodes s ≡ q .tag)
 
 -- What a comparison says of a row
-abbrev pub Compared : (ℕ → ℕ) → List ℕ → ℕ → Sought → Comparison → Type 0
-Compared key nodes count q comparison.Same = (s : ℕ) × (s < count) × Leads key nodes q s × (rightIn nodes s ≡ q .right)
-Compared key nodes count q (comparison.Differs p) = (s : ℕ) × (s < count) × Leads key nodes q s × (p ≡ numberOf nodes s)
-Compared key nodes count q comparison.Alone = (s : ℕ) → s < count → Leads key nodes q s → ⊥
+abbrev pub Compared : (ℕ → ℕ) → List ℕ → ℕ → Sought → Beside → Type 0
+Compared key nodes count q beside.Same = (s : ℕ) × (s < count) × Leads key nodes q s × (rightIn nodes s ≡ q .right)
+Compared key nodes count q (beside.Differs p) = (s : ℕ) × (s < count) × Leads key nodes q s × (p ≡ numberOf nodes s)
+Compared key nodes count q beside.Alone = (s : ℕ) → s < count → Leads key nodes q s → ⊥
