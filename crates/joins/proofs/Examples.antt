@@ -23,7 +23,7 @@ use Rattle.joins.specs.JoinChase.{before, picks, chosenEntry, yields, fi
 use Rattle.joins.specs.JoinChase.{withoutRepeats, Outcome, chased, overflow, joinOn, settle, joinChaseFor, joinChase, containedIn}
 use Rattle.joins.specs.JoinChase.{joinContained}
 use Rattle.joins.specs.Examples.{Example, chasesTo, grows, compares, Meaning, sameOutcome, hasRows, isAnswer, overBoth, holds, examples}
-use Rattle.joins.specs.Examples.{ExamplesMean, YieldsFirst, FirstChoice, NoChoice, FitsNot}
+use Rattle.joins.specs.Examples.{ExamplesMean, YieldsFirst, FirstChoice, NoChoice, OverflowDecides, FitsNot}
 use Rattle.joins.proofs.Fitting.{joinFits-exact}
 use Rattle.joins.proofs.Containment.{chase-computed, contained-computed, not-contained-computed}
 
@@ -51,6 +51,12 @@ pub no-choice : NoChoice
 unfolding firstMissing firstPassing before picks missing consistent fitsChoice every agree sameEntry yields chosenEntry member numbersWhere standsIn
     sameRow sameLists
 no-choice = refl
+
+pub overflow-decides : OverflowDecides
+unfolding sameEntry variablesOf rowEntries member distinct orElse bind firstPassing firstPair firstFound agree breaks firstBroken
+    step chaseOn chaseFor chase containedOn sameLists sameRow standsIn every numbersWhere before picks chosenEntry yields fitsChoice consistent
+    missing firstMissing firstUnmet nextRow keepFirst withoutRepeats joinOn settle joinChaseFor joinChase containedIn joinContained
+overflow-decides = refl
 
 pub fits-not : FitsNot
 unfolding joinFits inSome nonempty every numbersWhere member

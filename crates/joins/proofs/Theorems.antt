@@ -11,14 +11,14 @@ use Rattle.joins.specs.JoinChase.{joinChase}
 use Rattle.joins.specs.JoinTheorems as joins
 use Rattle.joins.specs.Examples as examples
 use Rattle.joins.proofs.Repeats.{snoc-there, snoc-new}
-use Rattle.joins.proofs.Choices.{choices-of, choice-tried, missing-exact}
+use Rattle.joins.proofs.Choices.{choices-of, choice-tried, consistent-true, true-consistent, missing-exact}
 use Rattle.joins.proofs.Obeying.{obeys-join-exact}
 use Rattle.joins.proofs.JoinChase.{joins-computed, joins-unique, joins-answers, joins-mapping, joins-wellformed}
 use Rattle.joins.proofs.JoinChase.{joins-head-length, joins-length}
 use Rattle.joins.proofs.Containment.{chase-computed, chased-legal, chased-stands, contained-exact, chased-counterexample}
 use Rattle.joins.proofs.Containment.{contained-computed, not-contained-computed}
 use Rattle.joins.proofs.Fitting.{joinFits-exact}
-use Rattle.joins.proofs.Examples.{examples-meaning, yields-first, first-choice, no-choice, fits-not}
+use Rattle.joins.proofs.Examples.{examples-meaning, yields-first, first-choice, no-choice, overflow-decides, fits-not}
 use Rattle.joins.proofs.Order.{firstPick-first, firstPick-along, nextRow-first, consistent-pairs, firstMissing-earliest, cut-enough}
 
 -- ---- the chase ends, in one way
@@ -92,6 +92,9 @@ next-row-is-first = nextRow-first
 pub choices-exactly : joins.ChoicesExactly
 choices-exactly sets rows choice = (choices-of sets rows choice, choice-tried sets rows choice)
 
+pub consistent-exactly : joins.ConsistentExactly
+consistent-exactly widths j choice = (consistent-true widths j choice, true-consistent widths j choice)
+
 pub missing-exactly : joins.MissingExactly
 missing-exactly widths j rows choice = missing-exact widths j choice rows
 
@@ -130,6 +133,9 @@ the-first-choice = first-choice
 
 pub no-missing-choice : examples.NoChoice
 no-missing-choice = no-choice
+
+pub an-overflow-decides : examples.OverflowDecides
+an-overflow-decides = overflow-decides
 
 pub what-does-not-fit : examples.FitsNot
 what-does-not-fit = fits-not

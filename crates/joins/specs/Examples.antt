@@ -241,6 +241,10 @@ FirstChoice =
 abbrev pub NoChoice : Type 0
 NoChoice = firstMissing schema (R (k 1) (k 2) ∷ R (k 3) (k 2) ∷ []) R·a·b ≡ none
 
+-- An overflow gives no answer, also where the second query is never
+abbrev pub OverflowDecides : Type 0
+OverflowDecides = joinContained schema [] (R·a·b ∷ []) 3 (query [] (R (v 0) (v 1) ∷ R (v 2) (v 3) ∷ [])) (query [] []) ≡ none
+
 -- A set must be there, the relation known and each column in a set
 abbrev pub FitsNot : Type 0
 FitsNot =
