@@ -29,15 +29,8 @@ use Rattle.lists.specs.Tests.{every}
 use Rattle.query.specs.Rule.{noDependency}
 use Rattle.closure.specs.internal.Closure.{addRight, nextMask, growMask, rightNarrow}
 use Rattle.lists.proofs.Tests.{every-getD}
-use Rattle.theory.proofs.Step.{firstPassing-found}
+use Rattle.theory.proofs.Step.{firstPassing-same, firstPassing-found}
 use Rattle.closure.proofs.Masks.{Same, same-columns, same-more, subset-mask, bit-shift, columns-in, mask-columns, columns-count}
-
--- Tests that agree pass the same first element
-pub passing-same : {A : Type 0} (test other : A → Bool) → ((x : A) → test x ≡ other x) → (xs : List A) → firstPassing test xs ≡ firstPassing other xs
-unfolding firstPassing
-passing-same test other same [] = refl
-passing-same {A} test other same (x ∷ xs) =
-    ap₂ (λ (t : Bool) (o : Option A). cond t (some x) o) (same x) (passing-same test other same xs)
 
 -- The invariant of a loop that looks for it: what is found is what is found in what is left, from position i on
 pub record Passing {A : Type 0} (test : A → Bool) (xs : List A) (whole : Option A) (i : ℕ) : Type 0 where
@@ -152,7 +145,7 @@ module _ (ds : List Dependency) (relation w : ℕ) (narrow : (d : Dependency) �
   grow-same wide (suc n) known mask h same =
       let small : mask < 256 = lt-of-lt-of-le h (pow-mono wide) in
       let agree : firstPassing (adds relation (columnsOf mask)) ds ≡ firstPassing (adds relation known) ds =
-      passing-same (adds relation (columnsOf mask)) (adds relation known)
+      firstPassing-same (adds relation (columnsOf mask)) (adds relation known)
       (adds-same relation (columnsOf mask) known (λ c. same-columns mask small .at c ∙ sym (same .at c))) ds
       in
       go (firstPassing (adds relation known) ds) agree (grow-same wide n)

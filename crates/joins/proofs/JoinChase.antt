@@ -27,9 +27,8 @@ use Rattle.theory.proofs.Lists.{bool-cases, mem-cases, nodup-length-le, mem-dis
 use Rattle.theory.proofs.Entries.{row-rowEntries, constant-same, constant-variable, variablesOf-mem, mem-variablesOf, column-rowEntries}
 use Rattle.theory.proofs.Members.{_⊆_, map-part, member-of-some, some-of-member, row-of-entry, rowEntries-part}
 use Rattle.theory.proofs.Carry.{carries-fewer, mapping-inclusion, mapping-compose}
-use Rattle.theory.proofs.Chase.{chase-chases, chases-unique, chases-answers, chases-mapping, chases-rests, freeze-injective, rests-obeys}
-use Rattle.theory.proofs.Chase.{chases-rows-fit, chases-wellformed, chases-head-length, chases-constants, chase-length-le}
-use Rattle.theory.proofs.Replacement.{step-count}
+use Rattle.theory.proofs.Chase.{chase-chases, chases-unique, chases-count, chases-answers, chases-mapping, chases-rests, freeze-injective, rests-obeys}
+use Rattle.theory.proofs.Chase.{chases-rows-fit, chases-wellformed, chases-head-length, chases-constants, chases-variables, chase-length-le}
 use Rattle.theory.proofs.Containment.{frozen-sound}
 use Rattle.minimization.specs.Checking.{sameRow}
 use Rattle.minimization.proofs.Checking.{sameRow-eq, sameRow-self}
@@ -77,7 +76,7 @@ module _ (widths : List ℕ) (js : List JoinDependency) (fit : JoinsFit widths j
       ⊎-elim (λ zero. absurd (constant-variable 0 v (sym zero))) (λ old. Memᴰ·append-right (q .head) old) (added-entry a (variable v) there))
       (List·Memᴰ·append-cases (q .head) (variablesOf-mem v (q .head ++ rowEntries (q .rows ++ r ∷ [])) at)))
 
--- Without repeats there are rows where there were
+-- Without repeats there are rows exactly where there were
 repeats-some : (js : List JoinDependency) (q : Query) → q .rows ≢ [] → withoutRepeats js q .rows ≢ []
 repeats-some js q nonempty =
     let first = member-of-some (q .rows) nonempty in
@@ -88,7 +87,7 @@ some-repeats js q nonempty =
     let first = member-of-some (withoutRepeats js q .rows) nonempty in
     some-of-member (q .rows) (repeats-into js q (first .0) (first .1))
 
--- nor is there another variable
+-- and no other variables
 repeats-variables : (js : List JoinDependency) (q : Query) (v : ℕ) → v ∈ variables (withoutRepeats js q) → v ∈ variables q
 repeats-variables js q v at =
     let p = withoutRepeats js q in
@@ -98,7 +97,7 @@ repeats-variables js q v at =
     (λ there. Memᴰ·append-right (q .head) (rowEntries-part (repeats-into js q) (variable v) there))
     (List·Memᴰ·append-cases (p .head) (variablesOf-mem v (p .head ++ rowEntries (p .rows)) at)))
 
--- Of a query without other variables there are not more
+-- A query all of whose variables another has has not more of them
 count-le : (p q : Query) → ((v : ℕ) → v ∈ variables p → v ∈ variables q) → variableCount p ≤ variableCount q
 count-le p q part =
     nodup-length-le (distinct (variables p)) (distinct (variables q)) (distinct-nodup (variables p))
@@ -120,13 +119,6 @@ repeats-add [] q r new = refl
 repeats-add (j ∷ js) q r new =
     snoc-new sameRow sameRow-eq sameRow-self (keepFirst sameRow [] (q .rows)) r new
     ∙ ap (λ l. l ++ r ∷ []) (keepFirst-twice sameRow sameRow-eq sameRow-self (q .rows))
-
--- Without a clash the functional chase loses a variable with each replacement
-chases-count : {ds : List Dependency} {q result : Query} {count : ℕ} → Chases ds q result count → result .rows ≢ []
-    → count + variableCount result ≡ variableCount q
-chases-count (rests is) nonempty = omega arith
-chases-count (clashes is) nonempty = absurd (nonempty refl)
-chases-count {ds} {q} (replaces {v} {e} is c) nonempty = let rest = chases-count c nonempty in omega (arith, rest, step-count ds q v e is)
 
 -- The measure of a round, in plain numbers: with n fewer variables, and without any fewer with one row more
 measure-falls : (limit n before after rows rows' : ℕ) → n + after ≤ before → rows' < limit → (n ≡ 0 → rows ≡ rows')
@@ -391,6 +383,14 @@ module _ {widths : List ℕ} {ds : List Dependency} {js : List JoinDependency} {
         of-rows = λ n at.
             ⊎-elim (λ zero. let is : n ≡ 0 = constant-same zero in omega arith) (below .of-rows n) (added-entry widths js fit a (constant n) at);
       }
+
+  -- It makes no variable
+  pub joins-variables : {q result : Query} → JoinChases widths ds js limit q (chased result) → (v : ℕ) → v ∈ variables result → v ∈ variables q
+  joins-variables =
+      joins-by-rounds (λ q result. (v : ℕ) → v ∈ variables result → v ∈ variables q)
+      (λ q mid n c is v at. chases-variables c v (repeats-variables js mid v at))
+      (λ q mid n r result c a less rest v at.
+      chases-variables c v (repeats-variables js mid v (added-variables widths js fit (withoutRepeats js mid) a v (rest v at))))
 
   -- Well-formed queries
   pub joins-wellformed : {q result : Query} → JoinChases widths ds js limit q (chased result) → WellFormed widths q → WellFormed widths result

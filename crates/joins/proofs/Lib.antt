@@ -4,5 +4,7 @@ pub mod Choices
 pub mod Obeying
 pub mod JoinChase
 pub mod Order
-pub mod Theorems
+pub mod Containment
+pub mod Fitting
 pub mod Examples
+pub mod Theorems

@@ -19,7 +19,7 @@ use Rattle.theory.specs.Query.{Entry, constant, Row, column, member, sameEntry,
 use Rattle.theory.specs.Database.{Agree}
 use Rattle.theory.specs.Chase.{firstPassing, firstFound, agree}
 use Rattle.theory.proofs.Lists.{bool-cases, option-cases, mem-cases, member-mem, member-not-mem}
-use Rattle.theory.proofs.Step.{agree-all, firstPassing-nil, firstPassing-false, firstPassing-found, firstPassing-nothing}
+use Rattle.theory.proofs.Step.{agree-all, firstPassing-same, firstPassing-nil, firstPassing-false, firstPassing-found, firstPassing-nothing}
 use Rattle.theory.proofs.Order.{firstFound-first}
 use Rattle.minimization.specs.Checking.{standsIn}
 use Rattle.joins.specs.Join.{JoinDependency}
@@ -143,10 +143,6 @@ consistent-pairs widths j choice within = (
 )
 
 -- ---- the earliest rows are enough
-
--- Tests that agree find the same
-firstPassing-same : {A : Type 0} (test other : A → Bool) → ((x : A) → test x ≡ other x) → (xs : List A) → firstPassing test xs ≡ firstPassing other xs
-firstPassing-same test other same xs = ap (λ t. firstPassing t xs) (fun-ext same)
 
 -- An element for which nothing is found, as nothing is found for an earlier one, can be left out
 firstFound-without : {D A : Type 0} (find : D → Option A) (kept : List D) (x : D) (xs : List D) → find x ≡ none

@@ -12,7 +12,7 @@ use Rattle.lists.specs.Tests.{every}
 use Rattle.theory.specs.Query.{Entry, constant, variable, Row, Query, _∈_}
 use Rattle.theory.specs.Database.{Database, Dependency}
 use Rattle.theory.specs.Containment.{Contained, Counterexample}
-use Rattle.minimization.specs.Examples.{schema, sameQuery, overSchema}
+use Rattle.minimization.specs.Examples.{schema, sameQuery, overSchema, v, k, R, S, B, query}
 use Rattle.joins.specs.Join.{JoinDependency, LegalForBoth, joinFits}
 use Rattle.joins.specs.JoinChase.{yields, firstMissing, Outcome, chased, overflow, JoinChases, joinChase, joinContained}
 
@@ -62,30 +62,6 @@ holds (grows ds js limit q n) = overBoth ds js q && hasRows (joinChase schema ds
 holds (compares ds js p q answer) = overBoth ds js p && isAnswer (joinContained schema ds js 24 p q) answer
 
 -- ---- how the table is written
-
--- A variable
-abbrev v : ℕ → Entry
-v n = variable n
-
--- A constant
-abbrev k : ℕ → Entry
-k n = constant n
-
--- A row of R
-abbrev R : Entry → Entry → Row Entry
-R a b = record { relation = 0; values = a ∷ b ∷ [] }
-
--- A row of S
-abbrev S : Entry → Entry → Entry → Row Entry
-S a b c = record { relation = 1; values = a ∷ b ∷ c ∷ [] }
-
--- A row of B
-abbrev B : Entry → Entry → Row Entry
-B a b = record { relation = 2; values = a ∷ b ∷ [] }
-
--- A query by its head and rows
-abbrev query : List Entry → List (Row Entry) → Query
-query head rows = record { head = head; rows = rows }
 
 -- A chase that ends in a query without head
 abbrev ends : List (Row Entry) → Outcome
@@ -240,6 +216,10 @@ FirstChoice =
 -- and one that obeys
 abbrev pub NoChoice : Type 0
 NoChoice = firstMissing schema (R (k 1) (k 2) ∷ R (k 3) (k 2) ∷ []) R·a·b ≡ none
+
+-- An overflow gives no answer, also where the second query is never
+abbrev pub OverflowDecides : Type 0
+OverflowDecides = joinContained schema [] (R·a·b ∷ []) 3 (query [] (R (v 0) (v 1) ∷ R (v 2) (v 3) ∷ [])) (query [] []) ≡ none
 
 -- A set must be there, the relation known and each column in a set
 abbrev pub FitsNot : Type 0

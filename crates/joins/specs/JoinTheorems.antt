@@ -8,7 +8,7 @@ use Prim.Native.Nat.{ℕ, _≤_, _<_}
 use lib.Dec.{eqb}
 use lib.ListN.{length, getD}
 use Rattle.theory.specs.Query.{Entry, constant, Row, Query, column, mapRow, RowsFit, WellFormed, _∈_}
-use Rattle.theory.specs.Database.{Database, Dependency, Sound}
+use Rattle.theory.specs.Database.{Database, Dependency, Agree, Sound}
 use Rattle.theory.specs.Answer.{Answer, Mapping}
 use Rattle.theory.specs.Chase.{firstPassing, firstFound, agree, chase}
 use Rattle.theory.specs.Containment.{Contained, Counterexample, frozenRows, frozenHead, ConstantsBelow, StandsFor}
@@ -175,14 +175,20 @@ pub record ChoiceOf (sets : List (List ℕ)) (rows : List (Row Entry)) (choice :
 abbrev pub ChoicesExactly : Type 0
 ChoicesExactly = (sets : List (List ℕ)) (rows : List (Row Entry)) (choice : Choice) → (choice ∈ choices sets rows) ↔ ChoiceOf sets rows choice
 
--- A choice is missing exactly where its rows are of the relation and agree with the row they yield, each on its set, and that row is not there
+-- The chosen rows go together exactly where they are of the relation and each agrees on its set with the row they yield
+abbrev pub ConsistentExactly : Type 0
+ConsistentExactly =
+    (widths : List ℕ) (j : JoinDependency) (choice : Choice)
+    → (consistent widths j choice ≡ true)
+    ↔ ((p : List ℕ × Row Entry) → p ∈ choice → (p .1 .relation ≡ j .relation) × Agree (constant 0) (p .0) (p .1) (yields widths j choice))
+
+-- A choice is missing exactly where its rows go together and the row they yield is not there
 abbrev pub MissingExactly : Type 0
 MissingExactly =
     (widths : List ℕ) (j : JoinDependency) (rows : List (Row Entry)) (choice : Choice)
     → (missing widths j rows choice ≡ true) ↔ ((consistent widths j choice ≡ true) × (yields widths j choice ∈ rows → ⊥))
 
--- The chosen rows go together exactly where they are of the relation and any two agree where their sets overlap, the sets having no column beyond
--- the relation's width
+-- That they agree with the row they yield is the same as that any two agree where their sets overlap, the sets having no column beyond the relation's width
 abbrev pub ConsistentPairwise : Type 0
 ConsistentPairwise =
     (widths : List ℕ) (j : JoinDependency) (choice : Choice)

@@ -89,27 +89,27 @@ holds (determines ds relation left columns) =
 -- ---- how the table is written
 
 -- A variable
-abbrev v : ℕ → Entry
+abbrev pub v : ℕ → Entry
 v n = variable n
 
 -- A constant
-abbrev k : ℕ → Entry
+abbrev pub k : ℕ → Entry
 k n = constant n
 
 -- A row of R, with columns a and b
-abbrev R : Entry → Entry → Row Entry
+abbrev pub R : Entry → Entry → Row Entry
 R a b = record { relation = 0; values = a ∷ b ∷ [] }
 
 -- A row of S, with columns a, b and c
-abbrev S : Entry → Entry → Entry → Row Entry
+abbrev pub S : Entry → Entry → Entry → Row Entry
 S a b c = record { relation = 1; values = a ∷ b ∷ c ∷ [] }
 
 -- A row of a third relation, with two columns
-abbrev B : Entry → Entry → Row Entry
+abbrev pub B : Entry → Entry → Row Entry
 B a b = record { relation = 2; values = a ∷ b ∷ [] }
 
 -- A query by its head and rows
-abbrev query : List Entry → List (Row Entry) → Query
+abbrev pub query : List Entry → List (Row Entry) → Query
 query head rows = record { head = head; rows = rows }
 
 -- A dependency with one left column

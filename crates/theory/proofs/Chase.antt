@@ -12,7 +12,7 @@ use mathlib.Core.Path.{_≡_, refl, sym, _∙_, ap}
 use mathlib.Core.Logic.{_≢_, _↔_, _⊎_, inl, inr, ⊎-elim, Iff·rfl, Iff·trans}
 use mathlib.Core.List.{List, [], _++_, List·Memᴰ·not-nil, List·Memᴰ·append-cases, Memᴰ·append-left, Memᴰ·append-right, Memᴰ·cast, Memᴰ·of-map}
 use mathlib.Core.Option.{Option, none, some}
-use Prim.Native.Nat.{ℕ, zero, suc, _≤_, _<_}
+use Prim.Native.Nat.{ℕ, zero, suc, _+_, _≤_, _<_}
 use native.Mathlib.Omega.{arith}
 use lib.ListN.{length, length-map, length-replicate, List·getD-map}
 use Rattle.theory.specs.Query.{Entry, constant, variable, Row, Query, never, column, mapRow, mapQuery, rowEntries, variables, variableCount}
@@ -26,7 +26,7 @@ use Rattle.theory.proofs.Lists.{replicate-mem, list-cases}
 use Rattle.theory.proofs.Entries.{constant-same, constant-variable, variablesOf-mem, mem-variablesOf, column-rowEntries}
 use Rattle.theory.proofs.Step.{step-never, step-clash, step-replace, step-nothing, firstBroken-nothing}
 use Rattle.theory.proofs.Replacement.{step-count, replace-carries, some-mapQuery, replace-answers, clash-answers, mapQuery-rows-fit}
-use Rattle.theory.proofs.Replacement.{replace-head-safe, forced-constants, forced-entries}
+use Rattle.theory.proofs.Replacement.{replace-head-safe, forced-constants, forced-variables, forced-entries}
 use Rattle.theory.proofs.Carry.{mapping-of, mapping-compose, mapping-self}
 
 -- ---- 1. the chase ends, and is one
@@ -101,7 +101,14 @@ chase-at-replace ds q v e is = chased-by (replaces is (chase-chases ds (mapQuery
 
 -- ---- 2. the count
 
--- It is at most the number of different variables
+-- Without a clash the count is the number of different variables before less the number after
+pub chases-count : {ds : List Dependency} {q result : Query} {count : ℕ} → Chases ds q result count → result .rows ≢ []
+    → count + variableCount result ≡ variableCount q
+chases-count (rests is) nonempty = omega arith
+chases-count (clashes is) nonempty = absurd (nonempty refl)
+chases-count {ds} {q} (replaces {v} {e} is c) nonempty = let rest = chases-count c nonempty in omega (arith, rest, step-count ds q v e is)
+
+-- and it is never more than the number of different variables
 pub chase-count-le : (ds : List Dependency) (q : Query) → chase ds q .count ≤ variableCount q
 chase-count-le ds q = chases-count-le (chase-chases ds q)
 
@@ -271,7 +278,14 @@ chases-constants {ds} {q} base pos (replaces {v} {e} is c) below =
 pub chase-constants : (ds : List Dependency) (q : Query) (base : ℕ) → 0 < base → ConstantsBelow base q → ConstantsBelow base (chase ds q .query)
 chase-constants ds q base pos below = chases-constants base pos (chase-chases ds q) below
 
--- It makes no entry, but for the constant 0 of never and of a missing column
+-- It makes no variable
+pub chases-variables : {ds : List Dependency} {q result : Query} {count : ℕ} → Chases ds q result count
+    → (v : ℕ) → v ∈ variables result → v ∈ variables q
+chases-variables (rests is) v at = at
+chases-variables {q} (clashes is) v at = absurd (never-variables (length (q .head)) v at)
+chases-variables {ds} {q} (replaces {v = w} {e} is c) v at = forced-variables q (step-replace ds q w e is .0) v (chases-variables c v at)
+
+-- nor any entry, but for the constant 0 of never and of a missing column
 pub chases-entries : {ds : List Dependency} {q result : Query} {count : ℕ} → Chases ds q result count
     → (x : Entry) → x ∈ result .head ++ rowEntries (result .rows) → (x ≡ constant 0) ⊎ (x ∈ q .head ++ rowEntries (q .rows))
 chases-entries (rests is) x at = inr at

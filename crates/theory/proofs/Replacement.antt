@@ -127,6 +127,17 @@ pub forced-count : {ds : List Dependency} {e : Entry} {v : ℕ} (q : Query) → 
     → suc (variableCount (mapQuery (substitute v e) q)) ≡ variableCount q
 forced-count {e} {v} q f other = replace-count v e q (forced-known q f) other (forced-known-second q f)
 
+-- and brings none
+pub forced-variables : {ds : List Dependency} {e : Entry} {v : ℕ} (q : Query) → Forced ds (q .rows) (variable v) e
+    → (w : ℕ) → w ∈ variables (mapQuery (substitute v e) q) → w ∈ variables q
+forced-variables {e} {v} q f w at =
+    let es = q .head ++ rowEntries (q .rows) in
+    let after = mapQuery (substitute v e) q .head ++ rowEntries (mapQuery (substitute v e) q .rows) in
+    ⊎-elim
+    (λ c. forced-known-second q f w (sym (c .0)))
+    (λ c. mem-variablesOf w es (c .1))
+    (substitute-mem v e (variable w) es (rw (entries-map (substitute v e) q) at (variablesOf-mem w after at)))
+
 -- nor any entry, but for the constant 0 that stands in for a missing column
 pub forced-entries : {ds : List Dependency} {e : Entry} {v : ℕ} (q : Query) → Forced ds (q .rows) (variable v) e
     → (x : Entry) → x ∈ mapQuery (substitute v e) q .head ++ rowEntries (mapQuery (substitute v e) q .rows)

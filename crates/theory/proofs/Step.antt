@@ -1,7 +1,7 @@
 -- One step of the chase. In this order: the search, as equations at the head of a list (for loops that go by what is left);
 -- what the search tells, whether it finds something or not; what a step found says of the query.
 -- What a replacement keeps is in `Replacement`. Assumes nothing.
-use mathlib.Core.Path.{_≡_, refl, sym, _∙_, ap}
+use mathlib.Core.Path.{_≡_, refl, sym, _∙_, ap, fun-ext}
 use mathlib.Core.Logic.{_≢_, _⊎_, inl, inr, ⊎-elim}
 use mathlib.Core.Bool.{Bool, true, false, not, _&&_, true≢false}
 use mathlib.Core.Option.{Option, none, some, Option·none-ne-some, Option·some-injective, map-eq-none-iff, map-eq-some-iff, orElse, Option·map}
@@ -106,6 +106,10 @@ unfolding brokenWith firstPassing
 brokenWith-false d r s ss rs ds rows e = rw e
 
 -- ---- what the search tells
+
+-- Tests that agree find the same
+pub firstPassing-same : {A : Type 0} (test other : A → Bool) → ((x : A) → test x ≡ other x) → (xs : List A) → firstPassing test xs ≡ firstPassing other xs
+firstPassing-same test other same xs = ap (λ t. firstPassing t xs) (fun-ext same)
 
 pub firstPassing-found : {A : Type 0} (test : A → Bool) (x : A) (xs : List A) → firstPassing test xs ≡ some x → (x ∈ xs) × (test x ≡ true)
 unfolding firstPassing

@@ -1,4 +1,4 @@
--- Databases of whole numbers, functional dependencies, what obeying them means, and the legal databases of a record.
+-- Databases of whole numbers, functional dependencies, what obeying them means, and the legal databases.
 use mathlib.Core.Path.{_≡_}
 use mathlib.Core.List.{List}
 use Prim.Native.Nat.{ℕ}
@@ -33,7 +33,7 @@ Obeys ds D = (d : Dependency) → d ∈ ds → ObeysOne d D
 abbrev pub Sound : List ℕ → Database → Type 0
 Sound widths D = (r : Row ℕ) → r ∈ D → FitsSchema widths r
 
--- A database of the record's kind: its rows fit the relations, and it obeys the dependencies
+-- A legal database for a schema and dependencies: its rows fit the schema, and it obeys the dependencies
 pub record Legal (widths : List ℕ) (ds : List Dependency) (D : Database) : Type 0 where
   pub sound : Sound widths D
   pub obeys : Obeys ds D
