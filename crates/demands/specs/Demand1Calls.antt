@@ -1,7 +1,6 @@
 -- Demand 1 for each public call: what it asks, what a refusal hands back, and what is due. `Meets` and the numbers are in `Demand1`. Lent working memory is as it
 -- was after a refusal, unless that is 10: the contracts in src/ say so of each call that is lent some.
 use mathlib.Core.Path.{_≡_}
-use mathlib.Core.Bool.{true}
 use mathlib.Core.List.{List, _++_}
 use Prim.Native.Nat.{ℕ, _-_}
 use lib.ListN.{length, replicate}

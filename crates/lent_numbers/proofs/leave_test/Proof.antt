@@ -1,11 +1,10 @@
 -- `leave_test` leaves the numbers of each case. Assumes nothing.
 use mathlib.Core.Path.{_≡_, ap}
-use Prim.Native.Nat.{ℕ}
-use Rattle.refusals.specs.Refusals.{Reply, gives, refused}
+use Rattle.refusals.specs.Refusals.{Reply, gives}
 use Rattle.words.specs.declared.Violation.{Violation}
 use Rattle.words.specs.declared.Violation.the-variants as violation
 use Rattle.replies.specs.Replies.{testReply}
-use Rattle.lent_numbers.specs.Lent.{returned, leaves}
+
 use Rattle.lent_numbers.proofs.Lent.{done-number, done-leaves, refused-number, refused-leaves, still-refused, goes-on}
 use Rattle.lent_numbers.specs.Numbers.{TestNumbers, testNumbers}
 use borrow.Author.Needs.{needs}
