@@ -4,7 +4,6 @@ use Rattle.refusals.specs.Refusals.{Reply, gives}
 use Rattle.words.specs.declared.Violation.{Violation}
 use Rattle.words.specs.declared.Violation.the-variants as violation
 use Rattle.replies.specs.Replies.{testReply}
-
 use Rattle.lent_numbers.proofs.Lent.{done-number, done-leaves, refused-number, refused-leaves, still-refused, goes-on}
 use Rattle.lent_numbers.specs.Numbers.{TestNumbers, testNumbers}
 use borrow.Author.Needs.{needs}
