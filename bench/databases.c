@@ -472,6 +472,23 @@ static void repeats(void) {
         double took = engine_evaluate(&count);
         printf("| eight loose rows on three values, %u of each | %u | %zu | %.2f |\n", copies, 3 * copies, count, took);
     }
+    for (uint32_t copies = 1; copies <= 1000; copies *= 10) {
+        open_record((uint8_t[]){1}, 1);
+        put("v0 v1 R0 v0 R0 v1");
+        word_count = 0;
+        for (uint32_t i = 0; i < 100 * copies; i++) row(0, 1, (uint32_t[]){i % 100});
+        double took = engine_evaluate(&count);
+        printf("| two loose rows on a hundred values in turn, %u of each | %u | %zu | %.2f |\n", copies, 100 * copies, count, took);
+    }
+    for (uint32_t dead = 1; dead <= 1000; dead *= 10) {
+        open_record((uint8_t[]){2, 3}, 2);
+        put("v0 v2 R0 v0 v1 R1 v1 v2 v3");
+        word_count = 0;
+        for (uint32_t i = 0; i < 1000; i++) row(0, 2, (uint32_t[]){i, i % 10});
+        for (uint32_t i = 0; i < 100 * dead; i++) row(1, 3, (uint32_t[]){i % 10, i / 10 % 10, i});
+        double took = engine_evaluate(&count);
+        printf("| join with %u rows for each pair that is shown | %u | %zu | %.2f |\n", dead, 1000 + 100 * dead, count, took);
+    }
     for (uint32_t others = 0; others <= 1000000; others = others ? others * 10 : 10000) {
         open_record((uint8_t[]){2, 2, 2}, 3);
         put("v0 v1 v2 R0 v0 v1 R1 v0 v2");
