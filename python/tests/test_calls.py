@@ -532,7 +532,7 @@ class Memory(Calls):
         with mock.patch.object(engine, "_lent", side_effect=engine._lent) as lent:
             self.record.evaluate(0, [(0, (1, 2)), (1, (2, 3))])
             self.record.test([(0, (1, 2)), (1, (2, 3))])
-        self.assertEqual([call.args[1] for call in lent.call_args_list], [[18], [124, 0, 100, 100], [3, 9]])
+        self.assertEqual([call.args[1] for call in lent.call_args_list], [[18], [124, 0, 100, 100], [3, 12]])
         self.assertLess(engine._for_answers(2**31, engine.Size(12, 8), 1)[0], 2**32 - 1)
 
     def test_huge_pages(self):
