@@ -5,7 +5,7 @@ use Prim.Native.Nat.{ℕ, _+_, _*_, _<_}
 use native.Mathlib.Omega.{arith}
 use lib.ListN.{length, getD, set, length-set}
 use lib.Seq.{getD-set-same, getD-set-other}
-use Rattle.grouping.specs.internal.Table.{linkOf, numberOf, rightIn, tagIn, withLeader}
+use Rattle.grouping.specs.internal.Leaders.{linkOf, positionOf, rightIn, tagIn, withLeader}
 use Rattle.grouping.specs.declared.Sought.{Sought}
 
 module _ (N : List ℕ) (s link number : ℕ) (q : Sought) where
@@ -51,7 +51,7 @@ module _ (N : List ℕ) (s link number : ℕ) (q : Sought) where
         ∙ getD-set-other one (4 * s + 1) (4 * s) number 0 (λ (e : 4 * s ≡ 4 * s + 1). absurd (omega arith))
         ∙ getD-set-same N (4 * s) link 0 (omega arith)
 
-    pub enter-number : numberOf (withLeader N s link number q) s ≡ number
+    pub enter-number : positionOf (withLeader N s link number q) s ≡ number
     unfolding one two three
     enter-number =
         getD-set-other three (4 * s + 3) (4 * s + 1) (q .tag) 0 (λ (e : 4 * s + 1 ≡ 4 * s + 3). absurd (omega arith))

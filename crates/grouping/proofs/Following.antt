@@ -8,7 +8,7 @@ use lib.Dec.{eqb, ltb}
 use borrow.Author.Tests.{eqb-true, eqb-false, ltb-true, ltb-false}
 use lib.ListN.{length, getD}
 use Rattle.grouping.specs.internal.Chains.{lastBelow, Chained}
-use Rattle.grouping.specs.internal.Table.{linkOf, tagIn, Leads}
+use Rattle.grouping.specs.internal.Leaders.{linkOf, tagIn, LeaderFor}
 use Rattle.grouping.specs.declared.Sought.{Sought}
 use Rattle.grouping.proofs.Chains.{last-le, last-none, last-key}
 
@@ -17,7 +17,7 @@ module _ (key : ℕ → ℕ) (heads nodes : List ℕ) (count : ℕ) (q : Sought)
   pub record Following (node : ℕ) : Type 0 where
     pub low : node ≤ count
     pub same : (s : ℕ) → node ≡ suc s → key s ≡ q .bucket
-    pub none : (t : ℕ) → node ≤ t → t < count → Leads key nodes q t → ⊥
+    pub none : (t : ℕ) → node ≤ t → t < count → LeaderFor key nodes q t → ⊥
 
   module _ (chained : Chained key heads (linkOf nodes) count) where
     -- a link leads back
@@ -28,7 +28,7 @@ module _ (key : ℕ → ℕ) (heads nodes : List ℕ) (count : ℕ) (q : Sought)
 
     -- from the last leader of the bucket below m on, if none from m on is that of the group
     follow-last : (m node : ℕ) → m ≤ count → node ≡ lastBelow key m (q .bucket)
-        → ((t : ℕ) → m ≤ t → t < count → Leads key nodes q t → ⊥) → Following node
+        → ((t : ℕ) → m ≤ t → t < count → LeaderFor key nodes q t → ⊥) → Following node
     follow-last m node le is above =
         let low : lastBelow key m (q .bucket) ≤ m = last-le key m (q .bucket) in
         record {
@@ -37,7 +37,7 @@ module _ (key : ℕ → ℕ) (heads nodes : List ℕ) (count : ℕ) (q : Sought)
           none = λ t from below leads. go t from below leads (ltb t m) refl;
         }
       where
-        go : (t : ℕ) → node ≤ t → t < count → Leads key nodes q t → (x : Bool) → ltb t m ≡ x → ⊥
+        go : (t : ℕ) → node ≤ t → t < count → LeaderFor key nodes q t → (x : Bool) → ltb t m ≡ x → ⊥
         go t from below leads true h = last-none key m (q .bucket) t (omega arith) (ltb-true t m h) (leads .0)
         go t from below leads false h = above t (ltb-false t m h) below leads
 
@@ -51,6 +51,6 @@ module _ (key : ℕ → ℕ) (heads nodes : List ℕ) (count : ℕ) (q : Sought)
         follow-last s (linkOf nodes s) (omega arith) (chained .links s below ∙ ap (lastBelow key s) (f .same s n))
         (λ t from high leads. go t from high leads (eqb t s) refl)
       where
-        go : (t : ℕ) → s ≤ t → t < count → Leads key nodes q t → (x : Bool) → eqb t s ≡ x → ⊥
+        go : (t : ℕ) → s ≤ t → t < count → LeaderFor key nodes q t → (x : Bool) → eqb t s ≡ x → ⊥
         go t from high leads true h = differs (subst (λ (x : ℕ). tagIn nodes x ≡ q .tag) (eqb-true t s h) (leads .1))
         go t from high leads false h = let apart : t ≡ s → ⊥ = eqb-false t s h in f .none t (omega arith) high leads

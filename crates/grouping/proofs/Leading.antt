@@ -13,8 +13,8 @@ use Rattle.theory.specs.Database.{Database, Dependency}
 use Rattle.theory.specs.Chase.{firstPassing, firstPair}
 use Rattle.words.specs.Testing.{numberedFrom, breaksWith, firstPairFrom}
 use Rattle.words.proofs.Obeys.{kept-breaks}
-use Rattle.grouping.specs.internal.Hash.{bucketOf, tagOf}
-use Rattle.grouping.specs.internal.Groups.{Keeps, Apart, KeyBelow, Together, Led, Groups}
+use Rattle.grouping.specs.internal.Hash.{bucketFor, tagOf}
+use Rattle.grouping.specs.internal.Groups.{PairKeeps, Apart, KeyBelow, Together, Led, Groups}
 use Rattle.grouping.proofs.Hashes.{together-agree}
 use Rattle.words.specs.Broken.{nthRow}
 
@@ -51,10 +51,10 @@ module _ (buckets : ℕ) (d : Dependency) (D : Database) where
 
   module _ (n least count : ℕ) (number : ℕ → ℕ) (g : Groups buckets d D n least count number) where
     -- the row at n keeps the dependency with those before it
-    more-kept : (low : ℕ) → low ≤ least → ((k : ℕ) → k < n → k < low → Keeps d (nthRow D k) (nthRow D n))
-        → (k j : ℕ) → k < j → j < n + 1 → k < low → Keeps d (nthRow D k) (nthRow D j)
+    more-kept : (low : ℕ) → low ≤ least → ((k : ℕ) → k < n → k < low → PairKeeps d (nthRow D k) (nthRow D n))
+        → (k j : ℕ) → k < j → j < n + 1 → k < low → PairKeeps d (nthRow D k) (nthRow D j)
     more-kept low le keeps k j before below =
-        pairs-more (λ (x y : ℕ). x < low → Keeps d (nthRow D x) (nthRow D y)) n (λ x y b l h. g .kept x y b l (omega arith)) keeps k j before below
+        pairs-more (λ (x y : ℕ). x < low → PairKeeps d (nthRow D x) (nthRow D y)) n (λ x y b l h. g .kept x y b l (omega arith)) keeps k j before below
 
     -- the row at n has a leader too
     more-led : (low : ℕ) → low ≤ least → (n < low → nthRow D n .relation ≡ d .relation → Led buckets d D count number n)
@@ -103,7 +103,7 @@ module _ (buckets : ℕ) (d : Dependency) (D : Database) where
           kept = more-kept low le keeps;
         }
       where
-        keeps : (k : ℕ) → k < n → k < low → Keeps d (nthRow D k) (nthRow D n)
+        keeps : (k : ℕ) → k < n → k < low → PairKeeps d (nthRow D k) (nthRow D n)
         keeps k h i p q b =
             let l = g .led k h (omega arith) p in
             let s : ℕ = l .0 in
@@ -122,7 +122,7 @@ module _ (buckets : ℕ) (d : Dependency) (D : Database) where
         absent (l .0) (l .1) (through (nthRow D (number (l .0))) (nthRow D k) (nthRow D n) (l .3) (together-agree buckets d (nthRow D k) (nthRow D n) b))
 
     absent-keeps : (low : ℕ) → low ≤ least → ((s : ℕ) → s < count → Together buckets d (nthRow D (number s)) (nthRow D n) → ⊥)
-        → (k : ℕ) → k < n → k < low → Keeps d (nthRow D k) (nthRow D n)
+        → (k : ℕ) → k < n → k < low → PairKeeps d (nthRow D k) (nthRow D n)
     absent-keeps low le absent k h i p q b = absurd (absent-apart absent k h (omega arith) p q b)
 
     -- the left columns tell one more row apart: it is of another relation, or no leader is in one group with it and each row has one
@@ -189,7 +189,7 @@ module _ (buckets : ℕ) (d : Dependency) (D : Database) where
               count,
               omega arith,
               omega arith,
-              (ap (λ (x : ℕ). bucketOf buckets d (nthRow D x)) it, ap (λ (x : ℕ). tagOf d (nthRow D x)) it),
+              (ap (λ (x : ℕ). bucketFor buckets d (nthRow D x)) it, ap (λ (x : ℕ). tagOf d (nthRow D x)) it),
               ap (λ (x : ℕ). column 0 (nthRow D x) (d .right)) it,
             )
         led' k h i p false e =
@@ -215,7 +215,7 @@ positions-fail test n [] h = refl
 positions-fail test n (r ∷ D) h = rw (h 0 (omega arith) n) (positions-fail test (suc n) D (λ k l m. h (suc k) (omega arith) m))
 
 -- the first m rows keep the dependency with every later row: the first broken pair is among the rows after them
-pub pairs-skip : (d : Dependency) (n m : ℕ) (D : Database) → ((k j : ℕ) → k < j → j < length D → k < m → Keeps d (nthRow D k) (nthRow D j))
+pub pairs-skip : (d : Dependency) (n m : ℕ) (D : Database) → ((k j : ℕ) → k < j → j < length D → k < m → PairKeeps d (nthRow D k) (nthRow D j))
     → firstPairFrom d n D ≡ firstPairFrom d (n + m) (drop m D)
 unfolding firstPair numberedFrom orElse
 pairs-skip d n zero D h = let e : n ≡ n + 0 = omega arith in ap (λ (x : ℕ). firstPairFrom d x D) e

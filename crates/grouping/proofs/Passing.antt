@@ -17,12 +17,12 @@ use Rattle.words.specs.internal.Rows.{spanAt, rowAt, Next}
 use Rattle.words.specs.Testing.{firstPairFrom}
 use Rattle.words.specs.internal.Found.{From}
 use Rattle.words.proofs.Spelling.{next-row}
-use Rattle.grouping.specs.internal.Hash.{bucketOf, tagOf}
+use Rattle.grouping.specs.internal.Hash.{bucketFor, tagOf}
 use Rattle.grouping.specs.internal.Chains.{Chained}
-use Rattle.grouping.specs.internal.Table.{soughtOf, linkOf, numberOf, rightIn, tagIn, withLeader, leaderOf, keyOf, Leads}
+use Rattle.grouping.specs.internal.Leaders.{soughtOf, linkOf, positionOf, rightIn, tagIn, withLeader, leaderOf, keyOf, LeaderFor}
 use Rattle.grouping.specs.internal.Groups.{Together, Groups, KeyBelow, Key}
 use Rattle.words.specs.Broken.{nthRow}
-use Rattle.grouping.specs.internal.Walked.{Placed, Walked, Skips}
+use Rattle.grouping.specs.internal.Walked.{RowBegins, Walked, Skips}
 use Rattle.grouping.specs.declared.Position.{Position}
 use Rattle.grouping.specs.declared.Sought.{Sought}
 use Rattle.grouping.specs.declared.Walk.{Walk}
@@ -42,11 +42,11 @@ module _ (schema words : List ℕ) where
   -- ---- rows in their places
 
   -- the first row
-  pub placed-start : spellsRows schema words ≡ true → Placed schema words 0 0
+  pub placed-start : spellsRows schema words ≡ true → RowBegins schema words 0 0
   placed-start good = record { from = record { inside = omega arith; counted = omega arith; good = good }; read = refl }
 
   -- the end of the words
-  pub placed-end : Placed schema words (length words) (length words)
+  pub placed-end : RowBegins schema words (length words) (length words)
   unfolding spellsRowsFrom rowsFrom
   placed-end =
       let none : drop (length words) words ≡ [] = drop-length words in
@@ -57,7 +57,7 @@ module _ (schema words : List ℕ) where
       }
 
   -- the row after the one at `at`
-  pub placed-next : (at after n : ℕ) → Placed schema words at n → Next schema words at after → Placed schema words after (n + 1)
+  pub placed-next : (at after n : ℕ) → RowBegins schema words at n → Next schema words at after → RowBegins schema words after (n + 1)
   placed-next at after n p next =
       record {
         from = record { inside = next .fits; counted = omega (arith, next .place, p .from .counted); good = next .good };
@@ -65,7 +65,7 @@ module _ (schema words : List ℕ) where
       }
 
   -- the row at `at`
-  pub placed-row : (at after n : ℕ) → Placed schema words at n → Next schema words at after → nthRow (databaseOf schema words) n ≡ rowAt schema words at
+  pub placed-row : (at after n : ℕ) → RowBegins schema words at n → Next schema words at after → nthRow (databaseOf schema words) n ≡ rowAt schema words at
   placed-row at after n p next =
       let z : Row ℕ = record { relation = 0; values = [] } in
       let e : n + 0 ≡ n = omega arith in
@@ -74,7 +74,7 @@ module _ (schema words : List ℕ) where
 
 -- The row at `at`, at position n, is of the dependency's relation
 pub record Member (schema words : List ℕ) (d : Dependency) (at n : ℕ) : Type 0 where
-  pub placed : Placed schema words at n
+  pub placed : RowBegins schema words at n
   pub inside : at < length words
   pub relation : getD words at 0 ≡ d .relation
 
@@ -98,7 +98,7 @@ module _ (schema words : List ℕ) (d : Dependency) where
   module _ (w : Walk) (H N : List ℕ) (h : Walked schema words d w H N) (after : ℕ) (next : Next schema words (w .row .at) after) where
     -- no leader is new
     walked-on : (p : ℕ) (b : Bool)
-        → Groups (length H) (dependencyOf d) (databaseOf schema words) (w .row .number + 1) p (w .count) (numberOf N)
+        → Groups (length H) (dependencyOf d) (databaseOf schema words) (w .row .number + 1) p (w .count) (positionOf N)
         → (b ≡ true → (p ≡ length words) × KeyBelow (dependencyOf d) (databaseOf schema words) (w .row .number + 1))
         → Walked schema words d (record { row = record { at = after; number = w .row .number + 1 }; count = w .count; least = p; key = b }) H N
     walked-on p b groups key =
@@ -120,8 +120,8 @@ module _ (schema words : List ℕ) (d : Dependency) where
         let differs : nthRow D n .relation ≡ d .relation → ⊥ =
         λ e. other (sym (ap (λ (r : Row ℕ). r .relation) (placed-row schema words (w .row .at) after n (h .placed) next)) ∙ e) in
         walked-on (w .least) (w .key)
-        (groups-other (length H) (dependencyOf d) D n (w .least) (w .count) (numberOf N) (h .groups) differs)
-        (λ t. (h .key t .0, key-other (length H) (dependencyOf d) D n (w .least) (w .count) (numberOf N) (h .groups) differs (h .key t .1)))
+        (groups-other (length H) (dependencyOf d) D n (w .least) (w .count) (positionOf N) (h .groups) differs)
+        (λ t. (h .key t .0, key-other (length H) (dependencyOf d) D n (w .least) (w .count) (positionOf N) (h .groups) differs (h .key t .1)))
 
     module _ (relation : getD words (w .row .at) 0 ≡ d .relation) where
       member : Member schema words d (w .row .at) (w .row .number)
@@ -135,7 +135,7 @@ module _ (schema words : List ℕ) (d : Dependency) where
         row-is : q ≡ soughtOf (length H) (dependencyOf d) (nthRow (databaseOf schema words) (w .row .number))
         row-is = is ∙ ap (soughtOf (length H) (dependencyOf d)) (sym (member-row (w .row .at) (w .row .number) member))
 
-        bucket-is : q .bucket ≡ bucketOf (length H) (dependencyOf d) (nthRow (databaseOf schema words) (w .row .number))
+        bucket-is : q .bucket ≡ bucketFor (length H) (dependencyOf d) (nthRow (databaseOf schema words) (w .row .number))
         bucket-is = ap (λ (x : Sought). x .bucket) row-is
 
         tag-is : q .tag ≡ tagOf (dependencyOf d) (nthRow (databaseOf schema words) (w .row .number))
@@ -145,30 +145,30 @@ module _ (schema words : List ℕ) (d : Dependency) where
         right-is = ap (λ (x : Sought). x .right) row-is
 
         -- leader s is that of its group
-        grouped : (s : ℕ) → s < w .count → Leads (keyOf (dependencyOf d) (databaseOf schema words) (length H) N) N q s
+        grouped : (s : ℕ) → s < w .count → LeaderFor (keyOf (dependencyOf d) (databaseOf schema words) (length H) N) N q s
             → Together (length H) (dependencyOf d) (leaderOf (databaseOf schema words) N s) (nthRow (databaseOf schema words) (w .row .number))
         grouped s below leads = (leads .0 ∙ bucket-is, sym (h .table .tags s below) ∙ leads .1 ∙ tag-is)
 
         -- and has its right value
-        pub walked-same : (s : ℕ) → s < w .count → Leads (keyOf (dependencyOf d) (databaseOf schema words) (length H) N) N q s → rightIn N s ≡ q .right
+        pub walked-same : (s : ℕ) → s < w .count → LeaderFor (keyOf (dependencyOf d) (databaseOf schema words) (length H) N) N q s → rightIn N s ≡ q .right
             → Walked schema words d (record { row = record { at = after; number = w .row .number + 1 }; count = w .count; least = w .least; key = false }) H N
         walked-same s below leads same =
             walked-on (w .least) false
-            (groups-member (length H) (dependencyOf d) (databaseOf schema words) (w .row .number) (w .least) (w .count) (numberOf N) (h .groups)
+            (groups-member (length H) (dependencyOf d) (databaseOf schema words) (w .row .number) (w .least) (w .count) (positionOf N) (h .groups)
             (w .least) s (omega arith) below (grouped s below leads) (λ _. sym (h .table .rights s below) ∙ same ∙ right-is))
             (λ t. absurd (false≢true t))
 
         -- and may have another
-        pub walked-differ : (s : ℕ) → s < w .count → Leads (keyOf (dependencyOf d) (databaseOf schema words) (length H) N) N q s
-            → (p : ℕ) → p ≤ w .least → p ≤ numberOf N s
+        pub walked-differ : (s : ℕ) → s < w .count → LeaderFor (keyOf (dependencyOf d) (databaseOf schema words) (length H) N) N q s
+            → (p : ℕ) → p ≤ w .least → p ≤ positionOf N s
             → Walked schema words d (record { row = record { at = after; number = w .row .number + 1 }; count = w .count; least = p; key = false }) H N
         walked-differ s below leads p left right =
             walked-on p false
-            (groups-member (length H) (dependencyOf d) (databaseOf schema words) (w .row .number) (w .least) (w .count) (numberOf N) (h .groups)
+            (groups-member (length H) (dependencyOf d) (databaseOf schema words) (w .row .number) (w .least) (w .count) (positionOf N) (h .groups)
             p s left below (grouped s below leads) (λ i. absurd (omega arith)))
             (λ t. absurd (false≢true t))
 
-        module _ (absent : (s : ℕ) → s < w .count → Leads (keyOf (dependencyOf d) (databaseOf schema words) (length H) N) N q s → ⊥) where
+        module _ (absent : (s : ℕ) → s < w .count → LeaderFor (keyOf (dependencyOf d) (databaseOf schema words) (length H) N) N q s → ⊥) where
           alone : (s : ℕ) → s < w .count
               → Together (length H) (dependencyOf d) (leaderOf (databaseOf schema words) N s) (nthRow (databaseOf schema words) (w .row .number)) → ⊥
           alone s below t = absent s below (t .0 ∙ sym bucket-is, h .table .tags s below ∙ t .1 ∙ sym tag-is)
@@ -178,7 +178,7 @@ module _ (schema words : List ℕ) (d : Dependency) where
               → Walked schema words d (record { row = record { at = after; number = w .row .number + 1 }; count = w .count; least = p; key = false }) H N
           walked-full p left right =
               walked-on p false
-              (groups-full (length H) (dependencyOf d) (databaseOf schema words) (w .row .number) (w .least) (w .count) (numberOf N) (h .groups)
+              (groups-full (length H) (dependencyOf d) (databaseOf schema words) (w .row .number) (w .least) (w .count) (positionOf N) (h .groups)
               p left right alone)
               (λ t. absurd (false≢true t))
 
@@ -194,10 +194,10 @@ module _ (schema words : List ℕ) (d : Dependency) where
             unfolding nodes
             old-word = enter-below N (w .count) (getD H (q .bucket) 0) (w .row .number) q
 
-            old-number : (s : ℕ) → s < w .count → numberOf nodes s ≡ numberOf N s
+            old-number : (s : ℕ) → s < w .count → positionOf nodes s ≡ positionOf N s
             old-number s low = old-word (4 * s + 1) (omega arith)
 
-            new-number : numberOf nodes (w .count) ≡ w .row .number
+            new-number : positionOf nodes (w .count) ≡ w .row .number
             unfolding nodes
             new-number = enter-number N (w .count) (getD H (q .bucket) 0) (w .row .number) q room
 
@@ -222,8 +222,8 @@ module _ (schema words : List ℕ) (d : Dependency) where
                 let K' : ℕ → ℕ = keyOf (dependencyOf d) D (length heads) nodes in
                 chained-more K' H (linkOf N) (w .count)
                 (chained-agree K H (linkOf N) (w .count) (h .table .chained) K'
-                (λ s low. ap₂ {C = ℕ} (λ (x y : ℕ). bucketOf x (dependencyOf d) (nthRow D y)) (sym size) (sym (old-number s low))))
-                (q .bucket) inside (ap₂ {C = ℕ} (λ (x y : ℕ). bucketOf x (dependencyOf d) (nthRow D y)) size new-number ∙ sym bucket-is) (linkOf nodes)
+                (λ s low. ap₂ {C = ℕ} (λ (x y : ℕ). bucketFor x (dependencyOf d) (nthRow D y)) (sym size) (sym (old-number s low))))
+                (q .bucket) inside (ap₂ {C = ℕ} (λ (x y : ℕ). bucketFor x (dependencyOf d) (nthRow D y)) size new-number ∙ sym bucket-is) (linkOf nodes)
                 (λ s low. old-word (4 * s) (omega arith))
                 (enter-link N (w .count) (getD H (q .bucket) 0) (w .row .number) q room)
 
@@ -232,18 +232,18 @@ module _ (schema words : List ℕ) (d : Dependency) where
                 let all : w .least ≡ length words = h .key t .0 in
                 let low : w .row .number ≤ w .least = omega (arith, h .placed .from .counted, h .placed .from .inside) in (
                   all,
-                  key-new (length H) (dependencyOf d) (databaseOf schema words) (w .row .number) (w .least) (w .count) (numberOf N) (h .groups) low alone
+                  key-new (length H) (dependencyOf d) (databaseOf schema words) (w .row .number) (w .least) (w .count) (positionOf N) (h .groups) low alone
                       (h .key t .1),
                 )
 
-            new-groups : Groups (length heads) (dependencyOf d) (databaseOf schema words) (w .row .number + 1) (w .least) (w .count + 1) (numberOf nodes)
+            new-groups : Groups (length heads) (dependencyOf d) (databaseOf schema words) (w .row .number + 1) (w .least) (w .count + 1) (positionOf nodes)
             unfolding heads
             new-groups =
                 subst
-                (λ (x : ℕ). Groups x (dependencyOf d) (databaseOf schema words) (w .row .number + 1) (w .least) (w .count + 1) (numberOf nodes))
+                (λ (x : ℕ). Groups x (dependencyOf d) (databaseOf schema words) (w .row .number + 1) (w .least) (w .count + 1) (positionOf nodes))
                 (sym (length-set H (q .bucket) (w .count + 1)))
-                (groups-new (length H) (dependencyOf d) (databaseOf schema words) (w .row .number) (w .least) (w .count) (numberOf N) (h .groups)
-                (numberOf nodes) old-number new-number alone)
+                (groups-new (length H) (dependencyOf d) (databaseOf schema words) (w .row .number) (w .least) (w .count) (positionOf N) (h .groups)
+                (positionOf nodes) old-number new-number alone)
 
             pub walked-new : Walked schema words d
                 (record { row = record { at = after; number = w .row .number + 1 }; count = w .count + 1; least = w .least; key = w .key })
@@ -288,7 +288,7 @@ module _ (schema words : List ℕ) (d : Dependency) where
           tags = λ s low. absurd (omega arith);
           chained = chained-none (keyOf (dependencyOf d) (databaseOf schema words) (length H) N) H (linkOf N) clear;
         };
-        groups = groups-start (length H) (dependencyOf d) (databaseOf schema words) (length words) (numberOf N);
+        groups = groups-start (length H) (dependencyOf d) (databaseOf schema words) (length words) (positionOf N);
         key = λ t. (refl, λ i j before below. absurd (omega arith));
       }
 
@@ -305,7 +305,7 @@ module _ (schema words : List ℕ) (d : Dependency) where
 
   -- no row before one that is not beyond the least is the first of a broken pair
   pub walked-end : (w : Walk) (H N : List ℕ) → Walked schema words d w H N → length words ≤ w .row .at → (p : Position)
-      → Placed schema words (p .at) (p .number) → p .number ≤ w .least → Skips schema words d p
+      → RowBegins schema words (p .at) (p .number) → p .number ≤ w .least → Skips schema words d p
   walked-end w H N h end p placed low =
       let all : length (databaseOf schema words) ≤ w .row .number = all-passed w H N h end in
       record {

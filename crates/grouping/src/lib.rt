@@ -16,9 +16,9 @@ ghost use Rattle.words.specs.Words.{spellsRows, databaseOf};
 ghost use Rattle.words.specs.internal.Rows.{spanAt};
 ghost use Rattle.words.specs.internal.Found.{Testable};
 ghost use Rattle.grouping.specs.internal.Chains.{Chained};
-ghost use Rattle.grouping.specs.internal.Table.{linkOf, soughtOf, Compared, withLeader};
+ghost use Rattle.grouping.specs.internal.Leaders.{linkOf, soughtOf, BesideSays, withLeader};
 ghost use Rattle.grouping.specs.internal.Groups.{Key};
-ghost use Rattle.grouping.specs.internal.Walked.{Placed, Walked, Skips};
+ghost use Rattle.grouping.specs.internal.Walked.{RowBegins, Walked, Skips};
 
 // A row: the word at which it begins, and its position among the rows.
 pub struct Position {
@@ -99,7 +99,7 @@ fn sought_of(words: &[u32], width: usize, d: Dependency, a: usize, buckets: usiz
 fn compare(sought: Sought, heads: &[u32], nodes: &[u32], count: usize) -> Beside
     requires { ⌜ (sought .bucket < length (now heads)) × (4 * count ≤ length (now nodes)) ⌝ }
     requires { ⌜ ((key : ℕ → ℕ) × Chained key (now heads) (linkOf (now nodes)) count) ⌝ }
-    ensures { λ r. ⌜ ((key : ℕ → ℕ) → Chained key (now (heads .entry)) (linkOf (now (nodes .entry))) count → Compared key (now (nodes .entry)) count sought r) ⌝ }
+    ensures { λ r. ⌜ ((key : ℕ → ℕ) → Chained key (now (heads .entry)) (linkOf (now (nodes .entry))) count → BesideSays key (now (nodes .entry)) count sought r) ⌝ }
 {
     let bucket = sought.bucket;
     let mut node = heads[bucket] as usize;
@@ -212,7 +212,7 @@ fn step(
 // The row at position `number`, or the end of the words if there are fewer rows.
 fn locate(schema: &[u8], words: &[u32], number: usize) -> Position
     requires { ⌜ spellsRows (now schema) (now words) ≡ true ⌝ }
-    ensures { λ r. ⌜ Placed (now (schema .entry)) (now (words .entry)) (r .at) (r .number) × (r .number ≤ number) ⌝ }
+    ensures { λ r. ⌜ RowBegins (now (schema .entry)) (now (words .entry)) (r .at) (r .number) × (r .number ≤ number) ⌝ }
 {
     let mut at: usize = 0;
     let mut n: usize = 0;

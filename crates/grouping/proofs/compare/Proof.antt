@@ -5,7 +5,7 @@ use Prim.Native.Nat.{ℕ, suc, _≤_, _-_, _+_, _*_, _<_}
 use native.Mathlib.Omega.{arith}
 use lib.ListN.{length}
 use Rattle.grouping.specs.internal.Chains.{Chained}
-use Rattle.grouping.specs.internal.Table.{linkOf}
+use Rattle.grouping.specs.internal.Leaders.{linkOf}
 use Rattle.grouping.proofs.Following.{Following, follow-start, link-le, follow-next}
 use borrow.Author.Needs.{needs}
 use Rattle.grouping.proofs.compare.Statement.{statement}

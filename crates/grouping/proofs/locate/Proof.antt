@@ -4,14 +4,14 @@ use Prim.Native.Nat.{_-_, _≤_}
 use native.Mathlib.Omega.{arith}
 use borrow.Author.Tests.{ltb-true}
 use lib.ListN.{length}
-use Rattle.grouping.specs.internal.Walked.{Placed}
+use Rattle.grouping.specs.internal.Walked.{RowBegins}
 use Rattle.grouping.proofs.Passing.{placed-start, placed-next}
 use borrow.Author.Needs.{needs}
 use Rattle.grouping.proofs.locate.Statement.{statement}
 use Rattle.grouping.proofs.locate.Tie as tie
 
 abbrev Inv-loop : tie.InvT-loop
-Inv-loop schema words number at₀ n₀ at n = Placed schema words at n × (n ≤ number)
+Inv-loop schema words number at₀ n₀ at n = RowBegins schema words at n × (n ≤ number)
 
 abbrev μ-loop : tie.MeasureT-loop
 μ-loop schema words number at₀ n₀ at n = number - n

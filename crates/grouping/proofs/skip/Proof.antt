@@ -11,7 +11,7 @@ use lib.Seq.{length-take-le}
 use Rattle.query.specs.View.{dependencyOf}
 use Rattle.words.specs.Words.{databaseOf}
 use Rattle.grouping.specs.internal.Groups.{Key}
-use Rattle.grouping.specs.internal.Walked.{Placed, Walked, Skips}
+use Rattle.grouping.specs.internal.Walked.{RowBegins, Walked, Skips}
 use Rattle.grouping.specs.declared.Position.{Position}
 use Rattle.grouping.proofs.Passing.{placed-end, walked-start, walked-end, walked-key, skips-none}
 use borrow.Author.Needs.{needs}
@@ -43,7 +43,7 @@ joined c = c .before .before .before .before .before .before
 
 -- All rows are passed: what that says of a position that is not beyond the least, and of a key
 skipped : (e : tie.Else3 Inv-loop μ-loop) (p : Position)
-    → Placed (begun (joined (e .before .before)) .args .schema .now) (begun (joined (e .before .before)) .args .words .now) (p .at) (p .number)
+    → RowBegins (begun (joined (e .before .before)) .args .schema .now) (begun (joined (e .before .before)) .args .words .now) (p .at) (p .number)
     → p .number ≤ e .before .before .loop .walk .least
     → Skips (begun (joined (e .before .before)) .args .schema .now) (begun (joined (e .before .before)) .args .words .now)
     (begun (joined (e .before .before)) .args .d) p

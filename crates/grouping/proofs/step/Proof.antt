@@ -9,7 +9,7 @@ use borrow.Author.Tests.{ltb-true}
 use Rattle.query.specs.View.{dependencyOf}
 use Rattle.words.specs.Words.{databaseOf}
 use Rattle.words.specs.internal.Rows.{Next}
-use Rattle.grouping.specs.internal.Table.{keyOf, Compared}
+use Rattle.grouping.specs.internal.Leaders.{keyOf, BesideSays}
 use Rattle.grouping.specs.internal.Walked.{Walked}
 use Rattle.grouping.specs.declared.Beside.{Beside}
 use Rattle.grouping.specs.declared.Walk.{Walk}
@@ -78,11 +78,11 @@ key c = let a = begun (c .before) .args in
     keyOf (dependencyOf (a .d)) (databaseOf (a .schema .now) (a .words .now)) (length (a .heads .now)) (a .nodes .now)
 
 said : (c : tie.After-compare) (x : Beside) → c .compare .result ≡ x
-    → Compared (key (compared c)) (begun (compared c .before) .args .nodes .now) (begun (compared c .before) .args .walk .count)
+    → BesideSays (key (compared c)) (begun (compared c .before) .args .nodes .now) (begun (compared c .before) .args .walk .count)
     (c .before .before .before .sought-of .result) x
 said c x e = let s = begun (compared c .before) in
     let a = s .args in
-    subst (λ (y : Beside). Compared (key (compared c)) (a .nodes .now) (a .walk .count) (c .before .before .before .sought-of .result) y) e
+    subst (λ (y : Beside). BesideSays (key (compared c)) (a .nodes .now) (a .walk .count) (c .before .before .before .sought-of .result) y) e
     (c .compare .ensures (key (compared c)) (s .pre .1 .1 .table .chained))
 
 -- The leaders are in the nodes, and there may be room for one more

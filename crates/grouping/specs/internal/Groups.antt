@@ -5,11 +5,11 @@ use lib.ListN.{length}
 use Rattle.theory.specs.Query.{Row, column}
 use Rattle.theory.specs.Database.{Database, Dependency, Agree}
 use Rattle.words.specs.Broken.{nthRow}
-use Rattle.grouping.specs.internal.Hash.{bucketOf, tagOf}
+use Rattle.grouping.specs.internal.Hash.{bucketFor, tagOf}
 
 -- Two rows keep a dependency: if both are of its relation and agree on the left columns, they agree on the right one
-abbrev pub Keeps : Dependency → Row ℕ → Row ℕ → Type 0
-Keeps d r s = r .relation ≡ d .relation → s .relation ≡ d .relation → Agree 0 (d .left) r s → column 0 r (d .right) ≡ column 0 s (d .right)
+abbrev pub PairKeeps : Dependency → Row ℕ → Row ℕ → Type 0
+PairKeeps d r s = r .relation ≡ d .relation → s .relation ≡ d .relation → Agree 0 (d .left) r s → column 0 r (d .right) ≡ column 0 s (d .right)
 
 -- Two rows are told apart by the left columns of a dependency: they are not both of its relation and agree on them
 abbrev pub Apart : Dependency → Row ℕ → Row ℕ → Type 0
@@ -25,7 +25,7 @@ Key d D = KeyBelow d D (length D)
 
 -- Two rows are in one group: they have the same bucket and the same tag
 abbrev pub Together : ℕ → Dependency → Row ℕ → Row ℕ → Type 0
-Together buckets d r s = (bucketOf buckets d r ≡ bucketOf buckets d s) × (tagOf d r ≡ tagOf d s)
+Together buckets d r s = (bucketFor buckets d r ≡ bucketFor buckets d s) × (tagOf d r ≡ tagOf d s)
 
 -- The row at position k has a leader, with its right value
 abbrev pub Led : ℕ → Dependency → Database → ℕ → (ℕ → ℕ) → ℕ → Type 0
@@ -39,4 +39,4 @@ pub record Groups (buckets : ℕ) (d : Dependency) (D : Database) (n least count
   pub passed : (s : ℕ) → s < count → number s < n
   pub apart : (s t : ℕ) → s < t → t < count → Together buckets d (nthRow D (number s)) (nthRow D (number t)) → ⊥
   pub led : (k : ℕ) → k < n → k < least → nthRow D k .relation ≡ d .relation → Led buckets d D count number k
-  pub kept : (k j : ℕ) → k < j → j < n → k < least → Keeps d (nthRow D k) (nthRow D j)
+  pub kept : (k j : ℕ) → k < j → j < n → k < least → PairKeeps d (nthRow D k) (nthRow D j)

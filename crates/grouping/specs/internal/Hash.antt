@@ -14,8 +14,8 @@ abbrev pub spread : ℕ → ℕ → ℕ
 spread buckets h = (h + h / buckets * 2654435761) % buckets
 
 -- The bucket of a row, by its left values
-abbrev pub bucketOf : ℕ → Dependency → Row ℕ → ℕ
-bucketOf buckets d r = spread buckets (hashFrom 1000003 (d .left) 0 r)
+abbrev pub bucketFor : ℕ → Dependency → Row ℕ → ℕ
+bucketFor buckets d r = spread buckets (hashFrom 1000003 (d .left) 0 r)
 
 -- The tag of a row, by its left values
 abbrev pub tagOf : Dependency → Row ℕ → ℕ
