@@ -66,7 +66,7 @@ pub chasable : (schema : List ℕ) (held : ℕ) (dependencies : List Dependency)
     → goodDependencies schema held dependencies ≡ true → goodQuery schema q ≡ true → Chasable q dependencies held
 unfolding goodDependencies
 chasable schema held dependencies q widths good good-q =
-    let p = good-query schema q good-q in
+    let p = good-query 12 schema q good-q in
     let used = inUse held (goodDependency schema) blankDependency dependencies in
     let each : every (goodDependency schema) (take held dependencies) ≡ true
     = and-left

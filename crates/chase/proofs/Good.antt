@@ -69,8 +69,8 @@ module _ (v : ℕ) (e : Entry) (good : goodEntry e ≡ true) where
   -- A replacement by a good entry keeps a query good
   pub good-kept : (schema : List ℕ) (q : Query) → goodQuery schema q ≡ true → goodQuery schema (mapCells (substituteCell v e) q) ≡ true
   good-kept schema q good-q =
-      let p = good-query schema q good-q in
-      make-query schema (mapCells (substituteCell v e) q)
+      let p = good-query 12 schema q good-q in
+      make-query 12 schema (mapCells (substituteCell v e) q)
       (record {
         arity = p .arity;
         size = p .size;
@@ -84,4 +84,4 @@ module _ (v : ℕ) (e : Entry) (good : goodEntry e ≡ true) where
 pub never-good : (schema : List ℕ) (arity : ℕ) → arity ≤ 8 → goodQuery schema (neverQuery arity) ≡ true
 unfolding goodRows every
 never-good schema arity fits =
-    make-query schema (neverQuery arity) (record { arity = fits; size = omega arith; head = refl; rows = refl; named = refl; cells = refl })
+    make-query 12 schema (neverQuery arity) (record { arity = fits; size = omega arith; head = refl; rows = refl; named = refl; cells = refl })

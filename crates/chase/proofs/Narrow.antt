@@ -197,7 +197,7 @@ module _ (schema : List ℕ) (q : stored.Query) where
       )
 
   pub wide-padded : goodQuery schema q ≡ true → q .size ≤ length (q .relations) → AllPadded schema (wideQuery q .rows)
-  wide-padded good fits = rows-split 0 (q .size) (omega arith) (good-query schema q good .rows)
+  wide-padded good fits = rows-split 0 (q .size) (omega arith) (good-query 12 schema q good .rows)
 
   -- Narrowed, the wide rows are those of the view
   rows-narrow : ((r : ℕ) → getD schema r 0 ≤ 8) → (i n : ℕ) → n + i ≤ length (q .relations)

@@ -191,7 +191,7 @@ module _
               λ schema good-q.
               let good-query = under .keeps-good schema good-q in
               let inside : query .size ≤ length (query .relations) = rw (under .same-size, under .same-relations) fits in
-              let both = good (all-cells schema query good-query inside) in
+              let both = good (all-cells 12 schema query good-query inside) in
               good-kept
               v
               e

@@ -118,7 +118,7 @@ module _ (r : Record) (p q : ℕ) (first second : Query) (dependencies : List De
       module _ (named : length (chased .query .relations) ≡ 12) (size : chased .query .size ≢ 0) where
         some-rows : chasedAt r p .rows ≢ []
         some-rows empty =
-            let fits : chased .query .size ≤ length (chased .query .relations) = omega (arith, good-query (schemaOf r) (chased .query) (here .good) .size) in
+            let fits : chased .query .size ≤ length (chased .query .relations) = omega (arith, good-query 12 (schemaOf r) (chased .query) (here .good) .size) in
             size (sym (row-count (schemaOf r) (chased .query) fits) ∙ ap length (ap (λ (x : theory.Query). x .rows) chased-is ∙ empty))
 
         pub answers-apart : length (first .cells) ≡ 96 → mapped .found ≡ false

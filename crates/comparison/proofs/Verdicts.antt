@@ -193,10 +193,10 @@ module _ (r : Record) (p q : ℕ) (accepted : pairRefusal r p q ≡ none) where
         unmappable false e = e
 
         fits : 8 * storedAt r p .size ≤ length (storedAt r p .cells)
-        fits = omega (arith, long, good-query (schemaOf r) (storedAt r p) (known .good-p) .size)
+        fits = omega (arith, long, good-query 12 (schemaOf r) (storedAt r p) (known .good-p) .size)
 
         formed : theory.WellFormed (schemaOf r) (queryAt r p)
-        formed = query-stored.well-formed (schemaOf r) (known .narrow) (storedAt r p) (known .good-p) fits (known .safe-p)
+        formed = query-stored.well-formed 12 (schemaOf r) (known .narrow) (storedAt r p) (known .good-p) fits (known .safe-p)
 
         shown : containment.Counterexample (database.Legal (schemaOf r) (dependenciesOf r)) (queryAt r p) (queryAt r q)
             (containment.frozenRows base (queryOf (schemaOf r) query)) (containment.frozenHead base (queryOf (schemaOf r) query))
@@ -207,5 +207,5 @@ module _ (r : Record) (p q : ℕ) (accepted : pairRefusal r p q ≡ none) where
             (containment.frozenHead base C))
             (sym is)
             (counterexample (schemaOf r) (dependenciesOf r) (queryAt r p) (queryAt r q) base (formed .rows-fit)
-            (query-stored.constants-below (schemaOf r) (known .narrow) (storedAt r p) (known .good-p))
-            (query-stored.constants-below (schemaOf r) (known .narrow) (storedAt r q) (known .good-q)) (omega arith) filled not)
+            (query-stored.constants-below 12 (schemaOf r) (known .narrow) (storedAt r p) (known .good-p))
+            (query-stored.constants-below 12 (schemaOf r) (known .narrow) (storedAt r q) (known .good-q)) (omega arith) filled not)

@@ -54,5 +54,5 @@ module _ (schema : List ℕ) (p : Place) where
   pub filled-sizes : p .filled ≡ true → goodPlace schema p ≡ true → (p .query .arity ≤ 8) × (p .query .size ≤ 12)
   filled-sizes f g =
       let h : (goodQuery schema (p .query) && headSafe schema (p .query)) ≡ true = rw f at g in
-      let q = good-query schema (p .query) (and-left (goodQuery schema (p .query)) (headSafe schema (p .query)) h) in
+      let q = good-query 12 schema (p .query) (and-left (goodQuery schema (p .query)) (headSafe schema (p .query)) h) in
       (q .arity, q .size)

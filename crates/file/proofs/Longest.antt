@@ -14,7 +14,7 @@ use Rattle.format.specs.File.{tableOf, assemble, putPlace, upToFilled, partsOf,
 use Rattle.file.specs.Longest.{LongestGood, LongestPart, LongestFile}
 
 pub longest-good : LongestGood
-unfolding goodRecord goodRelations goodDependencies goodDependency goodSet goodQuery goodRows headSafe every rowsOf rowEntries variablesOf member subset
+unfolding goodRecord goodRelations goodDependencies goodDependency goodSet goodUpTo goodRows headSafe every rowsOf rowEntries variablesOf member subset
 longest-good = (refl, refl)
 
 pub longest-part : LongestPart

@@ -26,5 +26,5 @@ queries-rule schema q = (good-query schema q, λ h. query-good schema q (h .0) (
 
 pub query-part-short : QueryPartShort
 query-part-short n widths q good fits =
-    let within = rule.good-query (take n widths) q fits in
+    let within = rule.good-query 12 (take n widths) q fits in
     query-short (take n widths) q (good-narrow n widths good) (within .arity) (within .size)

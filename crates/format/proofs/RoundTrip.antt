@@ -175,7 +175,7 @@ place-short schema p hn h = go (p .filled) (and-left (goodPlace schema p) (shape
     go : (t : Bool) → cond t (goodQuery schema (p .query) && headSafe schema (p .query)) (blankQuery (p .query)) ≡ true
         → length (cond t (query schema .put (p .query)) (255 ∷ [])) ≤ 534
     go true g =
-        let q = good.good-query schema (p .query) (and-left (goodQuery schema (p .query)) (headSafe schema (p .query)) g) in
+        let q = good.good-query 12 schema (p .query) (and-left (goodQuery schema (p .query)) (headSafe schema (p .query)) g) in
         query-short schema (p .query) hn (q .arity) (q .size)
     go false g = lit≤ tt
 

@@ -109,7 +109,7 @@ rows-blank (suc n) (r ∷ rs) cells l =
 -- ---- queries
 
 pub query-good : (schema : List ℕ) (q : Query) → shapedQuery q ≡ true → goodQuery schema q ≡ true → query schema .good q ≡ true
-unfolding query via sequence byte entries padded rows entry goodQuery
+unfolding query via sequence byte entries padded rows entry goodUpTo
 query-good schema q hs h =
     let s : ((eqb (length (q .head)) 8 ≡ true) × (eqb (length (q .relations)) 12 ≡ true)) × (eqb (length (q .cells)) 96 ≡ true) = simp and-iff at hs in
     let lr : length (q .relations) ≡ 12 = eqb-true (length (q .relations)) 12 (s .0 .1) in
@@ -124,7 +124,7 @@ query-good schema q hs h =
     simp and-iff (s .1, (k .0 .0 .0 .0 .0, (k .0 .0 .0 .0 .1, ((s .0 .0, k .0 .0 .0 .1), (l, (used, unused))))))
 
 pub good-query : (schema : List ℕ) (q : Query) → query schema .good q ≡ true → (shapedQuery q ≡ true) × (goodQuery schema q ≡ true)
-unfolding query via sequence byte entries padded rows entry goodQuery
+unfolding query via sequence byte entries padded rows entry goodUpTo
 good-query schema q h =
     let k = simp and-iff at h in
     let l : length (q .relations) ≡ 12 =

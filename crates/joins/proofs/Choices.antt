@@ -15,14 +15,13 @@ use Rattle.lists.specs.Numbers.{numbersWhere}
 use Rattle.lists.proofs.Tests.{and-left, and-right, and-both, every-made, every-member}
 use Rattle.lists.proofs.Positions.{getD-in}
 use Rattle.theory.specs.Query.{Entry, constant, Row, column, member, FitsSchema, rowEntries, _∈_}
-use Rattle.theory.specs.Database.{Agree}
+use Rattle.theory.specs.Database.{Agree, JoinDependency}
 use Rattle.theory.specs.Chase.{firstFound, agree}
 use Rattle.theory.proofs.Lists.{bool-cases, mem-cases, member-mem, member-not-mem}
 use Rattle.theory.proofs.Step.{agree-all, all-agree, firstPassing-found, firstPassing-nothing, firstFound-found, firstFound-nothing}
 use Rattle.theory.proofs.Entries.{column-rowEntries}
 use Rattle.minimization.specs.Checking.{standsIn}
 use Rattle.minimization.proofs.Checking.{stands-in, in-stands}
-use Rattle.joins.specs.Join.{JoinDependency}
 use Rattle.joins.specs.JoinChase.{before, picks, Choice, choices, chosenEntry, yields, fitsChoice, consistent, missing, firstMissing, firstUnmet, nextRow}
 use Rattle.joins.specs.JoinTheorems.{ChoiceOf}
 

@@ -9,7 +9,7 @@ use mathlib.Core.Option.{none, some, Option·none-ne-some, Option·some-injectiv
 use Prim.Native.Nat.{ℕ}
 use native.Mathlib.Omega.{arith}
 use Rattle.theory.specs.Query.{Query}
-use Rattle.theory.specs.Database.{Dependency}
+use Rattle.theory.specs.Database.{Dependency, JoinDependency}
 use Rattle.theory.specs.Answer.{Mapping}
 use Rattle.theory.specs.Containment.{frozenRows, frozenHead}
 use Rattle.theory.proofs.Lists.{bool-cases}
@@ -17,7 +17,7 @@ use Rattle.theory.proofs.Containment.{contained-over, counterexample-over}
 use Rattle.minimization.specs.Search.{containedOn}
 use Rattle.minimization.proofs.Search.{both-below, containedOn-mapping}
 use Rattle.minimization.proofs.Theorems.{counterexample-refutes}
-use Rattle.joins.specs.Join.{JoinDependency, LegalForBoth, JoinsFit}
+use Rattle.joins.specs.Join.{LegalForBoth, JoinsFit}
 use Rattle.joins.specs.JoinChase.{Outcome, chased, overflow, JoinChases}
 use Rattle.joins.specs.JoinChase.{joinChase, containedIn, joinContained}
 use Rattle.joins.specs.JoinTheorems as joins

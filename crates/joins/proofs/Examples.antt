@@ -11,14 +11,14 @@ use Rattle.lists.specs.Tests.{every, sameLists}
 use Rattle.lists.specs.Numbers.{numbersWhere}
 use Rattle.lists.proofs.Tests.{and-left, and-right, every-member}
 use Rattle.theory.specs.Query.{Query, sameEntry, variablesOf, rowEntries, member, distinct, RowsFit}
-use Rattle.theory.specs.Database.{Dependency}
+use Rattle.theory.specs.Database.{Dependency, JoinDependency}
 use Rattle.theory.specs.Chase.{firstPassing, firstPair, firstFound, agree, breaks, firstBroken, survives, resolve, substitute, step, chaseOn, chaseFor, chase}
 use Rattle.theory.proofs.Lists.{beq-true}
 use Rattle.minimization.specs.Checking.{sameRow, standsIn, nonempty}
 use Rattle.minimization.specs.Search.{lookup, assignTo, sendEntry, sendEntries, sendRow, tryRows, placeRows, placeQuery, mappable, containedOn}
 use Rattle.minimization.specs.Examples.{schema, sameQuery, fitsColumns, fitsSchema, overSchema}
 use Rattle.minimization.proofs.Examples.{sameQuery-true, rows-fit}
-use Rattle.joins.specs.Join.{JoinDependency, JoinsFit, inSome, joinFits}
+use Rattle.joins.specs.Join.{JoinsFit, inSome, joinFits}
 use Rattle.joins.specs.JoinChase.{before, picks, chosenEntry, yields, fitsChoice, consistent, missing, firstMissing, firstUnmet, nextRow, keepFirst}
 use Rattle.joins.specs.JoinChase.{withoutRepeats, Outcome, chased, overflow, joinOn, settle, joinChaseFor, joinChase, containedIn}
 use Rattle.joins.specs.JoinChase.{joinContained}

@@ -19,7 +19,7 @@ use lib.ListN.{length, length-append, length-map}
 use borrow.Author.Tests.{ltb-true, ltb-false}
 use Rattle.theory.specs.Query.{Entry, constant, variable, Row, Query, column, mapRow, rowEntries, variablesOf, variables, distinct, variableCount}
 use Rattle.theory.specs.Query.{FitsSchema, RowsFit, WellFormed, _∈_}
-use Rattle.theory.specs.Database.{Database, Dependency}
+use Rattle.theory.specs.Database.{Database, Dependency, JoinDependency}
 use Rattle.theory.specs.Answer.{valueOf, itself, Carries, Answer, Mapping}
 use Rattle.theory.specs.Chase.{step, Chases, rests, clashes, replaces, chase}
 use Rattle.theory.specs.Containment.{freeze, frozenRows, ConstantsBelow}
@@ -32,7 +32,7 @@ use Rattle.theory.proofs.Chase.{chases-rows-fit, chases-wellformed, chases-head
 use Rattle.theory.proofs.Containment.{frozen-sound}
 use Rattle.minimization.specs.Checking.{sameRow}
 use Rattle.minimization.proofs.Checking.{sameRow-eq, sameRow-self}
-use Rattle.joins.specs.Join.{JoinDependency, ObeysJoins, LegalForBoth, JoinsFit}
+use Rattle.joins.specs.Join.{ObeysJoins, LegalForBoth, JoinsFit}
 use Rattle.joins.specs.JoinChase.{yields, nextRow, keepFirst, withoutRepeats, addRow, Outcome, chased, overflow, JoinChases, complete, adds, exceeds}
 use Rattle.joins.specs.JoinChase.{joinOn, settle, joinChaseFor, joinChase}
 use Rattle.joins.proofs.Repeats.{keepFirst-twice, snoc-new, repeats-into, repeats-back, repeats-head, repeats-length}

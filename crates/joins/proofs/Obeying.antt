@@ -15,11 +15,11 @@ use lib.Seq.{ext-getD}
 use Rattle.lists.specs.Numbers.{numbersWhere}
 use Rattle.lists.proofs.Tests.{below-or-past}
 use Rattle.theory.specs.Query.{Entry, constant, Row, column, mapRow, FitsSchema, _∈_}
-use Rattle.theory.specs.Database.{Database, Sound}
+use Rattle.theory.specs.Database.{Database, Sound, JoinDependency}
 use Rattle.theory.specs.Answer.{valueOf, itself}
 use Rattle.theory.proofs.Lists.{option-cases}
 use Rattle.theory.proofs.Carry.{mapRow-compose, mapRow-id}
-use Rattle.joins.specs.Join.{JoinDependency, InJoin, ObeysJoin, JoinFits}
+use Rattle.joins.specs.Join.{InJoin, ObeysJoin, JoinFits}
 use Rattle.joins.specs.JoinChase.{Choice, chosenEntry, yields, consistent, firstMissing}
 use Rattle.joins.specs.JoinTheorems.{ChoiceOf}
 use Rattle.joins.proofs.Choices.{chosen-for, choice-for, chosen-entry, chosen-entry-in, consistent-true, true-consistent}

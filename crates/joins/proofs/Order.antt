@@ -16,13 +16,12 @@ use Rattle.lists.proofs.Tests.{and-left, and-right, below-or-past}
 use Rattle.lists.specs.Tests.{every}
 use Rattle.lists.specs.Numbers.{numbersWhere}
 use Rattle.theory.specs.Query.{Entry, constant, Row, column, member, sameEntry, _∈_}
-use Rattle.theory.specs.Database.{Agree}
+use Rattle.theory.specs.Database.{Agree, JoinDependency}
 use Rattle.theory.specs.Chase.{firstPassing, firstFound, agree}
 use Rattle.theory.proofs.Lists.{bool-cases, option-cases, mem-cases, member-mem, member-not-mem}
 use Rattle.theory.proofs.Step.{agree-all, firstPassing-same, firstPassing-nil, firstPassing-false, firstPassing-found, firstPassing-nothing}
 use Rattle.theory.proofs.Order.{firstFound-first}
 use Rattle.minimization.specs.Checking.{standsIn}
-use Rattle.joins.specs.Join.{JoinDependency}
 use Rattle.joins.specs.JoinChase.{before, picks, Choice, candidates, choices, chosenEntry, yields, fitsChoice, consistent}
 use Rattle.joins.specs.JoinChase.{missing, firstMissing, firstUnmet, nextRow, keepFirst}
 use Rattle.joins.specs.JoinTheorems.{FirstPick, FirstAdded, sameOn, earliest, searchFrom}

@@ -8,6 +8,7 @@ use mathlib.Core.List.{Memᴰ·append-left, Memᴰ·append-right}
 use Prim.Native.Nat.{_+_, _≤_}
 use native.Mathlib.Omega.{arith}
 use lib.ListN.{length, length-append}
+use Rattle.theory.specs.Database.{JoinDependency}
 use Rattle.theory.specs.Query.{Entry, Row, Query, _∈_}
 use Rattle.theory.specs.Chase.{firstPassing}
 use Rattle.theory.proofs.Lists.{option-cases, mem-cases}
@@ -15,7 +16,6 @@ use Rattle.theory.proofs.Step.{firstPassing-found, firstPassing-nothing}
 use Rattle.minimization.specs.Checking.{sameRow}
 use Rattle.minimization.specs.Search.{isSome}
 use Rattle.minimization.proofs.Checking.{sameRow-eq, sameRow-self}
-use Rattle.joins.specs.Join.{JoinDependency}
 use Rattle.joins.specs.JoinChase.{keepFirst, withoutRepeats}
 
 module _ {A : Type 0} (same : A → A → Bool) where

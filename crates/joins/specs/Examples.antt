@@ -10,10 +10,10 @@ use lib.Dec.{eqb}
 use lib.ListN.{length}
 use Rattle.lists.specs.Tests.{every}
 use Rattle.theory.specs.Query.{Entry, constant, variable, Row, Query, _∈_}
-use Rattle.theory.specs.Database.{Database, Dependency}
+use Rattle.theory.specs.Database.{Database, Dependency, JoinDependency}
 use Rattle.theory.specs.Containment.{Contained, Counterexample}
 use Rattle.minimization.specs.Examples.{schema, sameQuery, overSchema, v, k, R, S, B, query}
-use Rattle.joins.specs.Join.{JoinDependency, LegalForBoth, joinFits}
+use Rattle.joins.specs.Join.{LegalForBoth, joinFits}
 use Rattle.joins.specs.JoinChase.{yields, firstMissing, Outcome, chased, overflow, JoinChases, joinChase, joinContained}
 
 -- An example: what a call with these arguments gives

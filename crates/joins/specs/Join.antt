@@ -9,13 +9,8 @@ use lib.ListN.{length, getD}
 use Rattle.lists.specs.Tests.{every}
 use Rattle.lists.specs.Numbers.{numbersWhere}
 use Rattle.theory.specs.Query.{Row, member, FitsSchema, _∈_}
-use Rattle.theory.specs.Database.{Database, Dependency, Agree, Legal}
+use Rattle.theory.specs.Database.{Database, Dependency, Agree, Legal, JoinDependency}
 use Rattle.minimization.specs.Checking.{nonempty}
-
--- A join dependency of a relation: the relation is the join of its projections on the sets of columns
-pub record JoinDependency : Type 0 where
-  pub relation : ℕ
-  pub sets : List (List ℕ)
 
 -- Row r is in the join of the projections of some rows: on each set it agrees with a row of the relation
 abbrev pub InJoin : {A : Type 0} → A → JoinDependency → List (Row A) → Row A → Type 0

@@ -10,11 +10,10 @@ use lib.ListN.{length, getD}
 use Rattle.lists.specs.Tests.{every}
 use Rattle.lists.specs.Numbers.{numbersWhere}
 use Rattle.theory.specs.Query.{Entry, constant, Row, Query, column, member, variableCount}
-use Rattle.theory.specs.Database.{Dependency}
+use Rattle.theory.specs.Database.{Dependency, JoinDependency}
 use Rattle.theory.specs.Chase.{firstPassing, firstFound, agree, Chases, chase}
 use Rattle.minimization.specs.Checking.{sameRow, standsIn}
 use Rattle.minimization.specs.Search.{isSome, containedOn}
-use Rattle.joins.specs.Join.{JoinDependency}
 
 -- ---- choices of rows
 

@@ -8,13 +8,13 @@ use Prim.Native.Nat.{ℕ, _≤_, _<_}
 use lib.Dec.{eqb}
 use lib.ListN.{length, getD}
 use Rattle.theory.specs.Query.{Entry, constant, Row, Query, column, mapRow, RowsFit, WellFormed, _∈_}
-use Rattle.theory.specs.Database.{Database, Dependency, Agree, Sound}
+use Rattle.theory.specs.Database.{Database, Dependency, Agree, Sound, JoinDependency}
 use Rattle.theory.specs.Answer.{Answer, Mapping}
 use Rattle.theory.specs.Chase.{firstPassing, firstFound, agree, chase}
 use Rattle.theory.specs.Containment.{Contained, Counterexample, frozenRows, frozenHead, ConstantsBelow, StandsFor}
 use Rattle.theory.specs.OrderTheorems.{FirstFound}
 use Rattle.minimization.specs.Checking.{sameRow}
-use Rattle.joins.specs.Join.{JoinDependency, ObeysJoin, LegalForBoth, JoinFits, JoinsFit, joinFits}
+use Rattle.joins.specs.Join.{ObeysJoin, LegalForBoth, JoinFits, JoinsFit, joinFits}
 use Rattle.joins.specs.JoinChase.{Choice, picks, candidates, choices, yields, consistent, missing, firstMissing, nextRow, keepFirst}
 use Rattle.joins.specs.JoinChase.{Outcome, chased, overflow, JoinChases, joinChase, joinContained}
 

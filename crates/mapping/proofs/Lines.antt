@@ -61,7 +61,7 @@ pub record Sizes (q : Query) : Type 0 where
 
 module _ (schema : List ℕ) (q : Query) (good : goodQuery schema q ≡ true) (sizes : Sizes q) where
   parts : GoodQuery schema q
-  parts = good-query schema q good
+  parts = good-query 12 schema q good
 
   taken : (r : ℕ) → r < q .size → getD (take (q .size) (q .relations)) r 0 ≡ getD (q .relations) r 0
   taken r h = getD-take (q .size) (q .relations) r 0 h
@@ -313,7 +313,7 @@ module _ (schema : List ℕ) (narrow : Narrow schema) (source target : Query) (g
                     arith,
                     length-map (queryOf schema source .head) (valueOf constant f),
                     long-head schema source good sizes narrow,
-                    good-query schema source good .arity,
+                    good-query 12 schema source good .arity,
                   )
                   in
                   List·getD-map (valueOf constant f) (queryOf schema source .head) i (constant 0)

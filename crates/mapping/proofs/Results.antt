@@ -30,7 +30,7 @@ use Rattle.mapping.proofs.Lines.{Sizes, all-within, mapping-wide, wide-
 
 -- A storable query has at most 12 rows
 pub storable-size : (q : Query) → Storable q → q .size ≤ 12
-storable-size q s = good-query (s .0) q (s .1) .size
+storable-size q s = good-query 12 (s .0) q (s .1) .size
 
 -- An array that has the cells of a query in one line
 abbrev pub InLine : Query → List Cell → Type 0

@@ -9,24 +9,25 @@ use lib.ListN.{length, take, drop, getD}
 use borrow.Author.Tests.{leb-true, ltb-true, eqb-false, not-true, le-leb}
 use Rattle.query.specs.declared.Query.{Query}
 use Rattle.query.specs.declared.Dependency.{Dependency}
+use Rattle.query.specs.declared.JoinDependency.{JoinDependency}
 use Rattle.lists.specs.Tests.{every, inUse, isZero}
-use Rattle.query.specs.Rule.{goodSet, goodDependency, goodCell, blankCell, goodRows, headInUse, goodQuery}
+use Rattle.query.specs.Rule.{goodSet, goodDependency, coversColumns, goodJoin, goodCell, blankCell, goodRows, headInUse, goodUpTo}
 use Rattle.lists.proofs.Tests.{and-left, and-right}
 
--- A query that refusal 5 passes
-pub record GoodQuery (schema : List ℕ) (q : Query) : Type 0 where
+-- A query that passes the test for at most so many rows
+pub record GoodUpTo (most : ℕ) (schema : List ℕ) (q : Query) : Type 0 where
   pub arity : q .arity ≤ 8
-  pub size : q .size ≤ 12
+  pub size : q .size ≤ most
   pub head : inUse (headInUse q) goodCell blankCell (q .head) ≡ true
   pub rows : goodRows schema (take (q .size) (q .relations)) (q .cells) ≡ true
   pub named : every isZero (drop (q .size) (q .relations)) ≡ true
   pub cells : every blankCell (drop (8 * q .size) (q .cells)) ≡ true
 
-pub good-query : (schema : List ℕ) (q : Query) → goodQuery schema q ≡ true → GoodQuery schema q
-unfolding goodQuery
-good-query schema q e =
+pub good-query : (most : ℕ) (schema : List ℕ) (q : Query) → goodUpTo most schema q ≡ true → GoodUpTo most schema q
+unfolding goodUpTo
+good-query most schema q e =
     let a : Bool = leb (q .arity) 8 in
-    let b : Bool = leb (q .size) 12 in
+    let b : Bool = leb (q .size) most in
     let d : Bool = inUse (headInUse q) goodCell blankCell (q .head) in
     let f : Bool = goodRows schema (take (q .size) (q .relations)) (q .cells) in
     let g : Bool = every isZero (drop (q .size) (q .relations)) in
@@ -44,10 +45,14 @@ good-query schema q e =
       cells = and-right (a && b && d && f && g) h e;
     }
 
-pub make-query : (schema : List ℕ) (q : Query) → GoodQuery schema q → goodQuery schema q ≡ true
-unfolding goodQuery
-make-query schema q g =
-    rw (le-leb (q .arity) 8 (g .arity), le-leb (q .size) 12 (g .size), g .head, g .rows, g .named, g .cells)
+pub make-query : (most : ℕ) (schema : List ℕ) (q : Query) → GoodUpTo most schema q → goodUpTo most schema q ≡ true
+unfolding goodUpTo
+make-query most schema q g =
+    rw (le-leb (q .arity) 8 (g .arity), le-leb (q .size) most (g .size), g .head, g .rows, g .named, g .cells)
+
+-- A query that refusal 5 passes
+abbrev pub GoodQuery : List ℕ → Query → Type 0
+GoodQuery schema q = GoodUpTo 12 schema q
 
 -- A relation and a set of columns that refusal 4 passes
 pub record GoodSet (schema : List ℕ) (relation left : ℕ) : Type 0 where
@@ -89,4 +94,27 @@ good-dependency schema d e =
       nonempty = eqb-false _ _ (not-true _ (and-right a b e2));
       left = ltb-true _ _ (and-right (a && b) f e3);
       right = ltb-true _ _ (and-right (a && b && f) g e);
+    }
+
+-- A join dependency that refusal 15 passes
+pub record GoodJoin (schema : List ℕ) (j : JoinDependency) : Type 0 where
+  pub least : 2 ≤ j .count
+  pub most : j .count ≤ 4
+  pub sets : inUse (j .count) (goodSet schema (j .relation)) isZero (j .sets) ≡ true
+  pub covers : coversColumns schema j ≡ true
+
+pub good-join : (schema : List ℕ) (j : JoinDependency) → goodJoin schema j ≡ true → GoodJoin schema j
+unfolding goodJoin
+good-join schema j e =
+    let low : Bool = leb 2 (j .count) in
+    let high : Bool = leb (j .count) 4 in
+    let b : Bool = inUse (j .count) (goodSet schema (j .relation)) isZero (j .sets) in
+    let d : Bool = coversColumns schema j in
+    let e2 : (low && high) && b ≡ true = and-left ((low && high) && b) d e in
+    let e1 : low && high ≡ true = and-left (low && high) b e2 in
+    record {
+      least = leb-true _ _ (and-left low high e1);
+      most = leb-true _ _ (and-right low high e1);
+      sets = and-right (low && high) b e2;
+      covers = and-right ((low && high) && b) d e;
     }

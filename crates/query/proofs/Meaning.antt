@@ -107,11 +107,11 @@ module _ (schema : List ℕ) (narrow : (i : ℕ) → getD schema i 0 ≤ 8) wher
 
 -- A good query is determined by the query that it stands for
 pub stored-unique : StoredUnique
-stored-unique schema narrow a b shaped-a shaped-b good-a good-b e =
-    let long-a = shaped-sized a shaped-a in
-    let long-b = shaped-sized b shaped-b in
-    let g = good-query schema a good-a in
-    let h = good-query schema b good-b in
+stored-unique most schema narrow a b shaped-a shaped-b good-a good-b e =
+    let long-a = shaped-sized most a shaped-a in
+    let long-b = shaped-sized most b shaped-b in
+    let g = good-query most schema a good-a in
+    let h = good-query most schema b good-b in
     let arity : a .arity ≡ b .arity =
     sym (head-length schema a (omega (arith, g .arity, long-a .head))) ∙ ap (λ (x : theory.Query). length (x .head)) e
     ∙ head-length schema b (omega (arith, h .arity, long-b .head))
@@ -126,9 +126,9 @@ stored-unique schema narrow a b shaped-a shaped-b good-a good-b e =
     ∙ rows-relations schema (take (b .size) (b .relations)) (b .cells)
     in
     let relations : a .relations ≡ b .relations =
-    relations-padded schema a good-a
+    relations-padded most schema a good-a
     ∙ ap₂ (λ (l : List ℕ) (n : ℕ). l ++ replicate n 0) named (ap₂ (λ (x y : ℕ). x - y) (long-a .relations ∙ sym (long-b .relations)) size)
-    ∙ sym (relations-padded schema b good-b)
+    ∙ sym (relations-padded most schema b good-b)
     in
     let shown : entriesOf (take (a .arity) (a .head)) ≡ entriesOf (take (a .arity) (b .head)) =
     ap (λ (x : theory.Query). x .head) e ∙ ap (λ (n : ℕ). entriesOf (take n (b .head))) (sym arity)
@@ -137,10 +137,10 @@ stored-unique schema narrow a b shaped-a shaped-b good-a good-b e =
     in-use-same (eqb (a .size) 0) (entries-same (take (a .arity) (a .head)) (take (a .arity) (b .head)) shown)
     in
     let head : a .head ≡ b .head =
-    head-padded schema a good-a
+    head-padded most schema a good-a
     ∙ ap₂ (λ (l : List Cell) (n : ℕ). l ++ replicate n noCell) (used ∙ ap (λ (n : ℕ). take n (b .head)) in-use)
     (ap₂ (λ (x y : ℕ). x - y) (long-a .head ∙ sym (long-b .head)) in-use)
-    ∙ sym (head-padded schema b good-b)
+    ∙ sym (head-padded most schema b good-b)
     in
     let rows : rowsOf schema (take (a .size) (a .relations)) (a .cells) ≡ rowsOf schema (take (a .size) (a .relations)) (b .cells) =
     ap (λ (x : theory.Query). x .rows) e ∙ ap (λ (l : List ℕ). rowsOf schema l (b .cells)) (sym named)
@@ -157,10 +157,10 @@ stored-unique schema narrow a b shaped-a shaped-b good-a good-b e =
     ∙ ap (λ (n : ℕ). take (8 * n) (b .cells)) count
     in
     let cells : a .cells ≡ b .cells =
-    cells-padded schema a good-a
+    cells-padded most schema a good-a
     ∙ ap₂ (λ (l : List Cell) (n : ℕ). l ++ replicate n noCell) (front ∙ ap (λ (n : ℕ). take (8 * n) (b .cells)) size)
     (ap₂ (λ (x y : ℕ). x - 8 * y) (long-a .cells ∙ sym (long-b .cells)) size)
-    ∙ sym (cells-padded schema b good-b)
+    ∙ sym (cells-padded most schema b good-b)
     in
     λ i. record { arity = arity i; size = size i; head = head i; relations = relations i; cells = cells i }
   where

@@ -16,10 +16,11 @@ use Rattle.query.specs.declared.Entry.the-variants.{Constant, Variable}
 use Rattle.query.specs.declared.Cell.{Cell}
 use Rattle.query.specs.declared.Query.{Query}
 use Rattle.query.specs.declared.Dependency.{Dependency}
+use Rattle.query.specs.declared.JoinDependency.{JoinDependency}
 use Rattle.query.specs.declared.Place.{Place}
 use Rattle.query.specs.View.{entryOf, entriesOf, rowsOf, queryOf}
 use Rattle.lists.specs.Tests.{every, isZero}
-use Rattle.query.specs.Rule.{goodCell, blankEntry, blankCell, blankDependency, headInUse, goodQuery, shapedQuery, blankQuery, noCell}
+use Rattle.query.specs.Rule.{goodCell, blankEntry, blankCell, blankDependency, blankJoin, noJoin, headInUse, goodUpTo, shapedFor, blankQuery, noCell}
 use Rattle.query.specs.Rule.{noDependency, noQuery}
 use Rattle.lists.proofs.Tests.{and-left, and-right, every-same, used-blank, padded}
 use Rattle.lists.proofs.Loops.{stretch-getD}
@@ -27,23 +28,27 @@ use Rattle.query.proofs.Good.{good-query}
 
 -- ---- the lengths of a query's arrays
 
--- What the types say of a query's arrays
-pub record Sized (q : Query) : Type 0 where
+-- What the types say of a query's arrays, which have room for so many rows
+pub record SizedFor (rows : ℕ) (q : Query) : Type 0 where
   pub head : length (q .head) ≡ 8
-  pub relations : length (q .relations) ≡ 12
-  pub cells : length (q .cells) ≡ 96
+  pub relations : length (q .relations) ≡ rows
+  pub cells : length (q .cells) ≡ 8 * rows
 
-pub shaped-sized : (q : Query) → shapedQuery q ≡ true → Sized q
-shaped-sized q e =
+pub shaped-sized : (rows : ℕ) (q : Query) → shapedFor rows q ≡ true → SizedFor rows q
+shaped-sized rows q e =
     let a : Bool = eqb (length (q .head)) 8 in
-    let b : Bool = eqb (length (q .relations)) 12 in
-    let c : Bool = eqb (length (q .cells)) 96 in
+    let b : Bool = eqb (length (q .relations)) rows in
+    let c : Bool = eqb (length (q .cells)) (8 * rows) in
     let e2 : a && b ≡ true = and-left (a && b) c e in
     record {
       head = eqb-true (length (q .head)) 8 (and-left a b e2);
-      relations = eqb-true (length (q .relations)) 12 (and-right a b e2);
-      cells = eqb-true (length (q .cells)) 96 (and-right (a && b) c e);
+      relations = eqb-true (length (q .relations)) rows (and-right a b e2);
+      cells = eqb-true (length (q .cells)) (8 * rows) (and-right (a && b) c e);
     }
+
+-- Of a stored query
+abbrev pub Sized : Query → Type 0
+Sized q = SizedFor 12 q
 
 -- ---- 1. positions
 
@@ -111,6 +116,20 @@ blank-dependency d e =
       right = eqb-true (d .right) 0 (and-right (a && b) f e) i;
     }
 
+pub blank-join : (j : JoinDependency) → length (j .sets) ≡ 4 → blankJoin j ≡ true → j ≡ noJoin
+blank-join j long e =
+    let a : Bool = isZero (j .relation) in
+    let b : Bool = isZero (j .count) in
+    let f : Bool = every isZero (j .sets) in
+    let e2 : a && b ≡ true = and-left (a && b) f e in
+    let sets : j .sets ≡ replicate 4 0 = every-same isZero 0 blank-number (j .sets) (and-right (a && b) f e) ∙ ap (λ (n : ℕ). replicate n 0) long in
+    λ i.
+    record {
+      relation = eqb-true (j .relation) 0 (and-left a b e2) i;
+      count = eqb-true (j .count) 0 (and-right a b e2) i;
+      sets = sets i;
+    }
+
 -- A blank query is the query of a vacant place
 pub blank-query : (q : Query) → length (q .head) ≡ 8 → length (q .relations) ≡ 12 → length (q .cells) ≡ 96 → blankQuery q ≡ true → q ≡ noQuery
 unfolding blankQuery
@@ -146,14 +165,14 @@ abbrev pub pastPlace : Place
 pastPlace = record { filled = false; query = record { arity = 0; size = 0; head = []; relations = []; cells = [] } }
 
 -- The arrays of a good query are what is in use, then blanks
-module _ (schema : List ℕ) (q : Query) (good : goodQuery schema q ≡ true) where
+module _ (most : ℕ) (schema : List ℕ) (q : Query) (good : goodUpTo most schema q ≡ true) where
   pub head-padded : q .head ≡ take (headInUse q) (q .head) ++ replicate (length (q .head) - headInUse q) noCell
   head-padded =
       padded (headInUse q) goodCell blankCell (q .head) noCell blank-cell
-      (used-blank (headInUse q) goodCell blankCell (q .head) (good-query schema q good .head))
+      (used-blank (headInUse q) goodCell blankCell (q .head) (good-query most schema q good .head))
 
   pub relations-padded : q .relations ≡ take (q .size) (q .relations) ++ replicate (length (q .relations) - q .size) 0
-  relations-padded = padded (q .size) isZero isZero (q .relations) 0 blank-number (good-query schema q good .named)
+  relations-padded = padded (q .size) isZero isZero (q .relations) 0 blank-number (good-query most schema q good .named)
 
   pub cells-padded : q .cells ≡ take (8 * q .size) (q .cells) ++ replicate (length (q .cells) - 8 * q .size) noCell
-  cells-padded = padded (8 * q .size) goodCell blankCell (q .cells) noCell blank-cell (good-query schema q good .cells)
+  cells-padded = padded (8 * q .size) goodCell blankCell (q .cells) noCell blank-cell (good-query most schema q good .cells)

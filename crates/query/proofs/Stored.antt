@@ -21,7 +21,7 @@ use Rattle.query.specs.declared.Cell.{Cell}
 use Rattle.query.specs.declared.Query.{Query}
 use Rattle.query.specs.View.{entryOf, entriesOf, rowsOf, queryOf, columnsFrom}
 use Rattle.lists.specs.Tests.{every, inUse}
-use Rattle.query.specs.Rule.{goodEntry, goodCell, blankEntry, blankCell, goodRow, goodRows, headInUse, goodQuery, headSafe}
+use Rattle.query.specs.Rule.{goodEntry, goodCell, blankEntry, blankCell, goodRow, goodRows, headInUse, goodUpTo, headSafe}
 use Rattle.theory.proofs.Lists.{subset-true}
 use Rattle.lists.proofs.Tests.{and-left, and-right, and-both, every-append, used-whole, every-take, used-all, used-good}
 use Rattle.query.proofs.Good.{good-query}
@@ -126,18 +126,18 @@ module _ (schema : List ℕ) (narrow : (i : ℕ) → getD schema i 0 ≤ 8) wher
 
 -- ---- 4. the stored query as a query of the theory
 
-module _ (schema : List ℕ) (narrow : (i : ℕ) → getD schema i 0 ≤ 8) (q : Query) (good : goodQuery schema q ≡ true) where
+module _ (most : ℕ) (schema : List ℕ) (narrow : (i : ℕ) → getD schema i 0 ≤ 8) (q : Query) (good : goodUpTo most schema q ≡ true) where
   head-used : every goodCell (take (q .arity) (q .head)) ≡ true
   head-used =
       every-take goodCell (q .arity) (q .head)
-      (used-all (headInUse q) goodCell blankCell (q .head) (λ c. blank-good (c .entry)) (good-query schema q good .head))
+      (used-all (headInUse q) goodCell blankCell (q .head) (λ c. blank-good (c .entry)) (good-query most schema q good .head))
 
   -- Its entries are within the limits
   pub head-within : {e : theory.Entry} → e ∈ queryOf schema q .head → Within e
   head-within at = cells-within (take (q .arity) (q .head)) head-used at
 
   pub entries-within : {e : theory.Entry} → e ∈ rowEntries (queryOf schema q .rows) → Within e
-  entries-within at = rows-within schema narrow (take (q .size) (q .relations)) (q .cells) (good-query schema q good .rows) at
+  entries-within at = rows-within schema narrow (take (q .size) (q .relations)) (q .cells) (good-query most schema q good .rows) at
 
   -- Its constants are below 2,147,483,648
   pub constants-below : ConstantsBelow 2147483648 (queryOf schema q)
@@ -154,7 +154,7 @@ module _ (schema : List ℕ) (narrow : (i : ℕ) → getD schema i 0 ≤ 8) (q :
   unfolding headSafe
   well-formed long safe =
       record {
-        rows-fit = λ r at. rows-fit schema narrow (take (q .size) (q .relations)) (q .cells) (rw length-take (omega arith)) (good-query schema q good .rows) at;
+        rows-fit = λ r at. rows-fit schema narrow (take (q .size) (q .relations)) (q .cells) (rw length-take (omega arith)) (good-query most schema q good .rows) at;
         head-safe = λ v at. subset-true (variablesOf (queryOf schema q .head)) (variablesOf (rowEntries (queryOf schema q .rows))) safe v at;
       }
 
@@ -182,7 +182,7 @@ columns-below start (suc n) mask (suc k) {c} h at =
 
 -- ---- 6. cells by position
 
-module _ (schema : List ℕ) (q : Query) (good : goodQuery schema q ≡ true) (i : ℕ) (h : i < q .size) (long : q .size ≤ length (q .relations)) where
+module _ (most : ℕ) (schema : List ℕ) (q : Query) (good : goodUpTo most schema q ≡ true) (i : ℕ) (h : i < q .size) (long : q .size ≤ length (q .relations)) where
   -- Row i names a known relation, and of its 8 cells those of the relation's columns are good and the others blank
   pub row-good : (getD (q .relations) i 0 < length schema)
       × (inUse (getD schema (getD (q .relations) i 0) 0) goodCell blankCell (take 8 (drop (8 * i) (q .cells))) ≡ true)
@@ -191,7 +191,7 @@ module _ (schema : List ℕ) (q : Query) (good : goodQuery schema q ≡ true) (i
       let read : getD (take (q .size) (q .relations)) i 0 ≡ getD (q .relations) i 0 = getD-take (q .size) (q .relations) i 0 h in
       row-parts schema (getD (q .relations) i 0) (take 8 (drop (8 * i) (q .cells)))
       (ap (λ (k : ℕ). goodRow schema k (take 8 (drop (8 * i) (q .cells)))) (sym read)
-      ∙ row-at schema (take (q .size) (q .relations)) (q .cells) i (good-query schema q good .rows) inside)
+      ∙ row-at schema (take (q .size) (q .relations)) (q .cells) i (good-query most schema q good .rows) inside)
 
 -- All cells of good rows are good, those that are not in use too
 pub rows-cells : (schema rs : List ℕ) (cells : List Cell) → goodRows schema rs cells ≡ true → every goodCell (take (8 * length rs) cells) ≡ true
@@ -205,17 +205,17 @@ rows-cells schema (k ∷ rs) cells e =
     (row-parts schema k (take 8 cells) (rows-first schema k rs cells e) .1))
     (rows-cells schema rs (drop 8 cells) (rows-rest schema k rs cells e))
 
-module _ (schema : List ℕ) (q : Query) (good : goodQuery schema q ≡ true) where
+module _ (most : ℕ) (schema : List ℕ) (q : Query) (good : goodUpTo most schema q ≡ true) where
   -- Every cell of the head, and every cell of the rows, in use or not, is good
   pub head-cells : every goodCell (q .head) ≡ true
-  head-cells = used-all (headInUse q) goodCell blankCell (q .head) (λ c. blank-good (c .entry)) (good-query schema q good .head)
+  head-cells = used-all (headInUse q) goodCell blankCell (q .head) (λ c. blank-good (c .entry)) (good-query most schema q good .head)
 
   pub all-cells : q .size ≤ length (q .relations) → every goodCell (q .cells) ≡ true
   all-cells long =
       let rows : length (take (q .size) (q .relations)) ≡ q .size = length-take-le (q .size) (q .relations) long in
       let used : every goodCell (take (8 * q .size) (q .cells)) ≡ true =
       ap (λ (n : ℕ). every goodCell (take (8 * n) (q .cells))) (sym rows)
-      ∙ rows-cells schema (take (q .size) (q .relations)) (q .cells) (good-query schema q good .rows)
+      ∙ rows-cells schema (take (q .size) (q .relations)) (q .cells) (good-query most schema q good .rows)
       in
       used-all (8 * q .size) goodCell blankCell (q .cells) (λ c. blank-good (c .entry))
-      (used-whole (8 * q .size) goodCell blankCell (q .cells) used (good-query schema q good .cells))
+      (used-whole (8 * q .size) goodCell blankCell (q .cells) used (good-query most schema q good .cells))

@@ -1,7 +1,7 @@
--- The rule of relations, dependencies, queries and places as tests on the fields: what refusals 3, 4, 5 and 6 judge, and 14 of a place.
--- The lengths of the arrays are the types': `shapedQuery` says them of a query.
+-- The rule of relations, dependencies, queries and places as tests on the fields: what refusals 3, 4, 15, 5 and 6 judge, and 14 of a place.
+-- The lengths of the arrays are the types': `shapedQuery`, `shapedTableau` and `shapedJoin` say them.
 use mathlib.Core.Bool.{Bool, true, false, cond, not, _&&_}
-use mathlib.Core.List.{List, [], _∷_}
+use mathlib.Core.List.{List, [], _∷_, flatten}
 use Prim.Native.Nat.{ℕ, _*_, _^_}
 use lib.Dec.{eqb, ltb, leb}
 use lib.ListN.{length, take, drop, getD, replicate}
@@ -9,11 +9,14 @@ use Rattle.query.specs.declared.Entry.{Entry}
 use Rattle.query.specs.declared.Entry.the-variants.{Constant, Variable}
 use Rattle.query.specs.declared.Cell.{Cell}
 use Rattle.query.specs.declared.Query.{Query}
+use Rattle.query.specs.declared.Tableau.{Tableau}
 use Rattle.query.specs.declared.Dependency.{Dependency}
+use Rattle.query.specs.declared.JoinDependency.{JoinDependency}
 use Rattle.query.specs.declared.Place.{Place}
-use Rattle.query.specs.View.{queryOf}
+use Rattle.query.specs.View.{queryOf, asQuery, joinOf}
 use Rattle.theory.specs.Query as theory
 use Rattle.lists.specs.Tests.{between, every, inUse, isZero}
+use Rattle.lists.specs.Numbers.{numbersWhere}
 
 -- ---- what is not in use
 
@@ -29,6 +32,10 @@ blankCell c = blankEntry (c .entry)
 -- A dependency that is not in use is all 0
 abbrev pub blankDependency : Dependency → Bool
 blankDependency d = isZero (d .relation) && isZero (d .left) && isZero (d .right)
+
+-- A join dependency that is not in use is all 0
+abbrev pub blankJoin : JoinDependency → Bool
+blankJoin j = isZero (j .relation) && isZero (j .count) && every isZero (j .sets)
 
 -- A query that is not in use is all 0
 unfoldable pub blankQuery : Query → Bool
@@ -51,6 +58,22 @@ goodDependency schema d = goodSet schema (d .relation) (d .left) && ltb (d .righ
 -- 0 to 32 dependencies
 unfoldable pub goodDependencies : List ℕ → ℕ → List Dependency → Bool
 goodDependencies schema held dependencies = leb held 32 && inUse held (goodDependency schema) blankDependency dependencies
+
+-- Each column of the relation of a join dependency stands in one of its sets
+abbrev pub coversColumns : List ℕ → JoinDependency → Bool
+coversColumns schema j = theory.subset (numbersWhere (λ c. true) 0 (getD schema (j .relation) 0)) (flatten (joinOf j .sets))
+
+-- A known relation and 2 to 4 nonempty sets of its columns that together are all of them: what refusal 15 asks of a join dependency
+unfoldable pub goodJoin : List ℕ → JoinDependency → Bool
+goodJoin schema j = between 2 4 (j .count) && inUse (j .count) (goodSet schema (j .relation)) isZero (j .sets) && coversColumns schema j
+
+-- 0 to 4 join dependencies
+unfoldable pub goodJoins : List ℕ → ℕ → List JoinDependency → Bool
+goodJoins schema held joins = leb held 4 && inUse held (goodJoin schema) blankJoin joins
+
+-- The array of a join dependency is as long as its type says: 4 sets
+abbrev pub shapedJoin : JoinDependency → Bool
+shapedJoin j = eqb (length (j .sets)) 4
 
 -- ---- queries
 
@@ -76,21 +99,37 @@ goodRows schema (relation ∷ relations) cells = goodRow schema relation (take 8
 abbrev pub headInUse : Query → ℕ
 headInUse q = cond (eqb (q .size) 0) 0 (q .arity)
 
--- A head of 0 to 8 entries and 0 to 12 rows, everything not in use blank: what refusal 5 asks of a query
-unfoldable pub goodQuery : List ℕ → Query → Bool
-goodQuery schema q =
-    leb (q .arity) 8 && leb (q .size) 12 && inUse (headInUse q) goodCell blankCell (q .head)
+-- A head of 0 to 8 entries and at most so many rows, everything not in use blank
+unfoldable pub goodUpTo : ℕ → List ℕ → Query → Bool
+goodUpTo most schema q =
+    leb (q .arity) 8 && leb (q .size) most && inUse (headInUse q) goodCell blankCell (q .head)
     && goodRows schema (take (q .size) (q .relations)) (q .cells)
     && every isZero (drop (q .size) (q .relations)) && every blankCell (drop (8 * q .size) (q .cells))
+
+-- A stored query has 0 to 12 rows: what refusal 5 asks
+abbrev pub goodQuery : List ℕ → Query → Bool
+goodQuery schema q = goodUpTo 12 schema q
+
+-- A tableau has 0 to 24
+abbrev pub goodTableau : List ℕ → Tableau → Bool
+goodTableau schema t = goodUpTo 24 schema (asQuery t)
 
 -- Each head variable occurs in a row: what refusal 6 asks of a query
 unfoldable pub headSafe : List ℕ → Query → Bool
 headSafe schema q =
     theory.subset (theory.variablesOf (queryOf schema q .head)) (theory.variablesOf (theory.rowEntries (queryOf schema q .rows)))
 
--- The arrays of a query are as long as its type says: 8 head cells, 12 relations and 96 cells
+-- The arrays of a query have room for so many rows: 8 head cells, a relation and 8 cells for each row
+abbrev pub shapedFor : ℕ → Query → Bool
+shapedFor rows q = eqb (length (q .head)) 8 && eqb (length (q .relations)) rows && eqb (length (q .cells)) (8 * rows)
+
+-- The arrays of a query are as long as its type says: for 12 rows
 abbrev pub shapedQuery : Query → Bool
-shapedQuery q = eqb (length (q .head)) 8 && eqb (length (q .relations)) 12 && eqb (length (q .cells)) 96
+shapedQuery q = shapedFor 12 q
+
+-- So with a tableau: for 24 rows
+abbrev pub shapedTableau : Tableau → Bool
+shapedTableau t = shapedFor 24 (asQuery t)
 
 -- ---- places
 
@@ -112,6 +151,10 @@ noCell = record { entry = Constant 0 }
 abbrev pub noDependency : Dependency
 noDependency = record { relation = 0; left = 0; right = 0 }
 
+-- The join dependency of a slot that is not in use
+abbrev pub noJoin : JoinDependency
+noJoin = record { relation = 0; count = 0; sets = replicate 4 0 }
+
 -- The never query with a head of n entries
 abbrev pub neverQuery : ℕ → Query
 neverQuery n = record { arity = n; size = 0; head = replicate 8 noCell; relations = replicate 12 0; cells = replicate 96 noCell }
@@ -119,6 +162,14 @@ neverQuery n = record { arity = n; size = 0; head = replicate 8 noCell; relation
 -- The query of a vacant place
 abbrev pub noQuery : Query
 noQuery = neverQuery 0
+
+-- The never query with a head of n entries, as a tableau
+abbrev pub neverTableau : ℕ → Tableau
+neverTableau n = record { arity = n; size = 0; head = replicate 8 noCell; relations = replicate 24 0; cells = replicate 192 noCell }
+
+-- The tableau where there is none
+abbrev pub noTableau : Tableau
+noTableau = neverTableau 0
 
 -- A vacant place
 abbrev pub noPlace : Place

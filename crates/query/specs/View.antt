@@ -1,4 +1,4 @@
--- The meaning of the fields of a stored query and a stored dependency: the theory's query and dependency that they stand for.
+-- The meaning of the fields of a stored query and of stored dependencies: the theory's query and dependencies that they stand for.
 -- One definition for every width and row count.
 use mathlib.Core.Bool.{cond}
 use mathlib.Core.List.{List, [], _∷_, map}
@@ -9,7 +9,9 @@ use Rattle.query.specs.declared.Entry.{Entry}
 use Rattle.query.specs.declared.Entry.the-variants.{Constant, Variable}
 use Rattle.query.specs.declared.Cell.{Cell}
 use Rattle.query.specs.declared.Query.{Query}
+use Rattle.query.specs.declared.Tableau.{Tableau}
 use Rattle.query.specs.declared.Dependency.{Dependency}
+use Rattle.query.specs.declared.JoinDependency.{JoinDependency}
 use Rattle.theory.specs.Query as theory
 use Rattle.theory.specs.Database as database
 
@@ -36,6 +38,10 @@ queryOf widths q =
       rows = rowsOf widths (take (q .size) (q .relations)) (q .cells);
     }
 
+-- A tableau as a query: it has the fields of one, with room for more rows
+abbrev pub asQuery : Tableau → Query
+asQuery t = record { arity = t .arity; size = t .size; head = t .head; relations = t .relations; cells = t .cells }
+
 -- The columns of a mask, ascending from a start: bit c stands for column c
 unfoldable pub columnsFrom : ℕ → ℕ → ℕ → List ℕ
 columnsFrom start zero mask = []
@@ -58,6 +64,14 @@ dependencyOf d = record { relation = d .relation; left = columnsOf (d .left); ri
 -- The dependencies that the first `held` of an array stand for
 abbrev pub heldOf : List Dependency → ℕ → List database.Dependency
 heldOf dependencies held = map dependencyOf (take held dependencies)
+
+-- The join dependency that a stored one stands for
+abbrev pub joinOf : JoinDependency → database.JoinDependency
+joinOf j = record { relation = j .relation; sets = map columnsOf (take (j .count) (j .sets)) }
+
+-- The join dependencies that the first `held` of an array stand for
+abbrev pub heldJoins : List JoinDependency → ℕ → List database.JoinDependency
+heldJoins joins held = map joinOf (take held joins)
 
 -- The assignment that an array of images gives: variable v goes to the entry at v, to constant 0 past the end
 abbrev pub imagesOf : List Cell → ℕ → theory.Entry

@@ -1,4 +1,4 @@
-// A stored query, a place for one, and a stored functional dependency: their types.
+// A stored query, a place for one, a query with room for more rows, and stored dependencies of both kinds: their types.
 
 // An entry of a query: a constant or a variable, each by its number.
 pub enum Entry {
@@ -26,6 +26,15 @@ pub struct Query {
     pub cells: [Cell; 96],
 }
 
+// A query with room for 24 rows, as the chase makes them; its fields are those of a query.
+pub struct Tableau {
+    pub arity: u8,
+    pub size: u8,
+    pub head: [Cell; 8],
+    pub relations: [u8; 24],
+    pub cells: [Cell; 192],
+}
+
 // A place for a query. A vacant one holds a query of zeros.
 pub struct Place {
     pub filled: bool,
@@ -44,4 +53,18 @@ pub const NO_DEPENDENCY: Dependency = Dependency {
     relation: 0,
     left: 0,
     right: 0,
+};
+
+// A join dependency: the relation is the join of its projections on the first `count` of the sets of columns (bit c for column c).
+pub struct JoinDependency {
+    pub relation: u8,
+    pub count: u8,
+    pub sets: [u8; 4],
+}
+
+// The join dependency of a slot that is not in use.
+pub const NO_JOIN_DEPENDENCY: JoinDependency = JoinDependency {
+    relation: 0,
+    count: 0,
+    sets: [0; 4],
 };

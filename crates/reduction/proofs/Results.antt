@@ -96,7 +96,7 @@ shortened schema dependencies held q result chased mapped widths long good safe 
     let S = queryOf schema q in
     let T = queryOf schema result in
     let reduced : Reduction ds S T = result-of c p in
-    let well : WellFormed schema S = well-formed schema (width-le schema widths) q good long safe in
+    let well : WellFormed schema S = well-formed 12 schema (width-le schema widths) q good long safe in
     record {
       good = p .good;
       safe = subset-of (variablesOf (T .head)) (variablesOf (rowEntries (T .rows))) (reduction-wellformed schema ds S T well reduced .head-safe);

@@ -20,7 +20,7 @@ badOffsets = 2
 abbrev pub badRelations : ℕ
 badRelations = 3
 
--- A dependency, or a relation or set asked of, breaks the record's rule, or the part of a file has another length
+-- A functional dependency, or a relation or set asked of, breaks the record's rule, or the part of a file ends too early
 abbrev pub badDependency : ℕ
 badDependency = 4
 
@@ -58,7 +58,7 @@ placeVacant = 11
 abbrev pub placeFilled : ℕ
 placeFilled = 12
 
--- As many dependencies are held as there is room for
+-- As many functional dependencies are held as there is room for
 abbrev pub dependenciesFull : ℕ
 dependenciesFull = 13
 
@@ -66,13 +66,25 @@ dependenciesFull = 13
 abbrev pub badRecord : ℕ
 badRecord = 14
 
+-- A join dependency breaks the record's rule
+abbrev pub badJoin : ℕ
+badJoin = 15
+
+-- As many join dependencies are held as there is room for
+abbrev pub joinsFull : ℕ
+joinsFull = 16
+
+-- The chase of a comparison would have more rows than there is room for
+abbrev pub tooManyRows : ℕ
+tooManyRows = 17
+
 -- ---- the order
 
--- The order in which a call asks: the record, the places, then by number
+-- The order in which a call asks: the record, the places, then by number, but 15 after 4, and 17 last of all
 abbrev pub order : List ℕ
 order =
-    badRecord ∷ noSuchPlace ∷ placeVacant ∷ badDirectory ∷ badOffsets ∷ badRelations ∷ badDependency ∷ badQuery ∷ unsafeHead ∷ headsDiffer ∷ badDatabase
-    ∷ bufferTooShort ∷ placeFilled ∷ dependenciesFull ∷ []
+    badRecord ∷ noSuchPlace ∷ placeVacant ∷ badDirectory ∷ badOffsets ∷ badRelations ∷ badDependency ∷ badJoin ∷ badQuery ∷ unsafeHead ∷ headsDiffer
+    ∷ badDatabase ∷ bufferTooShort ∷ placeFilled ∷ dependenciesFull ∷ joinsFull ∷ tooManyRows ∷ []
 
 -- A condition under which a call is refused, with the number of the refusal
 abbrev pub Condition : Type 0

@@ -6,7 +6,7 @@ pub const BAD_DIRECTORY: u8 = 1;
 pub const BAD_OFFSETS: u8 = 2;
 // 3: relations break the record's rule.
 pub const BAD_RELATIONS: u8 = 3;
-// 4: a dependency, or a relation or set asked of, breaks the record's rule.
+// 4: a functional dependency, or a relation or set asked of, breaks the record's rule.
 pub const BAD_DEPENDENCY: u8 = 4;
 // 5: a query breaks the record's rule.
 pub const BAD_QUERY: u8 = 5;
@@ -24,7 +24,13 @@ pub const BUFFER_TOO_SHORT: u8 = 10;
 pub const PLACE_VACANT: u8 = 11;
 // 12: the place to be filled is filled.
 pub const PLACE_FILLED: u8 = 12;
-// 13: as many dependencies are held as there is room for.
+// 13: as many functional dependencies are held as there is room for.
 pub const DEPENDENCIES_FULL: u8 = 13;
 // 14: the record breaks its rule.
 pub const BAD_RECORD: u8 = 14;
+// 15: a join dependency breaks the record's rule.
+pub const BAD_JOIN: u8 = 15;
+// 16: as many join dependencies are held as there is room for.
+pub const JOINS_FULL: u8 = 16;
+// 17: the chase of a comparison would have more rows than there is room for.
+pub const TOO_MANY_ROWS: u8 = 17;

@@ -33,12 +33,12 @@ module _ (schema : List ℕ) (narrow : (i : ℕ) → getD schema i 0 ≤ 8) (q :
     (S : theory.Query) (f : ℕ → theory.Entry) (mapping : IsMapping S (queryOf schema q) f) where
   of-head : (v : ℕ) → theory.variable v ∈ S .head → Within (f v)
   of-head v at =
-      head-within schema narrow q good (subst (λ (es : List theory.Entry). f v ∈ es) (mapping .carries .to-head) (Memᴰ·map (valueOf theory.constant f) at))
+      head-within 12 schema narrow q good (subst (λ (es : List theory.Entry). f v ∈ es) (mapping .carries .to-head) (Memᴰ·map (valueOf theory.constant f) at))
 
   of-rows : (v : ℕ) → theory.variable v ∈ rowEntries (S .rows) → Within (f v)
   of-rows v at =
       let found = row-of-entry (S .rows) at in
-      entries-within schema narrow q good
+      entries-within 12 schema narrow q good
       (row-rowEntries (queryOf schema q .rows) (mapRow (valueOf theory.constant f) (found .0)) (f v) (mapping .carries .to-rows (found .0) (found .1))
       (Memᴰ·map (valueOf theory.constant f) (found .2)))
 

@@ -131,7 +131,7 @@ module _ (r : Record) (place : ℕ) (low : place < 8) (good : goodRecord r ≡ t
             };
         short =
             place-short (r .relations) (r .widths) (good-record r good .relations) place source result (o .count) (o .images) low source-good result-good
-            (omega (arith, good-query (schemaOf r) source source-good .size))
-            (omega (arith, good-query (schemaOf r) result result-good .size)) small good-images;
+            (omega (arith, good-query 12 (schemaOf r) source source-good .size))
+            (omega (arith, good-query 12 (schemaOf r) result result-good .size)) small good-images;
         written = w;
       }

@@ -132,7 +132,7 @@ module _ (relations : ℕ) (widths : List ℕ) (known : goodRelations relations 
       let rs : List ℕ = take (q .size) (q .relations) in
       let few : length schema ≤ 8 = omega (arith, length-take relations widths, relations-bounds relations widths known) in
       let l : length (rowsText (queryOf schema q .rows)) ≤ 94 * length rs =
-      rows-short schema few (width-le relations widths known) rs (q .cells) (good-query schema q good .rows) in
+      rows-short schema few (width-le relations widths known) rs (q .cells) (good-query 12 schema q good .rows) in
       omega (arith, length-take-le (q .size) (q .relations) long)
 
   map-short : (q : Query) (images : List Cell) → goodQuery schema q ≡ true → every goodCell images ≡ true
@@ -141,7 +141,7 @@ module _ (relations : ℕ) (widths : List ℕ) (known : goodRelations relations 
   map-short q images good images-good =
       let vs : List ℕ = theory.variables (queryOf schema q) in
       let test : ℕ → Bool = λ v. theory.member v vs in
-      let b : leastAbove vs ≤ 96 = variables-bound (queryOf schema q) (variables-below schema (width-le relations widths known) q good) in
+      let b : leastAbove vs ≤ 96 = variables-bound (queryOf schema q) (variables-below 12 schema (width-le relations widths known) q good) in
       let l : length (imagesText (imagesOf images) (numbersWhere test 0 (leastAbove vs))) ≤ 15 * leastAbove vs =
       images-short (imagesOf images) test 0 (leastAbove vs) (omega arith) (image-short images images-good) in
       rw (length-append (imagesText (imagesOf images) (numbersWhere test 0 (leastAbove vs)))) (omega arith)
@@ -179,9 +179,9 @@ module _ (relations : ℕ) (widths : List ℕ) (known : goodRelations relations 
         → length (placeText place (queryOf schema source) (queryOf schema result) count (imagesOf images)) ≤ placeRoom
     unfolding placeText
     place-short low source-good result-good source-long result-long small images-good =
-        let good = good-query schema result result-good in
-        let m : rows ≤ 12 = rw (row-count schema source source-long) (good-query schema source source-good .size) in
+        let good = good-query 12 schema result result-good in
+        let m : rows ≤ 12 = rw (row-count schema source source-long) (good-query 12 schema source source-good .size) in
         let k : kept ≤ 12 = rw (row-count schema result result-long) (good .size) in
         lines-short (eqb kept 0) (good .size) (place-line-short place rows kept count low m k small) (never-line-short place rows count low m small)
-        (head-line-short (result .arity) (result .head) (head-cells schema result result-good) (good .arity))
+        (head-line-short (result .arity) (result .head) (head-cells 12 schema result result-good) (good .arity))
         (result-rows-short result result-good result-long) (map-short source images source-good images-good)

@@ -1,4 +1,5 @@
--- Databases of whole numbers, functional dependencies, what obeying them means, and the legal databases.
+-- Databases of whole numbers, functional dependencies, what obeying them means, and the legal databases. What it is to obey a join dependency is in
+-- `joins/specs/Join`.
 use mathlib.Core.Path.{_≡_}
 use mathlib.Core.List.{List}
 use Prim.Native.Nat.{ℕ}
@@ -14,6 +15,11 @@ pub record Dependency : Type 0 where
   pub relation : ℕ
   pub left : List ℕ
   pub right : ℕ
+
+-- A join dependency of a relation: the relation is the join of its projections on the sets of columns
+pub record JoinDependency : Type 0 where
+  pub relation : ℕ
+  pub sets : List (List ℕ)
 
 -- Two rows have the same value in each of the given columns
 abbrev pub Agree : {A : Type 0} → A → List ℕ → Row A → Row A → Type 0

@@ -79,7 +79,7 @@ read-sizes : (schema part : List ℕ) (q : Query) (rest : List ℕ) → Narrow s
     → (q .arity ≤ 8) × (q .size ≤ 12)
 read-sizes schema part q rest narrow hb e =
     let (good, put) = query-lawful schema narrow .put-get part q rest hb e in
-    let g = stored.good-query schema q (good-query schema q good .1) in
+    let g = stored.good-query 12 schema q (good-query schema q good .1) in
     (g .arity, g .size)
 
 is-vacant-requires : tie.Need-is-vacant-requires

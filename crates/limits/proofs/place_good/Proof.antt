@@ -34,7 +34,7 @@ returns c =
 head-safe-requires : tie.Need-head-safe-requires
 head-safe-requires c κs =
     let good =
-    good-query (take (c .before .before .before .before .args .relations) (c .before .before .before .before .args .widths))
+    good-query 12 (take (c .before .before .before .before .args .relations) (c .before .before .before .before .args .widths))
     (c .before .before .before .before .args .p .query) (sym (c .before .query-good .ensures) ∙ not-false _ (c .if2 .left))
     in
     (c .before .before .before .before .pre, good .arity, good .size)

@@ -19,31 +19,31 @@ head-by q e f g = rw (← e) (sym f ∙ g)
 
 module _ (schema : List ℕ) (q : Query) where
   stops-1 : 8 < q .arity → false ≡ goodQuery schema q
-  unfolding goodQuery
+  unfolding goodUpTo
   stops-1 arity = rw (lt-leb (q .arity) 8 arity)
 
   module _ (arity : q .arity ≤ 8) where
     stops-2 : 12 < q .size → false ≡ goodQuery schema q
-    unfolding goodQuery
+    unfolding goodUpTo
     stops-2 size = rw (le-leb (q .arity) 8 arity, lt-leb (q .size) 12 size)
 
     module _ (size : q .size ≤ 12) where
       stops-3 : inUse (headInUse q) goodCell blankCell (q .head) ≡ false → false ≡ goodQuery schema q
-      unfolding goodQuery
+      unfolding goodUpTo
       stops-3 head = rw (le-leb (q .arity) 8 arity, le-leb (q .size) 12 size, head)
 
       module _ (head : inUse (headInUse q) goodCell blankCell (q .head) ≡ true) where
         stops-4 : goodRows schema (take (q .size) (q .relations)) (q .cells) ≡ false → false ≡ goodQuery schema q
-        unfolding goodQuery
+        unfolding goodUpTo
         stops-4 rows = rw (le-leb (q .arity) 8 arity, le-leb (q .size) 12 size, head, rows)
 
         module _ (rows : goodRows schema (take (q .size) (q .relations)) (q .cells) ≡ true) where
           stops-5 : every isZero (drop (q .size) (q .relations)) ≡ false → false ≡ goodQuery schema q
-          unfolding goodQuery
+          unfolding goodUpTo
           stops-5 named = rw (le-leb (q .arity) 8 arity, le-leb (q .size) 12 size, head, rows, named)
 
           goes : every isZero (drop (q .size) (q .relations)) ≡ true → every blankCell (drop (8 * q .size) (q .cells)) ≡ goodQuery schema q
-          unfolding goodQuery
+          unfolding goodUpTo
           goes named = rw (le-leb (q .arity) 8 arity, le-leb (q .size) 12 size, head, rows, named)
 
 returns : tie.Need-returns

@@ -40,7 +40,7 @@ returns c =
     let narrow = width-le schema widths in
     let chased = c .before .before .before .before .chase .ensures schema good widths in
     let pruned = c .before .before .core-of .ensures schema narrow (chased .good) in
-    let long : 8 * q .size ≤ length (q .cells) = omega (arith, good-query schema q good .size) in
+    let long : 8 * q .size ≤ length (q .cells) = omega (arith, good-query 12 schema q good .size) in
     shortened schema (first .args .dependencies) (first .args .held) q (c .before .before .core-of .result) (c .before .before .before .before .chase .result)
     (c .before .find .result)
     widths long good safe chased pruned (c .before .find .ensures schema narrow good (pruned .good) (sym (pruned .same-arity ∙ chased .same-arity)))

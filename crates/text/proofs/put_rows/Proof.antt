@@ -30,7 +30,7 @@ cast-size c = search needs
 loop-holds : tie.Need-loop-holds Inv-loop μ-loop
 loop-holds c =
     let s = c .before .before .before .before in
-    (search needs, good-query _ _ (s .pre .2) .size, search (mapped-length, needs), started (s .pre .0))
+    (search needs, good-query 12 _ _ (s .pre .2) .size, search (mapped-length, needs), started (s .pre .0))
 
 array-read-relation : tie.Need-array-read-relation Inv-loop μ-loop
 array-read-relation c = search needs

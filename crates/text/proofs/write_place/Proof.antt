@@ -36,10 +36,10 @@ abbrev result : tie.Start → theory.Query
 result c = queryOf (schema c) (c .args .result)
 
 source-long : (c : tie.Start) → c .args .source .size ≤ length (c .args .source .relations)
-source-long c = let l : length (c .args .source .relations) ≡ 12 = search (mapped-length, needs) in omega (arith, good-query _ _ (c .pre .source-good) .size)
+source-long c = let l : length (c .args .source .relations) ≡ 12 = search (mapped-length, needs) in omega (arith, good-query 12 _ _ (c .pre .source-good) .size)
 
 result-long : (c : tie.Start) → c .args .result .size ≤ length (c .args .result .relations)
-result-long c = let l : length (c .args .result .relations) ≡ 12 = search (mapped-length, needs) in omega (arith, good-query _ _ (c .pre .result-good) .size)
+result-long c = let l : length (c .args .result .relations) ≡ 12 = search (mapped-length, needs) in omega (arith, good-query 12 _ _ (c .pre .result-good) .size)
 
 -- What is to be written
 abbrev text : tie.Start → List ℕ
@@ -68,7 +68,7 @@ never-left c z =
 variables : (c : tie.Start) → variablesInRows (source c) ≡ occurring (source c)
 unfolding headSafe
 variables c =
-    rows-occurring (source c) (variables-below (schema c) (width-le _ _ (c .pre .relations-good)) (c .args .source) (c .pre .source-good))
+    rows-occurring (source c) (variables-below 12 (schema c) (width-le _ _ (c .pre .relations-good)) (c .args .source) (c .pre .source-good))
     (λ v at. subset-true _ _ (c .pre .source-safe) v at)
 
 -- Else the four parts are left
@@ -116,7 +116,7 @@ put-head-line-requires c κs =
     let line = c .before .before .before in
     let chosen = line .before .before .before .before in
     let left = wrote (lines-left (chosen .before .before .before .before) (chosen .if1 .left)) _ refl (line .put-place-line .ensures) in
-    (part-fits left _ _ refl, good-query _ _ (chosen .before .before .before .before .pre .result-good) .arity)
+    (part-fits left _ _ refl, good-query 12 _ _ (chosen .before .before .before .before .pre .result-good) .arity)
 
 put-rows-requires : tie.Need-put-rows-requires
 put-rows-requires c κs =
@@ -137,7 +137,7 @@ put-map-line-requires c κs =
     let left = wrote (wrote (lines-left (chosen .before .before .before .before) (chosen .if1 .left)) _ refl (line .put-place-line .ensures)) _ refl
     (head .put-head-line .ensures) in
     let s = chosen .before .before .before .before in
-    (rest-fits (wrote left _ refl (rows .put-rows .ensures)), s .pre .relations-good, good-query _ _ (s .pre .source-good) .size)
+    (rest-fits (wrote left _ refl (rows .put-rows .ensures)), s .pre .relations-good, good-query 12 _ _ (s .pre .source-good) .size)
 
 same-length-2 : tie.Need-same-length-2
 same-length-2 c = search needs

@@ -94,7 +94,7 @@ returns-3 c =
 head-safe-requires : tie.Need-head-safe-requires
 head-safe-requires c κs =
     let within =
-    good-query (schemaOf (c .before .before .before .before .before .before .before .before .args .self))
+    good-query 12 (schemaOf (c .before .before .before .before .before .before .before .before .args .self))
     (c .before .before .before .before .before .before .before .before .args .q) (fit c)
     in (
       good-record (c .before .before .before .before .before .before .before .before .args .self)
