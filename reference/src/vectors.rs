@@ -3,7 +3,7 @@
 use crate::chase::chase;
 use crate::closure::determined;
 use crate::comparison::{check, compare, Verdict};
-use crate::database::{answers_within, evaluate, facts, first_broken, test, words, Fact};
+use crate::database::{answers_within, evaluate, facts, first_broken, test, words, Fact, Tested};
 use crate::file::{bytes, query_bytes, read, write};
 use crate::generate;
 use crate::mapping::{find, Mapping};
@@ -407,9 +407,15 @@ fn line(r: &mut Random, call: usize) -> Line {
             let words = any_words(r, &record, query.as_ref());
             out.record(&record);
             out.list(&words);
-            out.answer(test(&record, &words), |out, broken| match broken {
-                None => out.0.extend([1, 0, 0, 0]),
-                Some((k, i, j)) => out.0.extend([0, k as u64, i as u64, j as u64]),
+            out.answer(test(&record, &words), |out, tested| {
+                let (verdict, dependency, rows) = match tested {
+                    Tested::Obeys => (1u8, 0, vec![]),
+                    Tested::Breaks(k, i, j) => (0, k, vec![i, j]),
+                    Tested::BreaksJoin(k, rows) => (2, k, rows),
+                };
+                out.number(verdict);
+                out.number(dependency);
+                (0..4).for_each(|n| out.number(rows.get(n).copied().unwrap_or(0)));
             });
         }
         11 => loop {
