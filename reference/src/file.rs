@@ -171,6 +171,19 @@ pub fn query_bytes(query: &Query) -> Vec<u8> {
     out
 }
 
+/// Join dependencies as they follow the functional ones: none are no bytes.
+pub fn joins_bytes(joins: &[JoinDependency]) -> Vec<u8> {
+    if joins.is_empty() {
+        return vec![];
+    }
+    let mut out = vec![joins.len() as u8];
+    for j in joins {
+        out.extend([j.relation, j.sets.len() as u8]);
+        out.extend(&j.sets);
+    }
+    out
+}
+
 /// The parts of a record's file, in order.
 pub fn record_parts(record: &Record) -> Vec<Vec<u8>> {
     let mut widths = vec![record.widths.len() as u8];
@@ -179,13 +192,7 @@ pub fn record_parts(record: &Record) -> Vec<Vec<u8>> {
     for d in &record.dependencies {
         dependencies.extend([d.relation, d.left, d.right]);
     }
-    if !record.joins.is_empty() {
-        dependencies.push(record.joins.len() as u8);
-    }
-    for j in &record.joins {
-        dependencies.extend([j.relation, j.sets.len() as u8]);
-        dependencies.extend(&j.sets);
-    }
+    dependencies.extend(joins_bytes(&record.joins));
     let mut parts = vec![widths, dependencies];
     let used = record.places.iter().rposition(|p| p.is_some()).map_or(0, |k| k + 1);
     for place in &record.places[..used] {
