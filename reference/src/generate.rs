@@ -454,7 +454,7 @@ pub fn record_with_joins(r: &mut Random) -> Record {
             fill(r, &mut out, 4, |r| query(r, &w, &p));
         }
     }
-    if out.joins.len() < MAX_JOINS && r.percent(15) {
+    if out.joins.len() < MAX_JOINS && r.percent(30) {
         let n = r.between(1, MAX_JOINS - out.joins.len());
         let more = joins(r, &out.widths, n);
         out.joins.extend(more);

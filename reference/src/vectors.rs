@@ -122,6 +122,11 @@ pub fn related_record(r: &mut Random) -> (Record, u8, u8) {
             continue;
         }
         let q = *r.pick(&free);
+        if !record.joins.is_empty() && r.percent(25) {
+            // Not contained unless it is never, so that the chased query shows.
+            record.places[q as usize] = Some(Query::never(base.head_length));
+            return (record, p, q);
+        }
         let mut other = base.clone();
         for _ in 0..r.below(4) {
             if other.is_never() {
@@ -246,7 +251,8 @@ fn any_facts(r: &mut Random, record: &Record, query: Option<&Query>) -> Vec<Fact
         add(&mut all, Fact { relation, values });
     }
     if !record.joins.is_empty() && r.percent(60) {
-        close(&record.joins, &mut all);
+        let first = if r.percent(70) { record.joins.len() } else { r.below(record.joins.len() + 1) };
+        close(&record.joins[..first], &mut all);
         if !all.is_empty() && r.percent(40) {
             let gone = r.pick(&all).clone();
             all.retain(|f| *f != gone);
