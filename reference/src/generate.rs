@@ -754,32 +754,30 @@ fn damaged_tail(r: &mut Random, record: &Record) -> Vec<u8> {
     let w = record.widths[all[at].relation as usize];
     let whole = ((1u16 << w) - 1) as u8;
     let k = r.below(all[at].sets.len());
-    match r.below(12) {
+    match r.below(9) {
         0 => all[at].relation = *r.pick(&[record.widths.len() as u8, 8, 255, 0]),
         1 => all[at].sets[k] = 0,
-        2 => all[at].sets[k] |= (1u16 << w) as u8,
-        3 => all[at].sets[k] |= 128,
-        4 => {
+        2 => all[at].sets[k] |= *r.pick(&[(1u16 << w) as u8, 128]),
+        3 => {
             // A column that is in no set.
             let c = r.below(w as usize);
             all[at].sets.iter_mut().for_each(|set| *set &= !(1 << c));
         }
-        5 => all[at].sets = vec![whole; *r.pick(&[0, 1, 2, 4, 5])],
-        6 => while all.len() < 5 {
+        4 => all[at].sets = vec![whole; *r.pick(&[0, 1, 1, 2, 4, 5])],
+        5 => while all.len() < 5 {
             let again = r.pick(&all).clone();
             all.push(again);
         },
-        7 => all.clear(),
+        6 => return vec![0],
         _ => {}
     }
     let mut out = joins_bytes(&all);
-    match r.below(8) {
+    match r.below(12) {
         0 => out.push(*r.pick(&[0, 1, 2, 255])),
         1 => { out.pop(); }
         2 => { let cut = r.below(out.len() + 1); out.truncate(cut); }
-        3 if !out.is_empty() => out[0] = *r.pick(&[0, 1, 4, 5, 255, out[0] + 1, out[0].wrapping_sub(1)]),
-        4 if out.len() > 2 => out[2] = *r.pick(&[0, 1, 2, 3, 4, 5, 255]),
-        5 if out.is_empty() => out = vec![0],
+        3 => out[0] = *r.pick(&[0, 1, 4, 5, 255, out[0] + 1, out[0] - 1]),
+        4 => out[2] = *r.pick(&[0, 1, 2, 3, 4, 5, 255]),
         _ => {}
     }
     out

@@ -219,7 +219,7 @@ fn any_query(r: &mut Random, widths: &[u8]) -> Query {
 }
 
 /// Facts over few values; some obey all dependencies, some come from the rows of a query.
-fn any_facts(r: &mut Random, record: &Record, query: Option<&Query>) -> Vec<Fact> {
+pub fn any_facts(r: &mut Random, record: &Record, query: Option<&Query>) -> Vec<Fact> {
     let values: Vec<u32> = match r.below(4) {
         0 => vec![0, 1],
         1 => vec![0, 1, 2, 3],
