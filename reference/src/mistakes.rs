@@ -487,7 +487,8 @@ fn generated_files_show_up_mistakes_with_joins() {
 fn comparisons_show_up_mistakes_with_joins() {
     let mut r = Random::new(5);
     let all: Vec<(Record, u8, u8)> = (0..1500).map(|_| related_record(&mut r)).collect();
-    each_is_shown_up(&OF_COMPARING, |m| all.iter().filter(|(x, p, q)| wrong_compare(m, x, *p, *q) != right_compare(x, *p, *q)).count());
+    let right: Vec<Compared> = all.iter().map(|(x, p, q)| right_compare(x, *p, *q)).collect();
+    each_is_shown_up(&OF_COMPARING, |m| all.iter().zip(&right).filter(|((x, p, q), due)| wrong_compare(m, x, *p, *q) != **due).count());
 }
 
 #[test]
