@@ -88,7 +88,8 @@ fn missing_row(joins: &[JoinDependency], rows: &[Row]) -> Option<Row> {
     joins.iter().find_map(|j| Some(Row { relation: j.relation, entries: first_choice(j, &all)?.yielded }))
 }
 
-/// The chase with dependencies of both kinds; refused where it would have more rows than allowed. The never query after a clash.
+/// The chase with dependencies of both kinds, refused where it would add a row to as many as are allowed. After a clash the query
+/// is never, of which no row is missing.
 pub fn chase_with_joins(dependencies: &[Dependency], joins: &[JoinDependency], source: &Query) -> Result<Query, Refusal> {
     let mut query = chase(dependencies, source).query;
     if joins.is_empty() {
