@@ -501,7 +501,7 @@ def parse_dependencies(text: str, names: Names, source: str = "dependency") -> S
     or `layer: join (flight, level) (level, height)`."""
     reader = Reader(text, source)
     reader.at_end()
-    found = read_key(reader, names) if reader.then.kind == "(" else read_dependencies(reader, names)
+    found: Sequence[AnyDependency] = read_key(reader, names) if reader.then.kind == "(" else read_dependencies(reader, names)
     if not reader.at_end():
         raise reader.expected("the end")
     return found

@@ -551,7 +551,7 @@ class Record:
         functional = [number for number, dependency in enumerate(self.dependencies) if dependency.relation in wanted]
         joins = [number for number, dependency in enumerate(self.join_dependencies) if dependency.relation in wanted]
         if functional + joins and found.dependency not in (joins if found.is_join else functional):
-            some = [*(self.dependencies[number] for number in functional), *(self.join_dependencies[number] for number in joins)]
+            some: List[AnyDependency] = [*(self.dependencies[number] for number in functional), *(self.join_dependencies[number] for number in joins)]
             again = engine.test(Record.open(self.widths).add_all(some).file, words, bool(joins))
             if again is not None:
                 found = again._replace(dependency=(joins if again.is_join else functional)[again.dependency])
@@ -561,7 +561,7 @@ class Record:
 
     def dependency_of(self, broken: AnyBroken) -> AnyDependency:
         """The dependency that a database breaks."""
-        return (self.join_dependencies if isinstance(broken, BrokenJoin) else self.dependencies)[broken.dependency]
+        return self.join_dependencies[broken.dependency] if isinstance(broken, BrokenJoin) else self.dependencies[broken.dependency]
 
     def missing(self, broken: BrokenJoin, database: Database) -> str:
         """The row that a database lacks to obey a join dependency, for a message."""
