@@ -228,14 +228,14 @@ class Long(Program):
                 self.refused(2, EXAMPLE.ljust(length, b"\x00"))
 
     def test_just_the_limit(self):
-        self.refused(4, self.up_to_the_limit())
+        self.refused(15, self.up_to_the_limit())
         self.refused(2, self.up_to_the_limit()[:-1])
 
     def test_beyond(self):
         # were any byte after the limit read, its last part would not end with the file
         for more in 1, 100, MOST, 10 * MOST:
             with self.subTest(more=more):
-                self.refused(4, self.up_to_the_limit() + b"\x00" * more)
+                self.refused(15, self.up_to_the_limit() + b"\x00" * more)
 
     def test_a_part_beyond(self):
         # the file would be one by its directory, but only its first 65,536 bytes are taken
@@ -243,7 +243,7 @@ class Long(Program):
         self.refused(2, self.up_to_the_limit(beyond=11))
 
     def test_input_that_does_not_end(self):
-        self.assertEqual(self.listed_in_pieces([self.up_to_the_limit()], 0, close=False), b"refused 4\n")
+        self.assertEqual(self.listed_in_pieces([self.up_to_the_limit()], 0, close=False), b"refused 15\n")
 
 
 class Pieces(Program):
@@ -264,7 +264,7 @@ class Pieces(Program):
     def test_long(self):
         data = Long.up_to_the_limit(self)
         pieces = [data[i : i + 4099] for i in range(0, MOST, 4099)]
-        self.assertEqual(self.listed_in_pieces(pieces, 0.002), b"refused 4\n")
+        self.assertEqual(self.listed_in_pieces(pieces, 0.002), b"refused 15\n")
         self.assertEqual(self.listed_in_pieces(pieces[:-1] + [pieces[-1][:-1]], 0.002), b"refused 2\n")
 
 

@@ -19,7 +19,7 @@ class Vectors(unittest.TestCase):
     def test_stored(self):
         tried, wrong, unread = vectors.judge(stored())
         self.assertEqual((wrong, unread), ([], []))
-        self.assertEqual(tried, [310] * 14)
+        self.assertEqual(tried, [300] * 14)
 
     def test_wrong_ones(self):
         """A vector whose last number is another one is told wrong, or no vector."""
