@@ -344,29 +344,21 @@ def _two(options: Options) -> Tuple[Record, Subject, Subject]:
     return record, p, Subject(record, options.q, "the second rule" if rules else "the rule")
 
 
-def _compare(record: Record, p: Subject, q: Subject) -> Comparison:
-    """A comparison. If it is given up, the refusal says what was too long."""
+def _compare(record: Record, p: Subject, q: Subject) -> Union[Comparison, Refused]:
+    """A comparison; if it is given up, the refusal, which says what is too long."""
     try:
         return record.compare(p.asked, q.asked)
     except Refused as refused:
         if refused.number != 17:
             raise
-        raise Refused(17, refused.meaning.replace("the first query", p.title)) from None
-
-
-def _try_compare(record: Record, p: Subject, q: Subject) -> Union[Comparison, Refused]:
-    """A comparison, or the refusal if it was given up."""
-    try:
-        return _compare(record, p, q)
-    except Refused as refused:
-        if refused.number != 17:
-            raise
-        return refused
+        return Refused(17, refused.meaning.replace("the first query", p.title))
 
 
 def compare_command(options: Options) -> int:
     record, p, q = _two(options)
     compared = _compare(record, p, q)
+    if isinstance(compared, Refused):
+        raise compared
     if options.json:
         print(json.dumps({"p": p.shown, "q": q.shown, **comparison_json(compared, record.names, p.variables, q.variables)}, indent=2))
     else:
@@ -376,7 +368,7 @@ def compare_command(options: Options) -> int:
 
 def equivalent_command(options: Options) -> int:
     record, p, q = _two(options)
-    ways = [(one, other, _try_compare(record, one, other)) for one, other in ((p, q), (q, p))]
+    ways = [(one, other, _compare(record, one, other)) for one, other in ((p, q), (q, p))]
     no = [(one, other, compared) for one, other, compared in ways if isinstance(compared, Comparison) and not compared.contained]
     for _, _, compared in ways:
         if isinstance(compared, Refused) and not no:

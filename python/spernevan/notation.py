@@ -492,7 +492,8 @@ def _read_join(reader: Reader, names: Names, relation: int) -> JoinDependency:
     table = names.tables[relation]
     missing = [name for column, name in enumerate(table.columns) if not any(column in one for one in sets)]
     if missing:
-        raise reader.error(start, f"the sets of a join have every column of {table} among them; {', '.join(missing)} {'is' if len(missing) == 1 else 'are'} in none")
+        are = "is" if len(missing) == 1 else "are"
+        raise reader.error(start, f"the sets of a join have every column of {table} among them; {', '.join(missing)} {are} in none")
     return JoinDependency(relation, tuple(frozenset(one) for one in sets))
 
 

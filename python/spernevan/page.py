@@ -122,7 +122,8 @@ def _matrix(definitions: Sequence[Definition], verdicts: Verdicts) -> str:
         f'above?</caption><thead><tr><td></td>{header}</tr></thead><tbody>{"".join(rows)}</tbody></table>'
     )
     given_up = (
-        f" A question mark stands where the comparison was given up, since the join dependencies make the place on the left longer than {MOST_CHASED_ROWS} rows."
+        " A question mark stands where the comparison was given up, since the join dependencies make the place on the left "
+        f"longer than {MOST_CHASED_ROWS} rows."
     )
     return (
         '<h2 id="containment">Which is contained in which</h2>'
@@ -137,7 +138,8 @@ def _verdict(p: int, q: int, verdicts: Verdicts) -> str:
     found = verdicts[p, q]
     same = " same" if p == q else ""
     if isinstance(found, int):
-        return f'<td class="none{same}">{"?" if found == 17 else chr(0x2013)}</td>'
+        sign = "?" if found == 17 else "\u2013"
+        return f'<td class="none{same}">{sign}</td>'
     if found.contained:
         return f'<td class="yes{same}">\u2713 yes</td>'
     return f'<td class="no{same}"><a href="#place-{p}-not" title="Place {p} is not contained in place {q}">\u2717 no</a></td>'
