@@ -140,18 +140,19 @@ static double engine_evaluate(size_t *count) {
 
 static double engine_test(int *obeys_out) {
     double best = 1e9;
-    uint8_t obeys;
-    size_t d, i, j, heads_size = word_count / 2, nodes_size = 2 * word_count;
+    uint8_t verdict;
+    size_t d, rows[4], heads_size = word_count / 2, nodes_size = 2 * word_count;
     for (int k = 0; k < turns(); k++) {
         double t = now();
         uint32_t *heads = lent(heads_size), *nodes = lent(nodes_size);
-        if (spernevan_test_lent(file, file_length, words, word_count, heads, heads_size, nodes, nodes_size, &obeys, &d, &i, &j)) fail("test");
+        if (spernevan_test_lent(file, file_length, words, word_count, heads, heads_size, nodes, nodes_size, &verdict, &d, &rows[0], &rows[1], &rows[2],
+                                &rows[3])) fail("test");
         returned(heads, heads_size);
         returned(nodes, nodes_size);
         t = now() - t;
         if (t < best) best = t;
     }
-    *obeys_out = obeys;
+    *obeys_out = verdict == 1;
     return best;
 }
 
