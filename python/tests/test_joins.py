@@ -194,6 +194,23 @@ class Calls(Joins):
             seen.add(type(found))
         self.assertEqual(seen, {Broken, BrokenJoin, type(None)})
 
+    def test_large_databases(self):
+        """Up to a hundred thousand rows that obey join dependencies of two and three sets, and without one of them."""
+        rng = random.Random(24)
+        record = Record.open([4]).add_join(0, [[0, 1, 2], [0, 3]]).add_join(0, [[0, 1], [0, 2], [0, 3]])
+        two, three = record.join_dependencies
+        for keys in (3, 600, 12500):
+            rows = [(key, b, c, d) for key in range(keys) for b in (1, 2) for c in (1, 2) for d in (1, 2)]
+            rng.shuffle(rows)
+            self.assertIsNone(record.test([(0, row) for row in rows]))
+            lost = rows.pop(rng.randrange(len(rows)))
+            words = array("I", [word for row in rows for word in (0, *row)])
+            for joins, first in (((two, three), two), ((three, two), three)):
+                found = Record.open([4]).add_all(joins).test(words)
+                # The first row that has the lost one's values in the columns of each set.
+                places = [next(place for place, row in enumerate(rows) if all(row[c] == lost[c] for c in columns)) for columns in first.sets]
+                self.assertEqual((found, first.joined([rows[place] for place in places])), (BrokenJoin(0, tuple(places)), lost))
+
     def test_random_comparisons(self):
         """A no shows an obeying database; a yes holds on obeying ones; reductions are those without join dependencies."""
         rng = random.Random(23)
