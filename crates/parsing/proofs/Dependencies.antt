@@ -1,18 +1,16 @@
 -- What the format of a dependency reads at a position of a slice, by tests on its bytes.
 use mathlib.Core.Path.{_≡_, refl, sym, ap, _∙_}
 use mathlib.Core.Bool.{Bool, true, false, _&&_}
-use mathlib.Core.List.{List, [], _∷_}
-use Prim.Native.Nat.{ℕ, zero, suc, _+_, _-_, _*_, _≤_, _<_}
+use mathlib.Core.List.{List}
+use Prim.Native.Nat.{ℕ, _+_, _-_, _≤_, _<_}
 use native.Mathlib.Omega.{arith}
 use native.Mathlib.Nat.{add-zero}
 use lib.ListN.{length, getD, drop, length-drop}
-use lib.Seq.{getD-drop, drop-drop}
+use lib.Seq.{getD-drop}
 use borrow.Author.Tests.{le-leb, lt-leb}
-use Rattle.query.specs.Rule.{goodDependency, noDependency}
-use Rattle.lists.specs.Over.{pad}
-use Rattle.format.specs.Format.{Reading, none, got, gotIf, mapReading, getByte, byte, sequence, getTimes, padded}
-use Rattle.format.specs.Parts.{dependency, dependencyAt, dependencies}
-use Rattle.format.proofs.Formats.{not-got, gotIf-true, mapReading-got, thenRead-got}
+use Rattle.query.specs.Rule.{goodDependency}
+use Rattle.format.specs.Format.{Reading, none, got, gotIf}
+use Rattle.format.specs.Parts.{dependency, dependencyAt}
 use Rattle.query.specs.declared.Dependency.{Dependency}
 use Rattle.parsing.specs.declared.DependencyRead.the-variants.{Found, NoDependency}
 use Rattle.parsing.specs.internal.Read.{dependencyRead}
@@ -64,36 +62,3 @@ dependency-read schema bytes d h = gotIf-dependency (leb 3 (length bytes) && goo
 pub dependency-none : (o : Reading Dependency) → NoDependency ≡ dependencyRead o → o ≡ none
 dependency-none none h = refl
 dependency-none (got d rest) h = let z : _≡_ {A = ℕ} 0 1 = cc in absurd (omega arith)
-
--- ---- what follows the dependencies of part 1
-
-times-rest : (schema : List ℕ) (n : ℕ) (bytes : List ℕ) (ds : List Dependency) (rest : List ℕ) → getTimes (dependency schema .get) n bytes ≡ got ds rest
-    → rest ≡ drop (3 * n) bytes
-unfolding getTimes dependency
-times-rest schema zero bytes ds rest e = let p : bytes ≡ rest = cc in sym p
-times-rest schema (suc n) bytes ds rest e =
-    let (d, r, ed, e₁) = thenRead-got (dependency schema .get bytes) (λ x rest. mapReading (λ xs. x ∷ xs) (getTimes (dependency schema .get) n rest)) ds rest e in
-    let (xs, ex, p) = mapReading-got (λ xs. d ∷ xs) (getTimes (dependency schema .get) n r) ds rest e₁ in
-    let three : drop 3 bytes ≡ r =
-    gotIf-true (leb 3 (length bytes) && goodDependency schema (dependencyAt bytes)) (dependencyAt bytes) d (drop 3 bytes) r ed .2 in
-    let next : 3 + 3 * n ≡ 3 * suc n = omega arith in
-    times-rest schema n r xs rest ex ∙ ap (drop (3 * n)) (sym three) ∙ drop-drop (3 * n) 3 bytes ∙ ap (λ (k : ℕ). drop k bytes) next
-
-byte-rest : (test : ℕ → Bool) (bytes : List ℕ) (b : ℕ) (rest : List ℕ) → getByte test bytes ≡ got b rest → (1 ≤ length bytes) × (rest ≡ drop 1 bytes)
-unfolding getByte
-byte-rest test [] b rest e = absurd (not-got e)
-byte-rest test (x ∷ bytes) b rest e = (omega arith, sym (gotIf-true (test x) x b bytes rest e .2))
-
--- The bytes after the functional dependencies start after the count and three bytes for each
-pub dependencies-rest : (schema bytes : List ℕ) (ds : ℕ × List Dependency) (rest : List ℕ) → dependencies schema .get bytes ≡ got ds rest
-    → rest ≡ drop (1 + 3 * ds .0) bytes
-unfolding dependencies sequence byte padded
-dependencies-rest schema bytes ds rest e =
-    let (n, r, en, e₁) =
-    thenRead-got (getByte (λ n. leb n 32) bytes)
-    (λ n rest. mapReading (λ ds. (n, ds)) (mapReading (pad 32 noDependency) (getTimes (dependency schema .get) n rest))) ds rest e in
-    let (xs, ex, p) = mapReading-got (λ ds. (n, ds)) (mapReading (pad 32 noDependency) (getTimes (dependency schema .get) n r)) ds rest e₁ in
-    let (ys, ey, q) = mapReading-got (pad 32 noDependency) (getTimes (dependency schema .get) n r) xs rest ex in
-    let count : n ≡ ds .0 = ap (λ (x : ℕ × List Dependency). x .0) p in
-    times-rest schema n r ys rest ey ∙ ap (drop (3 * n)) (byte-rest (λ n. leb n 32) bytes n r en .1) ∙ drop-drop (3 * n) 1 bytes
-    ∙ ap (λ (k : ℕ). drop (1 + 3 * k) bytes) count
