@@ -32,10 +32,10 @@ Start =
       rest-blank-reads.Learnt,
     ) reads.Pre reads.Post
 
-source-sizes : (c : Start) → Sizes (c .args .source)
+source-sizes : (c : Start) → Sizes 12 (c .args .source)
 source-sizes c = record { head = search (mapped-length, needs); relations = search (mapped-length, needs); cells = search (mapped-length, needs) }
 
-target-sizes : (c : Start) → Sizes (c .args .target)
+target-sizes : (c : Start) → Sizes 12 (c .args .target)
 target-sizes c = record { head = search (mapped-length, needs); relations = search (mapped-length, needs); cells = search (mapped-length, needs) }
 
 images-long : (c : Start) → length (c .args .images) ≡ 96
