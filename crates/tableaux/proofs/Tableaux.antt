@@ -6,8 +6,6 @@ use mathlib.Core.Bool.{Bool, true, _&&_}
 use mathlib.Core.List.{List, [], _∷_, _++_}
 use Prim.Native.Nat.{ℕ, _*_, _≤_}
 use native.Mathlib.Omega.{arith}
-use borrow.Author.Tests.{eq-eqb}
-use lib.Dec.{eqb}
 use lib.ListN.{length, take, drop, getD, replicate, length-append, length-drop, length-take, take-append-drop}
 use lib.Seq.{take-append-le, drop-append-le, length-take-le}
 use Rattle.theory.specs.Query as theory
@@ -16,10 +14,10 @@ use Rattle.query.specs.declared.Cell.{Cell}
 use Rattle.query.specs.declared.Query.{Query}
 use Rattle.query.specs.declared.Tableau.{Tableau}
 use Rattle.query.specs.View.{entriesOf, rowsOf, queryOf, asQuery}
-use Rattle.query.specs.Rule.{goodRow, goodRows, goodUpTo, goodQuery, goodTableau, blankCell, noCell, headSafe, shapedQuery, shapedTableau}
-use Rattle.lists.proofs.Tests.{and-left, and-both, every-append, every-append-is, every-replicate}
+use Rattle.query.specs.Rule.{goodRow, goodRows, goodUpTo, goodQuery, goodTableau, blankCell, noCell, headSafe}
+use Rattle.lists.proofs.Tests.{and-left, every-append, every-append-is, every-replicate}
 use Rattle.query.proofs.Good.{good-query, make-query}
-use Rattle.query.proofs.Shape.{SizedFor, shaped-sized}
+use Rattle.query.proofs.Shape.{SizedFor}
 use Rattle.tableaux.specs.internal.Tableaux.{tableauOf, storedOf}
 
 -- ---- 1. rows with more cells after theirs
@@ -114,15 +112,15 @@ safe-same schema a b e =
 
 -- ---- 3. the tableau of a query
 
-module _ (schema : List ℕ) (q : Query) (shaped : shapedQuery q ≡ true) (good : goodQuery schema q ≡ true) where
+module _ (schema : List ℕ) (q : Query) (sized : SizedFor 12 q) (good : goodQuery schema q ≡ true) where
   fits-12 : q .size ≤ 12
   fits-12 = good-query 12 schema q good .size
 
   rows-12 : q .size ≤ length (q .relations)
-  rows-12 = let s = shaped-sized 12 q shaped in omega (arith, s .relations, fits-12)
+  rows-12 = omega (arith, sized .relations, fits-12)
 
   cells-96 : 8 * q .size ≤ length (q .cells)
-  cells-96 = let s = shaped-sized 12 q shaped in omega (arith, s .cells, fits-12)
+  cells-96 = omega (arith, sized .cells, fits-12)
 
   -- It stands for the query that the stored one stands for
   pub tableau-query : ((i : ℕ) → getD schema i 0 ≤ 8) → queryOf schema (asQuery (tableauOf q)) ≡ queryOf schema q
@@ -139,15 +137,13 @@ module _ (schema : List ℕ) (q : Query) (shaped : shapedQuery q ≡ true) (good
   tableau-safe narrow = safe-same schema (asQuery (tableauOf q)) q (tableau-query narrow)
 
 -- Its arrays are for 24 rows
-pub tableau-shaped : (q : Query) → shapedQuery q ≡ true → shapedTableau (tableauOf q) ≡ true
-tableau-shaped q shaped =
-    let s = shaped-sized 12 q shaped in
-    let relations : length (q .relations ++ replicate 12 0) ≡ 24 = length-append (q .relations) (replicate 12 0) ∙ omega (arith, s .relations) in
-    let cells : length (q .cells ++ replicate 96 noCell) ≡ 192 = length-append (q .cells) (replicate 96 noCell) ∙ omega (arith, s .cells) in
-    let a : eqb (length (q .head)) 8 ≡ true = eq-eqb (length (q .head)) 8 (s .head) in
-    let b : eqb (length (q .relations ++ replicate 12 0)) 24 ≡ true = eq-eqb (length (q .relations ++ replicate 12 0)) 24 relations in
-    let c : eqb (length (q .cells ++ replicate 96 noCell)) 192 ≡ true = eq-eqb (length (q .cells ++ replicate 96 noCell)) 192 cells in
-    and-both _ _ (and-both _ _ a b) c
+pub tableau-sized : (q : Query) → SizedFor 12 q → SizedFor 24 (asQuery (tableauOf q))
+tableau-sized q sized =
+    record {
+      head = sized .head;
+      relations = length-append (q .relations) (replicate 12 0) ∙ omega (arith, sized .relations);
+      cells = length-append (q .cells) (replicate 96 noCell) ∙ omega (arith, sized .cells);
+    }
 
 -- ---- 4. the query of a tableau
 
@@ -163,12 +159,12 @@ room-back t =
       cells = take-append-drop 96 (t .cells) i;
     }
 
-module _ (schema : List ℕ) (t : Tableau) (shaped : shapedTableau t ≡ true) (fits : t .size ≤ 12) where
+module _ (schema : List ℕ) (t : Tableau) (sized : SizedFor 24 (asQuery t)) (fits : t .size ≤ 12) where
   rows-first : t .size ≤ length (take 12 (t .relations))
-  rows-first = let s = shaped-sized 24 (asQuery t) shaped in rw length-take (omega (arith, s .relations))
+  rows-first = rw length-take (omega (arith, sized .relations))
 
   cells-first : 8 * t .size ≤ length (take 96 (t .cells))
-  cells-first = let s = shaped-sized 24 (asQuery t) shaped in rw length-take (omega (arith, s .cells))
+  cells-first = rw length-take (omega (arith, sized .cells))
 
   -- It stands for the query that the tableau stands for
   pub stored-query : ((i : ℕ) → getD schema i 0 ≤ 8) → queryOf schema (storedOf t) ≡ queryOf schema (asQuery t)
@@ -186,12 +182,10 @@ module _ (schema : List ℕ) (t : Tableau) (shaped : shapedTableau t ≡ true) (
   stored-safe narrow = safe-same schema (storedOf t) (asQuery t) (stored-query narrow)
 
 -- Its arrays are for 12 rows
-pub stored-shaped : (t : Tableau) → shapedTableau t ≡ true → shapedQuery (storedOf t) ≡ true
-stored-shaped t shaped =
-    let s = shaped-sized 24 (asQuery t) shaped in
-    let relations : length (take 12 (t .relations)) ≡ 12 = length-take-le 12 (t .relations) (omega (arith, s .relations)) in
-    let cells : length (take 96 (t .cells)) ≡ 96 = length-take-le 96 (t .cells) (omega (arith, s .cells)) in
-    let a : eqb (length (t .head)) 8 ≡ true = eq-eqb (length (t .head)) 8 (s .head) in
-    let b : eqb (length (take 12 (t .relations))) 12 ≡ true = eq-eqb (length (take 12 (t .relations))) 12 relations in
-    let c : eqb (length (take 96 (t .cells))) 96 ≡ true = eq-eqb (length (take 96 (t .cells))) 96 cells in
-    and-both _ _ (and-both _ _ a b) c
+pub stored-sized : (t : Tableau) → SizedFor 24 (asQuery t) → SizedFor 12 (storedOf t)
+stored-sized t sized =
+    record {
+      head = sized .head;
+      relations = length-take-le 12 (t .relations) (omega (arith, sized .relations));
+      cells = length-take-le 96 (t .cells) (omega (arith, sized .cells));
+    }
