@@ -27,7 +27,7 @@ use Rattle.lists.proofs.Tests.{below-or-past, every-getD, used-blank, used-all}
 use Rattle.lists.proofs.Positions.{getD-in, in-getD, length-none}
 use Rattle.query.proofs.Good.{GoodUpTo, good-query}
 use Rattle.query.proofs.Stored.{Within, entry-within, blank-good, row-at, row-parts}
-use Rattle.query.proofs.Shape.{head-length, row-count, rowFrom, row-is, column-is, head-is, blank-cell}
+use Rattle.query.proofs.Shape.{SizedFor, head-length, row-count, rowFrom, row-is, column-is, head-is, blank-cell}
 use Rattle.mapping.specs.internal.Mapped.{Narrow}
 use Rattle.mapping.specs.internal.Lines.{cellAt, entryAt}
 use Rattle.mapping.proofs.Wide.{Wide}
@@ -54,13 +54,7 @@ cell-head most q i =
     (le-ltb (8 * most + i) (8 * most) (omega arith))
     ∙ ap (λ (j : ℕ). getD (q .head) j noCell) back
 
--- The three arrays of a query are as long as their types say
-pub record Sizes (most : ℕ) (q : Query) : Type 0 where
-  pub head : length (q .head) ≡ 8
-  pub relations : length (q .relations) ≡ most
-  pub cells : length (q .cells) ≡ 8 * most
-
-module _ (most : ℕ) (schema : List ℕ) (q : Query) (good : goodUpTo most schema q ≡ true) (sizes : Sizes most q) where
+module _ (most : ℕ) (schema : List ℕ) (q : Query) (good : goodUpTo most schema q ≡ true) (sizes : SizedFor most q) where
   parts : GoodUpTo most schema q
   parts = good-query most schema q good
 
@@ -232,7 +226,7 @@ module _ (most : ℕ) (schema : List ℕ) (q : Query) (good : goodUpTo most sche
 -- ---- 3. rows of two queries
 
 module _ (most : ℕ) (schema : List ℕ) (narrow : Narrow schema) (source target : Query) (good : goodQuery schema source ≡ true)
-    (good' : goodUpTo most schema target ≡ true) (sizes : Sizes 12 source) (sizes' : Sizes most target) where
+    (good' : goodUpTo most schema target ≡ true) (sizes : SizedFor 12 source) (sizes' : SizedFor most target) where
   -- Row r of the source and row d of the target
   abbrev sourceRow : ℕ → theory.Row theory.Entry
   sourceRow r = rowFrom schema (source .cells) (8 * r) (getD (source .relations) r 0)

@@ -16,6 +16,7 @@ use Rattle.query.specs.declared.Tableau.{Tableau}
 use Rattle.query.specs.View.{entryOf, queryOf, asQuery, imagesOf}
 use Rattle.query.specs.Rule.{noCell}
 use Rattle.query.proofs.Good.{good-query}
+use Rattle.query.proofs.Shape.{SizedFor}
 use Rattle.query.proofs.Codes.{code-below}
 use Rattle.consistency.specs.internal.Solution.{Solution}
 use Rattle.lists.specs.internal.Tells.{Tells}
@@ -25,7 +26,7 @@ use Rattle.mapping.specs.internal.Lines.{cellAt, entryAt, entryIn, Carri
 use Rattle.lists.proofs.Positions.{tells-false}
 use Rattle.mapping.proofs.Checked.{tells-test}
 use Rattle.mapping.proofs.Wide.{Wide, wide-solution, chosen-small, solution-wide}
-use Rattle.mapping.proofs.Lines.{Sizes, all-within, mapping-wide, wide-mapping, mapping-arity}
+use Rattle.mapping.proofs.Lines.{all-within, mapping-wide, wide-mapping, mapping-arity}
 
 -- ---- 1. the lines of two good queries
 
@@ -52,13 +53,13 @@ pub line-code : (most : ℕ) (q : Query) (cells : List Cell) (codes : List ℕ) 
     → ((k : ℕ) → k < 8 * most + 8 → getD codes k 0 ≡ freeze 2147483648 (entryIn cells k)) → CodesOf most q codes
 line-code most q cells codes line is k h = is k h ∙ ap (freeze 2147483648) (line-entry most q cells line k h)
 
-pub code-small : (q : Query) → Storable q → Sizes 12 q → (codes : List ℕ) → CodesOf 12 q codes → (k : ℕ) → k < 104 → getD codes k 0 < 2147483744
+pub code-small : (q : Query) → Storable q → SizedFor 12 q → (codes : List ℕ) → CodesOf 12 q codes → (k : ℕ) → k < 104 → getD codes k 0 < 2147483744
 code-small q s sizes codes is k h =
     subst (λ (n : ℕ). n < 2147483744) (sym (is k h)) (code-below (entryAt 12 q k) (all-within 12 (s .0) q (s .1) sizes k h))
 
 -- ---- 2. checking
 
-module _ (source target : Query) (images : List Cell) (sizes : Sizes 12 source) (sizes' : Sizes 12 target) where
+module _ (source target : Query) (images : List Cell) (sizes : SizedFor 12 source) (sizes' : SizedFor 12 target) where
   abbrev Good : Type 0
   Good = Wide 96 (entryAt 12 source) (entryAt 12 target) (source .relations) (target .relations) (source .size) (target .size) (imagesOf images)
 
@@ -132,7 +133,7 @@ module _ (source target : Query) (images : List Cell) (sizes : Sizes 12 source) 
 
 -- ---- 3. finding
 
-module _ (source : Query) (target : Tableau) (sizes : Sizes 12 source) (sizes' : Sizes 24 (asQuery target)) where
+module _ (source : Query) (target : Tableau) (sizes : SizedFor 12 source) (sizes' : SizedFor 24 (asQuery target)) where
   -- A mapping by positions
   abbrev WideTo : (ℕ → Entry) → Type 0
   WideTo f = Wide 192 (entryAt 12 source) (entryAt 24 (asQuery target)) (source .relations) (target .relations) (source .size) (target .size) f

@@ -14,7 +14,7 @@ use native.Mathlib.Omega.{arith}
 use Rattle.mapping.specs.internal.Lines.{choiceOf}
 use Rattle.candidates.specs.internal.Candidates.{Laid}
 use Rattle.mapping.specs.internal.Mapped.{Finds}
-use Rattle.mapping.proofs.Lines.{Sizes}
+use Rattle.query.proofs.Shape.{SizedFor}
 use Rattle.mapping.proofs.Results.{storable-size, tableau-size, CodesOf, line-code, code-small, none-size, none-solution, solution-small, found-solution}
 use Rattle.mapping.proofs.find.Statement.{statement}
 use Rattle.mapping.proofs.find.Tie as tie
@@ -73,10 +73,10 @@ After-solve = lts.After-solve claims reads.Pre reads.Post
 abbrev After-assign : Type 0
 After-assign = lts.After-assign claims reads.Pre reads.Post
 
-source-sizes : (c : Start) → Sizes 12 (c .args .source)
+source-sizes : (c : Start) → SizedFor 12 (c .args .source)
 source-sizes c = record { head = search (mapped-length, needs); relations = search (mapped-length, needs); cells = search (mapped-length, needs) }
 
-target-sizes : (c : Start) → Sizes 24 (asQuery (c .args .target))
+target-sizes : (c : Start) → SizedFor 24 (asQuery (c .args .target))
 target-sizes c = record { head = search (mapped-length, needs); relations = search (mapped-length, needs); cells = search (mapped-length, needs) }
 
 from-long : (c : After-codes) → length (c .codes .result) ≡ 104
