@@ -1,4 +1,4 @@
--- What a caller of the chase has to show, from the rule for the record: good relations, dependencies and query; and what it can conclude
+-- What a caller of the chase has to show, from the rule for the record: good relations, dependencies and tableau; and what it can conclude
 -- besides: the count is at most the number of different variables, and a safe head stays safe. Assumes nothing.
 use mathlib.Core.Path.{_≡_, refl, sym}
 use mathlib.Core.Bool.{true, not, _&&_}
@@ -9,11 +9,11 @@ use borrow.Author.Tests.{leb-true, ltb-true, lt-ltb}
 use lib.Dec.{eqb, leb, ltb}
 use lib.ListN.{length, take, drop, getD, replicate}
 use lib.Seq.{getD-take}
-use Rattle.query.specs.declared.Query.{Query}
+use Rattle.query.specs.declared.Tableau.{Tableau}
 use Rattle.query.specs.declared.Dependency.{Dependency}
-use Rattle.query.specs.View.{queryOf, heldOf}
+use Rattle.query.specs.View.{queryOf, asQuery, heldOf}
 use Rattle.lists.specs.Tests.{every, between, isZero, inUse}
-use Rattle.query.specs.Rule.{blankDependency, goodRelations, goodSet, goodDependency, goodDependencies, goodQuery, noDependency}
+use Rattle.query.specs.Rule.{blankDependency, goodRelations, goodSet, goodDependency, goodDependencies, goodTableau, noDependency}
 use Rattle.chase.specs.declared.Chased.{Chased}
 use Rattle.first_step.specs.internal.Wide.{Chasable}
 use Rattle.chase.specs.internal.Outcome.{IsChased}
@@ -61,12 +61,12 @@ good-right schema widths d good =
     good) in
     lt-ltb (d .right) 8 (omega (arith, width-le schema widths (d .relation)))
 
--- A good query and good dependencies can be chased
-pub chasable : (schema : List ℕ) (held : ℕ) (dependencies : List Dependency) (q : Query) → every (between 1 8) schema ≡ true
-    → goodDependencies schema held dependencies ≡ true → goodQuery schema q ≡ true → Chasable q dependencies held
+-- A good tableau and good dependencies can be chased
+pub chasable : (schema : List ℕ) (held : ℕ) (dependencies : List Dependency) (t : Tableau) → every (between 1 8) schema ≡ true
+    → goodDependencies schema held dependencies ≡ true → goodTableau schema t ≡ true → Chasable t dependencies held
 unfolding goodDependencies
-chasable schema held dependencies q widths good good-q =
-    let p = good-query 12 schema q good-q in
+chasable schema held dependencies t widths good good-t =
+    let p = good-query 24 schema (asQuery t) good-t in
     let used = inUse held (goodDependency schema) blankDependency dependencies in
     let each : every (goodDependency schema) (take held dependencies) ≡ true
     = and-left
@@ -88,9 +88,9 @@ chasable schema held dependencies q widths good good-q =
 -- ---- what follows of the result
 
 -- The count is at most the number of different variables of the query
-pub chased-count : {schema : List ℕ} {dependencies : List Dependency} {held : ℕ} {q : Query} {r : Chased} → IsChased schema dependencies held q r
-    → r .count ≤ variableCount (queryOf schema q)
-chased-count {schema} {dependencies} {held} {q} c = rw (c .count-is) (chase-count-le (heldOf dependencies held) (queryOf schema q))
+pub chased-count : {schema : List ℕ} {dependencies : List Dependency} {held : ℕ} {t : Tableau} {r : Chased} → IsChased schema dependencies held t r
+    → r .count ≤ variableCount (queryOf schema (asQuery t))
+chased-count {schema} {dependencies} {held} {t} c = rw (c .count-is) (chase-count-le (heldOf dependencies held) (queryOf schema (asQuery t)))
 
 -- The chase keeps each head variable in a row
 pub chases-safe : {ds : List database.Dependency} {q result : theory.Query} {count : ℕ} → Chases ds q result count

@@ -13,7 +13,8 @@ use Rattle.query.specs.declared.Entry.the-variants.{Constant, Variable}
 use Rattle.query.specs.declared.Cell.{Cell}
 use Rattle.query.specs.declared.Query.{Query}
 use Rattle.lists.specs.Tests.{every, inUse}
-use Rattle.query.specs.Rule.{blankEntry, blankCell, goodEntry, goodCell, goodRow, goodRows, headInUse, goodQuery, neverQuery}
+use Rattle.query.specs.View.{asQuery}
+use Rattle.query.specs.Rule.{blankEntry, blankCell, goodEntry, goodCell, goodRow, goodRows, headInUse, goodUpTo, goodTableau, neverTableau}
 use Rattle.lists.proofs.Tests.{and-right, used-good, used-blank, used-whole}
 use Rattle.lists.proofs.Maps.{take-map, drop-map, every-map}
 use Rattle.query.proofs.Good.{good-query, make-query}
@@ -67,10 +68,10 @@ module _ (v : ℕ) (e : Entry) (good : goodEntry e ≡ true) where
       (rows-kept schema relations (drop 8 cells) (parts .2))
 
   -- A replacement by a good entry keeps a query good
-  pub good-kept : (schema : List ℕ) (q : Query) → goodQuery schema q ≡ true → goodQuery schema (mapCells (substituteCell v e) q) ≡ true
-  good-kept schema q good-q =
-      let p = good-query 12 schema q good-q in
-      make-query 12 schema (mapCells (substituteCell v e) q)
+  pub good-kept : (most : ℕ) (schema : List ℕ) (q : Query) → goodUpTo most schema q ≡ true → goodUpTo most schema (mapCells (substituteCell v e) q) ≡ true
+  good-kept most schema q good-q =
+      let p = good-query most schema q good-q in
+      make-query most schema (mapCells (substituteCell v e) q)
       (record {
         arity = p .arity;
         size = p .size;
@@ -81,7 +82,7 @@ module _ (v : ℕ) (e : Entry) (good : goodEntry e ≡ true) where
       })
 
 -- The never query is good
-pub never-good : (schema : List ℕ) (arity : ℕ) → arity ≤ 8 → goodQuery schema (neverQuery arity) ≡ true
+pub never-good : (schema : List ℕ) (arity : ℕ) → arity ≤ 8 → goodTableau schema (neverTableau arity) ≡ true
 unfolding goodRows every
 never-good schema arity fits =
-    make-query 12 schema (neverQuery arity) (record { arity = fits; size = omega arith; head = refl; rows = refl; named = refl; cells = refl })
+    make-query 24 schema (asQuery (neverTableau arity)) (record { arity = fits; size = omega arith; head = refl; rows = refl; named = refl; cells = refl })

@@ -8,6 +8,7 @@ use lib.ListN.{take, drop, getD}
 use Rattle.query.specs.declared.Entry.{Entry}
 use Rattle.query.specs.declared.Cell.{Cell}
 use Rattle.query.specs.declared.Query.{Query}
+use Rattle.query.specs.declared.Tableau.{Tableau}
 use Rattle.query.specs.declared.Dependency.{Dependency}
 use Rattle.query.specs.View.{entryOf, entriesOf}
 use Rattle.query.specs.Rule.{goodEntry, noDependency}
@@ -59,9 +60,9 @@ goodNextStep (Step a b) = goodEntry a && goodEntry b
 
 -- ---- what the search asks
 
--- What the chase asks of its caller, so that each cell that it reads is there: every good query and good dependencies have it
-pub record Chasable (q : Query) (dependencies : List Dependency) (held : ℕ) : Type 0 where
-  pub arity-fits : q .arity ≤ 8
-  pub size-fits : q .size ≤ 12
+-- What the chase asks of its caller, so that each cell that it reads is there: every good tableau and good dependencies have it
+pub record Chasable (t : Tableau) (dependencies : List Dependency) (held : ℕ) : Type 0 where
+  pub arity-fits : t .arity ≤ 8
+  pub size-fits : t .size ≤ 24
   pub held-fits : held ≤ 32
   pub right-fits : (d : ℕ) → d < held → getD dependencies d noDependency .right < 8

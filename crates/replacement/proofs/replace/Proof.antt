@@ -12,9 +12,9 @@ substitute-cells-requires c κs = search needs
 
 returns : tie.Need-returns
 returns c =
-    let q = c .before .before .before .before .before .args .q in
+    let t = c .before .before .before .before .before .args .t in
     ap₂
-    (λ head cells. record { arity = q .arity; size = q .size; head = head; relations = q .relations; cells = cells })
+    (λ head cells. record { arity = t .arity; size = t .size; head = head; relations = t .relations; cells = cells })
     (c .before .substitute-head .ensures)
     (c .substitute-cells .ensures)
 

@@ -8,10 +8,10 @@ use Rattle.replacement.proofs.substitute_cells.Statement.{statement}
 use Rattle.replacement.proofs.substitute_cells.Tie as tie
 
 abbrev Inv-loop : tie.InvT-loop
-Inv-loop v e cells out₀ k₀ out k = (k ≤ 96) × (out ≡ mapFirst (substituteCell v e) k cells)
+Inv-loop v e cells out₀ k₀ out k = (k ≤ 192) × (out ≡ mapFirst (substituteCell v e) k cells)
 
 abbrev μ-loop : tie.MeasureT-loop
-μ-loop v e cells out₀ k₀ out k = 96 - k
+μ-loop v e cells out₀ k₀ out k = 192 - k
 
 loop-holds : tie.Need-loop-holds Inv-loop μ-loop
 loop-holds c = (search needs, mapFirst-none _ _)
@@ -41,7 +41,7 @@ loop-again : tie.Need-loop-again Inv-loop μ-loop
 loop-again c = (search needs, mapFirst-more _ _ _ _ _ _ (c .before .before .before .loop .inv .1) (c .substitute .ensures) (search needs))
 
 returns : tie.Need-returns Inv-loop μ-loop
-returns c = mapFirst-done _ _ 96 _ _ (c .before .loop .inv .1) (search needs) (search needs)
+returns c = mapFirst-done _ _ 192 _ _ (c .before .loop .inv .1) (search needs) (search needs)
 
 pub substitute-cells-spec : {M : Type 1} → statement M
 substitute-cells-spec =
