@@ -1,0 +1,2 @@
+-- The proofs of the statements of specs/.
+pub mod Fitting
