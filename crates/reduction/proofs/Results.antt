@@ -94,28 +94,25 @@ result-of {schema} ds q {query} {result} is p =
     }
 
 -- A search that must find a mapping finds it
-found-mapping : {schema : List ℕ} {source target : Query} {r : Mapped} → IsMapped schema source target r
-    → Mapping (queryOf schema source) (queryOf schema target)
-    → IsMapping (queryOf schema source) (queryOf schema target) (imagesOf (r .images))
-found-mapping {schema} {source} {target} {r} is m = go (r .found) refl
+found-mapping : {S T : theory.Query} {r : Mapped} → IsMapped S T r → Mapping S T → IsMapping S T (imagesOf (r .images))
+found-mapping {S} {T} {r} is m = go (r .found) refl
   where
-    go : (b : Bool) → r .found ≡ b → IsMapping (queryOf schema source) (queryOf schema target) (imagesOf (r .images))
+    go : (b : Bool) → r .found ≡ b → IsMapping S T (imagesOf (r .images))
     go true e = is .mapping e
     go false e = absurd (is .none e m)
 
 -- One that can find none leaves blanks
-found-none : {schema : List ℕ} {source target : Query} {r : Mapped} → IsMapped schema source target r → queryOf schema target .rows ≡ []
-    → r .images ≡ replicate 96 noCell
-found-none {schema} {source} {target} {r} is empty = go (r .found) refl
+found-none : {S T : theory.Query} {r : Mapped} → IsMapped S T r → T .rows ≡ [] → r .images ≡ replicate 96 noCell
+found-none {S} {T} {r} is empty = go (r .found) refl
   where
     go : (b : Bool) → r .found ≡ b → r .images ≡ replicate 96 noCell
-    go true e = absurd (mapping-target (queryOf schema source) (queryOf schema target) (imagesOf (r .images), is .mapping e) empty)
+    go true e = absurd (mapping-target S T (imagesOf (r .images), is .mapping e) empty)
     go false e = is .blank e
 
 pub shortened : (schema : List ℕ) (ds : List database.Dependency) (q query result : Query) (count : ℕ) (mapped : Mapped)
     → every (between 1 8) schema ≡ true → 8 * q .size ≤ length (q .cells) → goodQuery schema q ≡ true → headSafe schema q ≡ true
     → queryOf schema query ≡ chase ds (queryOf schema q) .query → count ≡ chase ds (queryOf schema q) .count → IsCoreOf schema query result
-    → IsMapped schema q result mapped
+    → IsMapped (queryOf schema q) (queryOf schema result) mapped
     → IsShortened schema ds q (record { query = result; count = count; images = mapped .images })
 unfolding headSafe
 shortened schema ds q query result count mapped widths long good safe is counted p m =

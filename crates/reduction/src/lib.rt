@@ -60,7 +60,7 @@ fn shorten(q: Query, dependencies: [Dependency; 32], held: usize) -> Shortened
     let tableau = chased.query;
     let query = to_query(tableau);
     let result = core::core_of(query);
-    let mapped = mapping::find(q, result);
+    let mapped = mapping::find(q, from_query(result));
     let images = mapped.images;
     Shortened {
         query: result,
