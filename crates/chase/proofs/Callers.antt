@@ -80,6 +80,7 @@ chasable schema held dependencies t widths good good-t =
           let at : getD (take held dependencies) d noDependency ≡ getD dependencies d noDependency = getD-take held dependencies d noDependency h in
           rw at at (ltb-true (getD (take held dependencies) d noDependency .right) 8
           (every-getD-else (λ x. ltb (x .right) 8) (take held dependencies) d noDependency rights refl));
+      rest-blank = p .cells;
     }
 
 -- ---- what follows of the result
