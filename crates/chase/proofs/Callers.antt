@@ -1,5 +1,5 @@
 -- What a caller of the chase has to show, from the rule for the record: good relations, dependencies and tableau; and what it can conclude
--- besides: the count is at most the number of different variables, and a safe head stays safe. Assumes nothing.
+-- besides: a safe head stays safe. Assumes nothing.
 use mathlib.Core.Path.{_≡_, refl, sym}
 use mathlib.Core.Bool.{true, not, _&&_}
 use mathlib.Core.List.{List}
@@ -11,24 +11,21 @@ use lib.ListN.{length, take, drop, getD, replicate}
 use lib.Seq.{getD-take}
 use Rattle.query.specs.declared.Tableau.{Tableau}
 use Rattle.query.specs.declared.Dependency.{Dependency}
-use Rattle.query.specs.View.{queryOf, asQuery, heldOf}
+use Rattle.query.specs.View.{asQuery}
 use Rattle.lists.specs.Tests.{every, between, isZero, inUse}
 use Rattle.query.specs.Rule.{blankDependency, goodRelations, goodSet, goodDependency, goodDependencies, goodTableau, noDependency}
-use Rattle.chase.specs.declared.Chased.{Chased}
 use Rattle.first_step.specs.internal.Wide.{Chasable}
-use Rattle.chase.specs.internal.Outcome.{IsChased}
 use Rattle.lists.proofs.Tests.{every-weaken}
 use Rattle.lists.proofs.Positions.{every-getD-else}
 use Rattle.query.proofs.Good.{good-query}
 use Rattle.theory.specs.Query as theory
-use Rattle.theory.specs.Query.{constant, variable, rowEntries, variablesOf, variableCount, _∈_}
+use Rattle.theory.specs.Query.{constant, variable, rowEntries, variablesOf, _∈_}
 use Rattle.theory.specs.Database as database
 use Rattle.theory.specs.Chase.{Chases, rests, clashes, replaces}
 use Rattle.lists.proofs.Tests.{and-left, and-right}
 use Rattle.theory.proofs.Lists.{replicate-mem}
 use Rattle.theory.proofs.Entries.{constant-variable, variablesOf-mem}
 use Rattle.theory.proofs.Replacement.{replace-head-safe}
-use Rattle.theory.proofs.Chase.{chase-count-le}
 
 -- The widths that good relations give are 1 to 8
 pub good-widths : (relations : ℕ) (widths : List ℕ) → goodRelations relations widths ≡ true → every (between 1 8) (take relations widths) ≡ true
@@ -83,14 +80,10 @@ chasable schema held dependencies t widths good good-t =
           let at : getD (take held dependencies) d noDependency ≡ getD dependencies d noDependency = getD-take held dependencies d noDependency h in
           rw at at (ltb-true (getD (take held dependencies) d noDependency .right) 8
           (every-getD-else (λ x. ltb (x .right) 8) (take held dependencies) d noDependency rights refl));
+      rest-blank = p .cells;
     }
 
 -- ---- what follows of the result
-
--- The count is at most the number of different variables of the query
-pub chased-count : {schema : List ℕ} {dependencies : List Dependency} {held : ℕ} {t : Tableau} {r : Chased} → IsChased schema dependencies held t r
-    → r .count ≤ variableCount (queryOf schema (asQuery t))
-chased-count {schema} {dependencies} {held} {t} c = rw (c .count-is) (chase-count-le (heldOf dependencies held) (queryOf schema (asQuery t)))
 
 -- The chase keeps each head variable in a row
 pub chases-safe : {ds : List database.Dependency} {q result : theory.Query} {count : ℕ} → Chases ds q result count

@@ -41,16 +41,18 @@ good-row schema relation relations cells p =
     let row = row-parts schema relation (take 8 cells) (row-at schema (relation ∷ relations) cells 0 p (omega arith)) in
     (row .0, row .1, and-right (goodRow schema relation (take 8 cells)) (goodRows schema relations (drop 8 cells)) p)
 
-module _ (v : ℕ) (e : Entry) (good : goodEntry e ≡ true) where
-  unused-kept : (n : ℕ) (cells : List Cell) → every blankCell (drop n cells) ≡ true → every blankCell (drop n (map (substituteCell v e) cells)) ≡ true
-  unused-kept n cells p = rw drop-map (every-map blankCell blankCell (substituteCell v e) (λ c. substitute-blank v e (c .entry)) (drop n cells) p)
+-- so cells that are not in use stay blank
+pub unused-kept : (v : ℕ) (e : Entry) (n : ℕ) (cells : List Cell) → every blankCell (drop n cells) ≡ true
+    → every blankCell (drop n (map (substituteCell v e) cells)) ≡ true
+unused-kept v e n cells p = rw drop-map (every-map blankCell blankCell (substituteCell v e) (λ c. substitute-blank v e (c .entry)) (drop n cells) p)
 
+module _ (v : ℕ) (e : Entry) (good : goodEntry e ≡ true) where
   used-kept : (n : ℕ) (cells : List Cell) → inUse n goodCell blankCell cells ≡ true → inUse n goodCell blankCell (map (substituteCell v e) cells) ≡ true
   used-kept n cells p =
       used-whole n goodCell blankCell (map (substituteCell v e) cells)
       (rw take-map (every-map goodCell goodCell (substituteCell v e) (λ c. substitute-good v e good (c .entry)) (take n cells)
       (used-good n goodCell blankCell cells p)))
-      (unused-kept n cells (used-blank n goodCell blankCell cells p))
+      (unused-kept v e n cells (used-blank n goodCell blankCell cells p))
 
   rows-kept : (schema relations : List ℕ) (cells : List Cell) → goodRows schema relations cells ≡ true
       → goodRows schema relations (map (substituteCell v e) cells) ≡ true
@@ -78,7 +80,7 @@ module _ (v : ℕ) (e : Entry) (good : goodEntry e ≡ true) where
         head = used-kept (headInUse q) (q .head) (p .head);
         rows = rows-kept schema (take (q .size) (q .relations)) (q .cells) (p .rows);
         named = p .named;
-        cells = unused-kept (8 * q .size) (q .cells) (p .cells);
+        cells = unused-kept v e (8 * q .size) (q .cells) (p .cells);
       })
 
 -- The never query is good

@@ -19,7 +19,7 @@ use Rattle.query.specs.declared.Query as stored
 use Rattle.query.specs.declared.Tableau.{Tableau}
 use Rattle.query.specs.View.{entryOf, entriesOf, queryOf, asQuery, heldOf}
 use Rattle.lists.specs.Tests.{every, between}
-use Rattle.query.specs.Rule.{goodEntry, goodCell, goodUpTo, goodTableau, neverTableau, noCell}
+use Rattle.query.specs.Rule.{goodEntry, goodCell, blankCell, goodUpTo, goodTableau, neverTableau, noCell}
 use Rattle.first_step.specs.declared.NextStep.the-variants.{Rest, Step}
 use Rattle.replacement.specs.declared.Resolution.{Resolution}
 use Rattle.replacement.specs.declared.Resolution.the-variants.{Clash, Replace}
@@ -31,7 +31,7 @@ use Rattle.chase.specs.internal.Outcome.{IsChased}
 use Rattle.lists.proofs.Maps.{drop-map, take-replicate, map-replicate}
 use Rattle.query.proofs.Stored.{all-cells}
 use Rattle.chase.proofs.View.{StandsFor, entriesOf-take}
-use Rattle.chase.proofs.Good.{good-kept, never-good}
+use Rattle.chase.proofs.Good.{unused-kept, good-kept, never-good}
 use Rattle.chase.proofs.Callers.{width-le}
 use Rattle.chase.proofs.Narrow.{step-differing, chases-narrow, wide-padded, narrow-wide}
 use Rattle.theory.specs.Query.{Entry, constant, variable, never, mapRow, mapQuery, rowEntries, variablesOf, member, distinct, variableCount}
@@ -122,16 +122,18 @@ pub record Under (q : stored.Query) (ds : List Dependency) (query : stored.Query
   pub same-relations : query .relations ≡ q .relations
   pub head-length : length (query .head) ≡ length (q .head)
   pub keeps-good : (schema : List ℕ) → goodUpTo 24 schema q ≡ true → goodUpTo 24 schema query ≡ true
+  pub rest-blank : every blankCell (drop (8 * query .size) (query .cells)) ≡ true
   pub chase-is : chase ds (wideQuery q) ≡ later count (chase ds (wideQuery query))
 
-pub under-start : (q : stored.Query) (ds : List Dependency) → Under q ds q 0
-under-start q ds =
+pub under-start : (q : stored.Query) (ds : List Dependency) → every blankCell (drop (8 * q .size) (q .cells)) ≡ true → Under q ds q 0
+under-start q ds blank =
     record {
       same-arity = refl;
       same-size = refl;
       same-relations = refl;
       head-length = refl;
       keeps-good = λ schema good. good;
+      rest-blank = blank;
       chase-is = ap (λ n. record { query = chase ds (wideQuery q) .query; count = n }) (sym (zero-add (chase ds (wideQuery q) .count)));
     }
 
@@ -202,6 +204,7 @@ module _
               schema
               query
               good-query;
+          rest-blank = unused-kept v e (8 * query .size) (query .cells) (under .rest-blank);
           chase-is = under .chase-is ∙ ap (later count) one-replaced ∙ ap (λ n. record { query = after .query; count = n }) one;
         }
 

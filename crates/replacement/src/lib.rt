@@ -3,11 +3,13 @@ use query::Cell;
 use query::Entry;
 use query::Tableau;
 ghost use mathlib.Core.Path.{_≡_};
-ghost use mathlib.Core.Bool.{Bool};
+ghost use mathlib.Core.Bool.{Bool, true};
 ghost use mathlib.Core.List.{map};
-ghost use Prim.Native.Nat.{ℕ, _≤_};
-ghost use lib.ListN.{take};
+ghost use Prim.Native.Nat.{ℕ, _*_, _≤_};
+ghost use lib.ListN.{take, drop};
 ghost use Rattle.query.specs.View.{entryOf, entriesOf, asQuery};
+ghost use Rattle.query.specs.Rule.{blankCell};
+ghost use Rattle.lists.specs.Tests.{every};
 ghost use Rattle.replacement.specs.internal.Replacement.{headHolds, entryInHead, resolutionOf, Survivor, substituteCell, mapCells};
 ghost use Rattle.theory.specs.Query as theory;
 ghost use Rattle.theory.specs.Chase as chasing;
@@ -120,26 +122,28 @@ fn substitute_head(head: [Cell; 8], v: u8, e: Entry) -> [Cell; 8]
     out
 }
 
-// The same in each cell of the rows.
-fn substitute_cells(cells: [Cell; 192], v: u8, e: Entry) -> [Cell; 192]
+// The same in each of the first `used` cells of the rows. Those after them are not in use and hold a constant, which stays.
+fn substitute_cells(cells: [Cell; 192], used: usize, v: u8, e: Entry) -> [Cell; 192]
+    requires { ⌜ (used ≤ 192) × (every blankCell (drop used cells) ≡ true) ⌝ }
     ensures { λ r. ⌜ r ≡ map (substituteCell v e) cells ⌝ }
 {
     let mut out = cells;
-    for k in 0..192 {
+    for k in 0..used {
         out[k] = substitute(cells[k], v, e);
     }
     out
 }
 
-// Entry e in place of variable v, in the head and in all rows. Cells that are not in use hold a constant, which stays.
+// Entry e in place of variable v, in the head and in all rows.
 pub fn replace(t: Tableau, v: u8, e: Entry) -> Tableau
+    requires { ⌜ (t .size ≤ 24) × (every blankCell (drop (8 * t .size) (t .cells)) ≡ true) ⌝ }
     ensures { λ r. ⌜ asQuery r ≡ mapCells (substituteCell v e) (asQuery t) ⌝ }
 {
     let relations = t.relations;
     let head = t.head;
     let cells = t.cells;
     let new_head = substitute_head(head, v, e);
-    let new_cells = substitute_cells(cells, v, e);
+    let new_cells = substitute_cells(cells, 8 * (t.size as usize), v, e);
     Tableau {
         arity: t.arity,
         size: t.size,

@@ -27,7 +27,7 @@ loop-holds : tie.Need-loop-holds Inv-loop μ-loop
 loop-holds c =
     let room : length (c .args .t .relations) ≡ 24 = search (mapped-length, needs) in
     let eight : length (c .args .t .head) ≡ 8 = search (mapped-length, needs) in
-    (room, eight, under-start _ _)
+    (room, eight, under-start _ _ (c .pre .rest-blank))
 
 find-step-requires : tie.Need-find-step-requires Inv-loop μ-loop
 find-step-requires c κs =
@@ -38,6 +38,7 @@ find-step-requires c κs =
       size-fits = rw (u .same-size) (p .size-fits);
       held-fits = p .held-fits;
       right-fits = p .right-fits;
+      rest-blank = u .rest-blank;
     }
 
 enum-known-found : tie.Need-enum-known-found Inv-loop μ-loop
@@ -108,7 +109,10 @@ returns-2 c =
     (rw (c .before .enum-told2 .given .1) at (c .before .before .before .resolve .ensures)))
 
 replace-requires : tie.Need-replace-requires Inv-loop μ-loop
-replace-requires c κs = search needs
+replace-requires c κs =
+    let s = c .before .before .before .before .before .before .before .before .before in
+    let l = c .before .before .before .before .before .before .before .before .loop in
+    (rw (l .inv .2 .same-size) (s .pre .size-fits), l .inv .2 .rest-blank)
 
 -- The dependencies and the query before a replacement
 abbrev heldAt : tie.After-replace Inv-loop μ-loop → List Dependency
