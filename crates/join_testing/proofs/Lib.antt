@@ -5,5 +5,6 @@ pub mod Bits
 pub mod Having
 pub mod Reaching
 pub mod Searching
+pub mod Finding
 -- What the answer of a test means.
 pub mod Means

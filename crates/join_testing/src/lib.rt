@@ -5,15 +5,19 @@
 // the words: slower, and never wrong.
 // `heads` has a word for each bucket of each of 5 tables, and `nodes` six for each word of the database: a link to the row before, and one for each table.
 use query::JoinDependency;
+use words::Violation;
 ghost use mathlib.Core.Path.{_≡_};
 ghost use mathlib.Core.Bool.{true, false};
 ghost use mathlib.Core.List.{List};
 ghost use Prim.Native.Nat.{ℕ, suc, _+_, _*_, _/_, _%_, _^_, _≤_, _<_};
 ghost use lib.ListN.{length, getD};
-ghost use Rattle.words.specs.Words.{spellsRows};
-ghost use Rattle.join_testing.specs.internal.Starts.{BeginsAt, Has, Known};
+ghost use Rattle.query.specs.View.{joinOf, heldJoins};
+ghost use Rattle.query.specs.Rule.{noJoin};
+ghost use Rattle.words.specs.Words.{spellsRows, databaseOf};
+ghost use Rattle.join_testing.specs.Unmet.{firstChoice, firstUnmetFrom, unmetOf};
+ghost use Rattle.join_testing.specs.internal.Starts.{startOf, rowCount, BeginsAt, Has, Known};
 ghost use Rattle.join_testing.specs.internal.Tables.{Room, Tabled, Reaches, FirstWith};
-ghost use Rattle.join_testing.specs.internal.Search.{filledTo, Searchable, Indexed, Searched};
+ghost use Rattle.join_testing.specs.internal.Search.{filledTo, Searchable, Indexed, Searched, choiceOf};
 
 // The relation whose rows are in the tables, its width, and the number of buckets; 0 where there are no tables.
 struct Index {
@@ -197,4 +201,92 @@ fn search(
         some: false,
         at: [0; 4],
     }
+}
+
+// The tables of a join dependency.
+fn build(
+    words: &[u32],
+    schema: &[u8],
+    j: JoinDependency,
+    heads: &mut [u32],
+    nodes: &mut [u32],
+) -> Index
+    requires { ⌜ Searchable (now schema) (now words) j ⌝ }
+    ensures { λ r. ⌜ Indexed (now (schema .entry)) (now (words .entry)) j r (now (heads .exit)) (now (nodes .exit)) ⌝ }
+{
+    let relation = j.relation as usize;
+    Index {
+        relation: j.relation as u32,
+        width: schema[relation] as usize,
+        buckets: 0,
+    }
+}
+
+// The position of the row that begins at `at`.
+fn position_of(words: &[u32], schema: &[u8], at: usize) -> usize
+    requires { ⌜ spellsRows (now schema) (now words) ≡ true ⌝ }
+    requires { ⌜ ((p : ℕ) × (at ≡ startOf (now schema) (now words) p) × (p ≤ rowCount (now schema) (now words))) ⌝ }
+    ensures { λ r. ⌜ at ≡ startOf (now (schema .entry)) (now (words .entry)) r ⌝ }
+{
+    let mut here: usize = 0;
+    let mut n: usize = 0;
+    while here < at {
+        here = words::next(schema, words, here);
+        n += 1;
+    }
+    n
+}
+
+// The positions of the rows that are chosen for the sets of a join dependency, 0 where there is no set.
+pub enum Choice {
+    At(usize, usize, usize, usize),
+    Absent,
+}
+
+// The first choice of rows for a join dependency that yields a row that is not there.
+fn first_choice(
+    words: &[u32],
+    schema: &[u8],
+    j: JoinDependency,
+    heads: &mut [u32],
+    nodes: &mut [u32],
+) -> Choice
+    requires { ⌜ Searchable (now schema) (now words) j ⌝ }
+    ensures { λ r. ⌜ r ≡ choiceOf (firstChoice (now (schema .entry)) (joinOf j) (databaseOf (now (schema .entry)) (now (words .entry)))) ⌝ }
+{
+    let x = build(words, schema, j, heads, nodes);
+    let found = search(words, schema, j, x, 0, 0, [0; 8], heads, nodes);
+    if !found.some {
+        return Choice::Absent;
+    }
+    let at = found.at;
+    let a = position_of(words, schema, at[0]);
+    let b = position_of(words, schema, at[1]);
+    let c = position_of(words, schema, at[2]);
+    let d = position_of(words, schema, at[3]);
+    Choice::At(a, b, c, d)
+}
+
+// The first of the held join dependencies that the rows do not obey, with its first choice of rows.
+pub fn first_unmet(
+    schema: &[u8],
+    words: &[u32],
+    joins: [JoinDependency; 4],
+    joined: usize,
+    heads: &mut [u32],
+    nodes: &mut [u32],
+) -> Violation
+    requires { ⌜ (joined ≤ 4) × ((k : ℕ) → k < joined → Searchable (now schema) (now words) (getD joins k noJoin)) ⌝ }
+    ensures { λ r. ⌜ r ≡ unmetOf (firstUnmetFrom 0 (now (schema .entry)) (heldJoins joins joined) (databaseOf (now (schema .entry)) (now (words .entry)))) ⌝ }
+{
+    let mut k: usize = 0;
+    while k < joined {
+        let j = joins[k];
+        let found = first_choice(words, schema, j, heads, nodes);
+        if let Choice::At(a, b, c, d) = found {
+            return Violation::Joined(k, a, b, c, d);
+        }
+        k += 1;
+    }
+    Violation::Absent
 }

@@ -1,7 +1,8 @@
 -- The search for a choice of rows: the sets are gone through in order, and the columns of those that have a row are known.
 use mathlib.Core.Path.{_≡_}
 use mathlib.Core.Bool.{true, false}
-use mathlib.Core.List.{List, map}
+use mathlib.Core.List.{List}
+use mathlib.Core.Option.{Option, none, some}
 use Prim.Native.Nat.{ℕ, zero, suc, _+_, _≤_, _<_}
 use lib.Bits.{bitAnd, bitOr}
 use lib.ListN.{length, take, drop, getD}
@@ -14,6 +15,8 @@ use Rattle.joins.specs.Join.{JoinFits}
 use Rattle.join_testing.specs.Meaning.{GoWith, Earlier}
 use Rattle.join_testing.specs.declared.Index.{Index}
 use Rattle.join_testing.specs.declared.Found.{Found}
+use Rattle.join_testing.specs.declared.Choice.{Choice}
+use Rattle.join_testing.specs.declared.Choice.the-variants as choice
 use Rattle.join_testing.specs.internal.Starts.{startOf, rowWith, Known}
 use Rattle.join_testing.specs.internal.Tables.{Room, Tabled}
 
@@ -69,3 +72,8 @@ pub record Searched (schema words : List ℕ) (j : JoinDependency) (x : Index) (
   pub size : length (found .at) ≡ 4
   pub some : found .some ≡ true → FirstFrom schema words j x k values (found .at)
   pub none : found .some ≡ false → (ps : List ℕ) → BreaksFrom schema words j x k values ps → ⊥
+
+-- The positions of a choice of rows that is found
+abbrev pub choiceOf : Option (List ℕ) → Choice
+choiceOf none = choice.Absent
+choiceOf (some ps) = choice.At (getD ps 0 0) (getD ps 1 0) (getD ps 2 0) (getD ps 3 0)
