@@ -1,7 +1,8 @@
 -- The parts of a good record: their lengths, and the file as directory and parts.
 use mathlib.Core.Path.{_≡_, refl, ap, _∙_}
 use mathlib.Core.Bool.{true}
-use mathlib.Core.List.{List, _++_, map, append-assoc, flatMap, flatten}
+use mathlib.Core.List.{List, _∷_, _++_, map, append-assoc, flatMap, flatten}
+use mathlib.Core.Bool.{cond}
 use Prim.Native.Nat.{ℕ, suc, _+_, _*_, _≤_}
 use native.Mathlib.Omega.{arith}
 use lib.ListN.{length, take, length-append, length-map}
@@ -11,12 +12,12 @@ use Rattle.record.specs.View.{schemaOf}
 use Rattle.record.specs.Rule.{goodRecord}
 use Rattle.format.specs.Bytes.{bytesOf}
 use Rattle.format.specs.Format.{byte, sequence, padded}
-use Rattle.format.specs.Parts.{relations, dependency, dependencies}
-use Rattle.format.specs.File.{tableOf, assemble, putPlace, upToFilled, partsOf, fileOf}
+use Rattle.format.specs.Parts.{relations, dependency, dependencies, join, joins}
+use Rattle.format.specs.File.{tableOf, assemble, putJoins, putPlace, upToFilled, partsOf, fileOf}
 use Rattle.format.proofs.Numbers.{length-bytes}
 use Rattle.format.proofs.Directory.{length-table}
 use Rattle.format.proofs.Lengths.{length-flatMap, length-relations}
-use Rattle.assembly.specs.internal.Pieces.{putDependency, dependencyBytes, directoryBytes, partBytes}
+use Rattle.assembly.specs.internal.Pieces.{putDependency, dependencyBytes, joinsBytes, directoryBytes, partBytes}
 use Rattle.record.proofs.Good.{good-record}
 use Rattle.query.proofs.Relations.{relations-bounds}
 
@@ -35,38 +36,54 @@ module _ (r : Record) (good : goodRecord r ≡ true) where
         let k : length (take (r .held) (r .dependencies)) ≡ r .held = length-take-le (r .held) (r .dependencies) (omega (arith, good-record r good .held)) in
         omega arith
 
-    pub parts-long : (n : ℕ) → length (partBytes r n) ≡ 1 + r .relations + (1 + 3 * r .held) + length (flatten (map (putPlace (schemaOf r)) (take n (r .places))))
+    -- part 1 with the join dependencies
+    abbrev pub secondLength : ℕ
+    secondLength = 1 + 3 * r .held + length (joinsBytes (r .joined) (r .joins))
+
+    second-whole : length (dependencyBytes (r .held) (r .dependencies) ++ joinsBytes (r .joined) (r .joins)) ≡ secondLength
+    second-whole =
+        length-append (dependencyBytes (r .held) (r .dependencies)) (joinsBytes (r .joined) (r .joins))
+        ∙ ap (λ (k : ℕ). k + length (joinsBytes (r .joined) (r .joins))) second-long
+
+    pub parts-long : (n : ℕ) → length (partBytes r n) ≡ 1 + r .relations + secondLength + length (flatten (map (putPlace (schemaOf r)) (take n (r .places))))
     parts-long n =
         let a : List ℕ = relations .put (r .relations, r .widths) in
         let b : List ℕ = dependencyBytes (r .held) (r .dependencies) in
+        let j : List ℕ = joinsBytes (r .joined) (r .joins) in
         let c : List ℕ = flatten (map (putPlace (schemaOf r)) (take n (r .places))) in
-        omega (arith, length-append (a ++ b) c, length-append a b, first-long, second-long)
+        omega (arith, length-append (a ++ b ++ j) c, length-append (a ++ b) j, length-append a b, first-long, second-long)
+
+    parts-are : (n : ℕ) → n ≡ upToFilled (r .places)
+        → partsOf r ≡ relations .put (r .relations, r .widths) ∷ (dependencyBytes (r .held) (r .dependencies) ++ joinsBytes (r .joined) (r .joins))
+        ∷ map (putPlace (schemaOf r)) (take n (r .places))
+    unfolding partsOf dependencies sequence byte padded dependency putJoins joins join
+    parts-are n e = rw e
 
     -- the file is the directory and the parts
     pub file-split : (n : ℕ) → n ≡ upToFilled (r .places) → n ≤ length (r .places)
-        → fileOf r ≡ directoryBytes n (1 + r .relations) (1 + 3 * r .held) (map (putPlace (schemaOf r)) (take n (r .places))) ++ partBytes r n
-    unfolding fileOf assemble partsOf tableOf flatten dependencies sequence byte padded dependency
+        → fileOf r ≡ directoryBytes n (1 + r .relations) secondLength (map (putPlace (schemaOf r)) (take n (r .places))) ++ partBytes r n
+    unfolding fileOf assemble tableOf flatten
     file-split n e l =
         let ps : List (List ℕ) = map (putPlace (schemaOf r)) (take n (r .places)) in
         let few : length ps ≡ n = length-map (take n (r .places)) (putPlace (schemaOf r)) ∙ length-take-le n (r .places) l in
         let m : suc (suc n) ≡ n + 2 = omega arith in
-        rw (← e, few, m, first-long, second-long) (simp append-assoc)
+        ap assemble (parts-are n e) ∙ rw (few, m, first-long, second-whole) (simp append-assoc)
 
     -- the file's length
     pub file-long : (n others : ℕ) → n ≡ upToFilled (r .places) → n ≤ length (r .places)
         → others ≡ length (flatten (map (putPlace (schemaOf r)) (take n (r .places))))
-        → (length (directoryBytes n (1 + r .relations) (1 + 3 * r .held) (map (putPlace (schemaOf r)) (take n (r .places)))) ≡ 2 + 4 * (n + 2))
-        × (2 + 4 * (n + 2) + (1 + r .relations) + (1 + 3 * r .held) + others ≡ length (fileOf r))
+        → (length (directoryBytes n (1 + r .relations) secondLength (map (putPlace (schemaOf r)) (take n (r .places)))) ≡ 2 + 4 * (n + 2))
+        × (2 + 4 * (n + 2) + (1 + r .relations) + secondLength + others ≡ length (fileOf r))
     file-long n others e l eo =
         let ps : List (List ℕ) = map (putPlace (schemaOf r)) (take n (r .places)) in
         let few : length ps ≡ n = length-map (take n (r .places)) (putPlace (schemaOf r)) ∙ length-take-le n (r .places) l in
         let start : ℕ = 2 + 4 * (n + 2) in
-        let table : List ℕ = tableOf (start + (1 + r .relations) + (1 + 3 * r .held)) ps in
+        let table : List ℕ = tableOf (start + (1 + r .relations) + secondLength) ps in
         let d₁ : List ℕ = bytesOf 2 (n + 2) in
         let d₂ : List ℕ = bytesOf 2 start in
         let d₃ : List ℕ = bytesOf 2 (1 + r .relations) in
         let d₄ : List ℕ = bytesOf 2 (start + (1 + r .relations)) in
-        let d₅ : List ℕ = bytesOf 2 (1 + 3 * r .held) in
+        let d₅ : List ℕ = bytesOf 2 secondLength in
         let dir : length (d₁ ++ d₂ ++ d₃ ++ d₄ ++ d₅ ++ table) ≡ start =
         omega (
           arith,
@@ -79,7 +96,7 @@ module _ (r : Record) (good : goodRecord r ≡ true) where
           length-bytes 2 start,
           length-bytes 2 (1 + r .relations),
           length-bytes 2 (start + (1 + r .relations)),
-          length-bytes 2 (1 + 3 * r .held),
-          length-table (start + (1 + r .relations) + (1 + 3 * r .held)) ps,
+          length-bytes 2 secondLength,
+          length-table (start + (1 + r .relations) + secondLength) ps,
         ) in
         (dir, omega (arith, ap length (file-split n e l), length-append (d₁ ++ d₂ ++ d₃ ++ d₄ ++ d₅ ++ table) (partBytes r n), dir, parts-long n, eo))

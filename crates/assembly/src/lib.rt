@@ -3,6 +3,7 @@ use encoder::place_length;
 use encoder::put_place;
 use encoder::put_word;
 use query::Dependency;
+use query::JoinDependency;
 use query::Place;
 use record::Record;
 ghost use mathlib.Core.Path.{_≡_};
@@ -16,7 +17,7 @@ ghost use Rattle.query.specs.Rule.{goodRelations, goodPlace};
 ghost use Rattle.record.specs.Rule.{goodRecord};
 ghost use Rattle.format.specs.Parts.{relations};
 ghost use Rattle.format.specs.File.{tableOf, putPlace, upToFilled};
-ghost use Rattle.assembly.specs.internal.Pieces.{putDependency, dependencyBytes, directoryBytes, partBytes};
+ghost use Rattle.assembly.specs.internal.Pieces.{putDependency, dependencyBytes, putJoin, fewSets, joinsBytes, directoryBytes, partBytes};
 
 // ---- lengths
 
@@ -49,6 +50,31 @@ pub fn places_length(places: [Place; 8], n: usize, count: u8, widths: [u8; 8]) -
     sum
 }
 
+// How long a join dependency is.
+fn join_length(j: JoinDependency) -> usize
+    requires { ⌜ j .count ≤ 4 ⌝ }
+    ensures { λ r. ⌜ (r ≡ length (putJoin j)) × (r ≤ 6) ⌝ }
+{
+    2 + j.count as usize
+}
+
+// How long the join dependencies are: nothing where none is held, else their count and each.
+pub fn joins_length(joined: u8, list: [JoinDependency; 4]) -> usize
+    requires { ⌜ (joined ≤ 4) × (every fewSets list ≡ true) ⌝ }
+    ensures { λ r. ⌜ (r ≡ length (joinsBytes joined list)) × (r ≤ 25) ⌝ }
+{
+    if joined == 0 {
+        return 0;
+    }
+    let n = joined as usize;
+    let mut sum = 1;
+    for i in 0..n {
+        let j = list[i];
+        sum = sum + join_length(j);
+    }
+    sum
+}
+
 // ---- part 0 and part 1
 
 // The relations at a position: their count, then a width byte each.
@@ -63,7 +89,7 @@ fn put_relations(buffer: &mut [u8], at: usize, count: u8, widths: [u8; 8])
     }
 }
 
-// A dependency at a position: relation, left set and right column, a byte each.
+// A functional dependency at a position: relation, left set and right column, a byte each.
 fn put_dependency(buffer: &mut [u8], at: usize, d: Dependency)
     requires { ⌜ at + 3 ≤ length (now buffer) ⌝ }
     ensures { λ _. ⌜ now (buffer .exit) ≡ over (now (buffer .entry)) at (putDependency d) ⌝ }
@@ -73,7 +99,7 @@ fn put_dependency(buffer: &mut [u8], at: usize, d: Dependency)
     buffer[at + 2] = d.right;
 }
 
-// The dependencies at a position: their count, then 3 bytes each.
+// The functional dependencies at a position: their count, then 3 bytes each.
 fn put_dependencies(buffer: &mut [u8], at: usize, held: u8, list: [Dependency; 32])
     requires { ⌜ held ≤ 32 ⌝ }
     requires { ⌜ at + 1 + 3 * held ≤ length (now buffer) ⌝ }
@@ -84,6 +110,41 @@ fn put_dependencies(buffer: &mut [u8], at: usize, held: u8, list: [Dependency; 3
         let d = list[i];
         put_dependency(buffer, at + 1 + 3 * i, d);
     }
+}
+
+// A join dependency at a position: relation, number of sets, and each set, a byte each. Answers where it ends.
+fn put_join(buffer: &mut [u8], at: usize, j: JoinDependency) -> usize
+    requires { ⌜ j .count ≤ 4 ⌝ }
+    requires { ⌜ at + length (putJoin j) ≤ length (now buffer) ⌝ }
+    ensures { λ r. ⌜ (now (buffer .exit) ≡ over (now (buffer .entry)) at (putJoin j)) × (r ≡ at + length (putJoin j)) ⌝ }
+{
+    let n = j.count as usize;
+    let sets = j.sets;
+    buffer[at] = j.relation;
+    buffer[at + 1] = j.count;
+    for i in 0..n {
+        buffer[at + 2 + i] = sets[i];
+    }
+    at + 2 + n
+}
+
+// The join dependencies at a position: nothing where none is held, else their count and each. Answers where they end.
+fn put_joins(buffer: &mut [u8], at: usize, joined: u8, list: [JoinDependency; 4]) -> usize
+    requires { ⌜ (joined ≤ 4) × (every fewSets list ≡ true) ⌝ }
+    requires { ⌜ at + length (joinsBytes joined list) ≤ length (now buffer) ⌝ }
+    ensures { λ r. ⌜ (now (buffer .exit) ≡ over (now (buffer .entry)) at (joinsBytes joined list)) × (r ≡ at + length (joinsBytes joined list)) ⌝ }
+{
+    if joined == 0 {
+        return at;
+    }
+    let n = joined as usize;
+    buffer[at] = joined;
+    let mut next = at + 1;
+    for i in 0..n {
+        let j = list[i];
+        next = put_join(buffer, next, j);
+    }
+    next
 }
 
 // ---- the directory and the places
@@ -148,7 +209,7 @@ pub fn put_directory(
 )
     requires { ⌜ goodRelations count widths ≡ true ⌝ }
     requires { ⌜ every (goodPlace (take count widths)) places ≡ true ⌝ }
-    requires { ⌜ (n ≤ 8) × (first ≤ 9) × (second ≤ 97) ⌝ }
+    requires { ⌜ (n ≤ 8) × (first ≤ 9) × (second ≤ 122) ⌝ }
     requires { ⌜ 10 + 4 * n ≤ length (now buffer) ⌝ }
     ensures { λ _. ⌜ now (buffer .exit) ≡ over (now (buffer .entry)) 0 (directoryBytes n first second (map (putPlace (take count widths)) (take n places))) ⌝ }
 {
@@ -172,10 +233,13 @@ pub fn put_parts(buffer: &mut [u8], start: usize, given: Record, n: usize)
     let widths = given.widths;
     let held = given.held;
     let list = given.dependencies;
+    let joined = given.joined;
+    let joins = given.joins;
     let places = given.places;
     let first = start + 1 + count as usize;
     let second = first + 1 + 3 * (held as usize);
     put_relations(buffer, start, count, widths);
     put_dependencies(buffer, first, held, list);
-    put_places(buffer, second, places, n, count, widths);
+    let third = put_joins(buffer, second, joined, joins);
+    put_places(buffer, third, places, n, count, widths);
 }

@@ -2,16 +2,17 @@
 use query::Cell;
 use query::Entry;
 use query::Place;
-use query::Query;
+use query::Tableau;
 ghost use mathlib.Core.Path.{_≡_};
 ghost use mathlib.Core.Bool.{true};
 ghost use mathlib.Core.List.{_∷_, flatMap};
 ghost use Prim.Native.Nat.{_+_, _*_, _≤_, _<_};
 ghost use lib.ListN.{length, take, drop, getD};
 ghost use Rattle.lists.specs.Over.{over};
+ghost use Rattle.query.specs.View.{asQuery};
 ghost use Rattle.query.specs.Rule.{goodRelations, goodPlace};
 ghost use Rattle.format.specs.Bytes.{bytesOf};
-ghost use Rattle.format.specs.Parts.{putEntry, entries, row, chunk, query};
+ghost use Rattle.format.specs.Parts.{putEntry, entries, row, chunk, queryFor};
 ghost use Rattle.format.specs.File.{putPlace};
 ghost use Rattle.encoder.specs.internal.Lengths.{rowsLength};
 
@@ -70,8 +71,8 @@ pub struct Row {
 }
 
 // The cells of row r.
-fn row_of(cells: [Cell; 96], r: usize) -> Row
-    requires { ⌜ r < 12 ⌝ }
+fn row_of(cells: [Cell; 192], r: usize) -> Row
+    requires { ⌜ r < 24 ⌝ }
     ensures { λ x. ⌜ x .cells ≡ take 8 (drop (8 * r) cells) ⌝ }
 {
     let mut copy = [query::NO_CELL; 8];
@@ -105,13 +106,13 @@ fn put_rows(
     buffer: &mut [u8],
     start: usize,
     size: usize,
-    named: [u8; 12],
-    cells: [Cell; 96],
+    named: [u8; 24],
+    cells: [Cell; 192],
     count: u8,
     widths: [u8; 8],
 ) -> usize
     requires { ⌜ goodRelations count widths ≡ true ⌝ }
-    requires { ⌜ size ≤ 12 ⌝ }
+    requires { ⌜ size ≤ 24 ⌝ }
     requires { ⌜ start + length (flatMap (row (take count widths) .put) (take size (chunk named cells))) ≤ length (now buffer) ⌝ }
     ensures { λ r. ⌜ (now (buffer .exit) ≡ over (now (buffer .entry)) start (flatMap (row (take count widths) .put) (take size (chunk named cells)))) ×
         (r ≡ start + length (flatMap (row (take count widths) .put) (take size (chunk named cells)))) ⌝ }
@@ -129,22 +130,23 @@ fn put_rows(
 
 // ---- query parts
 
-// A query at a position. Returns the position after it.
-fn put_query(buffer: &mut [u8], at: usize, q: Query, count: u8, widths: [u8; 8]) -> usize
+// The part of a tableau at a position. Returns the position after it.
+pub fn put_query(buffer: &mut [u8], at: usize, t: Tableau, count: u8, widths: [u8; 8]) -> usize
     requires { ⌜ goodRelations count widths ≡ true ⌝ }
-    requires { ⌜ (q .arity ≤ 8) × (q .size ≤ 12) ⌝ }
-    requires { ⌜ at + length (query (take count widths) .put q) ≤ length (now buffer) ⌝ }
-    ensures { λ r. ⌜ (now (buffer .exit) ≡ over (now (buffer .entry)) at (query (take count widths) .put q)) × (r ≡ at + length (query (take count widths) .put q)) ⌝ }
+    requires { ⌜ (t .arity ≤ 8) × (t .size ≤ 24) ⌝ }
+    requires { ⌜ at + length (queryFor 24 (take count widths) .put (asQuery t)) ≤ length (now buffer) ⌝ }
+    ensures { λ r. ⌜ (now (buffer .exit) ≡ over (now (buffer .entry)) at (queryFor 24 (take count widths) .put (asQuery t))) ×
+        (r ≡ at + length (queryFor 24 (take count widths) .put (asQuery t))) ⌝ }
 {
-    let arity = q.arity;
-    let size = q.size;
+    let arity = t.arity;
+    let size = t.size;
     buffer[at] = arity;
     buffer[at + 1] = size;
     let used = limits::head_in_use(arity, size);
-    let head = q.head;
+    let head = t.head;
     put_entries(buffer, at + 2, head, used);
-    let named = q.relations;
-    let cells = q.cells;
+    let named = t.relations;
+    let cells = t.cells;
     put_rows(
         buffer,
         at + 2 + 5 * used,
@@ -165,7 +167,7 @@ pub fn put_place(buffer: &mut [u8], at: usize, place: Place, count: u8, widths: 
 {
     if place.filled {
         let q = place.query;
-        return put_query(buffer, at, q, count, widths);
+        return put_query(buffer, at, tableaux::from_query(q), count, widths);
     }
     buffer[at] = 255;
     at + 1
@@ -174,10 +176,10 @@ pub fn put_place(buffer: &mut [u8], at: usize, place: Place, count: u8, widths: 
 // ---- lengths
 
 // How long the first `size` rows are.
-fn rows_length(size: usize, named: [u8; 12], count: u8, widths: [u8; 8]) -> usize
+fn rows_length(size: usize, named: [u8; 24], count: u8, widths: [u8; 8]) -> usize
     requires { ⌜ goodRelations count widths ≡ true ⌝ }
-    requires { ⌜ size ≤ 12 ⌝ }
-    ensures { λ r. ⌜ (r ≡ rowsLength (take count widths) (take size named)) × (r ≤ 492) ⌝ }
+    requires { ⌜ size ≤ 24 ⌝ }
+    ensures { λ r. ⌜ (r ≡ rowsLength (take count widths) (take size named)) × (r ≤ 41 * size) ⌝ }
 {
     let mut sum = 0;
     for r in 0..size {
@@ -188,6 +190,20 @@ fn rows_length(size: usize, named: [u8; 12], count: u8, widths: [u8; 8]) -> usiz
     sum
 }
 
+// How long the part of a tableau is.
+pub fn query_length(t: Tableau, count: u8, widths: [u8; 8]) -> usize
+    requires { ⌜ goodRelations count widths ≡ true ⌝ }
+    requires { ⌜ (t .arity ≤ 8) × (t .size ≤ 24) ⌝ }
+    ensures { λ r. ⌜ (r ≡ length (queryFor 24 (take count widths) .put (asQuery t))) × (r ≤ 42 + 41 * t .size) ⌝ }
+{
+    let arity = t.arity;
+    let size = t.size;
+    let named = t.relations;
+    let used = limits::head_in_use(arity, size);
+    let rows = rows_length(size as usize, named, count, widths);
+    2 + 5 * used + rows
+}
+
 // How long the part of a place is.
 pub fn place_length(place: Place, count: u8, widths: [u8; 8]) -> usize
     requires { ⌜ goodRelations count widths ≡ true ⌝ }
@@ -196,12 +212,7 @@ pub fn place_length(place: Place, count: u8, widths: [u8; 8]) -> usize
 {
     if place.filled {
         let q = place.query;
-        let arity = q.arity;
-        let size = q.size;
-        let named = q.relations;
-        let used = limits::head_in_use(arity, size);
-        let rows = rows_length(size as usize, named, count, widths);
-        return 2 + 5 * used + rows;
+        return query_length(tableaux::from_query(q), count, widths);
     }
     1
 }

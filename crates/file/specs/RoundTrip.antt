@@ -36,10 +36,10 @@ ReadBack = (r : Record) (buffer : List ℕ) (n : ℕ) → shaped r ≡ true → 
 abbrev pub ReadGood : Type 0
 ReadGood = (bytes : List ℕ) (r : Record) → Bytes bytes → Reads bytes r → (goodRecord r ≡ true) × (shaped r ≡ true)
 
--- A written file has at most 4,420 bytes
+-- A written file has at most 4,445 bytes
 abbrev pub WrittenShort : Type 0
-WrittenShort = (r : Record) (buffer : List ℕ) (n : ℕ) → shaped r ≡ true → Writes r buffer n → n ≤ 4420
+WrittenShort = (r : Record) (buffer : List ℕ) (n : ℕ) → shaped r ≡ true → Writes r buffer n → n ≤ 4445
 
--- A record that keeps the rule is written into every buffer of 4,420 bytes
+-- A record that keeps the rule is written into every buffer of 4,445 bytes
 abbrev pub RoomEnough : Type 0
-RoomEnough = (r : Record) (buffer : List ℕ) → goodRecord r ≡ true → shaped r ≡ true → 4420 ≤ length buffer → (n : ℕ) × Writes r buffer n
+RoomEnough = (r : Record) (buffer : List ℕ) → goodRecord r ≡ true → shaped r ≡ true → 4445 ≤ length buffer → (n : ℕ) × Writes r buffer n

@@ -1,5 +1,5 @@
 -- Containment under both kinds: the theorem over a class of databases (`Containment` of the theory) for the databases that are legal for both. The chased
--- query keeps the answers there and, read as a database, is one of them.
+-- query keeps the answers there and, read as a database, is one of them. Of the databases that obey both and need not fit the schema it keeps the answers.
 -- Assumes nothing.
 use mathlib.Core.Path.{_≡_, refl, sym, _∙_, ap, subst}
 use mathlib.Core.Logic.{_⊎_, inl, inr}
@@ -13,11 +13,11 @@ use Rattle.theory.specs.Database.{Dependency, JoinDependency}
 use Rattle.theory.specs.Answer.{Mapping}
 use Rattle.theory.specs.Containment.{frozenRows, frozenHead}
 use Rattle.theory.proofs.Lists.{bool-cases}
-use Rattle.theory.proofs.Containment.{contained-over, counterexample-over}
+use Rattle.theory.proofs.Containment.{contained-over, contained-over-of-mapping, counterexample-over}
 use Rattle.minimization.specs.Search.{containedOn}
 use Rattle.minimization.proofs.Search.{both-below, containedOn-mapping}
 use Rattle.minimization.proofs.Theorems.{counterexample-refutes}
-use Rattle.joins.specs.Join.{LegalForBoth, JoinsFit}
+use Rattle.joins.specs.Join.{ObeysBoth, LegalForBoth, JoinsFit}
 use Rattle.joins.specs.JoinChase.{Outcome, chased, overflow, JoinChases}
 use Rattle.joins.specs.JoinChase.{joinChase, containedIn, joinContained}
 use Rattle.joins.specs.JoinTheorems as joins
@@ -40,7 +40,7 @@ chased-legal widths ds js limit q result base fit c fits positive below =
 
 pub chased-stands : joins.JoinChasedStands
 chased-stands widths ds js limit q result base fit c fits positive below = record {
-  answers = joins-answers fit c;
+  answers = λ D legal. joins-answers fit c D (legal .obeys);
   frozen = λ nonempty. chased-legal widths ds js limit q result base fit c fits positive below;
   below = joins-constants fit base positive c below;
 }
@@ -52,6 +52,9 @@ contained-exact widths ds js limit p q result fit c fits =
     let common = both-below p q in
     contained-over (LegalForBoth widths ds js) (common .0) p q result
     (chased-stands widths ds js limit p result (common .0) fit c fits (common .1) (common .2)) (common .3)
+
+pub contained-obeying : joins.JoinContainedObeying
+contained-obeying widths ds js limit p q result fit c = contained-over-of-mapping (ObeysBoth widths ds js) p q result (joins-answers fit c)
 
 pub chased-counterexample : joins.JoinChasedCounterexample
 chased-counterexample widths ds js limit p q result base fit c fits belowP belowQ positive =

@@ -32,7 +32,7 @@ use Rattle.theory.proofs.Chase.{chases-rows-fit, chases-wellformed, chases-head
 use Rattle.theory.proofs.Containment.{frozen-sound}
 use Rattle.minimization.specs.Checking.{sameRow}
 use Rattle.minimization.proofs.Checking.{sameRow-eq, sameRow-self}
-use Rattle.joins.specs.Join.{ObeysJoins, LegalForBoth, JoinsFit}
+use Rattle.joins.specs.Join.{ObeysJoins, ObeysBoth, LegalForBoth, JoinsFit}
 use Rattle.joins.specs.JoinChase.{yields, nextRow, keepFirst, withoutRepeats, addRow, Outcome, chased, overflow, JoinChases, complete, adds, exceeds}
 use Rattle.joins.specs.JoinChase.{joinOn, settle, joinChaseFor, joinChase}
 use Rattle.joins.proofs.Repeats.{keepFirst-twice, snoc-new, repeats-into, repeats-back, repeats-head, repeats-length}
@@ -322,14 +322,14 @@ module _ (widths : List ℕ) (js : List JoinDependency) (fit : JoinsFit widths j
 module _ {widths : List ℕ} {ds : List Dependency} {js : List JoinDependency} {limit : ℕ} (fit : JoinsFit widths js) where
   -- Answers
   pub joins-answers : {q result : Query} → JoinChases widths ds js limit q (chased result)
-      → (D : Database) → LegalForBoth widths ds js D → (t : List ℕ) → Answer D q t ↔ Answer D result t
+      → (D : Database) → ObeysBoth widths ds js D → (t : List ℕ) → Answer D q t ↔ Answer D result t
   joins-answers =
-      joins-by-rounds (λ q result. (D : Database) → LegalForBoth widths ds js D → (t : List ℕ) → Answer D q t ↔ Answer D result t)
-      (λ q mid n c is D legal t. Iff·trans (chases-answers c D (legal .legal .obeys) t) (repeats-answers js mid D t))
-      (λ q mid n r result c a less rest D legal t.
-      Iff·trans (chases-answers c D (legal .legal .obeys) t)
+      joins-by-rounds (λ q result. (D : Database) → ObeysBoth widths ds js D → (t : List ℕ) → Answer D q t ↔ Answer D result t)
+      (λ q mid n c is D obeys t. Iff·trans (chases-answers c D (obeys .functional) t) (repeats-answers js mid D t))
+      (λ q mid n r result c a less rest D obeys t.
+      Iff·trans (chases-answers c D (obeys .functional) t)
       (Iff·trans (repeats-answers js mid D t)
-      (Iff·trans (added-answers widths js fit (withoutRepeats js mid) r a D (legal .joins) t) (rest D legal t))))
+      (Iff·trans (added-answers widths js fit (withoutRepeats js mid) r a D (obeys .joins) t) (rest D obeys t))))
 
   -- A mapping to the chased query
   pub joins-mapping : {q result : Query} → JoinChases widths ds js limit q (chased result) → result .rows ≢ [] → Mapping q result
@@ -472,13 +472,13 @@ module _ (widths : List ℕ) (ds : List Dependency) (js : List JoinDependency) (
   pub complete-legal : (q : Query) (base : ℕ) → Complete widths ds js q → RowsFit widths q → 0 < base → ConstantsBelow base q
       → LegalForBoth widths ds js (frozenRows base q)
   complete-legal q base final fits positive below = record {
-    legal = record {
-      sound = frozen-sound widths base q fits;
-      obeys = λ d held r s at at'. rests-obeys ds mid base (final .rests-there) positive below-mid d held r s (part' r at) (part' s at');
+    sound = frozen-sound widths base q fits;
+    obeys = record {
+      functional = λ d held r s at at'. rests-obeys ds mid base (final .rests-there) positive below-mid d held r s (part' r at) (part' s at');
+      joins = λ j held.
+          no-missing-obeys widths j (fit j held) (q .rows) fits (λ v. base + v) apart
+          (nextRow-nothing widths js (q .rows) (final .nothing-missing) j held);
     };
-    joins = λ j held.
-        no-missing-obeys widths j (fit j held) (q .rows) fits (λ v. base + v) apart
-        (nextRow-nothing widths js (q .rows) (final .nothing-missing) j held);
   }
     where
       mid : Query

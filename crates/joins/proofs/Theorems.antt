@@ -1,7 +1,7 @@
 -- A proof of each statement of `JoinTheorems` and of `Examples`. Most are proved in the files before; here they have the form in which they are stated.
 -- Assumes nothing.
 use mathlib.Core.Path.{refl, sym, subst}
-use mathlib.Core.List.{[]}
+use mathlib.Core.List.{[], List·Memᴰ·not-nil}
 use Rattle.theory.specs.Chase.{chase, firstFound}
 use Rattle.theory.proofs.Chase.{chase-chases}
 use Rattle.minimization.specs.Checking.{sameRow}
@@ -15,7 +15,7 @@ use Rattle.joins.proofs.Choices.{choices-of, choice-tried, consistent-t
 use Rattle.joins.proofs.Obeying.{obeys-join-exact}
 use Rattle.joins.proofs.JoinChase.{joins-computed, joins-unique, joins-answers, joins-mapping, joins-wellformed}
 use Rattle.joins.proofs.JoinChase.{joins-head-length, joins-length}
-use Rattle.joins.proofs.Containment.{chase-computed, chased-legal, chased-stands, contained-exact, chased-counterexample}
+use Rattle.joins.proofs.Containment.{chase-computed, chased-legal, chased-stands, contained-exact, contained-obeying, chased-counterexample}
 use Rattle.joins.proofs.Containment.{contained-computed, not-contained-computed}
 use Rattle.joins.proofs.Fitting.{joinFits-exact}
 use Rattle.joins.proofs.Examples.{examples-meaning, yields-first, first-choice, no-choice, overflow-decides, fits-not}
@@ -45,7 +45,7 @@ pub join-chase-keeps-answers : joins.JoinChaseKeepsAnswers
 join-chase-keeps-answers widths ds js limit q result fit c = joins-answers fit c
 
 pub never-means-no-answers : joins.NeverMeansNoAnswers
-never-means-no-answers widths ds js limit q result fit c empty D legal t a = joins-answers fit c D legal t .0 a .1 .not-never empty
+never-means-no-answers widths ds js limit q result fit c empty D obeys t a = joins-answers fit c D obeys t .0 a .1 .not-never empty
 
 pub join-chase-maps : joins.JoinChaseMaps
 join-chase-maps widths ds js limit q result fit c = joins-mapping fit c
@@ -68,6 +68,9 @@ join-chased-stands = chased-stands
 
 pub join-contained-exactly : joins.JoinContainedExactly
 join-contained-exactly = contained-exact
+
+pub join-contained-obeying : joins.JoinContainedObeying
+join-contained-obeying = contained-obeying
 
 pub join-chased-counterexample : joins.JoinChasedCounterexample
 join-chased-counterexample = chased-counterexample
@@ -113,6 +116,10 @@ pub repeats-go : joins.RepeatsGo
 repeats-go rows r = (snoc-there sameRow sameRow-eq sameRow-self rows r, snoc-new sameRow sameRow-eq sameRow-self rows r)
 
 -- ---- databases
+
+pub obeys-without-joins : joins.ObeysWithoutJoins
+obeys-without-joins widths ds D =
+    (λ both. both .functional, λ functional. record { functional = functional; joins = λ j held. absurd (List·Memᴰ·not-nil held) })
 
 pub join-fits-exactly : joins.JoinFitsExactly
 join-fits-exactly = joinFits-exact

@@ -9,7 +9,7 @@ use lib.ListN.{length, getD}
 use Rattle.lists.specs.Tests.{every}
 use Rattle.lists.specs.Numbers.{numbersWhere}
 use Rattle.theory.specs.Query.{Row, member, FitsSchema, _∈_}
-use Rattle.theory.specs.Database.{Database, Dependency, Agree, Legal, JoinDependency}
+use Rattle.theory.specs.Database.{Database, Dependency, Agree, Obeys, Sound, JoinDependency}
 use Rattle.minimization.specs.Checking.{nonempty}
 
 -- Row r is in the join of the projections of some rows: on each set it agrees with a row of the relation
@@ -24,10 +24,15 @@ ObeysJoin widths j D = (r : Row ℕ) → FitsSchema widths r → r .relation ≡
 abbrev pub ObeysJoins : List ℕ → List JoinDependency → Database → Type 0
 ObeysJoins widths js D = (j : JoinDependency) → j ∈ js → ObeysJoin widths j D
 
--- A database that is legal for both kinds: its rows fit the relations, and it obeys the functional and the join dependencies
-pub record LegalForBoth (widths : List ℕ) (ds : List Dependency) (js : List JoinDependency) (D : Database) : Type 0 where
-  pub legal : Legal widths ds D
+-- A database obeys both kinds when it obeys the functional and the join dependencies
+pub record ObeysBoth (widths : List ℕ) (ds : List Dependency) (js : List JoinDependency) (D : Database) : Type 0 where
+  pub functional : Obeys ds D
   pub joins : ObeysJoins widths js D
+
+-- A database that is legal for both kinds: its rows fit the schema, and it obeys both
+pub record LegalForBoth (widths : List ℕ) (ds : List Dependency) (js : List JoinDependency) (D : Database) : Type 0 where
+  pub sound : Sound widths D
+  pub obeys : ObeysBoth widths ds js D
 
 -- A join dependency fits a schema: its relation is known, it has a set, and its sets together have all columns of the relation
 pub record JoinFits (widths : List ℕ) (j : JoinDependency) : Type 0 where

@@ -8,13 +8,13 @@ use Prim.Native.Nat.{ℕ, _≤_, _<_}
 use lib.Dec.{eqb}
 use lib.ListN.{length, getD}
 use Rattle.theory.specs.Query.{Entry, constant, Row, Query, column, mapRow, RowsFit, WellFormed, _∈_}
-use Rattle.theory.specs.Database.{Database, Dependency, Agree, Sound, JoinDependency}
+use Rattle.theory.specs.Database.{Database, Dependency, Agree, Obeys, Sound, JoinDependency}
 use Rattle.theory.specs.Answer.{Answer, Mapping}
 use Rattle.theory.specs.Chase.{firstPassing, firstFound, agree, chase}
 use Rattle.theory.specs.Containment.{Contained, Counterexample, frozenRows, frozenHead, ConstantsBelow, StandsFor}
 use Rattle.theory.specs.OrderTheorems.{FirstFound}
 use Rattle.minimization.specs.Checking.{sameRow}
-use Rattle.joins.specs.Join.{ObeysJoin, LegalForBoth, JoinFits, JoinsFit, joinFits}
+use Rattle.joins.specs.Join.{ObeysJoin, ObeysBoth, LegalForBoth, JoinFits, JoinsFit, joinFits}
 use Rattle.joins.specs.JoinChase.{Choice, picks, candidates, choices, yields, consistent, missing, firstMissing, nextRow, keepFirst}
 use Rattle.joins.specs.JoinChase.{Outcome, chased, overflow, JoinChases, joinChase, joinContained}
 
@@ -46,19 +46,19 @@ WithoutJoins =
 
 -- ---- answers
 
--- On every database that is legal for both kinds the chased query has the answers of the query
+-- On every database that obeys both kinds the chased query has the answers of the query
 abbrev pub JoinChaseKeepsAnswers : Type 0
 JoinChaseKeepsAnswers =
     (widths : List ℕ) (ds : List Dependency) (js : List JoinDependency) (limit : ℕ) (q result : Query) → JoinsFit widths js
     → JoinChases widths ds js limit q (chased result)
-    → (D : Database) → LegalForBoth widths ds js D → (t : List ℕ) → Answer D q t ↔ Answer D result t
+    → (D : Database) → ObeysBoth widths ds js D → (t : List ℕ) → Answer D q t ↔ Answer D result t
 
 -- A query that chases to never has no answer there
 abbrev pub NeverMeansNoAnswers : Type 0
 NeverMeansNoAnswers =
     (widths : List ℕ) (ds : List Dependency) (js : List JoinDependency) (limit : ℕ) (q result : Query) → JoinsFit widths js
     → JoinChases widths ds js limit q (chased result) → result .rows ≡ []
-    → (D : Database) → LegalForBoth widths ds js D → (t : List ℕ) → Answer D q t → ⊥
+    → (D : Database) → ObeysBoth widths ds js D → (t : List ℕ) → Answer D q t → ⊥
 
 -- Unless it is never, the chased query receives a mapping from the query
 abbrev pub JoinChaseMaps : Type 0
@@ -103,6 +103,12 @@ JoinContainedExactly =
     (widths : List ℕ) (ds : List Dependency) (js : List JoinDependency) (limit : ℕ) (p q result : Query) → JoinsFit widths js
     → JoinChases widths ds js limit p (chased result) → RowsFit widths p
     → ((result .rows ≡ []) ⊎ Mapping q result) ↔ Contained (LegalForBoth widths ds js) p q
+
+-- Where it does, p is contained in q over all databases that obey both kinds, whether or not their rows fit the schema
+abbrev pub JoinContainedObeying : Type 0
+JoinContainedObeying =
+    (widths : List ℕ) (ds : List Dependency) (js : List JoinDependency) (limit : ℕ) (p q result : Query) → JoinsFit widths js
+    → JoinChases widths ds js limit p (chased result) → (result .rows ≡ []) ⊎ Mapping q result → Contained (ObeysBoth widths ds js) p q
 
 -- Otherwise the chased p, read as a database, shows that it is not
 abbrev pub JoinChasedCounterexample : Type 0
@@ -235,6 +241,10 @@ RepeatsGo =
     × ((r ∈ rows → ⊥) → keepFirst sameRow [] (rows ++ r ∷ []) ≡ keepFirst sameRow [] rows ++ r ∷ [])
 
 -- ---- databases
+
+-- With no join dependency to obey both kinds is to obey the functional dependencies
+abbrev pub ObeysWithoutJoins : Type 0
+ObeysWithoutJoins = (widths : List ℕ) (ds : List Dependency) (D : Database) → ObeysBoth widths ds [] D ↔ Obeys ds D
 
 -- `joinFits` tests whether a join dependency fits
 abbrev pub JoinFitsExactly : Type 0

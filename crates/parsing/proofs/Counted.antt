@@ -85,25 +85,36 @@ module _ {A : Type 0} (test : ℕ → Bool) (total : ℕ) (blank : A) (isBlank :
         rest = filling-starts (f .get) total blank n (drop 1 part);
       }
 
-  -- there is no count
-  pub no-count : (m : ℕ) → getByte test part ≡ none → complete m (counted .get part) ≡ refused m
+  -- there is no count, in a part that holds more, and in one that is to hold no more
+  pub no-count-front : getByte test part ≡ none → counted .get part ≡ none
   unfolding byte
-  no-count m e = complete-none m (counted .get part) (sequence-none (byte test) (λ n. padded total blank isBlank n f) part e)
+  no-count-front e = sequence-none (byte test) (λ n. padded total blank isBlank n f) part e
+
+  pub no-count : (m : ℕ) → getByte test part ≡ none → complete m (counted .get part) ≡ refused m
+  no-count m e = complete-none m (counted .get part) (no-count-front e)
 
   module _ {n : ℕ} {xs : List A} {i at : ℕ} (c : Counting n xs i at) where
     pub counting-turns : (x : A) (next : ℕ) → i < n → i < length xs → f .get (drop at part) ≡ got x (drop next part) → Counting n (set xs i x) (i + 1) next
     counting-turns x next h l e = record { head = c .head; rest = filling-turns (c .rest) x (drop next part) h l e }
 
     -- a value is bad, or the part too short
-    pub counting-fails : (m : ℕ) → i < n → f .get (drop at part) ≡ none → complete m (counted .get part) ≡ refused m
-    unfolding complete mapReading
-    counting-fails m h e = rw (c .head, filling-fails (c .rest) h e)
+    pub counting-fails-front : i < n → f .get (drop at part) ≡ none → counted .get part ≡ none
+    unfolding mapReading
+    counting-fails-front h e = rw (c .head, filling-fails (c .rest) h e)
 
-    -- after the last value the part ends, or it is too long
+    pub counting-fails : (m : ℕ) → i < n → f .get (drop at part) ≡ none → complete m (counted .get part) ≡ refused m
+    counting-fails m h e = complete-none m (counted .get part) (counting-fails-front h e)
+
+    -- after the last value more may follow
+    pub counting-ends-front : n ≤ i → counted .get part ≡ got (n, xs) (drop at part)
+    unfolding mapReading
+    counting-ends-front h = rw (c .head, filling-ends (c .rest) h)
+
+    -- or the part ends, or it is too long
     pub counting-ends : (m : ℕ) → n ≤ i → length part ≤ at → complete m (counted .get part) ≡ gives (n, xs)
-    unfolding complete mapReading
-    counting-ends m h l = rw (c .head, filling-ends (c .rest) h, drop-of-length-le part {i = at} l)
+    unfolding complete
+    counting-ends m h l = rw (counting-ends-front h, drop-of-length-le part {i = at} l)
 
     pub counting-long : (m : ℕ) → n ≤ i → at < length part → complete m (counted .get part) ≡ refused m
-    unfolding complete mapReading
-    counting-long m h l = rw (c .head, filling-ends (c .rest) h, drop-cons part at 0 l)
+    unfolding complete
+    counting-long m h l = rw (counting-ends-front h, drop-cons part at 0 l)

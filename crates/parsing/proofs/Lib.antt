@@ -6,3 +6,4 @@ pub mod RowLaws
 pub mod ReadingRows
 pub mod QueryLaws
 pub mod Dependencies
+pub mod Joins

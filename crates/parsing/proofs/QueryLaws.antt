@@ -8,7 +8,7 @@ use lib.Dec.{eqb, leb}
 use lib.ListN.{length, drop}
 use Rattle.query.specs.declared.Cell.{Cell}
 use Rattle.format.specs.Format.{Reading, none, got, mapReading, Format, getByte, byte, sequence, via}
-use Rattle.format.specs.Parts.{entries, rows, flat, queryWith, query}
+use Rattle.format.specs.Parts.{entries, rows, flat, queryWith, queryFor, query}
 use Rattle.parsing.specs.declared.RowsRead.{RowsRead}
 use Rattle.parsing.specs.internal.Read.{rowsRead}
 use Rattle.parsing.proofs.Counted.{sequence-none, sequence-got}
@@ -25,18 +25,18 @@ map-map f g (got a rest) = refl
 module _ (schema part : List ℕ) where
   -- The formats of the pieces
   abbrev sizeOn : ℕ → Format (ℕ × (List Cell × List (ℕ × List Cell)))
-  sizeOn arity = sequence (byte (λ n. leb n 12)) (λ size. sequence (entries (cond (eqb size 0) 0 arity)) (λ head. rows schema size))
+  sizeOn arity = sequence (byte (λ n. leb n 12)) (λ size. sequence (entries (cond (eqb size 0) 0 arity)) (λ head. rows 12 schema size))
 
   abbrev headOn : ℕ → ℕ → Format (List Cell × List (ℕ × List Cell))
-  headOn arity size = sequence (entries (cond (eqb size 0) 0 arity)) (λ head. rows schema size)
+  headOn arity size = sequence (entries (cond (eqb size 0) 0 arity)) (λ head. rows 12 schema size)
 
   pub no-arity : getByte (λ n. leb n 8) part ≡ none → query schema .get part ≡ none
-  unfolding query via byte
+  unfolding queryFor via byte
   no-arity e = map-none queryWith (sequence (byte (λ n. leb n 8)) sizeOn .get part) (sequence-none (byte (λ n. leb n 8)) sizeOn part e)
 
   module _ (arity : ℕ) (ea : getByte (λ n. leb n 8) part ≡ got arity (drop 1 part)) where
     after-arity : query schema .get part ≡ mapReading (λ s. queryWith (arity, s)) (sizeOn arity .get (drop 1 part))
-    unfolding query via byte
+    unfolding queryFor via byte
     after-arity =
         ap (mapReading queryWith) (sequence-got (byte (λ n. leb n 8)) sizeOn part arity (drop 1 part) ea)
         ∙ map-map queryWith (λ s. (arity, s)) (sizeOn arity .get (drop 1 part))
@@ -57,14 +57,14 @@ module _ (schema part : List ℕ) where
       pub no-head : entries (cond (eqb size 0) 0 arity) .get (drop 2 part) ≡ none → query schema .get part ≡ none
       no-head e =
           after-size ∙ map-none (λ h. queryWith (arity, (size, h))) (headOn arity size .get (drop 2 part))
-          (sequence-none (entries (cond (eqb size 0) 0 arity)) (λ head. rows schema size) (drop 2 part) e)
+          (sequence-none (entries (cond (eqb size 0) 0 arity)) (λ head. rows 12 schema size) (drop 2 part) e)
 
       pub after-head : (head : List Cell) (rest : List ℕ) → entries (cond (eqb size 0) 0 arity) .get (drop 2 part) ≡ got head rest
-          → query schema .get part ≡ mapReading (λ rs. queryWith (arity, (size, (head, rs)))) (rows schema size .get rest)
+          → query schema .get part ≡ mapReading (λ rs. queryWith (arity, (size, (head, rs)))) (rows 12 schema size .get rest)
       after-head head rest e =
           after-size ∙ ap (mapReading (λ h. queryWith (arity, (size, h))))
-          (sequence-got (entries (cond (eqb size 0) 0 arity)) (λ head. rows schema size) (drop 2 part) head rest e)
-          ∙ map-map (λ h. queryWith (arity, (size, h))) (λ rs. (head, rs)) (rows schema size .get rest)
+          (sequence-got (entries (cond (eqb size 0) 0 arity)) (λ head. rows 12 schema size) (drop 2 part) head rest e)
+          ∙ map-map (λ h. queryWith (arity, (size, h))) (λ rs. (head, rs)) (rows 12 schema size .get rest)
 
 -- ---- the answer of the rows' reader
 

@@ -31,7 +31,7 @@ use Rattle.parsing.proofs.RowLaws.{row-bad, row-good, row-bounds, chunk
 
 -- The rows from the start on, as the format reads them
 abbrev pub Rows : List ℕ → List ℕ → ℕ → ℕ → Reading (List (ℕ × List Cell))
-Rows schema part start size = rows schema size .get (drop start part)
+Rows schema part start size = rows 12 schema size .get (drop start part)
 
 -- What has been read of the rows: r of them, up to a position; the cells after them are blank
 pub record At (schema part : List ℕ) (start size : ℕ) (relations : List ℕ) (cells : List Cell) (at r : ℕ) : Type 0 where

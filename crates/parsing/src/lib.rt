@@ -1,21 +1,23 @@
-// What the parts of a file hold, read off bytes: numbers, then the query of a query part, the relations of part 0 and the dependencies of part 1.
+// What the parts of a file hold, read off bytes: numbers, then the query of a query part, the relations of part 0 and the dependencies of both kinds of part 1.
 use query::Cell;
 use query::Dependency;
 use query::Entry;
+use query::JoinDependency;
 use query::Query;
 ghost use mathlib.Core.Path.{_≡_};
 ghost use mathlib.Core.Bool.{true};
 ghost use Prim.Native.Nat.{_+_, _≤_, _<_};
 ghost use lib.ListN.{length, take, drop};
 ghost use Rattle.lists.specs.Tests.{between};
+ghost use Rattle.lists.specs.Over.{pad};
 ghost use Rattle.query.specs.Rule.{goodRelations};
-ghost use Rattle.refusals.specs.Refusals.{badDependency, badRelations};
+ghost use Rattle.refusals.specs.Refusals.{badRelations};
 ghost use Rattle.format.specs.Bytes.{number};
 ghost use Rattle.format.specs.Format.{getByte};
-ghost use Rattle.format.specs.Parts.{entry, entries, rows, query, relations, dependency, dependencies};
-ghost use Rattle.format.specs.File.{complete};
+ghost use Rattle.format.specs.Parts.{entry, entries, rows, query, relations, dependency, dependencies, join};
+ghost use Rattle.format.specs.File.{complete, readJoins};
 ghost use Rattle.parsing.specs.internal.Read.{byteRead, entryRead, cellsRead, noRowsRead, rowsRead, noQueryRead, queryRead};
-ghost use Rattle.parsing.specs.internal.Read.{noRelations, relationsRead, dependencyRead, noDependencies, dependenciesRead};
+ghost use Rattle.parsing.specs.internal.Read.{noRelations, relationsRead, dependencyRead, noDependencies, dependenciesRead, noJoinRead, joinRead, noJoinsRead, joinsRead};
 
 // ---- numbers and bytes
 
@@ -160,7 +162,7 @@ fn read_rows(part: &[u8], start: usize, size: usize, count: u8, widths: [u8; 8])
     requires { ⌜ goodRelations count widths ≡ true ⌝ }
     requires { ⌜ start ≤ length (now part) ⌝ }
     requires { ⌜ size ≤ 12 ⌝ }
-    ensures { λ r. ⌜ r ≡ rowsRead (rows (take count widths) size .get (drop start (now (part .entry)))) ⌝ }
+    ensures { λ r. ⌜ r ≡ rowsRead (rows 12 (take count widths) size .get (drop start (now (part .entry)))) ⌝ }
 {
     let mut relations = [0; 12];
     let mut cells = [query::NO_CELL; 96];
@@ -298,15 +300,15 @@ pub fn read_relations(part: &[u8]) -> RelationsRead
     }
 }
 
-// ---- part 1: dependencies
+// ---- part 1: functional dependencies
 
-// A dependency, or none.
+// A functional dependency, or none.
 pub enum DependencyRead {
     Found(Dependency),
     NoDependency,
 }
 
-// The dependency at a position: relation, left set and right column, a byte each.
+// The functional dependency at a position: relation, left set and right column, a byte each.
 fn read_dependency(part: &[u8], at: usize, count: u8, widths: [u8; 8]) -> DependencyRead
     requires { ⌜ goodRelations count widths ≡ true ⌝ }
     ensures { λ r. ⌜ r ≡ dependencyRead (dependency (take count widths) .get (drop at (now (part .entry)))) ⌝ }
@@ -328,14 +330,14 @@ fn read_dependency(part: &[u8], at: usize, count: u8, widths: [u8; 8]) -> Depend
     DependencyRead::NoDependency
 }
 
-// The number of dependencies and the dependencies.
+// The number of functional dependencies and these.
 pub struct DependenciesRead {
     pub good: bool,
     pub held: u8,
     pub dependencies: [Dependency; 32],
 }
 
-// No dependencies.
+// No functional dependencies.
 fn no_dependencies() -> DependenciesRead
     ensures { λ r. ⌜ r ≡ noDependencies ⌝ }
 {
@@ -346,10 +348,10 @@ fn no_dependencies() -> DependenciesRead
     }
 }
 
-// Part 1: the count of dependencies, then 3 bytes each. A part that is too short or has a bad dependency is told in the loop, one that is too long after it.
+// The front of part 1: the count of functional dependencies, then 3 bytes each.
 pub fn read_dependencies(part: &[u8], count: u8, widths: [u8; 8]) -> DependenciesRead
     requires { ⌜ goodRelations count widths ≡ true ⌝ }
-    ensures { λ r. ⌜ r ≡ dependenciesRead (complete badDependency (dependencies (take count widths) .get (now (part .entry)))) ⌝ }
+    ensures { λ r. ⌜ r ≡ dependenciesRead (dependencies (take count widths) .get (now (part .entry))) ⌝ }
 {
     let ByteRead::Byte(held) = read_byte(part, 0, 0, 32) else {
         return no_dependencies();
@@ -362,12 +364,122 @@ pub fn read_dependencies(part: &[u8], count: u8, widths: [u8; 8]) -> Dependencie
         };
         dependencies[i] = d;
     }
-    if 1 + 3 * n < part.len() {
-        return no_dependencies();
-    }
     DependenciesRead {
         good: true,
         held,
         dependencies,
+    }
+}
+
+// ---- part 1: join dependencies
+
+// A join dependency, if it is good.
+pub struct JoinRead {
+    pub good: bool,
+    pub join: JoinDependency,
+}
+
+// No join dependency.
+fn no_join() -> JoinRead
+    ensures { λ r. ⌜ r ≡ noJoinRead ⌝ }
+{
+    JoinRead {
+        good: false,
+        join: query::NO_JOIN_DEPENDENCY,
+    }
+}
+
+// At most 4 sets from a position on, and 0 for each that is not in use.
+pub fn read_sets(part: &[u8], at: usize, n: usize) -> [u8; 4]
+    requires { ⌜ (n ≤ 4) × (at + n ≤ length (now part)) ⌝ }
+    ensures { λ r. ⌜ r ≡ pad 4 0 (take n (drop at (now (part .entry)))) ⌝ }
+{
+    let mut sets = [0; 4];
+    for i in 0..n {
+        sets[i] = part[at + i];
+    }
+    sets
+}
+
+// The join dependency at a position: relation, number of sets, and the sets, a byte each.
+fn read_join(part: &[u8], at: usize, count: u8, widths: [u8; 8]) -> JoinRead
+    requires { ⌜ goodRelations count widths ≡ true ⌝ }
+    requires { ⌜ at ≤ length (now part) ⌝ }
+    ensures { λ r. ⌜ r ≡ joinRead (join (take count widths) .get (drop at (now (part .entry)))) ⌝ }
+{
+    let left = part.len() - at;
+    if left < 2 {
+        return no_join();
+    }
+    let n = part[at + 1];
+    if 4 < n {
+        return no_join();
+    }
+    if left < 2 + n as usize {
+        return no_join();
+    }
+    let sets = read_sets(part, at + 2, n as usize);
+    let j = JoinDependency {
+        relation: part[at],
+        count: n,
+        sets,
+    };
+    if !limits::join_good(count, widths, j) {
+        return no_join();
+    }
+    JoinRead {
+        good: true,
+        join: j,
+    }
+}
+
+// The number of join dependencies and these.
+pub struct JoinsRead {
+    pub good: bool,
+    pub joined: u8,
+    pub joins: [JoinDependency; 4],
+}
+
+// No join dependencies: good where none is held, or not.
+fn no_joins(good: bool) -> JoinsRead
+    ensures { λ r. ⌜ r ≡ noJoinsRead good ⌝ }
+{
+    JoinsRead {
+        good,
+        joined: 0,
+        joins: [query::NO_JOIN_DEPENDENCY; 4],
+    }
+}
+
+// What is left of part 1 after the functional dependencies: nothing, or the count of join dependencies and each of them.
+pub fn read_joins(part: &[u8], count: u8, widths: [u8; 8]) -> JoinsRead
+    requires { ⌜ goodRelations count widths ≡ true ⌝ }
+    ensures { λ r. ⌜ r ≡ joinsRead (readJoins (take count widths) (now (part .entry))) ⌝ }
+{
+    if part.len() == 0 {
+        return no_joins(true);
+    }
+    let ByteRead::Byte(joined) = read_byte(part, 0, 1, 4) else {
+        return no_joins(false);
+    };
+    let n = joined as usize;
+    let mut joins = [query::NO_JOIN_DEPENDENCY; 4];
+    let mut at = 1;
+    for i in 0..n {
+        let read = read_join(part, at, count, widths);
+        if !read.good {
+            return no_joins(false);
+        }
+        let j = read.join;
+        joins[i] = j;
+        at = at + 2 + j.count as usize;
+    }
+    if at < part.len() {
+        return no_joins(false);
+    }
+    JoinsRead {
+        good: true,
+        joined,
+        joins,
     }
 }

@@ -2,6 +2,7 @@
 use decoder::read_place;
 use parsing::word16;
 use query::Dependency;
+use query::JoinDependency;
 use record::Outcome;
 use record::Record;
 use record::Status;
@@ -47,12 +48,14 @@ pub fn read_places(
     widths: [u8; 8],
     held: u8,
     dependencies: [Dependency; 32],
+    joined: u8,
+    joins: [JoinDependency; 4],
 ) -> Outcome
     requires { ⌜ goodRelations count widths ≡ true ⌝ }
     requires { ⌜ (2 ≤ n) × (n ≤ 10) × (2 + 4 * n ≤ length (now file)) ⌝ }
     requires { ⌜ chained n (2 + 4 * n) (length (now file)) (drop 2 (now file)) ≡ true ⌝ }
-    ensures { λ r. ⌜ r ≡ recordRead (count, widths) (held, dependencies) (readPlaces (take count widths) (stretches (n - 2) (now (file .entry)) (drop 10
-        (now (file .entry))))) ⌝ }
+    ensures { λ r. ⌜ r ≡ recordRead (count, widths) (held, dependencies) (joined, joins) (readPlaces (take count widths)
+        (stretches (n - 2) (now (file .entry)) (drop 10 (now (file .entry))))) ⌝ }
 {
     let blank = no_place();
     let mut places = [blank; 8];
@@ -74,6 +77,8 @@ pub fn read_places(
         widths,
         held,
         dependencies,
+        joined,
+        joins,
         places,
     };
     Outcome {

@@ -1,5 +1,6 @@
 // The record of a file: the directory names the parts, and the first fault decides.
 use parsing::read_dependencies;
+use parsing::read_joins;
 use parsing::read_relations;
 use parsing::word16;
 use places::part;
@@ -65,7 +66,7 @@ fn read_directory(file: &[u8]) -> DirectoryRead
 
 // ---- all parts
 
-// The parts in file order: relations, dependencies, then places.
+// The parts in file order: relations, dependencies of both kinds, then places.
 fn read_parts(file: &[u8], n: usize) -> Outcome
     requires { ⌜ (2 ≤ n) × (n ≤ 10) × (2 + 4 * n ≤ length (now file)) ⌝ }
     requires { ⌜ chained n (2 + 4 * n) (length (now file)) (drop 2 (now file)) ≡ true ⌝ }
@@ -77,13 +78,21 @@ fn read_parts(file: &[u8], n: usize) -> Outcome
     }
     let count = first.count;
     let widths = first.widths;
-    let second = read_dependencies(part(file, 1), count, widths);
-    if !second.good {
+    let second = part(file, 1);
+    let functional = read_dependencies(second, count, widths);
+    if !functional.good {
         return refusal(refusals::BAD_DEPENDENCY);
     }
-    let held = second.held;
-    let dependencies = second.dependencies;
-    read_places(file, n, count, widths, held, dependencies)
+    let held = functional.held;
+    let dependencies = functional.dependencies;
+    let from = 1 + 3 * held as usize;
+    let rest = read_joins(&second[from..], count, widths);
+    if !rest.good {
+        return refusal(refusals::BAD_JOIN);
+    }
+    let joined = rest.joined;
+    let joins = rest.joins;
+    read_places(file, n, count, widths, held, dependencies, joined, joins)
 }
 
 // Read a file: its record, or the first fault and the blank record.

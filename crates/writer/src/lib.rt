@@ -1,4 +1,5 @@
 // The file of a record, written into a lent buffer.
+use assembly::joins_length;
 use assembly::places_length;
 use assembly::put_directory;
 use assembly::put_parts;
@@ -23,10 +24,12 @@ pub fn write_good(given: Record, buffer: &mut [u8]) -> Written
     let count = given.relations;
     let widths = given.widths;
     let held = given.held;
+    let joined = given.joined;
+    let joins = given.joins;
     let places = given.places;
     let n = up_to_filled(places);
     let first = 1 + count as usize;
-    let second = 1 + 3 * (held as usize);
+    let second = 1 + 3 * (held as usize) + joins_length(joined, joins);
     let others = places_length(places, n, count, widths);
     let size = 2 + 4 * (n + 2) + first + second + others;
     if buffer.len() < size {

@@ -78,8 +78,8 @@ query-some (got q rest) r e g = (rest, ap (λ (r : QueryRead). got (r .query) re
 read-sizes : (schema part : List ℕ) (q : Query) (rest : List ℕ) → Narrow schema → Bytes part → query schema .get part ≡ got q rest
     → (q .arity ≤ 8) × (q .size ≤ 12)
 read-sizes schema part q rest narrow hb e =
-    let (good, put) = query-lawful schema narrow .put-get part q rest hb e in
-    let g = stored.good-query 12 schema q (good-query schema q good .1) in
+    let (good, put) = query-lawful 12 schema narrow .put-get part q rest hb e in
+    let g = stored.good-query 12 schema q (good-query 12 schema q good .1) in
     (g .arity, g .size)
 
 is-vacant-requires : tie.Need-is-vacant-requires

@@ -8,9 +8,10 @@ use lib.Dec.{eqb}
 use lib.ListN.{length, take, set, length-append, length-set}
 use lib.Seq.{length-take-le}
 use Rattle.query.specs.declared.Query.{Query}
+use Rattle.query.specs.View.{asQuery}
 use Rattle.lists.specs.Over.{over}
 use Rattle.format.specs.Format.{byte, sequence, via, padded}
-use Rattle.format.specs.Parts.{entries, row, rows, chunk, query}
+use Rattle.format.specs.Parts.{entries, row, rows, chunk, queryFor}
 use Rattle.lists.proofs.Over.{over-length, over-over}
 use Rattle.lists.proofs.Loops.{mapped-length}
 use Rattle.format.proofs.Parts.{headFits}
@@ -34,7 +35,7 @@ abbrev opened : List ℕ → ℕ → Query → List ℕ
 opened buffer at q = set (set buffer at (q .arity)) (at + 1) (q .size)
 
 module _ (schema buffer : List ℕ) (at : ℕ) (q : Query) (lh : length (q .head) ≡ 8) (ha : q .arity ≤ 8)
-    (room : at + length (query schema .put q) ≤ length buffer)
+    (room : at + length (queryFor 24 schema .put q) ≤ length buffer)
     (used : ℕ) (eu : used ≡ cond (eqb (q .size) 0) 0 (q .arity)) where
   used-fits : used ≤ 8
   used-fits = rw eu (headFits (q .size) (q .arity) ha)
@@ -42,11 +43,11 @@ module _ (schema buffer : List ℕ) (at : ℕ) (q : Query) (lh : length (q .head
   head-long : length (headBytes used q) ≡ 5 * used
   head-long = length-entries used (q .head) ∙ ap (λ (n : ℕ). 5 * n) (length-take-le used (q .head) (omega (arith, used-fits)))
 
-  put-pieces : query schema .put q ≡ q .arity ∷ q .size ∷ ((headBytes used q) ++ (rowBytes schema q))
-  unfolding query via sequence byte rows padded
+  put-pieces : queryFor 24 schema .put q ≡ q .arity ∷ q .size ∷ ((headBytes used q) ++ (rowBytes schema q))
+  unfolding queryFor via sequence byte rows padded
   put-pieces = rw eu
 
-  total : length (query schema .put q) ≡ 2 + (5 * used + length (rowBytes schema q))
+  total : length (queryFor 24 schema .put q) ≡ 2 + (5 * used + length (rowBytes schema q))
   total = ap length put-pieces ∙ omega (arith, length-append (headBytes used q) (rowBytes schema q), head-long)
 
   opened-long : length (opened buffer at q) ≡ length buffer
@@ -74,7 +75,7 @@ module _ (schema buffer : List ℕ) (at : ℕ) (q : Query) (lh : length (q .head
       third-long : length third ≡ length buffer
       third-long = ap length e₃ ∙ over-length second (rowBytes schema q) (at + 2 + 5 * used) room-rows ∙ second-long
 
-      third-over : third ≡ over buffer at (query schema .put q)
+      third-over : third ≡ over buffer at (queryFor 24 schema .put q)
       third-over =
           let front : List ℕ = q .arity ∷ q .size ∷ (headBytes used q) in
           let n : at + 2 + 5 * used ≡ at + length front = omega (arith, head-long) in
@@ -83,19 +84,19 @@ module _ (schema buffer : List ℕ) (at : ℕ) (q : Query) (lh : length (q .head
           ∙ over-over buffer at front (rowBytes schema q) (omega (arith, total, head-long)) ∙ ap (over buffer at) (sym put-pieces)
 
 -- ---- what holds at each place, proved where it first does
-head-cells : (c : tie.Start) → length (c .args .q .head) ≡ 8
+head-cells : (c : tie.Start) → length (c .args .t .head) ≡ 8
 head-cells c = search (mapped-length, needs)
 
 short : (c : tie.Start) → length (c .args .buffer .now) < 2 ^ 63
 short c = search needs
 
 two : (c : tie.Start) → c .args .at + 2 ≤ length (c .args .buffer .now)
-two c = omega (arith, length-query (take (c .args .count) (c .args .widths)) (c .args .q), c .pre .1 .1)
+two c = omega (arith, length-query 24 (take (c .args .count) (c .args .widths)) (asQuery (c .args .t)), c .pre .1 .1)
 
 used : (c : tie.After-head-in-use) → c .head-in-use .result ≤ 8
 used c =
     let start = c .before .before in
-    used-fits (take (start .args .count) (start .args .widths)) (start .args .buffer .now) (start .args .at) (start .args .q) (head-cells start)
+    used-fits (take (start .args .count) (start .args .widths)) (start .args .buffer .now) (start .args .at) (asQuery (start .args .t)) (head-cells start)
     (start .pre .1 .0 .0) (start .pre .1 .1) (c .head-in-use .result) (c .head-in-use .ensures)
 
 abbrev rows-fit-start : tie.After-put-entries → tie.Start
@@ -103,11 +104,11 @@ rows-fit-start c = c .before .before .before .before .before
 
 rows-fit : (c : tie.After-put-entries)
     → rows-fit-start c .args .at + 2 + 5 * c .before .before .before .head-in-use .result
-    + length (rowBytes (take (rows-fit-start c .args .count) (rows-fit-start c .args .widths)) (rows-fit-start c .args .q)) ≤ length (c .put-entries .last .0)
+    + length (rowBytes (take (rows-fit-start c .args .count) (rows-fit-start c .args .widths)) (asQuery (rows-fit-start c .args .t))) ≤ length (c .put-entries .last .0)
 rows-fit c =
     let after-head-in-use = c .before .before .before in
     let start = after-head-in-use .before .before in
-    room-rows (take (start .args .count) (start .args .widths)) (start .args .buffer .now) (start .args .at) (start .args .q) (head-cells start)
+    room-rows (take (start .args .count) (start .args .widths)) (start .args .buffer .now) (start .args .at) (asQuery (start .args .t)) (head-cells start)
     (start .pre .1 .0 .0) (start .pre .1 .1) (after-head-in-use .head-in-use .result) (after-head-in-use .head-in-use .ensures) (c .put-entries .last .0)
     (c .put-entries .ensures)
 
@@ -118,7 +119,7 @@ rows-at c =
     omega (
       arith,
       rows-fit c,
-      second-long (take (start .args .count) (start .args .widths)) (start .args .buffer .now) (start .args .at) (start .args .q)
+      second-long (take (start .args .count) (start .args .widths)) (start .args .buffer .now) (start .args .at) (asQuery (start .args .t))
           (head-cells start) (start .pre .1 .0 .0) (start .pre .1 .1) (after-head-in-use .head-in-use .result) (after-head-in-use .head-in-use .ensures)
           (c .put-entries .last .0) (c .put-entries .ensures),
       short start,
@@ -145,7 +146,7 @@ put-entries-requires c κs =
     let after-head-in-use = c .before .before in
     let start = after-head-in-use .before .before in (
       used after-head-in-use,
-      room-head (take (start .args .count) (start .args .widths)) (start .args .buffer .now) (start .args .at) (start .args .q)
+      room-head (take (start .args .count) (start .args .widths)) (start .args .buffer .now) (start .args .at) (asQuery (start .args .t))
           (head-cells start) (start .pre .1 .0 .0) (start .pre .1 .1) (after-head-in-use .head-in-use .result) (after-head-in-use .head-in-use .ensures),
     )
 
@@ -173,7 +174,7 @@ same-length c =
     let after-put-entries = after-put-rows .before .before .before .before .before .before in
     let after-head-in-use = after-put-entries .before .before .before in
     let start = after-head-in-use .before .before in
-    third-long (take (start .args .count) (start .args .widths)) (start .args .buffer .now) (start .args .at) (start .args .q) (head-cells start)
+    third-long (take (start .args .count) (start .args .widths)) (start .args .buffer .now) (start .args .at) (asQuery (start .args .t)) (head-cells start)
     (start .pre .1 .0 .0) (start .pre .1 .1) (after-head-in-use .head-in-use .result) (after-head-in-use .head-in-use .ensures)
     (after-put-entries .put-entries .last .0) (after-put-entries .put-entries .ensures) (after-put-rows .put-rows .last .0)
     (after-put-rows .put-rows .ensures .0)
@@ -184,14 +185,14 @@ returns c =
     let after-put-entries = after-put-rows .before .before .before .before .before .before in
     let after-head-in-use = after-put-entries .before .before .before in
     let start = after-head-in-use .before .before in (
-      third-over (take (start .args .count) (start .args .widths)) (start .args .buffer .now) (start .args .at) (start .args .q) (head-cells start)
+      third-over (take (start .args .count) (start .args .widths)) (start .args .buffer .now) (start .args .at) (asQuery (start .args .t)) (head-cells start)
           (start .pre .1 .0 .0) (start .pre .1 .1) (after-head-in-use .head-in-use .result) (after-head-in-use .head-in-use .ensures)
           (after-put-entries .put-entries .last .0) (after-put-entries .put-entries .ensures) (after-put-rows .put-rows .last .0)
           (after-put-rows .put-rows .ensures .0),
       omega (
         arith,
         after-put-rows .put-rows .ensures .1,
-        total (take (start .args .count) (start .args .widths)) (start .args .buffer .now) (start .args .at) (start .args .q) (head-cells start)
+        total (take (start .args .count) (start .args .widths)) (start .args .buffer .now) (start .args .at) (asQuery (start .args .t)) (head-cells start)
             (start .pre .1 .0 .0) (start .pre .1 .1) (after-head-in-use .head-in-use .result) (after-head-in-use .head-in-use .ensures),
       ),
     )

@@ -26,8 +26,8 @@ chunk-at (x ∷ named) cells (suc r) h =
     chunk-at named (drop 8 cells) r (le-of-suc-le-suc h)
     ∙ ap (λ (cs : List Cell). (getD named r 0, take 8 cs)) (drop-drop (8 * r) 8 cells ∙ ap (λ (n : ℕ). drop n cells) m)
 
-module _ (schema before : List ℕ) (start size : ℕ) (named : List ℕ) (cells : List Cell) (buffer : List ℕ) (at r : ℕ) (h : r < size) (few : size ≤ 12)
-    (ln : length named ≡ 12) (lc : length cells ≡ 96) (w : Writing (row schema .put) before start (take size (chunk named cells)) buffer at r)
+module _ (schema before : List ℕ) (start size : ℕ) (named : List ℕ) (cells : List Cell) (buffer : List ℕ) (at r : ℕ) (h : r < size) (few : size ≤ 24)
+    (ln : length named ≡ 24) (lc : length cells ≡ 192) (w : Writing (row schema .put) before start (take size (chunk named cells)) buffer at r)
     (width : ℕ) (ew : width ≡ getD schema (getD named r 0) 0) (lw : width ≤ 8) where
   rows-long : length (take size (chunk named cells)) ≡ size
   rows-long = length-take-le size (chunk named cells) (rw length-chunk (omega arith))
@@ -81,8 +81,8 @@ row-of-requires c κs = search needs
 
 put-row-requires : tie.Need-put-row-requires Inv-loop μ-loop
 put-row-requires c κs =
-    let ln : length (c .before .before .before .before .before .before .before .args .t4) ≡ 12 = search needs in
-    let lc : length (c .before .before .before .before .before .before .before .args .cells) ≡ 96 = search needs in
+    let ln : length (c .before .before .before .before .before .before .before .args .t4) ≡ 24 = search needs in
+    let lc : length (c .before .before .before .before .before .before .before .args .cells) ≡ 192 = search needs in
     let after-width-of = c .before .before .before in
     let after-loop-test = after-width-of .before in
     let after-loop = after-loop-test .before in
@@ -102,8 +102,8 @@ loop-less c = search needs
 
 loop-again : tie.Need-loop-again Inv-loop μ-loop
 loop-again c =
-    let ln : length (c .before .before .before .before .before .before .before .before .before .before .args .t4) ≡ 12 = search needs in
-    let lc : length (c .before .before .before .before .before .before .before .before .before .before .args .cells) ≡ 96 = search needs in
+    let ln : length (c .before .before .before .before .before .before .before .before .before .before .args .t4) ≡ 24 = search needs in
+    let lc : length (c .before .before .before .before .before .before .before .before .before .before .args .cells) ≡ 192 = search needs in
     let after-put-row = c .before .before in
     let after-row-of = after-put-row .before .before .before in
     let after-width-of = after-row-of .before in
@@ -124,8 +124,8 @@ same-length c =
 
 returns : tie.Need-returns Inv-loop μ-loop
 returns c =
-    let ln : length (c .before .before .before .args .t4) ≡ 12 = search needs in
-    let lc : length (c .before .before .before .args .cells) ≡ 96 = search needs in
+    let ln : length (c .before .before .before .args .t4) ≡ 24 = search needs in
+    let lc : length (c .before .before .before .args .cells) ≡ 192 = search needs in
     let start = c .before .before .before in
     let k : length (take (start .args .size) (chunk (start .args .t4) (start .args .cells))) ≡ start .args .size =
     length-take-le (start .args .size) (chunk (start .args .t4) (start .args .cells)) (rw length-chunk (omega (arith, start .pre .1 .0))) in

@@ -23,7 +23,7 @@ turn : (xs copy : List Cell) (c : ℕ) (v : Cell) → c < length xs → c < leng
     → over copy c (drop c xs) ≡ over (set copy c v) (c + 1) (drop (c + 1) xs)
 turn xs copy c v h l e = rw (drop-cons xs c noCell h, e, add-one) (sym (over-set copy c (getD xs c noCell) (drop (suc c) xs) l))
 
-run-length : (cells : List Cell) (r : ℕ) → length cells ≡ 96 → r < 12 → length (take 8 (drop (8 * r) cells)) ≡ 8
+run-length : (cells : List Cell) (r : ℕ) → length cells ≡ 192 → r < 24 → length (take 8 (drop (8 * r) cells)) ≡ 8
 run-length cells r l h = length-take-le 8 (drop (8 * r) cells) (rw length-drop (omega arith))
 
 run-at : (cells : List Cell) (r c : ℕ) → c < 8 → getD cells (8 * r + c) noCell ≡ getD (take 8 (drop (8 * r) cells)) c noCell
@@ -39,7 +39,7 @@ loop-holds : tie.Need-loop-holds Inv-loop μ-loop
 loop-holds c =
     let cells = c .args .t1 in
     let r = c .args .r in
-    let l : length cells ≡ 96 = search needs in
+    let l : length cells ≡ 192 = search needs in
     let run = run-length cells r l (c .pre) in
     (omega arith, refl, covered (take 8 (drop (8 * r) cells)) (replicate 8 noCell) run)
 
@@ -71,7 +71,7 @@ loop-again : tie.Need-loop-again Inv-loop μ-loop
 loop-again c =
     let cells = c .before .before .before .args .t1 in
     let r = c .before .before .before .args .r in
-    let l : length cells ≡ 96 = search needs in
+    let l : length cells ≡ 192 = search needs in
     let after-loop = c .before .before in
     let run = run-length cells r l (c .before .before .before .pre) in
     let copy = after-loop .loop .copy in
@@ -87,7 +87,7 @@ returns : tie.Need-returns Inv-loop μ-loop
 returns c =
     let cells = c .before .before .args .t1 in
     let r = c .before .before .args .r in
-    let l : length cells ≡ 96 = search needs in
+    let l : length cells ≡ 192 = search needs in
     let run = run-length cells r l (c .before .before .pre) in
     let done : drop (c .before .loop .c) (take 8 (drop (8 * r) cells)) ≡ [] =
     drop-of-length-le (take 8 (drop (8 * r) cells)) {i = c .before .loop .c} (omega arith) in

@@ -58,7 +58,7 @@ loop-less c = search needs
 
 loop-again : tie.Need-loop-again Inv-loop μ-loop
 loop-again c =
-    let l : length (c .before .before .before .args .t2) ≡ 12 = search needs in
+    let l : length (c .before .before .before .args .t2) ≡ 24 = search needs in
     let after-loop = c .before .before in
     let start = after-loop .before in
     let e =
@@ -68,7 +68,7 @@ loop-again c =
 
 returns : tie.Need-returns Inv-loop μ-loop
 returns c =
-    let l : length (c .before .before .args .t2) ≡ 12 = search needs in
+    let l : length (c .before .before .args .t2) ≡ 24 = search needs in
     let start = c .before .before in
     let e =
     none-left (take (start .args .count) (start .args .widths)) (start .args .t2) (start .args .size) (c .before .loop .r) (c .loop-test .left)

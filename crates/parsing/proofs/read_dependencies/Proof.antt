@@ -8,13 +8,11 @@ use lib.Dec.{leb}
 use lib.ListN.{length, take, drop, set, replicate, length-set}
 use lib.Seq.{drop-drop}
 use borrow.Author.Tests.{leb-true}
-use Rattle.refusals.specs.Refusals.{badDependency}
 use Rattle.query.specs.declared.Dependency.{Dependency}
 use Rattle.lists.specs.Tests.{between}
 use Rattle.query.specs.Rule.{blankDependency, noDependency}
 use Rattle.format.specs.Format.{got, getByte}
 use Rattle.format.specs.Parts.{dependency, dependencies}
-use Rattle.format.specs.File.{complete}
 use Rattle.parsing.specs.declared.ByteRead.{ByteRead}
 use Rattle.parsing.specs.declared.ByteRead.the-variants.{Byte, NoByte}
 use Rattle.parsing.specs.declared.DependencyRead.{DependencyRead}
@@ -22,8 +20,8 @@ use Rattle.parsing.specs.declared.DependencyRead.the-variants.{Found, No
 use Rattle.parsing.specs.internal.Read.{byteRead}
 use Rattle.parsing.specs.internal.Read.{dependencyRead, noDependencies, dependenciesRead}
 use Rattle.parsing.proofs.Dependencies.{dependency-read, dependency-none}
-use Rattle.parsing.proofs.Counted.{byte-read, byte-none, no-low, Counting, counting-starts, counting-turns, counting-fails, counting-ends}
-use Rattle.parsing.proofs.Counted.{counting-long, no-count}
+use Rattle.parsing.proofs.Counted.{byte-read, byte-none, no-low, Counting, counting-starts, counting-turns, counting-fails-front}
+use Rattle.parsing.proofs.Counted.{counting-ends-front, no-count-front}
 use Rattle.parsing.proofs.read_dependencies.Statement.{statement}
 use Rattle.parsing.proofs.read_dependencies.Tie as tie
 
@@ -38,10 +36,10 @@ module _ (schema part : List ℕ) where
       (leb-true n 32 t, counting-starts (λ n. leb n 32) 32 noDependency blankDependency (dependency schema) part n e)
 
   no-dependencies-read : (r : ByteRead) → r ≡ byteRead (getByte (between 0 32) part) → r ≡ NoByte
-      → noDependencies ≡ dependenciesRead (complete badDependency (dependencies schema .get part))
+      → noDependencies ≡ dependenciesRead (dependencies schema .get part)
   unfolding dependencies
   no-dependencies-read r p q =
-      sym (ap dependenciesRead (no-count (λ n. leb n 32) 32 noDependency blankDependency (dependency schema) part badDependency
+      sym (ap dependenciesRead (no-count-front (λ n. leb n 32) 32 noDependency blankDependency (dependency schema) part
       (byte-none (getByte (λ n. leb n 32) part) (rw no-low at (sym q ∙ p)))))
 
   module _ (n : ℕ) (ds : List Dependency) (i : ℕ) (f : At schema part n ds i) where
@@ -55,23 +53,16 @@ module _ (schema part : List ℕ) where
           counting-turns (λ n. leb n 32) 32 noDependency blankDependency (dependency schema) part f d (1 + 3 * (i + 1)) h l
           (e ∙ ap (λ (rest : List ℕ). got d rest) m)
 
-      fails : r ≡ NoDependency → noDependencies ≡ dependenciesRead (complete badDependency (dependencies schema .get part))
+      fails : r ≡ NoDependency → noDependencies ≡ dependenciesRead (dependencies schema .get part)
       unfolding dependencies
       fails q =
-          sym (ap dependenciesRead (counting-fails (λ n. leb n 32) 32 noDependency blankDependency (dependency schema) part f badDependency h
+          sym (ap dependenciesRead (counting-fails-front (λ n. leb n 32) 32 noDependency blankDependency (dependency schema) part f h
           (dependency-none (dependency schema .get (drop (1 + 3 * i) part)) (sym q ∙ p))))
 
-    module _ (high : i ≤ n) (l : n ≤ i) where
-      too-long : 1 + 3 * n < length part → noDependencies ≡ dependenciesRead (complete badDependency (dependencies schema .get part))
-      unfolding dependencies
-      too-long t =
-          sym (ap dependenciesRead (counting-long (λ n. leb n 32) 32 noDependency blankDependency (dependency schema) part f badDependency l (omega arith)))
-
-      accepted : length part ≤ 1 + 3 * n
-          → record { good = true; held = n; dependencies = ds } ≡ dependenciesRead (complete badDependency (dependencies schema .get part))
-      unfolding dependencies
-      accepted t =
-          sym (ap dependenciesRead (counting-ends (λ n. leb n 32) 32 noDependency blankDependency (dependency schema) part f badDependency l (omega arith)))
+    accepted : n ≤ i → record { good = true; held = n; dependencies = ds } ≡ dependenciesRead (dependencies schema .get part)
+    unfolding dependencies
+    accepted l =
+        sym (ap dependenciesRead (counting-ends-front (λ n. leb n 32) 32 noDependency blankDependency (dependency schema) part f l))
 
 abbrev Inv-loop : tie.InvT-loop
 Inv-loop part count widths held n dependencies₀ i₀ dependencies i =
@@ -166,31 +157,13 @@ loop-again c =
           (c .before .d .given .1),
     )
 
-mul-if1 : tie.Need-mul-if1 Inv-loop μ-loop
-mul-if1 c = search needs
-
-add-if1 : tie.Need-add-if1 Inv-loop μ-loop
-add-if1 c = search needs
-
-no-dependencies-requires-3 : tie.Need-no-dependencies-requires-3 Inv-loop μ-loop
-no-dependencies-requires-3 c κs = search needs
-
 returns-3 : tie.Need-returns-3 Inv-loop μ-loop
 returns-3 c =
-    let after-loop = c .before .before .before in
-    let after-held = after-loop .before .before in
-    let start = after-held .before .before .before .before in
-    c .no-dependencies3 .ensures ∙ too-long (take (start .args .count) (start .args .widths)) (start .args .part .now) (after-held .held .given .0 .0)
-    (after-loop .loop .dependencies) (after-loop .loop .i) (after-loop .loop .inv .3) (after-loop .loop .inv .0)
-    (c .before .before .loop-test .left) (c .before .if1 .taken)
-
-returns-4 : tie.Need-returns-4 Inv-loop μ-loop
-returns-4 c =
-    let after-loop = c .before .before in
+    let after-loop = c .before in
     let after-held = after-loop .before .before in
     let start = after-held .before .before .before .before in
     accepted (take (start .args .count) (start .args .widths)) (start .args .part .now) (after-held .held .given .0 .0) (after-loop .loop .dependencies)
-    (after-loop .loop .i) (after-loop .loop .inv .3) (after-loop .loop .inv .0) (c .before .loop-test .left) (c .if1 .left)
+    (after-loop .loop .i) (after-loop .loop .inv .3) (c .loop-test .left)
 
 pub read-dependencies-spec : {M : Type 1} → statement M
 read-dependencies-spec =
@@ -217,8 +190,4 @@ read-dependencies-spec =
     add-i
     loop-less
     loop-again
-    mul-if1
-    add-if1
-    no-dependencies-requires-3
-    returns-3
-    returns-4)
+    returns-3)

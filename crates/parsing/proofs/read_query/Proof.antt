@@ -62,20 +62,20 @@ head-ends part arity size used front z eu ef g =
     (rw (← eu) (e ∙ ap (λ (t : List ℕ). got (front .cells) t) d′), omega (arith, z .long))
 
 module _ (schema part : List ℕ) (arity size used : ℕ) (front : CellsRead) (rs : RowsRead) (z : Sizes part arity size) (eu : used ≡ cond (eqb size 0) 0 arity)
-    (ef : front ≡ cellsRead (entries used .get (drop 2 part))) (g : front .good ≡ true) (er : rs ≡ rowsRead (rows schema size .get (drop (2 + 5 * used) part)))
+    (ef : front ≡ cellsRead (entries used .get (drop 2 part))) (g : front .good ≡ true) (er : rs ≡ rowsRead (rows 12 schema size .get (drop (2 + 5 * used) part)))
   where
     abbrev with-rows : List (ℕ × List Cell) → Query
     with-rows all = queryWith (arity, (size, (front .cells, all)))
 
-    on-rows : query schema .get part ≡ mapReading with-rows (rows schema size .get (drop (2 + 5 * used) part))
+    on-rows : query schema .get part ≡ mapReading with-rows (rows 12 schema size .get (drop (2 + 5 * used) part))
     on-rows =
         after-head schema part arity (z .arity-read) size (z .size-read) (front .cells) (drop (2 + 5 * used) part)
         (head-ends part arity size used front z eu ef g .0)
 
     bad-rows : rs .good ≡ false → noQueryRead ≡ queryRead (query schema .get part)
     bad-rows b =
-        refuses schema part (on-rows ∙ map-none with-rows (rows schema size .get (drop (2 + 5 * used) part))
-        (rows-bad (rows schema size .get (drop (2 + 5 * used) part)) rs er b))
+        refuses schema part (on-rows ∙ map-none with-rows (rows 12 schema size .get (drop (2 + 5 * used) part))
+        (rows-bad (rows 12 schema size .get (drop (2 + 5 * used) part)) rs er b))
 
     accepts : rs .good ≡ true → record {
       good = true;
@@ -85,7 +85,7 @@ module _ (schema part : List ℕ) (arity size used : ℕ) (front : CellsRead) (r
         ≡ queryRead (query schema .get part)
     unfolding mapReading
     accepts b =
-        let r = rows-some (rows schema size .get (drop (2 + 5 * used) part)) rs er b in
+        let r = rows-some (rows 12 schema size .get (drop (2 + 5 * used) part)) rs er b in
         let done : query schema .get part ≡ got (with-rows (r .all)) (r .rest) = on-rows ∙ ap (mapReading with-rows) (r .reading) in
         (λ i. record {
           good = true;

@@ -1,5 +1,5 @@
 -- The answers of this crate's functions: the format's readings and results as values of the code's structs and enums.
-use mathlib.Core.Bool.{true, false}
+use mathlib.Core.Bool.{Bool, true, false}
 use mathlib.Core.List.{List, map}
 use Prim.Native.Nat.{ℕ}
 use lib.Dec.{eqb}
@@ -7,7 +7,8 @@ use lib.ListN.{length, replicate}
 use Rattle.query.specs.declared.Cell.{Cell}
 use Rattle.query.specs.declared.Query.{Query}
 use Rattle.query.specs.declared.Dependency.{Dependency}
-use Rattle.query.specs.Rule.{noCell, noQuery, noDependency}
+use Rattle.query.specs.declared.JoinDependency.{JoinDependency}
+use Rattle.query.specs.Rule.{noCell, noQuery, noDependency, noJoin}
 use Rattle.format.specs.Format.{Reading, none, got}
 use Rattle.format.specs.Parts.{flat}
 use Rattle.refusals.specs.Refusals.{Reply, gives, refused}
@@ -22,6 +23,8 @@ use Rattle.parsing.specs.declared.RelationsRead.{RelationsRead}
 use Rattle.parsing.specs.declared.DependencyRead.{DependencyRead}
 use Rattle.parsing.specs.declared.DependencyRead.the-variants.{Found, NoDependency}
 use Rattle.parsing.specs.declared.DependenciesRead.{DependenciesRead}
+use Rattle.parsing.specs.declared.JoinRead.{JoinRead}
+use Rattle.parsing.specs.declared.JoinsRead.{JoinsRead}
 
 -- A byte that was read
 abbrev pub byteRead : Reading ℕ → ByteRead
@@ -65,16 +68,34 @@ abbrev pub relationsRead : Reply (ℕ × List ℕ) → RelationsRead
 relationsRead (gives rs) = record { good = true; count = rs .0; widths = rs .1 }
 relationsRead (refused n) = noRelations
 
--- A dependency that was read
+-- A functional dependency that was read
 abbrev pub dependencyRead : Reading Dependency → DependencyRead
 dependencyRead none = NoDependency
 dependencyRead (got d rest) = Found d
 
--- No dependencies
+-- No functional dependencies
 abbrev pub noDependencies : DependenciesRead
 noDependencies = record { good = false; held = 0; dependencies = replicate 32 noDependency }
 
--- The dependencies of part 1
-abbrev pub dependenciesRead : Reply (ℕ × List Dependency) → DependenciesRead
-dependenciesRead (gives ds) = record { good = true; held = ds .0; dependencies = ds .1 }
-dependenciesRead (refused n) = noDependencies
+-- The functional dependencies at the front of part 1
+abbrev pub dependenciesRead : Reading (ℕ × List Dependency) → DependenciesRead
+dependenciesRead none = noDependencies
+dependenciesRead (got ds rest) = record { good = true; held = ds .0; dependencies = ds .1 }
+
+-- No join dependency
+abbrev pub noJoinRead : JoinRead
+noJoinRead = record { good = false; join = noJoin }
+
+-- A join dependency that was read
+abbrev pub joinRead : Reading JoinDependency → JoinRead
+joinRead none = noJoinRead
+joinRead (got j rest) = record { good = true; join = j }
+
+-- No join dependencies, good where none is held
+abbrev pub noJoinsRead : Bool → JoinsRead
+noJoinsRead good = record { good = good; joined = 0; joins = replicate 4 noJoin }
+
+-- The join dependencies of part 1
+abbrev pub joinsRead : Reply (ℕ × List JoinDependency) → JoinsRead
+joinsRead (gives js) = record { good = true; joined = js .0; joins = js .1 }
+joinsRead (refused n) = noJoinsRead false

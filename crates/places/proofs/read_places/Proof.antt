@@ -9,6 +9,7 @@ use lib.Dec.{eqb}
 use lib.ListN.{length, take, drop, set, replicate, length-set}
 use denote.Ref.{now}
 use Rattle.query.specs.declared.Dependency.{Dependency}
+use Rattle.query.specs.declared.JoinDependency.{JoinDependency}
 use Rattle.query.specs.declared.Place.{Place}
 use Rattle.record.specs.declared.Outcome.{Outcome}
 use Rattle.record.specs.declared.Status.the-variants.{Done, Refused}
@@ -27,32 +28,32 @@ use Rattle.places.proofs.read_places.Statement.{statement}
 use Rattle.places.proofs.read_places.Tie as tie
 
 -- The record with the places read so far and the others laid over what follows them
-abbrev recordOver : ℕ × List ℕ → ℕ × List Dependency → List Place → ℕ → Reply (List Place) → Outcome
-recordOver rs ds places i (gives ps) =
-    record { answer = Done; «record» = record { relations = rs .0; widths = rs .1; held = ds .0; dependencies = ds .1; places = over places i ps } }
-recordOver rs ds places i (refused m) = outcomeOf (refused m)
+abbrev recordOver : ℕ × List ℕ → ℕ × List Dependency → ℕ × List JoinDependency → List Place → ℕ → Reply (List Place) → Outcome
+recordOver rs ds js places i (gives ps) =
+    record { answer = Done; «record» = record { relations = rs .0; widths = rs .1; held = ds .0; dependencies = ds .1; joined = js .0; joins = js .1; places = over places i ps } }
+recordOver rs ds js places i (refused m) = outcomeOf (refused m)
 
 -- What has been read of the query parts
-record At (rs : ℕ × List ℕ) (ds : ℕ × List Dependency) (schema file : List ℕ) (n : ℕ) (places : List Place) (k : ℕ) : Type 0 where
+record At (rs : ℕ × List ℕ) (ds : ℕ × List Dependency) (js : ℕ × List JoinDependency) (schema file : List ℕ) (n : ℕ) (places : List Place) (k : ℕ) : Type 0 where
   low : 2 ≤ k
   high : k ≤ n
   long : length places ≡ 8
-  rest : recordRead rs ds (readPlaces schema (stretches (n - 2) file (drop 10 file)))
-      ≡ recordOver rs ds places (k - 2) (readPlaces schema (stretches (n - k) file (tableAt file k)))
+  rest : recordRead rs ds js (readPlaces schema (stretches (n - 2) file (drop 10 file)))
+      ≡ recordOver rs ds js places (k - 2) (readPlaces schema (stretches (n - k) file (tableAt file k)))
 
-module _ (rs : ℕ × List ℕ) (ds : ℕ × List Dependency) where
-  starts : (o : Reply (List Place)) → recordRead rs ds o ≡ recordOver rs ds (replicate 8 noPlace) 0 o
+module _ (rs : ℕ × List ℕ) (ds : ℕ × List Dependency) (js : ℕ × List JoinDependency) where
+  starts : (o : Reply (List Place)) → recordRead rs ds js o ≡ recordOver rs ds js (replicate 8 noPlace) 0 o
   starts (gives ps) =
       λ i. record {
         answer =
             Done;
-        «record» = record { relations = rs .0; widths = rs .1; held = ds .0; dependencies = ds .1; places = pad-over 8 noPlace ps i };
+        «record» = record { relations = rs .0; widths = rs .1; held = ds .0; dependencies = ds .1; joined = js .0; joins = js .1; places = pad-over 8 noPlace ps i };
       }
   starts (refused m) = refl
 
-  begins : (schema file : List ℕ) (n : ℕ) (p : Place) → p ≡ noPlace → 2 ≤ n → At rs ds schema file n (replicate 8 p) 2
+  begins : (schema file : List ℕ) (n : ℕ) (p : Place) → p ≡ noPlace → 2 ≤ n → At rs ds js schema file n (replicate 8 p) 2
   begins schema file n p e h =
-      subst (λ (p : Place). At rs ds schema file n (replicate 8 p) 2) (sym e)
+      subst (λ (p : Place). At rs ds js schema file n (replicate 8 p) 2) (sym e)
       (record { low = omega arith; high = h; long = refl; rest = starts (readPlaces schema (stretches (n - 2) file (drop 10 file))) })
 
 none-zero : (file table : List ℕ) → noneLeft (stretches 0 file table) ≡ true
@@ -82,18 +83,18 @@ split-refused : (schema : List ℕ) (p : List ℕ) (ps : List (List ℕ)) (m : �
 unfolding readPlaces _>>=_
 split-refused schema p ps m e = rw e
 
-stored : (rs : ℕ × List ℕ) (ds : ℕ × List Dependency) (places : List Place) (i : ℕ) (place : Place) (o : Reply (List Place)) → i < length places
-    → recordOver rs ds places i (o >>= (λ ps. gives (place ∷ ps))) ≡ recordOver rs ds (set places i place) (suc i) o
+stored : (rs : ℕ × List ℕ) (ds : ℕ × List Dependency) (js : ℕ × List JoinDependency) (places : List Place) (i : ℕ) (place : Place) (o : Reply (List Place)) → i < length places
+    → recordOver rs ds js places i (o >>= (λ ps. gives (place ∷ ps))) ≡ recordOver rs ds js (set places i place) (suc i) o
 unfolding _>>=_
-stored rs ds places i place (gives ps) h =
+stored rs ds js places i place (gives ps) h =
     λ j. record {
       answer =
           Done;
-      «record» = record { relations = rs .0; widths = rs .1; held = ds .0; dependencies = ds .1; places = sym (over-set places i place ps h) j };
+      «record» = record { relations = rs .0; widths = rs .1; held = ds .0; dependencies = ds .1; joined = js .0; joins = js .1; places = sym (over-set places i place ps h) j };
     }
-stored rs ds places i place (refused m) h = refl
+stored rs ds js places i place (refused m) h = refl
 
-module _ (rs : ℕ × List ℕ) (ds : ℕ × List Dependency) (schema file : List ℕ) (n : ℕ) (places : List Place) (k : ℕ) (f : At rs ds schema file n places k)
+module _ (rs : ℕ × List ℕ) (ds : ℕ × List Dependency) (js : ℕ × List JoinDependency) (schema file : List ℕ) (n : ℕ) (places : List Place) (k : ℕ) (f : At rs ds js schema file n places k)
     (h : k < n) (few : n ≤ 10)
     (p : List ℕ) (ep : p ≡ stretch file (tableAt file k)) (r : PlaceRead) (er : r ≡ placeRead (readPlace schema (eqb (k + 1) n) p)) where
   others : List (List ℕ)
@@ -107,7 +108,7 @@ module _ (rs : ℕ × List ℕ) (ds : ℕ × List Dependency) (schema file : Lis
   unfolding others
   last = ap (λ (t : Bool). readPlace schema t p) (last-part n k file (tableAt file (k + 1)) h)
 
-  goes-on : r .answer ≡ Done → At rs ds schema file n (set places (k - 2) (r .place)) (k + 1)
+  goes-on : r .answer ≡ Done → At rs ds js schema file n (set places (k - 2) (r .place)) (k + 1)
   unfolding others
   goes-on g =
       let low = f .low in
@@ -118,34 +119,34 @@ module _ (rs : ℕ × List ℕ) (ds : ℕ × List Dependency) (schema file : Lis
         low = omega arith;
         high = omega arith;
         long = length-set places (k - 2) (r .place) ∙ f .long;
-        rest = f .rest ∙ ap (recordOver rs ds places (k - 2)) (this ∙ split schema p others (r .place) (last ∙ o))
-            ∙ stored rs ds places (k - 2) (r .place) (readPlaces schema others) (omega arith)
-            ∙ ap (λ (i : ℕ). recordOver rs ds (set places (k - 2) (r .place)) i (readPlaces schema others)) m;
+        rest = f .rest ∙ ap (recordOver rs ds js places (k - 2)) (this ∙ split schema p others (r .place) (last ∙ o))
+            ∙ stored rs ds js places (k - 2) (r .place) (readPlaces schema others) (omega arith)
+            ∙ ap (λ (i : ℕ). recordOver rs ds js (set places (k - 2) (r .place)) i (readPlaces schema others)) m;
       }
 
-  stops : (m : ℕ) → r .answer ≡ Refused m → outcomeOf (refused m) ≡ recordRead rs ds (readPlaces schema (stretches (n - 2) file (drop 10 file)))
+  stops : (m : ℕ) → r .answer ≡ Refused m → outcomeOf (refused m) ≡ recordRead rs ds js (readPlaces schema (stretches (n - 2) file (drop 10 file)))
   stops m g =
       let o = place-refused (readPlace schema (eqb (k + 1) n) p) r m er g in
-      sym (f .rest ∙ ap (recordOver rs ds places (k - 2)) (this ∙ split-refused schema p others m (last ∙ o)))
+      sym (f .rest ∙ ap (recordOver rs ds js places (k - 2)) (this ∙ split-refused schema p others m (last ∙ o)))
 
-ended : (rs : ℕ × List ℕ) (ds : ℕ × List Dependency) (schema file : List ℕ) (n : ℕ) (places : List Place) (k : ℕ) → At rs ds schema file n places k → n ≤ k
-    → record { answer = Done; «record» = record { relations = rs .0; widths = rs .1; held = ds .0; dependencies = ds .1; places = places } }
-    ≡ recordRead rs ds (readPlaces schema (stretches (n - 2) file (drop 10 file)))
+ended : (rs : ℕ × List ℕ) (ds : ℕ × List Dependency) (js : ℕ × List JoinDependency) (schema file : List ℕ) (n : ℕ) (places : List Place) (k : ℕ) → At rs ds js schema file n places k → n ≤ k
+    → record { answer = Done; «record» = record { relations = rs .0; widths = rs .1; held = ds .0; dependencies = ds .1; joined = js .0; joins = js .1; places = places } }
+    ≡ recordRead rs ds js (readPlaces schema (stretches (n - 2) file (drop 10 file)))
 unfolding readPlaces stretches
-ended rs ds schema file n places k f h =
+ended rs ds js schema file n places k f h =
     let m : n - k ≡ 0 = omega arith in
-    sym (f .rest ∙ ap (λ (j : ℕ). recordOver rs ds places (k - 2) (readPlaces schema (stretches j file (tableAt file k)))) m
+    sym (f .rest ∙ ap (λ (j : ℕ). recordOver rs ds js places (k - 2) (readPlaces schema (stretches j file (tableAt file k)))) m
     ∙ (λ i. record {
       answer =
           Done;
-      «record» = record { relations = rs .0; widths = rs .1; held = ds .0; dependencies = ds .1; places = over-nil places (k - 2) i };
+      «record» = record { relations = rs .0; widths = rs .1; held = ds .0; dependencies = ds .1; joined = js .0; joins = js .1; places = over-nil places (k - 2) i };
     }))
 
 abbrev Inv-loop : tie.InvT-loop
-Inv-loop file n count widths held dependencies places₀ k₀ places k = At (count, widths) (held, dependencies) (take count widths) file n places k
+Inv-loop file n count widths held dependencies joined joins places₀ k₀ places k = At (count, widths) (held, dependencies) (joined, joins) (take count widths) file n places k
 
 abbrev μ-loop : tie.MeasureT-loop
-μ-loop file n count widths held dependencies places₀ k₀ places k = n - k
+μ-loop file n count widths held dependencies joined joins places₀ k₀ places k = n - k
 
 no-place-requires : tie.Need-no-place-requires Inv-loop μ-loop
 no-place-requires c κs = search needs
@@ -153,7 +154,7 @@ no-place-requires c κs = search needs
 loop-holds : tie.Need-loop-holds Inv-loop μ-loop
 loop-holds c =
     let start = c .before .before in
-    begins (start .args .count, start .args .widths) (start .args .held, start .args .dependencies) (take (start .args .count) (start .args .widths))
+    begins (start .args .count, start .args .widths) (start .args .held, start .args .dependencies) (start .args .joined, start .args .joins) (take (start .args .count) (start .args .widths))
     (start .args .file .now) (start .args .n) (c .no-place .result) (c .no-place .ensures) (start .pre .1 .0 .0)
 
 part-requires : tie.Need-part-requires Inv-loop μ-loop
@@ -195,7 +196,7 @@ returns c =
     let after-loop-test = after-part .before in
     let after-loop = after-loop-test .before in
     let start = after-loop .before .before .before in
-    c .refusal .ensures ∙ stops (start .args .count, start .args .widths) (start .args .held, start .args .dependencies)
+    c .refusal .ensures ∙ stops (start .args .count, start .args .widths) (start .args .held, start .args .dependencies) (start .args .joined, start .args .joins)
     (take (start .args .count) (start .args .widths)) (start .args .file .now) (start .args .n) (after-loop .loop .places) (after-loop .loop .k)
     (after-loop .loop .inv) (after-loop-test .loop-test .taken) (start .pre .1 .0 .1) (now (after-part .part .result)) (after-part .part .ensures)
     (after-read-place .read-place .result) (after-read-place .read-place .ensures) (after-answer .answer .given .0 .0) (after-answer .answer .given .1)
@@ -213,7 +214,7 @@ loop-again c =
     let after-loop-test = after-part .before in
     let after-loop = after-loop-test .before in
     let start = after-loop .before .before .before in
-    goes-on (start .args .count, start .args .widths) (start .args .held, start .args .dependencies) (take (start .args .count) (start .args .widths))
+    goes-on (start .args .count, start .args .widths) (start .args .held, start .args .dependencies) (start .args .joined, start .args .joins) (take (start .args .count) (start .args .widths))
     (start .args .file .now) (start .args .n) (after-loop .loop .places) (after-loop .loop .k) (after-loop .loop .inv) (after-loop-test .loop-test .taken)
     (start .pre .1 .0 .1) (now (after-part .part .result)) (after-part .part .ensures) (after-read-place .read-place .result)
     (after-read-place .read-place .ensures) (c .before .enum-told .given .1)
@@ -221,7 +222,7 @@ loop-again c =
 returns-2 : tie.Need-returns-2 Inv-loop μ-loop
 returns-2 c =
     let start = c .before .before .before .before in
-    ended (start .args .count, start .args .widths) (start .args .held, start .args .dependencies) (take (start .args .count) (start .args .widths))
+    ended (start .args .count, start .args .widths) (start .args .held, start .args .dependencies) (start .args .joined, start .args .joins) (take (start .args .count) (start .args .widths))
     (start .args .file .now) (start .args .n) (c .before .loop .places) (c .before .loop .k) (c .before .loop .inv) (c .loop-test .left)
 
 pub read-places-spec : {M : Type 1} → statement M

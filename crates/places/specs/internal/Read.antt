@@ -2,6 +2,7 @@
 use mathlib.Core.List.{List}
 use Prim.Native.Nat.{ℕ}
 use Rattle.query.specs.declared.Dependency.{Dependency}
+use Rattle.query.specs.declared.JoinDependency.{JoinDependency}
 use Rattle.query.specs.declared.Place.{Place}
 use Rattle.record.specs.declared.Record.{Record}
 use Rattle.record.specs.declared.Outcome.{Outcome}
@@ -15,7 +16,7 @@ abbrev pub outcomeOf : Reply Record → Outcome
 outcomeOf (gives r) = record { answer = Done; «record» = r }
 outcomeOf (refused n) = record { answer = Refused n; «record» = blankRecord }
 
--- The record of the given relations and dependencies with the places that were read
-abbrev pub recordRead : ℕ × List ℕ → ℕ × List Dependency → Reply (List Place) → Outcome
-recordRead rs ds (gives ps) = outcomeOf (gives (recordWith rs ds ps))
-recordRead rs ds (refused n) = outcomeOf (refused n)
+-- The record of the given relations and dependencies of both kinds with the places that were read
+abbrev pub recordRead : ℕ × List ℕ → ℕ × List Dependency → ℕ × List JoinDependency → Reply (List Place) → Outcome
+recordRead rs ds js (gives ps) = outcomeOf (gives (recordWith rs ds js ps))
+recordRead rs ds js (refused n) = outcomeOf (refused n)

@@ -11,13 +11,14 @@ use Rattle.record.specs.View.{schemaOf}
 use Rattle.record.specs.Rule.{goodRecord}
 use Rattle.lists.specs.Over.{over}
 use Rattle.format.specs.File.{putPlace, fileOf}
-use Rattle.assembly.specs.internal.Pieces.{directoryBytes, partBytes}
+use Rattle.assembly.specs.internal.Pieces.{joinsBytes, directoryBytes, partBytes}
 use Rattle.writer.specs.Write.{written, afterWriting}
 use Rattle.lists.proofs.Loops.{mapped-length}
 use Rattle.record.proofs.Good.{good-record}
 use Rattle.query.proofs.Relations.{relations-bounds}
 use Rattle.encoder.proofs.Stores.{Run, run-starts, run-turns}
 use Rattle.writer.proofs.Writing.{long-refused, fits-written}
+use Rattle.assembly.proofs.Joins.{few-sets}
 use Rattle.assembly.proofs.RecordParts.{parts-long, file-split, file-long}
 use Rattle.writer.proofs.write_good.Statement.{statement}
 use Rattle.writer.proofs.write_good.Tie as tie
@@ -42,168 +43,204 @@ places-long c = search (mapped-length, needs)
 counts : (c : tie.Start) → c .args .given .relations ≤ 8
 counts c = relations-bounds (c .args .given .relations) (c .args .given .widths) (good-record (c .args .given) (c .pre) .relations) .1
 
+-- How long part 1 is
+abbrev second : tie.Start → ℕ
+second c = 1 + 3 * c .args .given .held + length (joinsBytes (c .args .given .joined) (c .args .given .joins))
+
 -- The directory, where n parts are places
 abbrev directory : tie.Start → ℕ → List ℕ
-directory c n =
-    directoryBytes n (1 + c .args .given .relations) (1 + 3 * c .args .given .held)
-    (map (putPlace (schemaOf (c .args .given))) (take n (c .args .given .places)))
+directory c n = directoryBytes n (1 + c .args .given .relations) (second c) (map (putPlace (schemaOf (c .args .given))) (take n (c .args .given .places)))
 
 -- The length of the file
-abbrev fileLength : tie.Start → ℕ → ℕ → ℕ
-fileLength c n others = 2 + 4 * (n + 2) + (1 + c .args .given .relations) + (1 + 3 * c .args .given .held) + others
+abbrev fileLength : tie.Start → ℕ → ℕ → ℕ → ℕ
+fileLength c n tail others = 2 + 4 * (n + 2) + (1 + c .args .given .relations) + (1 + 3 * c .args .given .held + tail) + others
 
-held : (c : tie.After-up-to-filled) → c .up-to-filled .result ≤ length (c .before .before .before .before .args .given .places)
-held c = rw (places-long (c .before .before .before .before)) (c .up-to-filled .ensures .1)
+abbrev filled-start : tie.After-up-to-filled → tie.Start
+filled-start c = c .before .before .before .before .before
+
+held : (c : tie.After-up-to-filled) → c .up-to-filled .result ≤ length (filled-start c .args .given .places)
+held c = rw (places-long (filled-start c)) (c .up-to-filled .ensures .1)
+
+abbrev lengths-filled : tie.After-places-length → tie.After-up-to-filled
+lengths-filled c = c .before .before
 
 abbrev lengths-start : tie.After-places-length → tie.Start
-lengths-start c = c .before .before .before .before .before
+lengths-start c = filled-start (lengths-filled c)
+
+tail-is : (c : tie.After-places-length)
+    → c .before .joins-length .result ≡ length (joinsBytes (lengths-start c .args .given .joined) (lengths-start c .args .given .joins))
+tail-is c = c .before .joins-length .ensures .0
 
 lengths : (c : tie.After-places-length)
-    → (length (directory (lengths-start c) (c .before .up-to-filled .result)) ≡ 2 + 4 * (c .before .up-to-filled .result + 2))
-    × (fileLength (lengths-start c) (c .before .up-to-filled .result) (c .places-length .result) ≡ length (fileOf (lengths-start c .args .given)))
+    → (length (directory (lengths-start c) (lengths-filled c .up-to-filled .result)) ≡ 2 + 4 * (lengths-filled c .up-to-filled .result + 2))
+    × (fileLength (lengths-start c) (lengths-filled c .up-to-filled .result) (c .before .joins-length .result) (c .places-length .result)
+    ≡ length (fileOf (lengths-start c .args .given)))
 lengths c =
-    let start = c .before .before .before .before .before in
-    file-long (start .args .given) (start .pre) (widths-long start) (list-long start) (c .before .up-to-filled .result) (c .places-length .result)
-    (c .before .up-to-filled .ensures .0) (held (c .before)) (c .places-length .ensures .0)
-
-abbrev parts-start : tie.After-places-length → tie.Start
-parts-start c = c .before .before .before .before .before
+    let start = lengths-start c in
+    let n = lengths-filled c .up-to-filled .result in
+    let l =
+    file-long (start .args .given) (start .pre) (widths-long start) (list-long start) n (c .places-length .result)
+    (lengths-filled c .up-to-filled .ensures .0) (held (lengths-filled c)) (c .places-length .ensures .0) in
+    (l .0, ap (λ (k : ℕ). fileLength start n k (c .places-length .result)) (tail-is c) ∙ l .1)
 
 parts : (c : tie.After-places-length)
-    → 1 + parts-start c .args .given .relations + (1 + 3 * parts-start c .args .given .held) + c .places-length .result
-    ≡ length (partBytes (parts-start c .args .given) (c .before .up-to-filled .result))
+    → 1 + lengths-start c .args .given .relations + (1 + 3 * lengths-start c .args .given .held + c .before .joins-length .result) + c .places-length .result
+    ≡ length (partBytes (lengths-start c .args .given) (lengths-filled c .up-to-filled .result))
 parts c =
-    let start = c .before .before .before .before .before in
+    let start = lengths-start c in
     omega (
       arith,
-      parts-long (start .args .given) (start .pre) (widths-long start) (list-long start) (c .before .up-to-filled .result),
+      parts-long (start .args .given) (start .pre) (widths-long start) (list-long start) (lengths-filled c .up-to-filled .result),
       c .places-length .ensures .0,
+      tail-is c,
     )
 
-abbrev first-run-up-to-filled : tie.After-put-directory → tie.After-up-to-filled
-first-run-up-to-filled c = c .before .before .before .before
-
-abbrev first-run-start : tie.After-put-directory → tie.Start
-first-run-start c = c .before .before .before .before .before .before .before .before
+abbrev first-run-lengths : tie.After-put-directory → tie.After-places-length
+first-run-lengths c = c .before .before .before
 
 first-run : (c : tie.After-put-directory)
-    → Run (first-run-start c .args .buffer .now) 0 ([] ++ directory (first-run-start c) (first-run-up-to-filled c .up-to-filled .result))
-    (c .put-directory .last .0) (2 + 4 * (first-run-up-to-filled c .up-to-filled .result + 2))
+    → Run (lengths-start (first-run-lengths c) .args .buffer .now) 0
+    ([] ++ directory (lengths-start (first-run-lengths c)) (lengths-filled (first-run-lengths c) .up-to-filled .result))
+    (c .put-directory .last .0) (2 + 4 * (lengths-filled (first-run-lengths c) .up-to-filled .result + 2))
 first-run c =
-    let earlier = c .before .before .before in
-    let after-up-to-filled = earlier .before in
-    let start = after-up-to-filled .before .before .before .before in
-    run-turns (run-starts (start .args .buffer .now) 0) (directory start (after-up-to-filled .up-to-filled .result)) (c .put-directory .last .0)
-    (2 + 4 * (after-up-to-filled .up-to-filled .result + 2))
-    (omega (arith, lengths earlier .0, c .before .before .if1 .left)) (c .put-directory .ensures) (omega (arith, lengths earlier .0))
+    let earlier = first-run-lengths c in
+    let n = lengths-filled earlier .up-to-filled .result in
+    let start = lengths-start earlier in
+    let given = start .args .given in
+    let written : c .put-directory .last .0 ≡ over (start .args .buffer .now) 0 (directory start n) =
+    c .put-directory .ensures
+    ∙ ap
+    (λ (k : ℕ). over (start .args .buffer .now) 0 (directoryBytes n (1 + given .relations) (1 + 3 * given .held + k)
+    (map (putPlace (schemaOf given)) (take n (given .places)))))
+    (tail-is earlier) in
+    run-turns (run-starts (start .args .buffer .now) 0) (directory start n) (c .put-directory .last .0) (2 + 4 * (n + 2))
+    (omega (arith, lengths earlier .0, c .before .before .if1 .left)) written (omega (arith, lengths earlier .0))
 
-abbrev second-run-up-to-filled : tie.After-put-parts → tie.After-up-to-filled
-second-run-up-to-filled c = c .before .before .before .before .before .before .before .before
-
-abbrev second-run-start : tie.After-put-parts → tie.Start
-second-run-start c = c .before .before .before .before .before .before .before .before .before .before .before .before
+abbrev second-run-lengths : tie.After-put-parts → tie.After-places-length
+second-run-lengths c = first-run-lengths (c .before .before .before .before)
 
 second-run : (c : tie.After-put-parts)
-    → Run (second-run-start c .args .buffer .now) 0
-    ([] ++ directory (second-run-start c) (second-run-up-to-filled c .up-to-filled .result) ++ partBytes (second-run-start c .args .given)
-    (second-run-up-to-filled c .up-to-filled .result)) (c .put-parts .last .0)
-    (2 + 4 * (second-run-up-to-filled c .up-to-filled .result + 2)
-    + length (partBytes (second-run-start c .args .given) (second-run-up-to-filled c .up-to-filled .result)))
+    → Run (lengths-start (second-run-lengths c) .args .buffer .now) 0
+    ([] ++ directory (lengths-start (second-run-lengths c)) (lengths-filled (second-run-lengths c) .up-to-filled .result)
+    ++ partBytes (lengths-start (second-run-lengths c) .args .given) (lengths-filled (second-run-lengths c) .up-to-filled .result))
+    (c .put-parts .last .0)
+    (2 + 4 * (lengths-filled (second-run-lengths c) .up-to-filled .result + 2)
+    + length (partBytes (lengths-start (second-run-lengths c) .args .given) (lengths-filled (second-run-lengths c) .up-to-filled .result)))
 second-run c =
     let earlier = c .before .before .before .before in
-    let after-if1 = earlier .before .before in
-    let earlier′ = after-if1 .before in
-    let after-up-to-filled = earlier′ .before in
-    let start = after-up-to-filled .before .before .before .before in
-    run-turns (first-run earlier) (partBytes (start .args .given) (after-up-to-filled .up-to-filled .result)) (c .put-parts .last .0)
-    (2 + 4 * (after-up-to-filled .up-to-filled .result + 2) + length (partBytes (start .args .given) (after-up-to-filled .up-to-filled .result)))
-    (omega (arith, parts earlier′, after-if1 .if1 .left)) (c .put-parts .ensures) refl
+    let lengthened = first-run-lengths earlier in
+    let n = lengths-filled lengthened .up-to-filled .result in
+    let start = lengths-start lengthened in
+    run-turns (first-run earlier) (partBytes (start .args .given) n) (c .put-parts .last .0) (2 + 4 * (n + 2) + length (partBytes (start .args .given) n))
+    (omega (arith, parts lengthened, earlier .before .before .if1 .left)) (c .put-parts .ensures) refl
 
 -- ---- the needs
 up-to-filled-requires : tie.Need-up-to-filled-requires
 up-to-filled-requires c κs = tt
 
 cast-first : tie.Need-cast-first
-cast-first c = omega (arith, counts (c .before .before .before .before))
+cast-first c = omega (arith, counts (filled-start c))
 
 add-first : tie.Need-add-first
-add-first c = omega (arith, counts (c .before .before .before .before))
+add-first c = omega (arith, counts (filled-start c))
+
+few-held : (c : tie.Start) → c .args .given .held ≤ 32
+few-held c = good-record (c .args .given) (c .pre) .held
 
 cast-second : tie.Need-cast-second
-cast-second c = omega (arith, good-record (c .before .before .before .before .args .given) (c .before .before .before .before .pre) .held)
+cast-second c = omega (arith, few-held (filled-start c))
 
 mul-second : tie.Need-mul-second
-mul-second c = omega (arith, good-record (c .before .before .before .before .args .given) (c .before .before .before .before .pre) .held)
+mul-second c = omega (arith, few-held (filled-start c))
 
 add-second : tie.Need-add-second
-add-second c = omega (arith, good-record (c .before .before .before .before .args .given) (c .before .before .before .before .pre) .held)
+add-second c = omega (arith, few-held (filled-start c))
+
+joins-length-requires : tie.Need-joins-length-requires
+joins-length-requires c κs =
+    let start = filled-start c in
+    let good = good-record (start .args .given) (start .pre) in
+    (good .joined, few-sets (schemaOf (start .args .given)) (start .args .given .joined) (start .args .given .joins) (good .joins))
+
+add-second-2 : tie.Need-add-second-2
+add-second-2 c = omega (arith, few-held (filled-start (c .before)), c .joins-length .ensures .1)
 
 places-length-requires : tie.Need-places-length-requires
 places-length-requires c κs =
-    let parts = good-record (c .before .before .before .before .args .given) (c .before .before .before .before .pre) in
-    (parts .relations, (parts .places, c .up-to-filled .ensures .1))
+    let start = filled-start (c .before) in
+    let good = good-record (start .args .given) (start .pre) in
+    (good .relations, (good .places, c .before .up-to-filled .ensures .1))
 
 add-size : tie.Need-add-size
-add-size c = omega (arith, c .before .up-to-filled .ensures .1)
+add-size c = omega (arith, lengths-filled c .up-to-filled .ensures .1)
 
 mul-size : tie.Need-mul-size
-mul-size c = omega (arith, c .before .up-to-filled .ensures .1)
+mul-size c = omega (arith, lengths-filled c .up-to-filled .ensures .1)
 
 add-size-2 : tie.Need-add-size-2
-add-size-2 c = omega (arith, c .before .up-to-filled .ensures .1)
+add-size-2 c = omega (arith, lengths-filled c .up-to-filled .ensures .1)
 
 add-size-3 : tie.Need-add-size-3
-add-size-3 c = omega (arith, c .before .up-to-filled .ensures .1, counts (c .before .before .before .before .before))
+add-size-3 c = omega (arith, lengths-filled c .up-to-filled .ensures .1, counts (lengths-start c))
 
 add-size-4 : tie.Need-add-size-4
 add-size-4 c =
-    let start = c .before .before .before .before .before in
-    omega (arith, c .before .up-to-filled .ensures .1, counts start, good-record (start .args .given) (start .pre) .held)
+    omega (arith, lengths-filled c .up-to-filled .ensures .1, counts (lengths-start c), few-held (lengths-start c), c .before .joins-length .ensures .1)
 
 add-size-5 : tie.Need-add-size-5
 add-size-5 c =
-    let start = c .before .before .before .before .before in
-    omega (arith, c .before .up-to-filled .ensures .1, counts start, good-record (start .args .given) (start .pre) .held, c .places-length .ensures .1)
+    omega (
+      arith,
+      lengths-filled c .up-to-filled .ensures .1,
+      counts (lengths-start c),
+      few-held (lengths-start c),
+      c .before .joins-length .ensures .1,
+      c .places-length .ensures .1,
+    )
 
 returns : tie.Need-returns
 returns c =
-    let start = c .before .before .before .before .before .before in
+    let l = c .before in
+    let start = lengths-start l in
     too-long (start .args .given) (start .pre) (start .args .buffer .now)
-    (fileLength start (c .before .before .up-to-filled .result) (c .before .places-length .result)) (lengths (c .before) .1) (c .if1 .taken)
+    (fileLength start (lengths-filled l .up-to-filled .result) (l .before .joins-length .result) (l .places-length .result)) (lengths l .1) (c .if1 .taken)
 
 put-directory-requires : tie.Need-put-directory-requires
 put-directory-requires c κs =
-    let start = c .before .before .before .before .before .before .before in
-    let parts = good-record (start .args .given) (start .pre) in (
-      parts .relations,
+    let l = c .before .before in
+    let start = lengths-start l in
+    let good = good-record (start .args .given) (start .pre) in (
+      good .relations,
       (
-        parts .places,
+        good .places,
         (
-          (c .before .before .before .up-to-filled .ensures .1, omega (arith, counts start), omega (arith, parts .held)),
+          (
+            lengths-filled l .up-to-filled .ensures .1,
+            omega (arith, counts start),
+            omega (arith, few-held start, l .before .joins-length .ensures .1),
+          ),
           omega (arith, c .before .if1 .left),
         ),
       ),
     )
 
 add-put-parts : tie.Need-add-put-parts
-add-put-parts c = omega (arith, c .before .before .before .before .before .before .before .up-to-filled .ensures .1)
+add-put-parts c = omega (arith, lengths-filled (first-run-lengths (c .before .before .before)) .up-to-filled .ensures .1)
 
 mul-put-parts : tie.Need-mul-put-parts
-mul-put-parts c = omega (arith, c .before .before .before .before .before .before .before .up-to-filled .ensures .1)
+mul-put-parts c = omega (arith, lengths-filled (first-run-lengths (c .before .before .before)) .up-to-filled .ensures .1)
 
 add-put-parts-2 : tie.Need-add-put-parts-2
-add-put-parts-2 c = omega (arith, c .before .before .before .before .before .before .before .up-to-filled .ensures .1)
+add-put-parts-2 c = omega (arith, lengths-filled (first-run-lengths (c .before .before .before)) .up-to-filled .ensures .1)
 
 put-parts-requires : tie.Need-put-parts-requires
 put-parts-requires c κs =
-    let after-if1 = c .before .before .before .before .before in
-    let earlier = after-if1 .before in
-    let after-up-to-filled = earlier .before in
-    let start = after-up-to-filled .before .before .before .before in (
-      start .pre,
+    let earlier = c .before .before .before in
+    let l = first-run-lengths earlier in (
+      lengths-start l .pre,
       (
-        after-up-to-filled .up-to-filled .ensures .1,
-        omega (arith, first-run (c .before .before .before) .long, parts earlier, after-if1 .if1 .left),
+        lengths-filled l .up-to-filled .ensures .1,
+        omega (arith, first-run earlier .long, parts l, earlier .before .before .if1 .left),
       ),
     )
 
@@ -213,17 +250,16 @@ same-length c = second-run (c .before .before) .long
 returns-2 : tie.Need-returns-2
 returns-2 c =
     let after-put-parts = c .before .before in
-    let after-if1 = after-put-parts .before .before .before .before .before .before in
-    let after-places-length = after-if1 .before in
-    let after-up-to-filled = after-places-length .before in
-    let start = after-up-to-filled .before .before .before .before in
+    let l = second-run-lengths after-put-parts in
+    let start = lengths-start l in
     let given = start .args .given in
     let good = start .pre in
     let buffer = start .args .buffer .now in
-    let n = after-up-to-filled .up-to-filled .result in
-    let split = file-split given good (widths-long start) (list-long start) n (after-up-to-filled .up-to-filled .ensures .0) (held after-up-to-filled) in
-    done given good buffer (fileLength start n (after-places-length .places-length .result)) (lengths after-places-length .1)
-    (after-put-parts .put-parts .last .0) (after-if1 .if1 .left) (second-run after-put-parts .written ∙ ap (over buffer 0) (sym split))
+    let n = lengths-filled l .up-to-filled .result in
+    let split = file-split given good (widths-long start) (list-long start) n (lengths-filled l .up-to-filled .ensures .0) (held (lengths-filled l)) in
+    done given good buffer (fileLength start n (l .before .joins-length .result) (l .places-length .result)) (lengths l .1)
+    (after-put-parts .put-parts .last .0) (after-put-parts .before .before .before .before .before .before .if1 .left)
+    (second-run after-put-parts .written ∙ ap (over buffer 0) (sym split))
 
 pub write-good-spec : {M : Type 1} → statement M
 write-good-spec =
@@ -235,6 +271,8 @@ write-good-spec =
     cast-second
     mul-second
     add-second
+    joins-length-requires
+    add-second-2
     places-length-requires
     add-size
     mul-size
