@@ -14,14 +14,14 @@ use Rattle.theory.specs.Query.{Row, _∈_}
 use Rattle.theory.specs.Database.{Database, Dependency, JoinDependency, Obeys, Sound}
 use Rattle.theory.specs.Chase.{firstFound}
 use Rattle.theory.proofs.Lists.{option-cases, mem-cases}
-use Rattle.joins.specs.Join.{ObeysJoin, ObeysJoins, JoinFits, JoinsFit, LegalForBoth}
+use Rattle.joins.specs.Join.{ObeysJoin, ObeysJoins, JoinFits, JoinsFit}
 use Rattle.words.specs.Testing.{numberedFrom, firstBrokenFrom}
 use Rattle.words.specs.Broken.{violationOf, FirstBroken}
 use Rattle.words.proofs.Broken.{broken-means, obeys-means}
 use Rattle.words.specs.declared.Violation.{Violation}
 use Rattle.words.specs.declared.Violation.the-variants as violation
 use Rattle.join_testing.specs.Unmet.{firstChoice, firstUnmetFrom, joinedAt, unmetOf, orJoined, violationIn}
-use Rattle.join_testing.specs.Meaning.{GoWith, BreaksJoin, FirstChoice, nthJoin, FirstUnmet, FewSets, LegalMeans, BrokenFirst, JoinedMeans}
+use Rattle.join_testing.specs.Meaning.{GoWith, BreaksJoin, FirstChoice, nthJoin, FirstUnmet, FewSets, ObeysMeans, BrokenFirst, JoinedMeans}
 use Rattle.join_testing.proofs.Choosing.{found-first, none-breaks, one-first, first-found, unbroken-none, obeys-unbroken, unbroken-obeys}
 use Rattle.join_testing.proofs.Choosing.{Inside, goes-inside}
 
@@ -177,18 +177,18 @@ few schema js D small k ps f =
     inside-length (nthJoin js k .sets) (length D) ps (goes-inside D (b .row) (nthJoin js k .sets) ps (b .chosen)) in
     omega (arith, size, small (nthJoin js k) (getD-in js k (record { relation = 0; sets = [] }) (f .held)))
 
-pub legal-means : LegalMeans
+pub obeys-both-means : ObeysMeans
 unfolding violationIn
-legal-means schema ds js D fits sound = (
+obeys-both-means schema ds js D fits sound = (
   λ e.
       let both = either-absent (violationOf (firstBrokenFrom 0 ds D)) (unmetOf (firstUnmetFrom 0 schema js D)) e in
       record {
-        legal = record { sound = sound; obeys = obeys-means ds D .0 (both .0) };
+        functional = obeys-means ds D .0 (both .0);
         joins = none-obeys schema D sound 0 js fits (unmet-absent (firstUnmetFrom 0 schema js D) (both .1));
       },
-  λ legal.
-      ap (λ (v : Violation). orJoined v (unmetOf (firstUnmetFrom 0 schema js D))) (obeys-means ds D .1 (legal .legal .obeys))
-      ∙ ap unmetOf (obeys-none schema D sound js fits (legal .joins)),
+  λ obeys.
+      ap (λ (v : Violation). orJoined v (unmetOf (firstUnmetFrom 0 schema js D))) (obeys-means ds D .1 (obeys .functional))
+      ∙ ap unmetOf (obeys-none schema D sound js fits (obeys .joins)),
 )
 
 pub broken-first : BrokenFirst

@@ -7,7 +7,7 @@ use lib.ListN.{length, getD}
 use Rattle.lists.specs.Over.{pad}
 use Rattle.theory.specs.Query.{Row, FitsSchema, _∈_}
 use Rattle.theory.specs.Database.{Database, Dependency, JoinDependency, Agree, Obeys, Sound}
-use Rattle.joins.specs.Join.{JoinsFit, LegalForBoth}
+use Rattle.joins.specs.Join.{JoinsFit, ObeysBoth}
 use Rattle.words.specs.Broken.{nthRow, FirstBroken}
 use Rattle.words.specs.declared.Violation.the-variants as violation
 use Rattle.join_testing.specs.Unmet.{violationIn}
@@ -53,11 +53,11 @@ pub record FirstUnmet (schema : List ℕ) (js : List JoinDependency) (D : Databa
 abbrev pub FewSets : List JoinDependency → Type 0
 FewSets js = (j : JoinDependency) → j ∈ js → length (j .sets) ≤ 4
 
--- A test finds nothing exactly when the database is legal for both kinds
-abbrev pub LegalMeans : Type 0
-LegalMeans =
+-- A test finds nothing exactly when the database obeys both kinds
+abbrev pub ObeysMeans : Type 0
+ObeysMeans =
     (schema : List ℕ) (ds : List Dependency) (js : List JoinDependency) (D : Database) → JoinsFit schema js → Sound schema D
-    → (violationIn schema ds js D ≡ violation.Absent) ↔ LegalForBoth schema ds js D
+    → (violationIn schema ds js D ≡ violation.Absent) ↔ ObeysBoth schema ds js D
 
 -- It answers functional dependency k and rows i and j exactly when they are the first, whatever join dependencies are held
 abbrev pub BrokenFirst : Type 0
