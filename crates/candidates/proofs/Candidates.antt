@@ -1,17 +1,18 @@
 -- Laws of possible candidates, where the places of a row and of its image are known by equations.
 -- Assumes nothing.
-use Rattle.consistency.specs.internal.Solution.{together as goes}
-use mathlib.Core.Path.{_≡_, sym, subst, subst₂, subst₃}
+use mathlib.Core.Path.{_≡_, sym, subst, subst⁻¹, subst₂, subst₃}
 use mathlib.Core.Bool.{Bool, true, false, cond}
 use mathlib.Core.List.{List}
-use Prim.Native.Nat.{ℕ, _+_, _*_, _/_, _%_, _≤_, _<_}
+use Prim.Native.Nat.{ℕ, _+_, _*_, _≤_, _<_}
 use native.Mathlib.Nat.{le-trans}
+use native.Mathlib.Decide.{ℕ-discrete}
 use native.Mathlib.Omega.{arith}
 use lib.Dec.{eqb}
-use lib.ListN.{getD}
+use lib.ListN.{getD, set, length}
+use lib.Seq.{getD-set-same, getD-set-other}
 use Rattle.lists.specs.internal.Tells.{Tells}
-use Rattle.candidates.specs.internal.Candidates.{Agrees, Fixes, Repeats, Marks, rowStart, imageStart, candidatesOf, Together, Possible, IsTable}
-use Rattle.candidates.specs.internal.Sharing.{Shares, IsMask}
+use Rattle.candidates.specs.internal.Candidates.{Agrees, Fixes, Repeats, Marks, rowStart, imageStart, candidatesOf, Together, Possible, IsMask}
+use Rattle.candidates.specs.internal.Sharing.{Shares, Keeps}
 
 module _ (source target named offered : List ℕ) (size r d row image : ℕ) (at-row : row ≡ rowStart size r) (at-image : image ≡ imageStart size r d) where
   -- A possible candidate has the row's constants
@@ -46,44 +47,49 @@ together-when source target size r d row image at-row at-image b q e other image
       (subst₂ (λ (x y : ℕ). Agrees source target (rowStart size r) (imageStart size r d) x y) (sym at-other) (sym at-image') p))),
 )
 
--- A row has at most 12 candidates
-pub few-candidates : (size count r : ℕ) → count ≤ 12 → candidatesOf size count r ≤ 12
+-- A row has at most 24 candidates
+pub few-candidates : (size count r : ℕ) → count ≤ 24 → candidatesOf size count r ≤ 24
 few-candidates size count r h = go (eqb r size)
   where
-    go : (t : Bool) → cond t 1 count ≤ 12
+    go : (t : Bool) → cond t 1 count ≤ 24
     go true = omega arith
     go false = h
 
--- Masks in their places are a table
-pub masks-table : (source target : List ℕ) (size count : ℕ) (all : List ℕ) → size ≤ 12 → count ≤ 12
-    → ((k : ℕ) → k < 2028 → IsMask source target size count k (getD all k 0)) → IsTable source target size count all
-masks-table source target size count all few few' at r d q hr hq hd =
-    let small : d < 12 = le-trans hd (few-candidates size count r few') in
-    let row : ((r * 12 + d) * 13 + q) / 156 ≡ r = omega arith in
-    let candidate : ((r * 12 + d) * 13 + q) / 13 % 12 ≡ d = omega arith in
-    let other : ((r * 12 + d) * 13 + q) % 13 ≡ q = omega arith in
-    let mask : ℕ = goes all r d q in
-    let stated : (r' d' q' : ℕ) → ((r * 12 + d) * 13 + q) / 156 ≡ r' → ((r * 12 + d) * 13 + q) / 13 % 12 ≡ d' → ((r * 12 + d) * 13 + q) % 13 ≡ q'
-    → r' ≤ size → q' ≤ size → d' < candidatesOf size count r' → Marks (candidatesOf size count q') mask (Together source target size r' d' q') =
-    λ r' d' q' e f g.
-    subst₃
-    (λ (x y z : ℕ). x ≤ size → z ≤ size → y < candidatesOf size count x → Marks (candidatesOf size count z) mask (Together source target size x y z)) e f g
-    (at ((r * 12 + d) * 13 + q) (omega arith))
-    in
-    stated r d q row candidate other hr hq hd
+-- ---- a mask that is put in its place of the table
+module _ (source target : List ℕ) (size count : ℕ) (all : List ℕ) (r d q mask : ℕ) (few : size ≤ 12) (few' : count ≤ 24) (long : length all ≡ 4056)
+    (hr : r ≤ size) (hd : d < 24) (hq : q ≤ size) (is : Marks (candidatesOf size count q) mask (Together source target size r d q)) where
+  abbrev pub place : ℕ
+  place = (r * 24 + d) * 13 + q
+
+  pub put-mask : IsMask source target size count (set all place mask) r d q
+  put-mask =
+      subst⁻¹ (λ (m : ℕ). Marks (candidatesOf size count q) m (Together source target size r d q))
+      (getD-set-same all place mask 0 (omega arith)) is
+
+  -- the others are kept, and a mask that stood in its place is right again
+  pub put-keeps : Keeps source target size count all (set all place mask)
+  put-keeps r' d' q' hr' hq' hd' before = go (ℕ-discrete ((r' * 24 + d') * 13 + q') place)
+    where
+      go : Dec ((r' * 24 + d') * 13 + q' ≡ place) → IsMask source target size count (set all place mask) r' d' q'
+      go (yes e) =
+          let small : d' < 24 = le-trans hd' (few-candidates size count r' few') in
+          let row : r ≡ r' = omega arith in
+          let candidate : d ≡ d' = omega arith in
+          let other : q ≡ q' = omega arith in
+          subst₃ (λ (x y z : ℕ). IsMask source target size count (set all place mask) x y z) row candidate other put-mask
+      go (no n) =
+          subst⁻¹ (λ (m : ℕ). Marks (candidatesOf size count q') m (Together source target size r' d' q'))
+          (getD-set-other all place ((r' * 24 + d') * 13 + q') mask 0 n) before
 
 -- Where two rows share no variable, all their candidates go together
-pub apart-marks : (source target : List ℕ) (size count r d q row other n mask : ℕ) → row ≡ rowStart size r → other ≡ rowStart size q
-    → n ≡ candidatesOf size count q → (Shares source row other → ⊥) → Marks n mask (λ e. Unit {0})
+pub apart-marks : (source target : List ℕ) (size count r d q n mask : ℕ) → n ≡ candidatesOf size count q
+    → (Shares source (rowStart size r) (rowStart size q) → ⊥) → Marks n mask (λ e. Unit {0})
     → Marks (candidatesOf size count q) mask (Together source target size r d q)
-apart-marks source target size count r d q row other n mask at-row at-other is apart marks =
+apart-marks source target size count r d q n mask is apart marks =
     subst (λ (k : ℕ). Marks k mask (Together source target size r d q)) is (
       marks .0,
       (λ e h. (
-        (λ has i hi large j hj same.
-            absurd
-            (subst₂ (λ (x y : ℕ). Shares source x y → ⊥) at-row at-other apart
-            (i, hi, large, (j, hj, same)))),
+        (λ has i hi large j hj same. absurd (apart (i, hi, large, (j, hj, same)))),
         (λ p. marks .1 e h .1 tt),
       )),
     )

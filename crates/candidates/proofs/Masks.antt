@@ -90,6 +90,6 @@ marks-end P c e m le later =
     subst (λ (n : ℕ). Marks n m P) all
     (later .0, (λ i h. ((λ x. subst P (front i) (later .1 i h .0 x)), (λ p. later .1 i h .1 (subst P (sym (front i)) p)))))
 
--- A mask of at most 12 bits that can take one more is below 2048
-pub marks-room : (P : ℕ → Type 0) (c e m : ℕ) → c ≤ 12 → 0 < e → e ≤ c → Marks (c - e) m P → m < 2048
-marks-room P c e m h pos le marks = let n : c - e ≤ 11 = omega arith in le-trans (marks .0) (pow-mono n)
+-- A mask of at most 24 bits that can take one more is below 8,388,608
+pub marks-room : (P : ℕ → Type 0) (c e m : ℕ) → c ≤ 24 → 0 < e → e ≤ c → Marks (c - e) m P → m < 8388608
+marks-room P c e m h pos le marks = let n : c - e ≤ 23 = omega arith in le-trans (marks .0) (pow-mono n)

@@ -5,11 +5,12 @@ use crate::agree::fixes;
 use crate::agree::same_row;
 use crate::agree::shares;
 ghost use mathlib.Core.Path.{_≡_};
-ghost use Prim.Native.Nat.{_+_, _≤_, _<_};
+ghost use mathlib.Core.Bool.{false};
+ghost use Prim.Native.Nat.{ℕ, _+_, _≤_, _<_};
 ghost use lib.ListN.{length};
 ghost use Rattle.lists.specs.internal.Tells.{Tells};
 ghost use Rattle.candidates.specs.internal.Candidates.{Marks, Repeats, rowStart, imageStart, candidatesOf, Laid, Together, Possible, IsDomain, IsTable};
-ghost use Rattle.candidates.specs.internal.Sharing.{IsMask};
+ghost use Rattle.candidates.specs.internal.Sharing.{Shares, IsPair, Keeps};
 
 // Where the numbers of row r start: the head's after those of 12 rows.
 pub fn row_at(size: usize, r: usize) -> usize
@@ -19,18 +20,18 @@ pub fn row_at(size: usize, r: usize) -> usize
     if r == size { 96 } else { 8 * r }
 }
 
-// Where the numbers of candidate d of row r start.
+// Where the numbers of candidate d of row r start: the head's after those of 24 rows.
 pub fn image_at(size: usize, r: usize, d: usize) -> usize
-    requires { ⌜ d < 12 ⌝ }
-    ensures { λ s. ⌜ (s ≡ imageStart size r d) × (s + 8 ≤ 104) ⌝ }
+    requires { ⌜ d < 24 ⌝ }
+    ensures { λ s. ⌜ (s ≡ imageStart size r d) × (s + 8 ≤ 200) ⌝ }
 {
-    if r == size { 96 } else { 8 * d }
+    if r == size { 192 } else { 8 * d }
 }
 
 // How many candidates row r has, of a target with `count` rows.
 fn candidates(size: usize, count: usize, r: usize) -> usize
-    requires { ⌜ count ≤ 12 ⌝ }
-    ensures { λ n. ⌜ (n ≡ candidatesOf size count r) × (n ≤ 12) ⌝ }
+    requires { ⌜ count ≤ 24 ⌝ }
+    ensures { λ n. ⌜ (n ≡ candidatesOf size count r) × (n ≤ 24) ⌝ }
 {
     if r == size { 1 } else { count }
 }
@@ -44,14 +45,14 @@ fn together(
     r: usize,
     d: usize,
     q: usize,
-) -> u16
-    requires { ⌜ Laid (now source) (now target) size count × (r ≤ size) × (d < 12) × (q ≤ size) ⌝ }
+) -> u32
+    requires { ⌜ Laid (now source) (now target) size count × (r ≤ size) × (d < 24) × (q ≤ size) ⌝ }
     ensures { λ m. ⌜ Marks (candidatesOf size count q) m (Together (now (source .entry)) (now (target .entry)) size r d q) ⌝ }
 {
     let row = row_at(size, r);
     let image = image_at(size, r, d);
     let other = row_at(size, q);
-    let mut mask: u16 = 0;
+    let mut mask: u32 = 0;
     let mut e = candidates(size, count, q);
     while 0 < e {
         e -= 1;
@@ -65,8 +66,8 @@ fn together(
 }
 
 // Whether row d of the target is the same as an earlier one.
-fn repeats(target: &[u32], offered: [u8; 12], d: usize) -> bool
-    requires { ⌜ (length (now target) ≡ 104) × (d < 12) ⌝ }
+fn repeats(target: &[u32], offered: [u8; 24], d: usize) -> bool
+    requires { ⌜ (length (now target) ≡ 200) × (d < 24) ⌝ }
     ensures { λ b. ⌜ Tells b (Repeats (now (target .entry)) offered d) ⌝ }
 {
     for e in 0..d {
@@ -84,12 +85,12 @@ fn possible(
     source: &[u32],
     target: &[u32],
     named: [u8; 12],
-    offered: [u8; 12],
+    offered: [u8; 24],
     size: usize,
     r: usize,
     d: usize,
 ) -> bool
-    requires { ⌜ Laid (now source) (now target) size 0 × (r ≤ size) × (d < 12) ⌝ }
+    requires { ⌜ Laid (now source) (now target) size 0 × (r ≤ size) × (d < 24) ⌝ }
     ensures { λ b. ⌜ Tells b (Possible (now (source .entry)) (now (target .entry)) named offered size r d) ⌝ }
 {
     if r < size {
@@ -113,15 +114,15 @@ fn domain(
     source: &[u32],
     target: &[u32],
     named: [u8; 12],
-    offered: [u8; 12],
+    offered: [u8; 24],
     size: usize,
     count: usize,
     r: usize,
-) -> u16
+) -> u32
     requires { ⌜ Laid (now source) (now target) size count × (r ≤ size) ⌝ }
     ensures { λ m. ⌜ Marks (candidatesOf size count r) m (Possible (now (source .entry)) (now (target .entry)) named offered size r) ⌝ }
 {
-    let mut mask: u16 = 0;
+    let mut mask: u32 = 0;
     let mut d = candidates(size, count, r);
     while 0 < d {
         d -= 1;
@@ -139,14 +140,14 @@ pub fn domains(
     source: &[u32],
     target: &[u32],
     named: [u8; 12],
-    offered: [u8; 12],
+    offered: [u8; 24],
     size: usize,
     count: usize,
-) -> [u16; 13]
+) -> [u32; 13]
     requires { ⌜ Laid (now source) (now target) size count ⌝ }
     ensures { λ all. ⌜ IsDomain (now (source .entry)) (now (target .entry)) named offered size count all ⌝ }
 {
-    let mut all = [0u16; 13];
+    let mut all = [0u32; 13];
     for r in 0..size + 1 {
         all[r] = domain(source, target, named, offered, size, count, r);
     }
@@ -154,11 +155,11 @@ pub fn domains(
 }
 
 // A mask of the numbers below n.
-fn all_below(n: usize) -> u16
-    requires { ⌜ n ≤ 12 ⌝ }
+fn all_below(n: usize) -> u32
+    requires { ⌜ n ≤ 24 ⌝ }
     ensures { λ m. ⌜ Marks n m (λ e. Unit {0}) ⌝ }
 {
-    let mut mask: u16 = 0;
+    let mut mask: u32 = 0;
     let mut e = n;
     while 0 < e {
         e -= 1;
@@ -167,37 +168,66 @@ fn all_below(n: usize) -> u16
     mask
 }
 
-// The table at k = (r * 12 + d) * 13 + q: the candidates of row q that go together with candidate d of row r, or 0 where there is no such row or candidate.
-fn mask_at(source: &[u32], target: &[u32], size: usize, count: usize, k: usize) -> u16
-    requires { ⌜ Laid (now source) (now target) size count ⌝ }
-    ensures { λ m. ⌜ IsMask (now (source .entry)) (now (target .entry)) size count k m ⌝ }
+// The candidates of row q that go together with candidate d of row r, where it is known whether the rows share a variable.
+fn mask(
+    source: &[u32],
+    target: &[u32],
+    size: usize,
+    count: usize,
+    sharing: bool,
+    r: usize,
+    d: usize,
+    q: usize,
+) -> u32
+    requires { ⌜ Laid (now source) (now target) size count × (r ≤ size) × (d < 24) × (q ≤ size) ⌝ }
+    requires { ⌜ (sharing ≡ false → Shares (now source) (rowStart size r) (rowStart size q) → ⊥) ⌝ }
+    ensures { λ m. ⌜ Marks (candidatesOf size count q) m (Together (now (source .entry)) (now (target .entry)) size r d q) ⌝ }
 {
-    let r = k / 156;
-    let d = k / 13 % 12;
-    let q = k % 13;
-    if size < r {
-        return 0;
-    }
-    if size < q {
-        return 0;
-    }
-    if candidates(size, count, r) <= d {
-        return 0;
-    }
-    if !shares(source, row_at(size, r), row_at(size, q)) {
+    if !sharing {
         return all_below(candidates(size, count, q));
     }
     together(source, target, size, count, r, d, q)
 }
 
+// The table with the masks of row q for each candidate of row r.
+fn put_pair(
+    table: &mut [u32],
+    source: &[u32],
+    target: &[u32],
+    size: usize,
+    count: usize,
+    r: usize,
+    q: usize,
+)
+    requires { ⌜ Laid (now source) (now target) size count × (r ≤ size) × (q ≤ size) × (length (now table) ≡ 4056) ⌝ }
+    ensures { λ _. ⌜ Keeps (now (source .entry)) (now (target .entry)) size count (now (table .entry)) (now (table .exit)) ×
+        IsPair (now (source .entry)) (now (target .entry)) size count (now (table .exit)) r q ⌝ }
+{
+    let sharing = shares(source, row_at(size, r), row_at(size, q));
+    for d in 0..candidates(size, count, r) {
+        table[(r * 24 + d) * 13 + q] = mask(source, target, size, count, sharing, r, d, q);
+    }
+}
+
+// The table with the masks of every row for each candidate of row r.
+fn put_row(table: &mut [u32], source: &[u32], target: &[u32], size: usize, count: usize, r: usize)
+    requires { ⌜ Laid (now source) (now target) size count × (r ≤ size) × (length (now table) ≡ 4056) ⌝ }
+    ensures { λ _. ⌜ Keeps (now (source .entry)) (now (target .entry)) size count (now (table .entry)) (now (table .exit)) ×
+        ((q : ℕ) → q ≤ size → IsPair (now (source .entry)) (now (target .entry)) size count (now (table .exit)) r q) ⌝ }
+{
+    for q in 0..size + 1 {
+        put_pair(table, source, target, size, count, r, q);
+    }
+}
+
 // The whole table.
-pub fn table(source: &[u32], target: &[u32], size: usize, count: usize) -> [u16; 2028]
+pub fn table(source: &[u32], target: &[u32], size: usize, count: usize) -> [u32; 4056]
     requires { ⌜ Laid (now source) (now target) size count ⌝ }
     ensures { λ all. ⌜ IsTable (now (source .entry)) (now (target .entry)) size count all ⌝ }
 {
-    let mut all = [0u16; 2028];
-    for k in 0..2028 {
-        all[k] = mask_at(source, target, size, count, k);
+    let mut all = [0u32; 4056];
+    for r in 0..size + 1 {
+        put_row(&mut all, source, target, size, count, r);
     }
     all
 }

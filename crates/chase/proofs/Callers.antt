@@ -1,5 +1,5 @@
--- What a caller of the chase has to show, from the rule for the record: good relations, dependencies and query; and what it can conclude
--- besides: the count is at most the number of different variables, and a safe head stays safe. Assumes nothing.
+-- What a caller of the chase has to show, from the rule for the record: good relations, dependencies and tableau; and what it can conclude
+-- besides: a safe head stays safe. Assumes nothing.
 use mathlib.Core.Path.{_≡_, refl, sym}
 use mathlib.Core.Bool.{true, not, _&&_}
 use mathlib.Core.List.{List}
@@ -9,26 +9,23 @@ use borrow.Author.Tests.{leb-true, ltb-true, lt-ltb}
 use lib.Dec.{eqb, leb, ltb}
 use lib.ListN.{length, take, drop, getD, replicate}
 use lib.Seq.{getD-take}
-use Rattle.query.specs.declared.Query.{Query}
+use Rattle.query.specs.declared.Tableau.{Tableau}
 use Rattle.query.specs.declared.Dependency.{Dependency}
-use Rattle.query.specs.View.{queryOf, heldOf}
+use Rattle.query.specs.View.{asQuery}
 use Rattle.lists.specs.Tests.{every, between, isZero, inUse}
-use Rattle.query.specs.Rule.{blankDependency, goodRelations, goodSet, goodDependency, goodDependencies, goodQuery, noDependency}
-use Rattle.chase.specs.declared.Chased.{Chased}
+use Rattle.query.specs.Rule.{blankDependency, goodRelations, goodSet, goodDependency, goodDependencies, goodTableau, noDependency}
 use Rattle.first_step.specs.internal.Wide.{Chasable}
-use Rattle.chase.specs.internal.Outcome.{IsChased}
 use Rattle.lists.proofs.Tests.{every-weaken}
 use Rattle.lists.proofs.Positions.{every-getD-else}
 use Rattle.query.proofs.Good.{good-query}
 use Rattle.theory.specs.Query as theory
-use Rattle.theory.specs.Query.{constant, variable, rowEntries, variablesOf, variableCount, _∈_}
+use Rattle.theory.specs.Query.{constant, variable, rowEntries, variablesOf, _∈_}
 use Rattle.theory.specs.Database as database
 use Rattle.theory.specs.Chase.{Chases, rests, clashes, replaces}
 use Rattle.lists.proofs.Tests.{and-left, and-right}
 use Rattle.theory.proofs.Lists.{replicate-mem}
 use Rattle.theory.proofs.Entries.{constant-variable, variablesOf-mem}
 use Rattle.theory.proofs.Replacement.{replace-head-safe}
-use Rattle.theory.proofs.Chase.{chase-count-le}
 
 -- The widths that good relations give are 1 to 8
 pub good-widths : (relations : ℕ) (widths : List ℕ) → goodRelations relations widths ≡ true → every (between 1 8) (take relations widths) ≡ true
@@ -61,12 +58,12 @@ good-right schema widths d good =
     good) in
     lt-ltb (d .right) 8 (omega (arith, width-le schema widths (d .relation)))
 
--- A good query and good dependencies can be chased
-pub chasable : (schema : List ℕ) (held : ℕ) (dependencies : List Dependency) (q : Query) → every (between 1 8) schema ≡ true
-    → goodDependencies schema held dependencies ≡ true → goodQuery schema q ≡ true → Chasable q dependencies held
+-- A good tableau and good dependencies can be chased
+pub chasable : (schema : List ℕ) (held : ℕ) (dependencies : List Dependency) (t : Tableau) → every (between 1 8) schema ≡ true
+    → goodDependencies schema held dependencies ≡ true → goodTableau schema t ≡ true → Chasable t dependencies held
 unfolding goodDependencies
-chasable schema held dependencies q widths good good-q =
-    let p = good-query 12 schema q good-q in
+chasable schema held dependencies t widths good good-t =
+    let p = good-query 24 schema (asQuery t) good-t in
     let used = inUse held (goodDependency schema) blankDependency dependencies in
     let each : every (goodDependency schema) (take held dependencies) ≡ true
     = and-left
@@ -83,14 +80,10 @@ chasable schema held dependencies q widths good good-q =
           let at : getD (take held dependencies) d noDependency ≡ getD dependencies d noDependency = getD-take held dependencies d noDependency h in
           rw at at (ltb-true (getD (take held dependencies) d noDependency .right) 8
           (every-getD-else (λ x. ltb (x .right) 8) (take held dependencies) d noDependency rights refl));
+      rest-blank = p .cells;
     }
 
 -- ---- what follows of the result
-
--- The count is at most the number of different variables of the query
-pub chased-count : {schema : List ℕ} {dependencies : List Dependency} {held : ℕ} {q : Query} {r : Chased} → IsChased schema dependencies held q r
-    → r .count ≤ variableCount (queryOf schema q)
-chased-count {schema} {dependencies} {held} {q} c = rw (c .count-is) (chase-count-le (heldOf dependencies held) (queryOf schema q))
 
 -- The chase keeps each head variable in a row
 pub chases-safe : {ds : List database.Dependency} {q result : theory.Query} {count : ℕ} → Chases ds q result count

@@ -13,7 +13,8 @@ use Rattle.query.specs.declared.Entry.the-variants.{Constant, Variable}
 use Rattle.query.specs.declared.Cell.{Cell}
 use Rattle.query.specs.declared.Query.{Query}
 use Rattle.lists.specs.Tests.{every, inUse}
-use Rattle.query.specs.Rule.{blankEntry, blankCell, goodEntry, goodCell, goodRow, goodRows, headInUse, goodQuery, neverQuery}
+use Rattle.query.specs.View.{asQuery}
+use Rattle.query.specs.Rule.{blankEntry, blankCell, goodEntry, goodCell, goodRow, goodRows, headInUse, goodUpTo, goodTableau, neverTableau}
 use Rattle.lists.proofs.Tests.{and-right, used-good, used-blank, used-whole}
 use Rattle.lists.proofs.Maps.{take-map, drop-map, every-map}
 use Rattle.query.proofs.Good.{good-query, make-query}
@@ -40,16 +41,18 @@ good-row schema relation relations cells p =
     let row = row-parts schema relation (take 8 cells) (row-at schema (relation ∷ relations) cells 0 p (omega arith)) in
     (row .0, row .1, and-right (goodRow schema relation (take 8 cells)) (goodRows schema relations (drop 8 cells)) p)
 
-module _ (v : ℕ) (e : Entry) (good : goodEntry e ≡ true) where
-  unused-kept : (n : ℕ) (cells : List Cell) → every blankCell (drop n cells) ≡ true → every blankCell (drop n (map (substituteCell v e) cells)) ≡ true
-  unused-kept n cells p = rw drop-map (every-map blankCell blankCell (substituteCell v e) (λ c. substitute-blank v e (c .entry)) (drop n cells) p)
+-- so cells that are not in use stay blank
+pub unused-kept : (v : ℕ) (e : Entry) (n : ℕ) (cells : List Cell) → every blankCell (drop n cells) ≡ true
+    → every blankCell (drop n (map (substituteCell v e) cells)) ≡ true
+unused-kept v e n cells p = rw drop-map (every-map blankCell blankCell (substituteCell v e) (λ c. substitute-blank v e (c .entry)) (drop n cells) p)
 
+module _ (v : ℕ) (e : Entry) (good : goodEntry e ≡ true) where
   used-kept : (n : ℕ) (cells : List Cell) → inUse n goodCell blankCell cells ≡ true → inUse n goodCell blankCell (map (substituteCell v e) cells) ≡ true
   used-kept n cells p =
       used-whole n goodCell blankCell (map (substituteCell v e) cells)
       (rw take-map (every-map goodCell goodCell (substituteCell v e) (λ c. substitute-good v e good (c .entry)) (take n cells)
       (used-good n goodCell blankCell cells p)))
-      (unused-kept n cells (used-blank n goodCell blankCell cells p))
+      (unused-kept v e n cells (used-blank n goodCell blankCell cells p))
 
   rows-kept : (schema relations : List ℕ) (cells : List Cell) → goodRows schema relations cells ≡ true
       → goodRows schema relations (map (substituteCell v e) cells) ≡ true
@@ -67,21 +70,21 @@ module _ (v : ℕ) (e : Entry) (good : goodEntry e ≡ true) where
       (rows-kept schema relations (drop 8 cells) (parts .2))
 
   -- A replacement by a good entry keeps a query good
-  pub good-kept : (schema : List ℕ) (q : Query) → goodQuery schema q ≡ true → goodQuery schema (mapCells (substituteCell v e) q) ≡ true
-  good-kept schema q good-q =
-      let p = good-query 12 schema q good-q in
-      make-query 12 schema (mapCells (substituteCell v e) q)
+  pub good-kept : (most : ℕ) (schema : List ℕ) (q : Query) → goodUpTo most schema q ≡ true → goodUpTo most schema (mapCells (substituteCell v e) q) ≡ true
+  good-kept most schema q good-q =
+      let p = good-query most schema q good-q in
+      make-query most schema (mapCells (substituteCell v e) q)
       (record {
         arity = p .arity;
         size = p .size;
         head = used-kept (headInUse q) (q .head) (p .head);
         rows = rows-kept schema (take (q .size) (q .relations)) (q .cells) (p .rows);
         named = p .named;
-        cells = unused-kept (8 * q .size) (q .cells) (p .cells);
+        cells = unused-kept v e (8 * q .size) (q .cells) (p .cells);
       })
 
 -- The never query is good
-pub never-good : (schema : List ℕ) (arity : ℕ) → arity ≤ 8 → goodQuery schema (neverQuery arity) ≡ true
+pub never-good : (schema : List ℕ) (arity : ℕ) → arity ≤ 8 → goodTableau schema (neverTableau arity) ≡ true
 unfolding goodRows every
 never-good schema arity fits =
-    make-query 12 schema (neverQuery arity) (record { arity = fits; size = omega arith; head = refl; rows = refl; named = refl; cells = refl })
+    make-query 24 schema (asQuery (neverTableau arity)) (record { arity = fits; size = omega arith; head = refl; rows = refl; named = refl; cells = refl })

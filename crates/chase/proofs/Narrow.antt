@@ -13,7 +13,7 @@ use Rattle.query.specs.declared.Cell.{Cell}
 use Rattle.query.specs.declared.Query as stored
 use Rattle.query.specs.View.{entryOf, entriesOf, rowsOf, queryOf}
 use Rattle.lists.specs.Tests.{every}
-use Rattle.query.specs.Rule.{goodCell, blankCell, goodRows, goodQuery}
+use Rattle.query.specs.Rule.{goodCell, blankCell, goodRows, goodUpTo}
 use Rattle.first_step.specs.internal.Wide.{wideRows, wideQuery, differing, firstDiffering}
 use Rattle.lists.proofs.Maps.{take-map, map-square}
 use Rattle.lists.proofs.Tests.{used-blank}
@@ -196,8 +196,8 @@ module _ (schema : List ℕ) (q : stored.Query) where
         rows-split (suc i) n (omega arith) (rw (drop-drop, on) at (parts .2)),
       )
 
-  pub wide-padded : goodQuery schema q ≡ true → q .size ≤ length (q .relations) → AllPadded schema (wideQuery q .rows)
-  wide-padded good fits = rows-split 0 (q .size) (omega arith) (good-query 12 schema q good .rows)
+  pub wide-padded : (most : ℕ) → goodUpTo most schema q ≡ true → q .size ≤ length (q .relations) → AllPadded schema (wideQuery q .rows)
+  wide-padded most good fits = rows-split 0 (q .size) (omega arith) (good-query most schema q good .rows)
 
   -- Narrowed, the wide rows are those of the view
   rows-narrow : ((r : ℕ) → getD schema r 0 ≤ 8) → (i n : ℕ) → n + i ≤ length (q .relations)

@@ -16,9 +16,10 @@ use Rattle.query.specs.declared.Entry.the-variants.{Constant, Variable}
 use Rattle.query.specs.declared.Cell.{Cell}
 use Rattle.query.specs.declared.Dependency as stored-dependency
 use Rattle.query.specs.declared.Query as stored
-use Rattle.query.specs.View.{entryOf, entriesOf, queryOf, heldOf}
+use Rattle.query.specs.declared.Tableau.{Tableau}
+use Rattle.query.specs.View.{entryOf, entriesOf, queryOf, asQuery, heldOf}
 use Rattle.lists.specs.Tests.{every, between}
-use Rattle.query.specs.Rule.{goodEntry, goodCell, goodQuery, neverQuery, noCell}
+use Rattle.query.specs.Rule.{goodEntry, goodCell, blankCell, goodUpTo, goodTableau, neverTableau, noCell}
 use Rattle.first_step.specs.declared.NextStep.the-variants.{Rest, Step}
 use Rattle.replacement.specs.declared.Resolution.{Resolution}
 use Rattle.replacement.specs.declared.Resolution.the-variants.{Clash, Replace}
@@ -30,7 +31,7 @@ use Rattle.chase.specs.internal.Outcome.{IsChased}
 use Rattle.lists.proofs.Maps.{drop-map, take-replicate, map-replicate}
 use Rattle.query.proofs.Stored.{all-cells}
 use Rattle.chase.proofs.View.{StandsFor, entriesOf-take}
-use Rattle.chase.proofs.Good.{good-kept, never-good}
+use Rattle.chase.proofs.Good.{unused-kept, good-kept, never-good}
 use Rattle.chase.proofs.Callers.{width-le}
 use Rattle.chase.proofs.Narrow.{step-differing, chases-narrow, wide-padded, narrow-wide}
 use Rattle.theory.specs.Query.{Entry, constant, variable, never, mapRow, mapQuery, rowEntries, variablesOf, member, distinct, variableCount}
@@ -94,8 +95,8 @@ wide-length q i (suc n) =
     let later : length (rowEntries (wideRows q (suc i) n)) ≤ 8 * n = wide-length q (suc i) n in
     rw (length-append here (rowEntries (wideRows q (suc i) n))) (omega arith)
 
--- A stored query has at most 104 variables, as many as it has cells
-pub variables-fit : (q : stored.Query) → q .arity ≤ 8 → q .size ≤ 12 → variableCount (wideQuery q) ≤ 104
+-- A tableau has at most 200 variables, as many as it has cells
+pub variables-fit : (q : stored.Query) → q .arity ≤ 8 → q .size ≤ 24 → variableCount (wideQuery q) ≤ 200
 variables-fit q arity size =
     let head = entriesOf (take (q .arity) (q .head)) in
     let rows = rowEntries (wideRows q 0 (q .size)) in
@@ -120,17 +121,19 @@ pub record Under (q : stored.Query) (ds : List Dependency) (query : stored.Query
   pub same-size : query .size ≡ q .size
   pub same-relations : query .relations ≡ q .relations
   pub head-length : length (query .head) ≡ length (q .head)
-  pub keeps-good : (schema : List ℕ) → goodQuery schema q ≡ true → goodQuery schema query ≡ true
+  pub keeps-good : (schema : List ℕ) → goodUpTo 24 schema q ≡ true → goodUpTo 24 schema query ≡ true
+  pub rest-blank : every blankCell (drop (8 * query .size) (query .cells)) ≡ true
   pub chase-is : chase ds (wideQuery q) ≡ later count (chase ds (wideQuery query))
 
-pub under-start : (q : stored.Query) (ds : List Dependency) → Under q ds q 0
-under-start q ds =
+pub under-start : (q : stored.Query) (ds : List Dependency) → every blankCell (drop (8 * q .size) (q .cells)) ≡ true → Under q ds q 0
+under-start q ds blank =
     record {
       same-arity = refl;
       same-size = refl;
       same-relations = refl;
       head-length = refl;
       keeps-good = λ schema good. good;
+      rest-blank = blank;
       chase-is = ap (λ n. record { query = chase ds (wideQuery q) .query; count = n }) (sym (zero-add (chase ds (wideQuery q) .count)));
     }
 
@@ -191,43 +194,47 @@ module _
               λ schema good-q.
               let good-query = under .keeps-good schema good-q in
               let inside : query .size ≤ length (query .relations) = rw (under .same-size, under .same-relations) fits in
-              let both = good (all-cells 12 schema query good-query inside) in
+              let both = good (all-cells 24 schema query good-query inside) in
               good-kept
               v
               e
               (resolve-good (inHead (wideQuery query)) a b v e (and-left (goodEntry a) (goodEntry b) both)
               (and-right (goodEntry a) (goodEntry b) both) resolved)
+              24
               schema
               query
               good-query;
+          rest-blank = unused-kept v e (8 * query .size) (query .cells) (under .rest-blank);
           chase-is = under .chase-is ∙ ap (later count) one-replaced ∙ ap (λ n. record { query = after .query; count = n }) one;
         }
 
 -- The count stays small
-pub under-count : (q : stored.Query) (ds : List Dependency) (query : stored.Query) (count : ℕ) → Under q ds query count → q .arity ≤ 8 → q .size ≤ 12
-    → count + chase ds (wideQuery query) .count ≤ 104
+pub under-count : (q : stored.Query) (ds : List Dependency) (query : stored.Query) (count : ℕ) → Under q ds query count → q .arity ≤ 8 → q .size ≤ 24
+    → count + chase ds (wideQuery query) .count ≤ 200
 under-count q ds query count under arity size =
     omega (arith, ap (λ c. c .count) (under .chase-is), chase-count-le ds (wideQuery q), variables-fit q arity size)
 
 -- ---- the end
 
--- A chase of the wide rows that ends in a stored query is a chase of the rows
-chased-by : (schema : List ℕ) (dependencies : List stored-dependency.Dependency) (held : ℕ) (q : stored.Query) (r : stored-chased.Chased)
-    → goodQuery schema q ≡ true → every (between 1 8) schema ≡ true
-    → q .size ≤ length (q .relations) → r .query .size ≤ length (r .query .relations)
-    → chase (heldOf dependencies held) (wideQuery q) ≡ record { query = wideQuery (r .query); count = r .count }
-    → goodQuery schema (r .query) ≡ true → r .query .arity ≡ q .arity → IsChased schema dependencies held q r
-chased-by schema dependencies held q r good widths fits fits' chased good' arity =
+-- A chase of the wide rows that ends in a tableau is a chase of the rows
+chased-by : (schema : List ℕ) (dependencies : List stored-dependency.Dependency) (held : ℕ) (t : Tableau) (r : stored-chased.Chased)
+    → goodTableau schema t ≡ true → every (between 1 8) schema ≡ true
+    → t .size ≤ length (t .relations) → r .query .size ≤ length (r .query .relations)
+    → chase (heldOf dependencies held) (wideQuery (asQuery t)) ≡ record { query = wideQuery (asQuery (r .query)); count = r .count }
+    → goodTableau schema (r .query) ≡ true → r .query .arity ≡ t .arity → r .query .size ≤ t .size → IsChased schema dependencies held t r
+chased-by schema dependencies held t r good widths fits fits' chased good' arity size =
     let ds = heldOf dependencies held in
+    let q = asQuery t in
+    let result = asQuery (r .query) in
     let narrow = width-le schema widths in
-    let wide : Chases ds (wideQuery q) (wideQuery (r .query)) (r .count) = rw chased at (chase-chases ds (wideQuery q)) in
-    let view : Chases ds (queryOf schema q) (queryOf schema (r .query)) (r .count)
-    = rw (narrow-wide schema q narrow fits, narrow-wide schema (r .query) narrow fits') at (chases-narrow schema (wide-padded schema q good fits) wide) in
-    let same = chases-unique ds (queryOf schema q) (queryOf schema (r .query)) (r .count) view in
-    record { query-is = same .0; count-is = same .1; good = good'; same-arity = arity }
+    let wide : Chases ds (wideQuery q) (wideQuery result) (r .count) = rw chased at (chase-chases ds (wideQuery q)) in
+    let view : Chases ds (queryOf schema q) (queryOf schema result) (r .count)
+    = rw (narrow-wide schema q narrow fits, narrow-wide schema result narrow fits') at (chases-narrow schema (wide-padded schema q 24 good fits) wide) in
+    let same = chases-unique ds (queryOf schema q) (queryOf schema result) (r .count) view in
+    record { query-is = same .0; count-is = same .1; good = good'; same-arity = arity; no-more-rows = size }
 
 -- The never query is the theory's
-wide-never : (arity : ℕ) → arity ≤ 8 → wideQuery (neverQuery arity) ≡ never arity
+wide-never : (arity : ℕ) → arity ≤ 8 → wideQuery (asQuery (neverTableau arity)) ≡ never arity
 unfolding wideRows
 wide-never arity fits = ap (λ l. record { head = l; rows = [] })
     (ap entriesOf (take-replicate arity 8 noCell fits) ∙ map-replicate (λ c. entryOf (c .entry)) arity noCell)
@@ -235,25 +242,26 @@ wide-never arity fits = ap (λ l. record { head = l; rows = [] })
 module _
     (dependencies : List stored-dependency.Dependency)
     (held : ℕ)
-    (q query : stored.Query)
+    (t tableau : Tableau)
     (count : ℕ)
-    (under : Under q (heldOf dependencies held) query count)
-    (fits : q .size ≤ length (q .relations))
+    (under : Under (asQuery t) (heldOf dependencies held) (asQuery tableau) count)
+    (fits : t .size ≤ length (t .relations))
     (schema : List ℕ)
-    (good : goodQuery schema q ≡ true)
+    (good : goodTableau schema t ≡ true)
     (widths : every (between 1 8) schema ≡ true)
   where
     -- Where the chase rests
-    pub under-rest : nextStepOf Rest ≡ firstDiffering (heldOf dependencies held) (wideQuery query .rows)
-        → IsChased schema dependencies held q (record { query = query; count = count })
+    pub under-rest : nextStepOf Rest ≡ firstDiffering (heldOf dependencies held) (wideQuery (asQuery tableau) .rows)
+        → IsChased schema dependencies held t (record { query = tableau; count = count })
     under-rest found =
         let ds = heldOf dependencies held in
+        let query = asQuery tableau in
         chased-by
         schema
         dependencies
         held
-        q
-        (record { query = query; count = count })
+        t
+        (record { query = tableau; count = count })
         good
         widths
         fits
@@ -263,29 +271,32 @@ module _
         ∙ ap (λ n. record { query = wideQuery query; count = n }) (add-zero count))
         (under .keeps-good schema good)
         (under .same-arity)
+        (omega (arith, under .same-size))
 
     -- Where it clashes
-    pub under-clash : (a b : stored-entry.Entry) → q .arity ≤ 8 → q .arity ≤ length (q .head)
-        → nextStepOf (Step a b) ≡ firstDiffering (heldOf dependencies held) (wideQuery query .rows)
-        → resolutionOf Clash ≡ resolve (inHead (wideQuery query)) (entryOf a) (entryOf b)
-        → IsChased schema dependencies held q (record { query = neverQuery (q .arity); count = count })
+    pub under-clash : (a b : stored-entry.Entry) → t .arity ≤ 8 → t .arity ≤ length (t .head)
+        → nextStepOf (Step a b) ≡ firstDiffering (heldOf dependencies held) (wideQuery (asQuery tableau) .rows)
+        → resolutionOf Clash ≡ resolve (inHead (wideQuery (asQuery tableau))) (entryOf a) (entryOf b)
+        → IsChased schema dependencies held t (record { query = neverTableau (t .arity); count = count })
     under-clash a b arity head found resolved =
         let ds = heldOf dependencies held in
+        let query = asQuery tableau in
         let inside : query .arity ≤ length (query .head) = rw (under .same-arity, under .head-length) head in
-        let shown : length (wideQuery query .head) ≡ q .arity
+        let shown : length (wideQuery query .head) ≡ t .arity
         = length-map (take (query .arity) (query .head)) (λ c. entryOf (c .entry)) ∙ length-take-le (query .arity) (query .head) inside ∙ under .same-arity in
         chased-by
         schema
         dependencies
         held
-        q
-        (record { query = neverQuery (q .arity); count = count })
+        t
+        (record { query = neverTableau (t .arity); count = count })
         good
         widths
         fits
         zero-le
         (under .chase-is
         ∙ ap (later count) (chase-at-clash ds (wideQuery query) (step-some ds query a b Clash found resolved))
-        ∙ ap₂ (λ x n. record { query = x; count = n }) (ap never shown ∙ sym (wide-never (q .arity) arity)) (add-zero count))
-        (never-good schema (q .arity) arity)
+        ∙ ap₂ (λ x n. record { query = x; count = n }) (ap never shown ∙ sym (wide-never (t .arity) arity)) (add-zero count))
+        (never-good schema (t .arity) arity)
         refl
+        zero-le

@@ -1,7 +1,7 @@
 -- Sets of columns as masks, bit c for column c: membership, subset, union and size of a mask are those of its columns.
 use mathlib.Core.Path.{_≡_, refl, sym, ap, ap₂, _∙_}
 use mathlib.Core.Bool.{Bool, true, false, cond, _&&_, _||_}
-use mathlib.Core.List.{List, _∷_}
+use mathlib.Core.List.{List, [], _∷_, _++_}
 use Prim.Native.Nat.{ℕ, zero, suc, _+_, _*_, _/_, _%_, _^_, _<_, min, max}
 use native.Mathlib.Nat.{two-pow-succ, mod-lt, div-one, div-div-eq-div-mul, pow-succ', div-add-mod', zero-mul}
 use native.Mathlib.Nat.{one-mul, mul-one, mul-add, add-mul, add-comm, add-zero}
@@ -135,6 +135,23 @@ same-more known mask c same =
     or-cond false true = refl
     or-cond false false = refl
 
+-- The columns of two lists and of both their masks
+pub same-union : (known others : List ℕ) (mask more : ℕ) → Same known mask → Same others more → Same (known ++ others) (bitOr mask more)
+unfolding member
+same-union known others mask more same also =
+    record {
+      at =
+          λ k. member-append k known others ∙ ap₂ _||_ (same .at k) (also .at k) ∙ sym (bit-or mask more k);
+    }
+  where
+    or-cond : (t a b : Bool) → cond t true (a || b) ≡ cond t true a || b
+    or-cond true a b = refl
+    or-cond false a b = refl
+
+    member-append : (k : ℕ) (xs ys : List ℕ) → member k (xs ++ ys) ≡ member k xs || member k ys
+    member-append k [] ys = refl
+    member-append k (x ∷ xs) ys = ap (λ (t : Bool). cond (eqb k x) true t) (member-append k xs ys) ∙ or-cond (eqb k x) (member k xs) (member k ys)
+
 -- The bit of a column, as a shift reads it
 pub bit-shift : (mask c : ℕ) → bit mask c ≡ eqb (mask / 2 ^ c % 2) 1
 unfolding bit
@@ -190,6 +207,32 @@ subset-from (suc n) s l m known h same =
 pub subset-mask : (l m : ℕ) (known : List ℕ) → l < 256 → Same known m → subset (columnsOf l) known ≡ eqb (bitAnd l m) l
 subset-mask l m known h same =
     subset-from 8 0 l m known h (λ k. let shift : 0 + k ≡ k = omega arith in ap (λ (i : ℕ). member i known) shift ∙ same .at k)
+
+all-from : (n s m : ℕ) (known : List ℕ) → m < 2 ^ n → ((k : ℕ) → member (s + k) known ≡ bit m k)
+    → subset (numbersWhere (λ c. true) s n) known ≡ eqb (m + 1) (2 ^ n)
+unfolding numbersWhere subset bit
+all-from zero s m known h same = sym (eq-eqb (m + 1) 1 (omega arith))
+all-from (suc n) s m known h same =
+    let half : m / 2 < 2 ^ n = omega (arith, two-pow-succ n) in
+    let first : member s known ≡ eqb (m % 2) 1 = ap (λ (k : ℕ). member k known) (omega arith) ∙ same 0 in
+    let next : (k : ℕ) → member (suc s + k) known ≡ bit (m / 2) k =
+    λ k. let shift : suc s + k ≡ s + suc k = omega arith in ap (λ (i : ℕ). member i known) shift ∙ same (suc k)
+    in
+    ap₂ _&&_ first (all-from n (suc s) (m / 2) known half next)
+    ∙ go (eqb (m % 2) 1) refl (eqb (m / 2 + 1) (2 ^ n)) refl
+  where
+    go : (t : Bool) → eqb (m % 2) 1 ≡ t → (u : Bool) → eqb (m / 2 + 1) (2 ^ n) ≡ u → t && u ≡ eqb (m + 1) (2 ^ suc n)
+    go true e true f =
+        let p : m % 2 ≡ 1 = eqb-true (m % 2) 1 e in
+        let q : m / 2 + 1 ≡ 2 ^ n = eqb-true (m / 2 + 1) (2 ^ n) f in
+        sym (eq-eqb (m + 1) (2 ^ suc n) (omega (arith, two-pow-succ n)))
+    go true e false f = sym (ne-eqb (m + 1) (2 ^ suc n) (λ p. eqb-false (m / 2 + 1) (2 ^ n) f (omega (arith, two-pow-succ n))))
+    go false e u f = sym (ne-eqb (m + 1) (2 ^ suc n) (λ p. eqb-false (m % 2) 1 e (omega (arith, two-pow-succ n))))
+
+-- All columns below a width stand in a list exactly when the list's mask has all their bits
+pub all-columns : (width m : ℕ) (known : List ℕ) → m < 2 ^ width → Same known m → subset (numbersWhere (λ c. true) 0 width) known ≡ eqb (m + 1) (2 ^ width)
+all-columns width m known h same =
+    all-from width 0 m known h (λ k. let shift : 0 + k ≡ k = omega arith in ap (λ (i : ℕ). member i known) shift ∙ same .at k)
 
 -- ---- back from a mask
 

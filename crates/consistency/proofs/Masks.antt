@@ -1,12 +1,12 @@
 -- Members of masks: of two masks together, of what both have, of a mask of one.
 -- Assumes nothing.
-use mathlib.Core.Path.{_≡_, ap, _∙_, subst, subst⁻¹}
-use Prim.Native.Nat.{ℕ, suc, _+_, _-_, _*_, _/_, _%_, _^_, _<_, min, max}
+use mathlib.Core.Path.{_≡_, sym, ap, _∙_, subst, subst⁻¹}
+use Prim.Native.Nat.{ℕ, suc, _+_, _-_, _*_, _/_, _%_, _^_, _<_, _≤_, min, max}
 use native.Mathlib.Nat.{div-eq-of-lt, div-self, mul-div-cancel-left, zero-div, pow-suc, mul-mod-left, one-mul, mod-eq-of-lt}
 use native.Mathlib.Omega.{arith}
 use native.Mathlib.Decide.{decLt}
 use lib.Bits.{bitAnd, bitOr, and-step, or-step, and-shr, or-shr}
-use lib.Pow.{pow-pos, pow-lt, pow-add}
+use lib.Pow.{pow-pos, pow-lt, pow-add, shr-shr}
 use Rattle.consistency.specs.internal.Solution.{Bit}
 use Rattle.consistency.specs.internal.Consistent.{NoBit}
 
@@ -37,6 +37,15 @@ digit-one n h = omega arith
 
 pub bit-zero : (i : ℕ) → Bit 0 i → ⊥
 bit-zero i p = let z : _≡_ {A = ℕ} (0 / 2 ^ i) 0 = zero-div (2 ^ i) in omega arith
+
+-- a mask that ends before d has no member from d on
+pub bit-past : (m d i : ℕ) → m / 2 ^ d ≡ 0 → d ≤ i → Bit m i → ⊥
+bit-past m d i ends h b =
+    let e : d + (i - d) ≡ i = omega arith in
+    let z : m / 2 ^ i ≡ 0 =
+    ap (λ (n : ℕ). m / 2 ^ n) (sym e) ∙ sym (shr-shr m d (i - d)) ∙ ap (λ (n : ℕ). n / 2 ^ (i - d)) ends ∙ zero-div (2 ^ (i - d))
+    in
+    omega arith
 
 pub bit-one : (r : ℕ) → Bit (2 ^ r) r
 bit-one r = ap (λ (n : ℕ). n % 2) (div-self (pow-pos r))

@@ -1,4 +1,4 @@
--- Why a state may become what it becomes: first choices below 12, then the state after a choice and what a failure after it says before it, then a row compared
+-- Why a state may become what it becomes: first choices below 24, then the state after a choice and what a failure after it says before it, then a row compared
 -- with another. Assumes nothing.
 use mathlib.Core.Path.{_≡_, refl, sym, ap, _∙_, subst, subst⁻¹}
 use mathlib.Core.Logic.{_⊎_, inl, inr}
@@ -15,13 +15,13 @@ use Rattle.consistency.specs.internal.Steps.{RowAfter, Supports}
 use Rattle.consistency.specs.declared.State.{State}
 use Rattle.consistency.proofs.Masks.{bit-and, bit-or-left, bit-or-right, bit-or-other, bit-one}
 
--- ---- choices below 12
+-- ---- choices below 24
 pub below-zeros : (n : ℕ) → Below (replicate n 0)
 below-zeros zero q = omega arith
 below-zeros (suc n) zero = omega arith
 below-zeros (suc n) (suc q) = below-zeros n q
 
-pub below-set : (l : List ℕ) (r d : ℕ) → Below l → d < 12 → Below (set l r d)
+pub below-set : (l : List ℕ) (r d : ℕ) → Below l → d < 24 → Below (set l r d)
 below-set [] r d b h q = omega arith
 below-set (x ∷ xs) zero d b h zero = h
 below-set (x ∷ xs) zero d b h (suc q) = b (suc q)
@@ -102,7 +102,7 @@ stored s q left b changed =
 
 -- row q may lose what no candidate of row p supports, if the culprits of row p become its own too
 pub settles-revised : (rows : ℕ) (table : List ℕ) (s : State) (p q m changed : ℕ) → p < rows → q < rows → q < length (s .current)
-    → q < length (s .culprits) → Supports table (getD (s .current) p 0) p q 12 m
+    → q < length (s .culprits) → Supports table (getD (s .current) p 0) p q 24 m
     → Settles rows table s (stored s q (bitAnd (getD (s .current) q 0) m) (bitOr (getD (s .culprits) q 0) (getD (s .culprits) p 0)) changed)
 settles-revised rows table s p q m changed hp hq lc lb supports = record { chosen = refl; placed = refl; sound = after }
   where

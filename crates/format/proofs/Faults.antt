@@ -9,18 +9,20 @@ use lib.ListN.{length, take, drop}
 use borrow.Author.Tests.{leb-true}
 use Rattle.query.specs.declared.Query.{Query}
 use Rattle.query.specs.declared.Dependency.{Dependency}
+use Rattle.query.specs.declared.JoinDependency.{JoinDependency}
 use Rattle.query.specs.Rule.{headSafe, noQuery, noPlace, placeWith}
 use Rattle.query.specs.declared.Place.{Place}
-use Rattle.refusals.specs.Refusals.{badDependency, badDirectory, badOffsets, badQuery, badRelations, unsafeHead, refusalIn}
+use Rattle.refusals.specs.Refusals.{badDependency, badDirectory, badJoin, badOffsets, badQuery, badRelations, unsafeHead, refusalIn}
 use Rattle.refusals.specs.Refusals.{Condition, firstHolding, Reply, refused, gives, _>>=_}
 use Rattle.lists.proofs.Tests.{and-iff}
 use Rattle.format.specs.Bytes.{number}
 use Rattle.format.specs.Format.{Reading, none, got}
-use Rattle.format.specs.Parts.{relations, dependencies, query}
+use Rattle.format.specs.Parts.{relations, dependencies, joins, query}
 use Rattle.format.specs.File.{chained, complete, directory, isVacant, noneLeft, readAll, readFile, readParts, readPlace, readPlaces}
-use Rattle.format.specs.File.{recordWith}
+use Rattle.format.specs.File.{front, noJoins, readJoins, recordWith}
 use Rattle.format.specs.File.{safeQuery, stretches, tableFits}
-use Rattle.format.specs.Faults.{isWhole, valueOr, partAt, schemaIn, relationsFault, dependenciesFault, queryFault, headFault, placeConditions}
+use Rattle.format.specs.Faults.{isWhole, isRead, restOf, areJoins, valueOr, partAt, schemaIn, relationsFault, dependenciesFault, joinsFault, queryFault}
+use Rattle.format.specs.Faults.{headFault, placeConditions}
 use Rattle.format.specs.Faults.{readConditions}
 use Rattle.format.specs.Faults.{FirstFault, WholeWritten}
 use Rattle.format.proofs.Results.{complete-get, complete-put}
@@ -79,18 +81,36 @@ places-first schema (p ∷ ps) =
     (λ place. refusal-kept (readPlaces schema ps) (λ places. place ∷ places) ∙ places-first schema ps) schema (noneLeft ps) p
 
 module _ (part1 : List ℕ) (parts : List (List ℕ)) where
-  dependencies-first : (rs : ℕ × List ℕ) (schema : List ℕ) (o : Reading (ℕ × List Dependency))
-      → refusalIn (complete badDependency o >>= (λ ds. readPlaces schema parts >>= (λ places. gives (recordWith rs ds places))))
-      ≡ firstHolding ((not (isWhole o), badDependency) ∷ placeConditions schema parts)
-  unfolding _>>=_ firstHolding complete isWhole
-  dependencies-first rs schema none = refl
-  dependencies-first rs schema (got ds []) = refusal-kept (readPlaces schema parts) (recordWith rs ds) ∙ places-first schema parts
-  dependencies-first rs schema (got ds (b ∷ bytes)) = refl
+  module _ (rs : ℕ × List ℕ) (schema : List ℕ) where
+    joins-whole : (ds : ℕ × List Dependency) (o : Reading (ℕ × List JoinDependency))
+        → refusalIn (complete badJoin o >>= (λ js. readPlaces schema parts >>= (λ places. gives (recordWith rs ds js places))))
+        ≡ firstHolding ((not (isWhole o), badJoin) ∷ placeConditions schema parts)
+    unfolding _>>=_ firstHolding complete isWhole
+    joins-whole ds none = refl
+    joins-whole ds (got js []) = refusal-kept (readPlaces schema parts) (recordWith rs ds js) ∙ places-first schema parts
+    joins-whole ds (got js (b ∷ bytes)) = refl
+
+    joins-first : (ds : ℕ × List Dependency) (bytes : List ℕ)
+        → refusalIn (readJoins schema bytes >>= (λ js. readPlaces schema parts >>= (λ places. gives (recordWith rs ds js places))))
+        ≡ firstHolding ((not (areJoins schema bytes), badJoin) ∷ placeConditions schema parts)
+    unfolding _>>=_ firstHolding readJoins areJoins
+    joins-first ds [] = refusal-kept (readPlaces schema parts) (recordWith rs ds noJoins) ∙ places-first schema parts
+    joins-first ds (b ∷ bytes) = joins-whole ds (joins schema .get (b ∷ bytes))
+
+    dependencies-first : (o : Reading (ℕ × List Dependency))
+        → refusalIn (front badDependency o >>=
+        (λ ds. readJoins schema (ds .1) >>= (λ js. readPlaces schema parts >>= (λ places. gives (recordWith rs (ds .0) js places)))))
+        ≡ firstHolding ((not (isRead o), badDependency) ∷ (not (areJoins schema (restOf o)), badJoin) ∷ placeConditions schema parts)
+    unfolding _>>=_ firstHolding front isRead restOf
+    dependencies-first none = refl
+    dependencies-first (got ds rest) = joins-first ds rest
 
   relations-first : (o : Reading (ℕ × List ℕ))
-      → refusalIn (complete badRelations o >>= (λ rs. complete badDependency (dependencies (take (rs .0) (rs .1)) .get part1)
-      >>= (λ ds. readPlaces (take (rs .0) (rs .1)) parts >>= (λ places. gives (recordWith rs ds places)))))
+      → refusalIn (complete badRelations o >>= (λ rs. front badDependency (dependencies (take (rs .0) (rs .1)) .get part1)
+      >>= (λ ds. readJoins (take (rs .0) (rs .1)) (ds .1)
+      >>= (λ js. readPlaces (take (rs .0) (rs .1)) parts >>= (λ places. gives (recordWith rs (ds .0) js places))))))
       ≡ firstHolding ((not (isWhole o), badRelations) ∷ dependenciesFault (take (valueOr (0, []) o .0) (valueOr (0, []) o .1)) part1
+      ∷ joinsFault (take (valueOr (0, []) o .0) (valueOr (0, []) o .1)) part1
       ∷ placeConditions (take (valueOr (0, []) o .0) (valueOr (0, []) o .1)) parts)
   unfolding _>>=_ firstHolding complete isWhole valueOr
   relations-first none = refl
@@ -98,7 +118,8 @@ module _ (part1 : List ℕ) (parts : List (List ℕ)) where
   relations-first (got rs (b ∷ bytes)) = refl
 
 parts-first : (part0 part1 : List ℕ) (parts : List (List ℕ)) → refusalIn (readAll (part0 ∷ part1 ∷ parts))
-    ≡ firstHolding (relationsFault part0 ∷ dependenciesFault (schemaIn part0) part1 ∷ placeConditions (schemaIn part0) parts)
+    ≡ firstHolding
+    (relationsFault part0 ∷ dependenciesFault (schemaIn part0) part1 ∷ joinsFault (schemaIn part0) part1 ∷ placeConditions (schemaIn part0) parts)
 unfolding readAll readParts
 parts-first part0 part1 parts = relations-first part1 parts (relations .get part0)
 
@@ -115,7 +136,8 @@ module _ (file : List ℕ) where
   -- the conditions of the parts
   abbrev conditions : List Condition
   conditions =
-      relationsFault (partAt file 0) ∷ dependenciesFault schema (partAt file 1) ∷ placeConditions schema (stretches (count - 2) file (drop 10 file))
+      relationsFault (partAt file 0) ∷ dependenciesFault schema (partAt file 1) ∷ joinsFault schema (partAt file 1)
+      ∷ placeConditions schema (stretches (count - 2) file (drop 10 file))
 
   few : tableFits file ≡ true → 2 ≤ count
   few e =

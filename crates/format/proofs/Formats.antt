@@ -108,11 +108,9 @@ module _ {A : Type 0} (f : Format A) (lf : Lawful f) where
 
 -- ---- an array of which the first n elements are in use
 
-module _ {A : Type 0} (total : ℕ) (blank : A) (isBlank : A → Bool) (n : ℕ) (f : Format A) (is : (x : A) → isBlank x ≡ true → x ≡ blank)
-    (blank-is : isBlank blank ≡ true)
-    (fits : n ≤ total) (lf : Lawful f) where
+module _ {A : Type 0} (total : ℕ) (blank : A) (isBlank : A → Bool) (n : ℕ) (is : (x : A) → isBlank x ≡ true → x ≡ blank) (fits : n ≤ total) where
   -- the elements in use, padded, are the array
-  pad-take : (xs : List A) → length xs ≡ total → every isBlank (drop n xs) ≡ true → pad total blank (take n xs) ≡ xs
+  pub pad-take : (xs : List A) → length xs ≡ total → every isBlank (drop n xs) ≡ true → pad total blank (take n xs) ≡ xs
   pad-take xs l h =
       let lt : length (take n xs) ≡ n = length-take-le n xs (omega arith) in
       let ld : length (drop n xs) ≡ total - n = simp length-drop (omega arith) in
@@ -120,9 +118,13 @@ module _ {A : Type 0} (total : ℕ) (blank : A) (isBlank : A → Bool) (n : ℕ)
       every-same isBlank blank is (drop n xs) h ∙ ap (λ (k : ℕ). replicate k blank) ld ∙ sym (replicate-drop n total blank) in
       pad-is total blank (take n xs) ∙ rw (lt, ← e) (take-append-drop n xs)
 
-  take-pad : (ys : List A) → length ys ≡ n → take n (pad total blank ys) ≡ ys
-  take-pad ys l = ap (take n) (pad-is total blank ys) ∙ take-at ys (drop (length ys) (replicate total blank)) n l
+-- the elements in use of a padded array
+pub take-pad : {A : Type 0} (total : ℕ) (blank : A) (n : ℕ) (ys : List A) → length ys ≡ n → take n (pad total blank ys) ≡ ys
+take-pad total blank n ys l = ap (take n) (pad-is total blank ys) ∙ take-at ys (drop (length ys) (replicate total blank)) n l
 
+module _ {A : Type 0} (total : ℕ) (blank : A) (isBlank : A → Bool) (n : ℕ) (f : Format A) (is : (x : A) → isBlank x ≡ true → x ≡ blank)
+    (blank-is : isBlank blank ≡ true)
+    (fits : n ≤ total) (lf : Lawful f) where
   drop-pad : (ys : List A) → length ys ≡ n → drop n (pad total blank ys) ≡ drop n (replicate total blank)
   drop-pad ys l =
       ap (drop n) (pad-is total blank ys) ∙ drop-at ys (drop (length ys) (replicate total blank)) n l
@@ -131,7 +133,7 @@ module _ {A : Type 0} (total : ℕ) (blank : A) (isBlank : A → Bool) (n : ℕ)
   padded-back : (ys : List A) → length ys ≡ n → every (f .good) ys ≡ true
       → (eqb (length (pad total blank ys)) total && (every (f .good) (take n (pad total blank ys)) && every isBlank (drop n (pad total blank ys)))) ≡ true
   padded-back ys l h =
-      let used : every (f .good) (take n (pad total blank ys)) ≡ true = rw (take-pad ys l) h in
+      let used : every (f .good) (take n (pad total blank ys)) ≡ true = rw (take-pad total blank n ys l) h in
       let unused : every isBlank (drop n (pad total blank ys)) ≡ true =
       rw (drop-pad ys l) (every-drop isBlank n (replicate total blank) (every-replicate isBlank total blank blank-is)) in
       and-both _ _ (eq-eqb (length (pad total blank ys)) total (length-pad total blank ys (omega arith))) (and-both _ _ used unused)
@@ -146,13 +148,13 @@ module _ {A : Type 0} (total : ℕ) (blank : A) (isBlank : A → Bool) (n : ℕ)
             let lt : length (take n xs) ≡ n = length-take-le n xs (omega arith) in
             let e : getTimes (f .get) n (flatMap (f .put) (take n xs) ++ rest) ≡ got (take n xs) rest =
             rw lt at (times-get-put f lf (take n xs) rest (k .1 .0)) in
-            rw (e, pad-take xs l (k .1 .1));
+            rw (e, pad-take total blank isBlank n is fits xs l (k .1 .1));
         put-get = λ bytes xs rest hb e.
             let (ys, ey, ep) = mapReading-got (pad total blank) (getTimes (f .get) n bytes) xs rest e in
             let k : (length ys ≡ n) × (every (f .good) ys ≡ true) × (flatMap (f .put) ys ++ rest ≡ bytes) = times-put-get f lf n bytes ys rest hb ey in
             subst (λ (zs : List A). ((eqb (length zs) total && (every (f .good) (take n zs) && every isBlank (drop n zs))) ≡ true)
             × (flatMap (f .put) (take n zs) ++ rest ≡ bytes)) ep
-            (padded-back ys (k .0) (k .1), ap (λ (zs : List A). flatMap (f .put) zs ++ rest) (take-pad ys (k .0)) ∙ k .2);
+            (padded-back ys (k .0) (k .1), ap (λ (zs : List A). flatMap (f .put) zs ++ rest) (take-pad total blank n ys (k .0)) ∙ k .2);
       }
 
 -- ---- values held as others

@@ -1,19 +1,24 @@
 -- How long the parts are: exactly, and at most.
 use mathlib.Core.Path.{_≡_, refl, sym, ap}
-use mathlib.Core.Bool.{cond}
+use mathlib.Core.Bool.{true, cond}
 use mathlib.Core.List.{List, [], _∷_, flatMap}
 use Prim.Native.Nat.{ℕ, suc, _+_, _*_, _≤_}
 use native.Mathlib.Nat.{mul-suc, mul-zero}
 use native.Mathlib.Omega.{arith}
 use lib.Dec.{eqb, lit≤}
+use borrow.Author.Tests.{eqb-true}
 use lib.ListN.{length, take, getD, length-append, length-take}
 use Rattle.query.specs.declared.Entry.{Entry}
 use Rattle.query.specs.declared.Entry.the-variants.{Constant, Variable}
 use Rattle.query.specs.declared.Cell.{Cell}
 use Rattle.query.specs.declared.Query.{Query}
 use Rattle.query.specs.declared.Dependency.{Dependency}
+use Rattle.query.specs.declared.JoinDependency.{JoinDependency}
+use Rattle.query.specs.Rule.{shapedJoin}
+use Rattle.lists.specs.Tests.{every}
+use Rattle.lists.proofs.Tests.{and-left, and-right, every-take}
 use Rattle.format.specs.Format.{byte, sequence, padded, via}
-use Rattle.format.specs.Parts.{relations, dependency, dependencies, putEntry, entry, entries, row, rows, chunk, query}
+use Rattle.format.specs.Parts.{relations, dependency, dependencies, join, joins, putEntry, entry, entries, row, rows, chunk, queryFor}
 use Rattle.format.proofs.Numbers.{length-bytes}
 use Rattle.format.proofs.Parts.{Narrow, narrow-at, headFits}
 
@@ -55,12 +60,16 @@ unfolding dependencies sequence byte padded dependency
 length-dependencies schema n ds =
     let e = length-flatMap (λ d. dependency schema .put d) 3 (λ d. refl) (take n ds) in omega arith
 
-pub length-query : (schema : List ℕ) (q : Query)
-    → length (query schema .put q)
+pub length-join : (schema : List ℕ) (j : JoinDependency) → length (join schema .put j) ≡ 2 + length (take (j .count) (j .sets))
+unfolding join
+length-join schema j = omega arith
+
+pub length-query : (most : ℕ) (schema : List ℕ) (q : Query)
+    → length (queryFor most schema .put q)
     ≡ 2 + (5 * length (take (cond (eqb (q .size) 0) 0 (q .arity)) (q .head)) + length (flatMap (row schema .put)
     (take (q .size) (chunk (q .relations) (q .cells)))))
-unfolding query via sequence byte rows padded
-length-query schema q =
+unfolding queryFor via sequence byte rows padded
+length-query most schema q =
     let n : ℕ = cond (eqb (q .size) 0) 0 (q .arity) in
     let e = length-append (entries n .put (q .head)) (flatMap (row schema .put) (take (q .size) (chunk (q .relations) (q .cells)))) in
     let l = length-entries n (q .head) in
@@ -75,8 +84,21 @@ flatMap-short put b h (x ∷ xs) =
     let ih : length (flatMap put xs) ≤ b * length xs = flatMap-short put b h xs in
     rw (length-append (put x) (flatMap put xs), mul-suc b (length xs)) (omega (arith, h x))
 
-pub query-short : (schema : List ℕ) (q : Query) → Narrow schema → q .arity ≤ 8 → q .size ≤ 12 → length (query schema .put q) ≤ 534
-query-short schema q hn ha hz =
+pub joins-short : (schema : List ℕ) (n : ℕ) (js : List JoinDependency) → every shapedJoin js ≡ true → length (joins schema .put (n, js)) ≤ 1 + 6 * length js
+unfolding joins sequence byte padded every flatMap
+joins-short schema n js h =
+    omega (arith, go (take n js) (every-take shapedJoin n js h), lib.ListN.length-take n js)
+  where
+    go : (xs : List JoinDependency) → every shapedJoin xs ≡ true → length (flatMap (join schema .put) xs) ≤ 6 * length xs
+    go [] h = omega arith
+    go (j ∷ xs) h =
+        let ih : length (flatMap (join schema .put) xs) ≤ 6 * length xs = go xs (and-right (shapedJoin j) (every shapedJoin xs) h) in
+        let four : length (j .sets) ≡ 4 = eqb-true (length (j .sets)) 4 (and-left (shapedJoin j) (every shapedJoin xs) h) in
+        rw (length-append (join schema .put j) (flatMap (join schema .put) xs)) (omega (arith, length-join schema j, length-take (j .count) (j .sets)))
+
+pub query-short : (most : ℕ) (schema : List ℕ) (q : Query) → Narrow schema → q .arity ≤ 8 → q .size ≤ most
+    → length (queryFor most schema .put q) ≤ 42 + 41 * most
+query-short most schema q hn ha hz =
     let n : ℕ = cond (eqb (q .size) 0) 0 (q .arity) in
     let hf : n ≤ 8 = headFits (q .size) (q .arity) ha in
     let hd : length (take n (q .head)) ≤ n = take-short n (q .head) in
@@ -85,4 +107,4 @@ query-short schema q hn ha hz =
     let l : length (flatMap (row schema .put) rs) ≤ 41 * length rs =
     flatMap-short (row schema .put) 41
     (λ r. omega (arith, length-row schema r, take-short (getD schema (r .0) 0) (r .1), narrow-at schema (r .0) hn)) rs in
-    omega (arith, length-query schema q)
+    omega (arith, length-query most schema q)

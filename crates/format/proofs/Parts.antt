@@ -7,22 +7,28 @@ use native.Mathlib.Nat.{not-suc-le-zero, le-of-suc-le-suc}
 use native.Mathlib.Omega.{arith}
 use lib.Dec.{eqb, leb, ltb, lit≤}
 use lib.ListN.{length, take, drop, getD, replicate, length-append, take-append-drop}
-use lib.Seq.{take-at, drop-at, take-all}
+use lib.Seq.{take-at, drop-at, take-all, length-take-le}
 use borrow.Author.Tests.{eqb-true, eqb-false, eq-eqb, leb-true, le-leb}
 use Rattle.query.specs.declared.Entry.{Entry}
 use Rattle.query.specs.declared.Entry.the-variants.{Constant, Variable}
 use Rattle.query.specs.declared.Cell.{Cell}
 use Rattle.query.specs.declared.Query.{Query}
+use Rattle.query.specs.declared.JoinDependency.{JoinDependency}
 use Rattle.lists.specs.Tests.{between, every, isZero}
-use Rattle.query.specs.Rule.{blankCell, blankDependency, goodDependency, goodEntry, goodCell, noCell, noDependency}
-use Rattle.query.proofs.Shape.{blank-number, blank-cell, blank-dependency}
+use Rattle.lists.specs.Over.{pad}
+use Rattle.query.specs.Rule.{blankCell, blankDependency, blankJoin, goodDependency, goodSet, goodJoin, goodEntry, goodCell, noCell, noDependency, noJoin}
+use Rattle.query.specs.Rule.{shapedJoin}
+use Rattle.query.proofs.Good.{good-join}
+use Rattle.query.proofs.Shape.{blank-number, blank-cell, blank-dependency, blank-join}
 use Rattle.format.specs.Bytes.{number, bytesOf, Bytes}
 use Rattle.format.specs.Format.{got, gotIf, Format, Lawful, byte, sequence, padded}
 use Rattle.format.specs.Parts.{relations, dependencyAt, dependency, dependencies, putEntry, isEntry, entryFrom, entry, entries, row, noRow, blankRow}
-use Rattle.format.specs.Parts.{rows, chunk, flat, QueryFields, queryWith, fieldsOf, fullCells, query}
-use Rattle.lists.proofs.Tests.{and-left, and-right, and-iff, every-join, every-weaken, every-same}
+use Rattle.format.specs.Parts.{joinAt, join, unusedJoin, joins, rows, chunk, flat, QueryFields, queryWith, fieldsOf, fullCells, queryFor}
+use Rattle.lists.proofs.Tests.{and-left, and-right, and-both, and-iff, every-join, every-weaken, every-same, used-blank}
+use Rattle.lists.proofs.Loops.{stretch-length}
+use Rattle.lists.proofs.Over.{length-pad}
 use Rattle.format.proofs.Numbers.{number-bytes, bytes-number, length-bytes}
-use Rattle.format.proofs.Formats.{gotIf-true, byte-lawful, sequence-lawful, padded-lawful, via-lawful}
+use Rattle.format.proofs.Formats.{gotIf-true, byte-lawful, sequence-lawful, pad-take, take-pad, padded-lawful, via-lawful}
 
 -- ---- part 0 and part 1
 
@@ -59,6 +65,61 @@ unfolding dependencies byte
 dependencies-lawful schema =
     sequence-lawful (byte (λ n. leb n 32)) (λ n. padded 32 noDependency blankDependency n (dependency schema)) (byte-lawful (λ n. leb n 32))
     (λ n h. padded-lawful 32 noDependency blankDependency n (dependency schema) blank-dependency refl (leb-true n 32 h) (dependency-lawful schema))
+
+-- the two bytes before the sets, the sets and the rest
+sets-apart : (bytes : List ℕ) (n : ℕ) → 2 + n ≤ length bytes
+    → (getD bytes 0 0 ∷ getD bytes 1 0 ∷ take n (drop 2 bytes)) ++ drop (2 + n) bytes ≡ bytes
+sets-apart [] n h = absurd (omega arith)
+sets-apart (a ∷ []) n h = absurd (omega arith)
+sets-apart (a ∷ b ∷ bytes) n h = let two : 2 + n ≡ suc (suc n) = omega arith in rw (two, take-append-drop n bytes)
+
+pub join-lawful : (schema : List ℕ) → Lawful (join schema)
+unfolding join gotIf
+join-lawful schema =
+    record {
+      get-put = λ j rest h.
+          let k : (shapedJoin j ≡ true) × (goodJoin schema j ≡ true) = simp and-iff at h in
+          let good = good-join schema j (k .1) in
+          let four : length (j .sets) ≡ 4 = eqb-true (length (j .sets)) 4 (k .0) in
+          let n : length (take (j .count) (j .sets)) ≡ j .count = length-take-le (j .count) (j .sets) (omega (arith, good .most)) in
+          let long : leb (2 + j .count) (length (j .relation ∷ j .count ∷ take (j .count) (j .sets) ++ rest)) ≡ true =
+          le-leb (2 + j .count) (length (j .relation ∷ j .count ∷ take (j .count) (j .sets) ++ rest))
+          (omega (arith, length-append (take (j .count) (j .sets)) rest)) in
+          let read : take (j .count) (take (j .count) (j .sets) ++ rest) ≡ take (j .count) (j .sets) =
+          take-at (take (j .count) (j .sets)) rest (j .count) n in
+          let back : pad 4 0 (take (j .count) (j .sets)) ≡ j .sets =
+          pad-take 4 0 isZero (j .count) blank-number (good .most) (j .sets) four
+          (used-blank (j .count) (goodSet schema (j .relation)) isZero (j .sets) (good .sets)) in
+          let two : 2 + j .count ≡ suc (suc (j .count)) = omega arith in
+          let left : drop (2 + j .count) (j .relation ∷ j .count ∷ take (j .count) (j .sets) ++ rest) ≡ rest =
+          ap (λ (k : ℕ). drop k (j .relation ∷ j .count ∷ take (j .count) (j .sets) ++ rest)) two ∙ drop-at (take (j .count) (j .sets)) rest (j .count) n in
+          rw (long, read, back, left, k .1);
+      put-get = λ bytes j rest hb e.
+          let n : ℕ = getD bytes 1 0 in
+          let (t, ej, er) = gotIf-true (leb (2 + n) (length bytes) && goodJoin schema (joinAt bytes)) (joinAt bytes) j (drop (2 + n) bytes) rest e in
+          let k : (leb (2 + n) (length bytes) ≡ true) × (goodJoin schema (joinAt bytes) ≡ true) = simp and-iff at t in
+          let long : 2 + n ≤ length bytes = leb-true (2 + n) (length bytes) (k .0) in
+          let few : n ≤ 4 = good-join schema (joinAt bytes) (k .1) .most in
+          let l : length (take n (drop 2 bytes)) ≡ n = stretch-length 2 n bytes long in
+          let four : length (pad 4 0 (take n (drop 2 bytes))) ≡ 4 = length-pad 4 0 (take n (drop 2 bytes)) (omega arith) in
+          rw (← ej, ← er) (
+            and-both _ _ (eq-eqb (length (pad 4 0 (take n (drop 2 bytes)))) 4 four) (k .1),
+            ap (λ (sets : List ℕ). (getD bytes 0 0 ∷ n ∷ sets) ++ drop (2 + n) bytes) (take-pad 4 0 n (take n (drop 2 bytes)) l) ∙ sets-apart bytes n long,
+          );
+    }
+
+pub unused-join : (j : JoinDependency) → unusedJoin j ≡ true → j ≡ noJoin
+unused-join j h =
+    let k : (shapedJoin j ≡ true) × (blankJoin j ≡ true) = and-iff (shapedJoin j) (blankJoin j) .0 h in
+    blank-join j (eqb-true (length (j .sets)) 4 (k .0)) (k .1)
+
+pub joins-lawful : (schema : List ℕ) → Lawful (joins schema)
+unfolding joins byte every
+joins-lawful schema =
+    sequence-lawful (byte (between 1 4)) (λ n. padded 4 noJoin unusedJoin n (join schema)) (byte-lawful (between 1 4))
+    (λ n h.
+    let k : (leb 1 n ≡ true) × (leb n 4 ≡ true) = simp and-iff at h in
+    padded-lawful 4 noJoin unusedJoin n (join schema) unused-join refl (leb-true n 4 (k .1)) (join-lawful schema))
 
 -- ---- entries and rows
 
@@ -139,9 +200,9 @@ blank-row r h =
     every-same blankCell noCell blank-cell (r .1) (k .1 .1) ∙ ap (λ (n : ℕ). replicate n noCell) (eqb-true (length (r .1)) 8 (k .1 .0)) in
     λ i. (blank-number (r .0) (k .0) i, p i)
 
-pub rows-lawful : (schema : List ℕ) (n : ℕ) → Narrow schema → n ≤ 12 → Lawful (rows schema n)
+pub rows-lawful : (most : ℕ) (schema : List ℕ) (n : ℕ) → Narrow schema → n ≤ most → Lawful (rows most schema n)
 unfolding rows every
-rows-lawful schema n hs h = padded-lawful 12 noRow blankRow n (row schema) blank-row refl h (row-lawful schema hs)
+rows-lawful most schema n hs h = padded-lawful most noRow blankRow n (row schema) blank-row refl h (row-lawful schema hs)
 
 -- ---- relations and cells as rows
 
@@ -176,28 +237,29 @@ flat-chunk (r ∷ rs) cells =
     let n : 8 * length (r ∷ rs) ≡ 8 + 8 * length rs = omega arith in
     rw (flat-chunk rs (drop 8 cells), n, lib.Seq.take-add 8 (8 * length rs) cells)
 
--- good rows are 12, of 8 cells each
-pub rows-full : (schema : List ℕ) (n : ℕ) (rs : List (ℕ × List Cell)) → rows schema n .good rs ≡ true → (length rs ≡ 12) × (every fullRow rs ≡ true)
+-- good rows are as many as there is room for, of 8 cells each
+pub rows-full : (most : ℕ) (schema : List ℕ) (n : ℕ) (rs : List (ℕ × List Cell)) → rows most schema n .good rs ≡ true
+    → (length rs ≡ most) × (every fullRow rs ≡ true)
 unfolding rows padded row sequence entries byte
-rows-full schema n rs h =
-    let k : (eqb (length rs) 12 ≡ true) × ((every (row schema .good) (take n rs) ≡ true) × (every blankRow (drop n rs) ≡ true)) = simp and-iff at h in
+rows-full most schema n rs h =
+    let k : (eqb (length rs) most ≡ true) × ((every (row schema .good) (take n rs) ≡ true) × (every blankRow (drop n rs) ≡ true)) = simp and-iff at h in
     let used : every fullRow (take n rs) ≡ true =
     every-weaken (row schema .good) fullRow
     (λ r g. (simp and-iff at g) .1 .0)
     (take n rs) (k .1 .0) in
     let unused : every fullRow (drop n rs) ≡ true =
     every-weaken blankRow fullRow (λ r g. (simp and-iff at g) .1 .0) (drop n rs) (k .1 .1) in
-    (eqb-true (length rs) 12 (k .0), every-join fullRow n rs used unused)
+    (eqb-true (length rs) most (k .0), every-join fullRow n rs used unused)
 
 -- ---- queries
 
 -- The format of a query's fields
-fields : List ℕ → Format QueryFields
-fields schema =
+fields : ℕ → List ℕ → Format QueryFields
+fields most schema =
     sequence (byte (λ n. leb n 8))
     (λ arity.
-    sequence (byte (λ n. leb n 12))
-    (λ size. sequence (entries (cond (eqb size 0) 0 arity)) (λ head. rows schema size)))
+    sequence (byte (λ n. leb n most))
+    (λ size. sequence (entries (cond (eqb size 0) 0 arity)) (λ head. rows most schema size)))
 
 pub headFits : (size arity : ℕ) → arity ≤ 8 → cond (eqb size 0) 0 arity ≤ 8
 headFits size arity h = go (eqb size 0)
@@ -206,45 +268,46 @@ headFits size arity h = go (eqb size 0)
     go true = lit≤ tt
     go false = h
 
-fields-lawful : (schema : List ℕ) → Narrow schema → Lawful (fields schema)
+fields-lawful : (most : ℕ) (schema : List ℕ) → Narrow schema → Lawful (fields most schema)
 unfolding fields byte
-fields-lawful schema hs =
+fields-lawful most schema hs =
     sequence-lawful (byte (λ n. leb n 8))
-    (λ arity. sequence (byte (λ n. leb n 12)) (λ size. sequence (entries (cond (eqb size 0) 0 arity)) (λ head. rows schema size)))
+    (λ arity. sequence (byte (λ n. leb n most)) (λ size. sequence (entries (cond (eqb size 0) 0 arity)) (λ head. rows most schema size)))
     (byte-lawful (λ n. leb n 8))
     (λ arity ha.
-    sequence-lawful (byte (λ n. leb n 12)) (λ size. sequence (entries (cond (eqb size 0) 0 arity)) (λ head. rows schema size)) (byte-lawful (λ n. leb n 12))
+    sequence-lawful (byte (λ n. leb n most)) (λ size. sequence (entries (cond (eqb size 0) 0 arity)) (λ head. rows most schema size)) (byte-lawful (λ n. leb n most))
     (λ size hz.
-    sequence-lawful (entries (cond (eqb size 0) 0 arity)) (λ head. rows schema size)
-    (entries-lawful (cond (eqb size 0) 0 arity) (headFits size arity (leb-true arity 8 ha))) (λ head hh. rows-lawful schema size hs (leb-true size 12 hz))))
+    sequence-lawful (entries (cond (eqb size 0) 0 arity)) (λ head. rows most schema size)
+    (entries-lawful (cond (eqb size 0) 0 arity) (headFits size arity (leb-true arity 8 ha))) (λ head hh. rows-lawful most schema size hs (leb-true size most hz))))
 
 -- good fields have good rows
-fields-rows : (schema : List ℕ) (f : QueryFields) → fields schema .good f ≡ true → rows schema (f .1 .0) .good (f .1 .1 .1) ≡ true
+fields-rows : (most : ℕ) (schema : List ℕ) (f : QueryFields) → fields most schema .good f ≡ true → rows most schema (f .1 .0) .good (f .1 .1 .1) ≡ true
 unfolding fields sequence
-fields-rows schema f h =
+fields-rows most schema f h =
     let a : Bool = entries (cond (eqb (f .1 .0) 0) 0 (f .0)) .good (f .1 .1 .0) in
-    let b : Bool = rows schema (f .1 .0) .good (f .1 .1 .1) in
-    let c : Bool = byte (λ n. leb n 12) .good (f .1 .0) in
+    let b : Bool = rows most schema (f .1 .0) .good (f .1 .1 .1) in
+    let c : Bool = byte (λ n. leb n most) .good (f .1 .0) in
     let d : Bool = byte (λ n. leb n 8) .good (f .0) in
     and-right a b (and-right c (a && b) (and-right d (c && (a && b)) h))
 
-pub query-lawful : (schema : List ℕ) → Narrow schema → Lawful (query schema)
-unfolding query fields
-query-lawful schema hs = via-lawful fullCells queryWith fieldsOf (fields schema) there back (fields-lawful schema hs)
+pub query-lawful : (most : ℕ) (schema : List ℕ) → Narrow schema → Lawful (queryFor most schema)
+unfolding queryFor fields
+query-lawful most schema hs = via-lawful (fullCells most) queryWith fieldsOf (fields most schema) there back (fields-lawful most schema hs)
   where
-    there : (f : QueryFields) → fields schema .good f ≡ true → (fieldsOf (queryWith f) ≡ f) × (fullCells (queryWith f) ≡ true)
+    there : (f : QueryFields) → fields most schema .good f ≡ true → (fieldsOf (queryWith f) ≡ f) × (fullCells most (queryWith f) ≡ true)
     there f h =
-        let k : (length (f .1 .1 .1) ≡ 12) × (every fullRow (f .1 .1 .1) ≡ true) = rows-full schema (f .1 .0) (f .1 .1 .1) (fields-rows schema f h) in
+        let k : (length (f .1 .1 .1) ≡ most) × (every fullRow (f .1 .1 .1) ≡ true) =
+        rows-full most schema (f .1 .0) (f .1 .1 .1) (fields-rows most schema f h) in
         let p : chunk (map (λ r. r .0) (f .1 .1 .1)) (flat (f .1 .1 .1)) ≡ f .1 .1 .1 = chunk-flat (f .1 .1 .1) (k .1) in
-        let l : length (flat (f .1 .1 .1)) ≡ 96 = omega (arith, length-flat (f .1 .1 .1) (k .1), k .0) in
-        (λ i. (f .0, (f .1 .0, (f .1 .1 .0, p i))), eq-eqb (length (flat (f .1 .1 .1))) 96 l)
+        let l : length (flat (f .1 .1 .1)) ≡ 8 * most = omega (arith, length-flat (f .1 .1 .1) (k .1), k .0) in
+        (λ i. (f .0, (f .1 .0, (f .1 .1 .0, p i))), eq-eqb (length (flat (f .1 .1 .1))) (8 * most) l)
 
-    back : (q : Query) → fullCells q ≡ true → fields schema .good (fieldsOf q) ≡ true → queryWith (fieldsOf q) ≡ q
+    back : (q : Query) → fullCells most q ≡ true → fields most schema .good (fieldsOf q) ≡ true → queryWith (fieldsOf q) ≡ q
     back q full h =
-        let l : length (q .cells) ≡ 96 = eqb-true (length (q .cells)) 96 full in
-        let k : length (chunk (q .relations) (q .cells)) ≡ 12 =
-        rows-full schema (q .size) (chunk (q .relations) (q .cells)) (fields-rows schema (fieldsOf q) h) .0 in
-        let n : length (q .relations) ≡ 12 =
+        let l : length (q .cells) ≡ 8 * most = eqb-true (length (q .cells)) (8 * most) full in
+        let k : length (chunk (q .relations) (q .cells)) ≡ most =
+        rows-full most schema (q .size) (chunk (q .relations) (q .cells)) (fields-rows most schema (fieldsOf q) h) .0 in
+        let n : length (q .relations) ≡ most =
         sym (ap length (map-chunk (q .relations) (q .cells))) ∙ lib.ListN.length-map (chunk (q .relations) (q .cells)) (λ r. r .0) ∙ k in
         let c : flat (chunk (q .relations) (q .cells)) ≡ q .cells =
         flat-chunk (q .relations) (q .cells) ∙ take-all (8 * length (q .relations)) (q .cells) (omega arith) in

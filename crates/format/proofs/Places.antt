@@ -16,7 +16,7 @@ use Rattle.refusals.specs.Refusals.{_>>=_, badQuery, gives, refused}
 use Rattle.format.specs.Bytes.{Bytes}
 use Rattle.lists.specs.Over.{pad}
 use Rattle.format.specs.Format.{byte, sequence, via}
-use Rattle.format.specs.Parts.{query}
+use Rattle.format.specs.Parts.{queryFor, query}
 use Rattle.format.specs.File.{complete, isVacant, safeQuery, readPlace, noneLeft, readPlaces, putPlace, oneMoreIfAny, upToFilled}
 use Rattle.lists.proofs.Tests.{and-left, and-right, and-both, and-iff}
 use Rattle.lists.proofs.Over.{pad-is}
@@ -51,7 +51,7 @@ no-sound schema = refl
 
 -- a query's part has two bytes or more
 pub query-part : (schema : List ℕ) (q : Query) → isVacant (query schema .put q) ≡ false
-unfolding isVacant query via sequence byte
+unfolding isVacant queryFor via sequence byte
 query-part schema q = refl
 
 pub read-filled : (schema : List ℕ) → Narrow schema → (last : Bool) (p : Place) → sound schema p ≡ true → p .filled ≡ true
@@ -62,7 +62,7 @@ read-filled schema hn last p h e =
     let g : (goodQuery schema (p .query) ≡ true) × (headSafe schema (p .query) ≡ true) =
     and-iff (goodQuery schema (p .query)) (headSafe schema (p .query)) .0 (rw e at (k .0)) in
     let w : complete badQuery (query schema .get (query schema .put (p .query))) ≡ gives (p .query) =
-    complete-put badQuery (query schema) (query-lawful schema hn) (p .query) (query-good schema (p .query) (k .1) (g .0)) in
+    complete-put badQuery (query schema) (query-lawful 12 schema hn) (p .query) (query-good 12 schema (p .query) (k .1) (g .0)) in
     rw (e, query-part schema (p .query), w) (rw (g .1))
 
 -- the byte of a vacant place
@@ -92,8 +92,8 @@ read-place schema hn last part p hb e = vacancy (isVacant part) refl e
         let (q, w, s) = bind-ok (complete badQuery (query schema .get part)) (safeQuery schema) p e in
         let (safe, s₁) = cond-ok (headSafe schema q) (gives (placeWith q)) 6 p s in
         let same : placeWith q ≡ p = cc in
-        let (good, put) = complete-get badQuery (query schema) (query-lawful schema hn) part q hb w in
-        let (shape, rule) = good-query schema q good in
+        let (good, put) = complete-get badQuery (query schema) (query-lawful 12 schema hn) part q hb w in
+        let (shape, rule) = good-query 12 schema q good in
         subst (Read schema last part) same (and-both _ _ (and-both _ _ rule safe) shape, put, λ l. refl)
 
     vacancy : (t : Bool) → isVacant part ≡ t

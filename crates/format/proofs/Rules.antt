@@ -2,21 +2,23 @@
 use mathlib.Core.Path.{_≡_, refl, sym, ap, _∙_}
 use mathlib.Core.Bool.{Bool, true, false, _&&_}
 use mathlib.Core.List.{List, [], _∷_}
-use Prim.Native.Nat.{ℕ, zero, suc, _+_, _*_}
+use Prim.Native.Nat.{ℕ, zero, suc, _+_, _*_, _≤_}
 use native.Mathlib.Omega.{arith}
 use lib.Dec.{eqb, leb}
 use lib.ListN.{length, take, drop, length-drop, take-append-drop, length-map}
 use lib.Seq.{length-take-le, drop-drop}
-use borrow.Author.Tests.{eqb-true, eq-eqb}
+use borrow.Author.Tests.{eqb-true, eq-eqb, leb-true, le-leb}
 use Rattle.query.specs.declared.Cell.{Cell}
 use Rattle.query.specs.declared.Query.{Query}
 use Rattle.query.specs.declared.Dependency.{Dependency}
+use Rattle.query.specs.declared.JoinDependency.{JoinDependency}
 use Rattle.lists.specs.Tests.{between, every, isZero}
-use Rattle.query.specs.Rule.{blankCell, blankDependency, goodDependency, goodRow, goodRows, goodRelations, goodDependencies, goodQuery, shapedQuery}
+use Rattle.query.specs.Rule.{blankCell, blankDependency, goodDependency, goodRow, goodRows, goodRelations, goodDependencies, goodUpTo, shapedFor}
+use Rattle.query.specs.Rule.{blankJoin, goodJoin, goodJoins, shapedJoin}
 use Rattle.format.specs.Format.{byte, sequence, padded, via}
 use Rattle.format.specs.Parts.{relations, dependency, dependencies, entry, entries, row, blankRow, rows, chunk}
-use Rattle.format.specs.Parts.{query}
-use Rattle.lists.proofs.Tests.{and-right, and-both, and-iff, every-append-is, every-weaken}
+use Rattle.format.specs.Parts.{join, unusedJoin, joins, queryFor}
+use Rattle.lists.proofs.Tests.{and-left, and-right, and-both, and-iff, every-append-is, every-weaken, every-both, every-take, every-drop, every-join}
 use Rattle.format.proofs.Parts.{Narrow, map-chunk}
 
 -- ---- relations and dependencies
@@ -57,6 +59,38 @@ good-dependencies schema p h =
     let k : (leb (p .0) 32 ≡ true) × ((eqb (length (p .1)) 32 ≡ true)
     × ((every (goodDependency schema) (take (p .0) (p .1)) ≡ true) × (every blankDependency (drop (p .0) (p .1)) ≡ true))) = simp and-iff at h in
     (eqb-true (length (p .1)) 32 (k .1 .0), simp and-iff (k .0, k .1 .1))
+
+pub joins-good : (schema : List ℕ) (n : ℕ) (js : List JoinDependency) → 1 ≤ n → length js ≡ 4 → every shapedJoin js ≡ true → goodJoins schema n js ≡ true
+    → joins schema .good (n, js) ≡ true
+unfolding joins goodJoins sequence byte padded join
+joins-good schema n js some l s h =
+    let k : (leb n 4 ≡ true) × ((every (goodJoin schema) (take n js) ≡ true) × (every blankJoin (drop n js) ≡ true)) = simp and-iff at h in
+    let used : every (λ j. shapedJoin j && goodJoin schema j) (take n js) ≡ true =
+    every-both shapedJoin (goodJoin schema) (take n js) (every-take shapedJoin n js s) (k .1 .0) in
+    let unused : every unusedJoin (drop n js) ≡ true = every-both shapedJoin blankJoin (drop n js) (every-drop shapedJoin n js s) (k .1 .1) in
+    simp and-iff ((le-leb 1 n some, k .0), (eq-eqb (length js) 4 l, (used, unused)))
+
+pub good-joins : (schema : List ℕ) (p : ℕ × List JoinDependency) → joins schema .good p ≡ true
+    → (1 ≤ p .0) × (length (p .1) ≡ 4) × (every shapedJoin (p .1) ≡ true) × (goodJoins schema (p .0) (p .1) ≡ true)
+unfolding joins goodJoins sequence byte padded join
+good-joins schema p h =
+    let k : ((leb 1 (p .0) ≡ true) × (leb (p .0) 4 ≡ true)) × ((eqb (length (p .1)) 4 ≡ true)
+    × ((every (λ j. shapedJoin j && goodJoin schema j) (take (p .0) (p .1)) ≡ true) × (every unusedJoin (drop (p .0) (p .1)) ≡ true))) = simp and-iff at h in
+    let used : every (goodJoin schema) (take (p .0) (p .1)) ≡ true =
+    every-weaken (λ j. shapedJoin j && goodJoin schema j) (goodJoin schema) (λ j g. and-right (shapedJoin j) (goodJoin schema j) g) (take (p .0) (p .1))
+    (k .1 .1 .0) in
+    let unused : every blankJoin (drop (p .0) (p .1)) ≡ true =
+    every-weaken unusedJoin blankJoin (λ j g. and-right (shapedJoin j) (blankJoin j) g) (drop (p .0) (p .1)) (k .1 .1 .1) in
+    let front : every shapedJoin (take (p .0) (p .1)) ≡ true =
+    every-weaken (λ j. shapedJoin j && goodJoin schema j) shapedJoin (λ j g. and-left (shapedJoin j) (goodJoin schema j) g) (take (p .0) (p .1))
+    (k .1 .1 .0) in
+    let back : every shapedJoin (drop (p .0) (p .1)) ≡ true =
+    every-weaken unusedJoin shapedJoin (λ j g. and-left (shapedJoin j) (blankJoin j) g) (drop (p .0) (p .1)) (k .1 .1 .1) in (
+      leb-true 1 (p .0) (k .0 .0),
+      eqb-true (length (p .1)) 4 (k .1 .0),
+      every-join shapedJoin (p .0) (p .1) front back,
+      simp and-iff (k .0 .1, (used, unused)),
+    )
 
 -- ---- rows
 
@@ -108,33 +142,35 @@ rows-blank (suc n) (r ∷ rs) cells l =
 
 -- ---- queries
 
-pub query-good : (schema : List ℕ) (q : Query) → shapedQuery q ≡ true → goodQuery schema q ≡ true → query schema .good q ≡ true
-unfolding query via sequence byte entries padded rows entry goodUpTo
-query-good schema q hs h =
-    let s : ((eqb (length (q .head)) 8 ≡ true) × (eqb (length (q .relations)) 12 ≡ true)) × (eqb (length (q .cells)) 96 ≡ true) = simp and-iff at hs in
-    let lr : length (q .relations) ≡ 12 = eqb-true (length (q .relations)) 12 (s .0 .1) in
-    let lc : length (q .cells) ≡ 8 * length (q .relations) = eqb-true (length (q .cells)) 96 (s .1) ∙ omega arith in
+pub query-good : (most : ℕ) (schema : List ℕ) (q : Query) → shapedFor most q ≡ true → goodUpTo most schema q ≡ true → queryFor most schema .good q ≡ true
+unfolding queryFor via sequence byte entries padded rows entry goodUpTo
+query-good most schema q hs h =
+    let s : ((eqb (length (q .head)) 8 ≡ true) × (eqb (length (q .relations)) most ≡ true)) × (eqb (length (q .cells)) (8 * most) ≡ true) = simp and-iff at hs
+    in
+    let lr : length (q .relations) ≡ most = eqb-true (length (q .relations)) most (s .0 .1) in
+    let lc : length (q .cells) ≡ 8 * length (q .relations) = eqb-true (length (q .cells)) (8 * most) (s .1) ∙ omega arith in
     let k = simp and-iff at h in
     let used : every (row schema .good) (take (q .size) (chunk (q .relations) (q .cells))) ≡ true =
     rw (rows-good schema (q .size) (q .relations) (q .cells) lc) (k .0 .0 .1) in
     let unused : every blankRow (drop (q .size) (chunk (q .relations) (q .cells))) ≡ true =
     rw (rows-blank (q .size) (q .relations) (q .cells) lc) (and-both _ _ (k .0 .1) (k .1)) in
-    let l : eqb (length (chunk (q .relations) (q .cells))) 12 ≡ true =
-    eq-eqb (length (chunk (q .relations) (q .cells))) 12 (length-chunk (q .relations) (q .cells) ∙ lr) in
+    let l : eqb (length (chunk (q .relations) (q .cells))) most ≡ true =
+    eq-eqb (length (chunk (q .relations) (q .cells))) most (length-chunk (q .relations) (q .cells) ∙ lr) in
     simp and-iff (s .1, (k .0 .0 .0 .0 .0, (k .0 .0 .0 .0 .1, ((s .0 .0, k .0 .0 .0 .1), (l, (used, unused))))))
 
-pub good-query : (schema : List ℕ) (q : Query) → query schema .good q ≡ true → (shapedQuery q ≡ true) × (goodQuery schema q ≡ true)
-unfolding query via sequence byte entries padded rows entry goodUpTo
-good-query schema q h =
+pub good-query : (most : ℕ) (schema : List ℕ) (q : Query) → queryFor most schema .good q ≡ true
+    → (shapedFor most q ≡ true) × (goodUpTo most schema q ≡ true)
+unfolding queryFor via sequence byte entries padded rows entry goodUpTo
+good-query most schema q h =
     let k = simp and-iff at h in
-    let l : length (q .relations) ≡ 12 =
-    sym (length-chunk (q .relations) (q .cells)) ∙ eqb-true (length (chunk (q .relations) (q .cells))) 12 (k .1 .1 .1 .1 .0) in
-    let lc : length (q .cells) ≡ 8 * length (q .relations) = eqb-true (length (q .cells)) 96 (k .0) ∙ omega arith in
+    let l : length (q .relations) ≡ most =
+    sym (length-chunk (q .relations) (q .cells)) ∙ eqb-true (length (chunk (q .relations) (q .cells))) most (k .1 .1 .1 .1 .0) in
+    let lc : length (q .cells) ≡ 8 * length (q .relations) = eqb-true (length (q .cells)) (8 * most) (k .0) ∙ omega arith in
     let used : goodRows schema (take (q .size) (q .relations)) (q .cells) ≡ true =
     sym (rows-good schema (q .size) (q .relations) (q .cells) lc) ∙ k .1 .1 .1 .1 .1 .0 in
     let unused : (every isZero (drop (q .size) (q .relations)) && every blankCell (drop (8 * q .size) (q .cells))) ≡ true =
     sym (rows-blank (q .size) (q .relations) (q .cells) lc) ∙ k .1 .1 .1 .1 .1 .1 in
     let u = simp and-iff at unused in (
-      simp and-iff ((k .1 .1 .1 .0 .0, eq-eqb (length (q .relations)) 12 l), k .0),
+      simp and-iff ((k .1 .1 .1 .0 .0, eq-eqb (length (q .relations)) most l), k .0),
       simp and-iff (((((k .1 .0, k .1 .1 .0), k .1 .1 .1 .0 .1), used), u .0), u .1),
     )

@@ -7,11 +7,11 @@ use mathlib.Core.List.{List, [], _∷_}
 use Prim.Native.Nat.{ℕ, _+_, _-_, _*_}
 use lib.ListN.{length, take, drop}
 use Rattle.query.specs.Rule.{headSafe, noQuery}
-use Rattle.refusals.specs.Refusals.{badDependency, badDirectory, badOffsets, badQuery, badRelations, unsafeHead}
+use Rattle.refusals.specs.Refusals.{badDependency, badDirectory, badJoin, badOffsets, badQuery, badRelations, unsafeHead}
 use Rattle.refusals.specs.Refusals.{Condition, firstHolding, refusalIn}
 use Rattle.format.specs.Bytes.{number, Bytes}
 use Rattle.format.specs.Format.{Reading, none, got, Format, Lawful}
-use Rattle.format.specs.Parts.{relations, dependencies, query}
+use Rattle.format.specs.Parts.{relations, dependencies, joins, query}
 use Rattle.format.specs.File.{chained, isVacant, noneLeft, readFile, stretch, stretches, tableFits}
 
 -- ---- what a part holds
@@ -21,6 +21,21 @@ unfoldable pub isWhole : {A : Type 0} → Reading A → Bool
 isWhole none = false
 isWhole (got a []) = true
 isWhole (got a (b ∷ rest)) = false
+
+-- Whether a good value was read
+unfoldable pub isRead : {A : Type 0} → Reading A → Bool
+isRead none = false
+isRead (got a rest) = true
+
+-- The bytes after the value that was read, none where none was
+unfoldable pub restOf : {A : Type 0} → Reading A → List ℕ
+restOf none = []
+restOf (got a rest) = rest
+
+-- Whether bytes are none, or the bytes of good join dependencies
+unfoldable pub areJoins : List ℕ → List ℕ → Bool
+areJoins schema [] = true
+areJoins schema (b ∷ bytes) = isWhole (joins schema .get (b ∷ bytes))
 
 -- The value that was read, or a blank one where none was
 unfoldable pub valueOr : {A : Type 0} → A → Reading A → A
@@ -49,9 +64,13 @@ offsetFault file = (not (chained (number 2 file) (2 + 4 * number 2 file) (length
 abbrev pub relationsFault : List ℕ → Condition
 relationsFault part = (not (isWhole (relations .get part)), badRelations)
 
--- 4: part 1 is not the bytes of good dependencies
+-- 4: part 1 does not begin with the bytes of good functional dependencies
 abbrev pub dependenciesFault : List ℕ → List ℕ → Condition
-dependenciesFault schema part = (not (isWhole (dependencies schema .get part)), badDependency)
+dependenciesFault schema part = (not (isRead (dependencies schema .get part)), badDependency)
+
+-- 15: bytes are left of it that are not those of good join dependencies
+abbrev pub joinsFault : List ℕ → List ℕ → Condition
+joinsFault schema part = (not (areJoins schema (restOf (dependencies schema .get part))), badJoin)
 
 -- 5: a query part is a vacant place though it is the last part, or it is no vacant place and not the bytes of a good query
 abbrev pub queryFault : List ℕ → Bool → List ℕ → Condition
@@ -66,11 +85,11 @@ unfoldable pub placeConditions : List ℕ → List (List ℕ) → List Condition
 placeConditions schema [] = []
 placeConditions schema (p ∷ ps) = queryFault schema (noneLeft ps) p ∷ headFault schema p ∷ placeConditions schema ps
 
--- What reading asks: 1; 2; 3 of part 0; 4 of part 1; then 5 and 6 of each query part
+-- What reading asks: 1; 2; 3 of part 0; 4 and 15 of part 1; then 5 and 6 of each query part
 unfoldable pub readConditions : List ℕ → List Condition
 readConditions file =
     tableFault file ∷ offsetFault file ∷ relationsFault (partAt file 0) ∷ dependenciesFault (schemaIn (partAt file 0)) (partAt file 1)
-    ∷ placeConditions (schemaIn (partAt file 0)) (stretches (number 2 file - 2) file (drop 10 file))
+    ∷ joinsFault (schemaIn (partAt file 0)) (partAt file 1) ∷ placeConditions (schemaIn (partAt file 0)) (stretches (number 2 file - 2) file (drop 10 file))
 
 -- ---- what is proved of them
 

@@ -1,22 +1,23 @@
--- The file: the directory of its parts, the reader with its refusals, and the bytes of a record (SPECIFICATION, The file and Refusals, 1 to 6).
+-- The file: the directory of its parts, the reader with its refusals, and the bytes of a record (SPECIFICATION, The file and Refusals, 1 to 6 and 15).
 use mathlib.Core.Bool.{Bool, true, false, cond, _&&_}
 use mathlib.Core.List.{List, [], _∷_, _++_, map, flatten}
 use Prim.Native.Nat.{ℕ, zero, suc, _+_, _*_}
 use lib.Dec.{eqb, leb}
-use lib.ListN.{length, take, drop}
+use lib.ListN.{length, take, drop, replicate}
 use Rattle.query.specs.declared.Query.{Query}
 use Rattle.query.specs.declared.Dependency.{Dependency}
+use Rattle.query.specs.declared.JoinDependency.{JoinDependency}
 use Rattle.query.specs.declared.Place.{Place}
 use Rattle.record.specs.declared.Record.{Record}
 use Rattle.record.specs.View.{schemaOf}
 use Rattle.lists.specs.Tests.{between, every}
 use Rattle.lists.specs.Over.{pad}
-use Rattle.query.specs.Rule.{headSafe, shapedQuery, noPlace, placeWith}
+use Rattle.query.specs.Rule.{headSafe, shapedQuery, shapedJoin, noJoin, noPlace, placeWith}
 use Rattle.record.specs.Rule.{blankRecord}
-use Rattle.refusals.specs.Refusals.{badDependency, badDirectory, badOffsets, badQuery, badRelations, unsafeHead, Reply, refused, gives, _>>=_}
+use Rattle.refusals.specs.Refusals.{badDependency, badDirectory, badJoin, badOffsets, badQuery, badRelations, unsafeHead, Reply, refused, gives, _>>=_}
 use Rattle.format.specs.Bytes.{number, bytesOf}
 use Rattle.format.specs.Format.{Reading, none, got}
-use Rattle.format.specs.Parts.{relations, dependencies, query}
+use Rattle.format.specs.Parts.{relations, dependencies, joins, query}
 
 -- ---- the first fault decides
 
@@ -25,6 +26,11 @@ unfoldable pub complete : {A : Type 0} → ℕ → Reading A → Reply A
 complete n none = refused n
 complete n (got a []) = gives a
 complete n (got a (b ∷ rest)) = refused n
+
+-- A value at the front of a part, and the bytes after it: refused if the value is bad or the part too short
+unfoldable pub front : {A : Type 0} → ℕ → Reading A → Reply (A × List ℕ)
+front n none = refused n
+front n (got a rest) = gives (a, rest)
 
 -- ---- the directory
 
@@ -66,6 +72,15 @@ assemble parts = bytesOf 2 (length parts) ++ tableOf (2 + 4 * length parts) part
 
 -- ---- reading
 
+-- No join dependencies, in an array of 4
+abbrev pub noJoins : ℕ × List JoinDependency
+noJoins = (0, replicate 4 noJoin)
+
+-- What part 1 holds after the functional dependencies: nothing where no join dependency is held. Refused: 15, any bytes that are not theirs
+unfoldable pub readJoins : List ℕ → List ℕ → Reply (ℕ × List JoinDependency)
+readJoins schema [] = gives noJoins
+readJoins schema (b ∷ bytes) = complete badJoin (joins schema .get (b ∷ bytes))
+
 -- Whether a part is the single byte 255, a vacant place
 unfoldable pub isVacant : List ℕ → Bool
 isVacant [] = false
@@ -94,18 +109,27 @@ readPlaces schema (p ∷ ps) = do
   places ← readPlaces schema ps
   gives (place ∷ places)
 
--- The record of the given relations, dependencies and first places
-abbrev pub recordWith : ℕ × List ℕ → ℕ × List Dependency → List Place → Record
-recordWith rs ds places =
-    record { relations = rs .0; widths = rs .1; held = ds .0; dependencies = ds .1; places = pad 8 noPlace places }
+-- The record of the given relations, functional and join dependencies and first places
+abbrev pub recordWith : ℕ × List ℕ → ℕ × List Dependency → ℕ × List JoinDependency → List Place → Record
+recordWith rs ds js places =
+    record {
+      relations = rs .0;
+      widths = rs .1;
+      held = ds .0;
+      dependencies = ds .1;
+      joined = js .0;
+      joins = js .1;
+      places = pad 8 noPlace places;
+    }
 
--- The parts in file order. Refused: 3, relations; 4, dependencies; 5 and 6, query parts
+-- The parts in file order. Refused: 3, relations; 4, functional dependencies; 15, join dependencies; 5 and 6, query parts
 unfoldable pub readParts : List ℕ → List ℕ → List (List ℕ) → Reply Record
 readParts part0 part1 parts = do
   rs ← complete badRelations (relations .get part0)
-  ds ← complete badDependency (dependencies (take (rs .0) (rs .1)) .get part1)
+  ds ← front badDependency (dependencies (take (rs .0) (rs .1)) .get part1)
+  js ← readJoins (take (rs .0) (rs .1)) (ds .1)
   places ← readPlaces (take (rs .0) (rs .1)) parts
-  gives (recordWith rs ds places)
+  gives (recordWith rs (ds .0) js places)
 
 -- All parts. The directory gives at least two
 unfoldable pub readAll : List (List ℕ) → Reply Record
@@ -124,6 +148,10 @@ readOutcome (refused n) = (refused n, blankRecord)
 
 -- ---- writing
 
+-- The bytes of join dependencies, none where none is held
+unfoldable pub putJoins : List ℕ → ℕ × List JoinDependency → List ℕ
+putJoins schema js = cond (eqb (js .0) 0) [] (joins schema .put js)
+
 -- The part of a place: 255 alone if it is vacant, else its query
 unfoldable pub putPlace : List ℕ → Place → List ℕ
 putPlace schema p = cond (p .filled) (query schema .put (p .query)) (255 ∷ [])
@@ -141,7 +169,8 @@ upToFilled (p ∷ ps) = cond (p .filled) (suc (upToFilled ps)) (oneMoreIfAny (up
 -- The parts of a record's file
 unfoldable pub partsOf : Record → List (List ℕ)
 partsOf r =
-    relations .put (r .relations, r .widths) ∷ dependencies (schemaOf r) .put (r .held, r .dependencies)
+    relations .put (r .relations, r .widths)
+    ∷ (dependencies (schemaOf r) .put (r .held, r .dependencies) ++ putJoins (schemaOf r) (r .joined, r .joins))
     ∷ map (putPlace (schemaOf r)) (take (upToFilled (r .places)) (r .places))
 
 -- The file of a record
@@ -150,8 +179,8 @@ fileOf r = assemble (partsOf r)
 
 -- ---- the lengths of the record's arrays, which its types give
 
--- A record has 8 widths, 32 dependencies and 8 places, each with the arrays of a query
+-- A record has 8 widths, 32 functional dependencies, 4 join dependencies of 4 sets each, and 8 places, each with the arrays of a query
 abbrev pub shaped : Record → Bool
 shaped r =
-    eqb (length (r .widths)) 8 && eqb (length (r .dependencies)) 32 && eqb (length (r .places)) 8
-    && every (λ p. shapedQuery (p .query)) (r .places)
+    eqb (length (r .widths)) 8 && eqb (length (r .dependencies)) 32 && eqb (length (r .joins)) 4 && every shapedJoin (r .joins)
+    && eqb (length (r .places)) 8 && every (λ p. shapedQuery (p .query)) (r .places)

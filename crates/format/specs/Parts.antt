@@ -1,8 +1,8 @@
--- The parts of the file as formats: relations, dependencies and queries, as SPECIFICATION, The file, lists them.
+-- The parts of the file as formats: relations, dependencies of both kinds and queries, as SPECIFICATION, The file, lists them.
 -- Arrays are those of the record: the elements in use are written, those after them are blank.
 use mathlib.Core.Bool.{Bool, cond, _&&_}
 use mathlib.Core.List.{List, [], _∷_, map, flatMap}
-use Prim.Native.Nat.{ℕ}
+use Prim.Native.Nat.{ℕ, _+_, _*_}
 use lib.Dec.{eqb, ltb, leb}
 use lib.ListN.{length, getD, take, drop, replicate}
 use Rattle.query.specs.declared.Entry.{Entry}
@@ -10,8 +10,10 @@ use Rattle.query.specs.declared.Entry.the-variants.{Constant, Variable}
 use Rattle.query.specs.declared.Cell.{Cell}
 use Rattle.query.specs.declared.Query.{Query}
 use Rattle.query.specs.declared.Dependency.{Dependency}
+use Rattle.query.specs.declared.JoinDependency.{JoinDependency}
 use Rattle.lists.specs.Tests.{between, every, isZero}
-use Rattle.query.specs.Rule.{blankCell, blankDependency, goodDependency, goodCell, noCell, noDependency}
+use Rattle.lists.specs.Over.{pad}
+use Rattle.query.specs.Rule.{blankCell, blankDependency, blankJoin, goodDependency, goodJoin, goodCell, noCell, noDependency, noJoin, shapedJoin}
 use Rattle.format.specs.Bytes.{number, bytesOf}
 use Rattle.format.specs.Format.{gotIf, Format, byte, sequence, padded, via}
 
@@ -25,7 +27,7 @@ relations = sequence (byte (between 1 8)) (λ n. padded 8 0 isZero n (byte (betw
 abbrev pub dependencyAt : List ℕ → Dependency
 dependencyAt bytes = record { relation = getD bytes 0 0; left = getD bytes 1 0; right = getD bytes 2 0 }
 
--- A dependency: relation, left set (bit c for column c), right column
+-- A functional dependency: relation, left set (bit c for column c), right column
 unfoldable pub dependency : List ℕ → Format Dependency
 dependency schema =
     record {
@@ -34,9 +36,34 @@ dependency schema =
       get = λ bytes. gotIf (leb 3 (length bytes) && goodDependency schema (dependencyAt bytes)) (dependencyAt bytes) (drop 3 bytes);
     }
 
--- Part 1: the count of dependencies, then 3 bytes each
+-- Part 1: the count of functional dependencies, then 3 bytes each
 unfoldable pub dependencies : List ℕ → Format (ℕ × List Dependency)
 dependencies schema = sequence (byte (λ n. leb n 32)) (λ n. padded 32 noDependency blankDependency n (dependency schema))
+
+-- How many bytes the join dependency at the front of some bytes has: relation, number of sets, and so many sets
+abbrev pub joinBytes : List ℕ → ℕ
+joinBytes bytes = 2 + getD bytes 1 0
+
+-- The join dependency that these bytes stand for
+abbrev pub joinAt : List ℕ → JoinDependency
+joinAt bytes = record { relation = getD bytes 0 0; count = getD bytes 1 0; sets = pad 4 0 (take (getD bytes 1 0) (drop 2 bytes)) }
+
+-- A join dependency: relation, number of sets, then each set (bit c for column c)
+unfoldable pub join : List ℕ → Format JoinDependency
+join schema =
+    record {
+      good = λ j. shapedJoin j && goodJoin schema j;
+      put = λ j. j .relation ∷ j .count ∷ take (j .count) (j .sets);
+      get = λ bytes. gotIf (leb (joinBytes bytes) (length bytes) && goodJoin schema (joinAt bytes)) (joinAt bytes) (drop (joinBytes bytes) bytes);
+    }
+
+-- Whether a join dependency is not in use: all 0, in 4 sets
+abbrev pub unusedJoin : JoinDependency → Bool
+unusedJoin j = shapedJoin j && blankJoin j
+
+-- Part 1 goes on where join dependencies are held: their count, then each
+unfoldable pub joins : List ℕ → Format (ℕ × List JoinDependency)
+joins schema = sequence (byte (between 1 4)) (λ n. padded 4 noJoin unusedJoin n (join schema))
 
 -- ---- queries
 
@@ -81,9 +108,9 @@ noRow = (0, replicate 8 noCell)
 abbrev pub blankRow : ℕ × List Cell → Bool
 blankRow r = isZero (r .0) && (eqb (length (r .1)) 8 && every blankCell (r .1))
 
--- n rows in 12
-unfoldable pub rows : List ℕ → ℕ → Format (List (ℕ × List Cell))
-rows schema n = padded 12 noRow blankRow n (row schema)
+-- n rows, with room for `most`
+unfoldable pub rows : ℕ → List ℕ → ℕ → Format (List (ℕ × List Cell))
+rows most schema n = padded most noRow blankRow n (row schema)
 
 -- Relations and cells as rows of 8 cells each
 unfoldable pub chunk : List ℕ → List Cell → List (ℕ × List Cell)
@@ -107,15 +134,19 @@ queryWith f =
 abbrev pub fieldsOf : Query → QueryFields
 fieldsOf q = (q .arity, (q .size, (q .head, chunk (q .relations) (q .cells))))
 
--- Whether a query has 8 cells for each of 12 rows
-abbrev pub fullCells : Query → Bool
-fullCells q = eqb (length (q .cells)) 96
+-- Whether a query has 8 cells for each of `most` rows
+abbrev pub fullCells : ℕ → Query → Bool
+fullCells most q = eqb (length (q .cells)) (8 * most)
 
--- A query: head length, row count, head entries, then rows. Never, which has no rows, has no head entries: only the two bytes
-unfoldable pub query : List ℕ → Format Query
-query schema =
-    via fullCells queryWith fieldsOf
+-- A query with room for `most` rows: head length, row count, head entries, then rows. Never, which has no rows, has no head entries: only the two bytes
+unfoldable pub queryFor : ℕ → List ℕ → Format Query
+queryFor most schema =
+    via (fullCells most) queryWith fieldsOf
     (sequence (byte (λ n. leb n 8))
     (λ arity.
-    sequence (byte (λ n. leb n 12))
-    (λ size. sequence (entries (cond (eqb size 0) 0 arity)) (λ head. rows schema size))))
+    sequence (byte (λ n. leb n most))
+    (λ size. sequence (entries (cond (eqb size 0) 0 arity)) (λ head. rows most schema size))))
+
+-- A stored query has at most 12 rows
+abbrev pub query : List ℕ → Format Query
+query schema = queryFor 12 schema

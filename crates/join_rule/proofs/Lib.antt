@@ -1,2 +1,3 @@
 -- The proofs of the statements of specs/.
 pub mod Fitting
+pub mod Shapes

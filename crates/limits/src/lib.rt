@@ -3,19 +3,22 @@
 use query::Cell;
 use query::Dependency;
 use query::Entry;
+use query::JoinDependency;
 use query::Place;
 use query::Query;
 ghost use mathlib.Core.Bool.{true, cond, _&&_};
-ghost use mathlib.Core.List.{_++_};
+ghost use mathlib.Core.List.{_++_, map, flatten};
 ghost use mathlib.Core.Path.{_≡_};
-ghost use Prim.Native.Nat.{_+_, _*_, _-_, _≤_};
-ghost use lib.Dec.{eqb};
+ghost use Prim.Native.Nat.{_+_, _*_, _-_, _^_, _≤_};
+ghost use lib.Dec.{eqb, ltb};
 ghost use lib.ListN.{length, take, drop, getD, replicate};
-ghost use Rattle.theory.specs.Query.{member, variablesOf, rowEntries};
-ghost use Rattle.query.specs.View.{entriesOf, rowsOf};
+ghost use Rattle.theory.specs.Query.{member, subset, variablesOf, rowEntries};
+ghost use Rattle.query.specs.View.{entriesOf, rowsOf, columnsOf};
 ghost use Rattle.limits.specs.internal.Entries.{namesVariable, safeCell};
 ghost use Rattle.query.specs.Rule.{blankCell, blankDependency, blankQuery, goodRelations, goodSet, goodDependency, goodDependencies, goodCell, goodRows, goodQuery, headSafe, goodPlace};
+ghost use Rattle.query.specs.Rule.{blankJoin, goodJoin, goodJoins};
 ghost use Rattle.lists.specs.Tests.{between, every, inUse, isZero};
+ghost use Rattle.lists.specs.Numbers.{numbersWhere};
 
 // Whether an entry in use is within the limits.
 pub fn cell_good(c: Cell) -> bool
@@ -168,6 +171,115 @@ pub fn dependencies_good(
     let used = held as usize;
     for i in 0..32 {
         if !dependency_fits(relations, widths, dependencies[i], i < used) {
+            return false;
+        }
+    }
+    true
+}
+
+// Whether a set in use is a nonempty set of a relation's columns, or one not in use is empty.
+fn set_fits(relations: u8, widths: [u8; 8], relation: u8, set: u8, used: bool) -> bool
+    requires { ⌜ goodRelations relations widths ≡ true ⌝ }
+    ensures { λ r. ⌜ r ≡ cond used (goodSet (take relations widths) relation set) (isZero set) ⌝ }
+{
+    if used {
+        set_good(relations, widths, relation, set)
+    } else {
+        set == 0
+    }
+}
+
+// Whether the given number of sets are in use, all nonempty sets of a relation's columns.
+pub fn sets_good(relations: u8, widths: [u8; 8], relation: u8, sets: [u8; 4], used: usize) -> bool
+    requires { ⌜ goodRelations relations widths ≡ true ⌝ }
+    ensures { λ r. ⌜ r ≡ inUse used (goodSet (take relations widths) relation) isZero sets ⌝ }
+{
+    for i in 0..4 {
+        if !set_fits(relations, widths, relation, sets[i], i < used) {
+            return false;
+        }
+    }
+    true
+}
+
+// Whether sets of columns together are all columns of a relation of the given width.
+pub fn sets_cover(sets: [u8; 4], width: u8) -> bool
+    requires { ⌜ (width ≤ 8) × (every (λ set. ltb set (2 ^ width)) sets ≡ true) ⌝ }
+    ensures { λ r. ⌜ r ≡ subset (numbersWhere (λ c. true) 0 width) (flatten (map columnsOf sets)) ⌝ }
+{
+    let covered = sets[0] | sets[1] | sets[2] | sets[3];
+    covered as u16 + 1 == 1u16 << width
+}
+
+// Whether a join dependency names a known relation and 2 to 4 nonempty sets of its columns that together are all of them.
+pub fn join_good(relations: u8, widths: [u8; 8], j: JoinDependency) -> bool
+    requires { ⌜ goodRelations relations widths ≡ true ⌝ }
+    ensures { λ r. ⌜ r ≡ goodJoin (take relations widths) j ⌝ }
+{
+    let relation = j.relation;
+    let count = j.count;
+    let sets = j.sets;
+    if count < 2 {
+        return false;
+    }
+    if 4 < count {
+        return false;
+    }
+    if !sets_good(relations, widths, relation, sets, count as usize) {
+        return false;
+    }
+    sets_cover(sets, width_of(relations, widths, relation))
+}
+
+// Whether every set is empty.
+fn sets_blank(sets: [u8; 4]) -> bool
+    ensures { λ r. ⌜ r ≡ every isZero sets ⌝ }
+{
+    for i in 0..4 {
+        if sets[i] != 0 {
+            return false;
+        }
+    }
+    true
+}
+
+// Whether a join dependency is that of a slot not in use.
+fn join_blank(j: JoinDependency) -> bool
+    ensures { λ r. ⌜ r ≡ blankJoin j ⌝ }
+{
+    let sets = j.sets;
+    if j.relation != 0 {
+        return false;
+    }
+    if j.count != 0 {
+        return false;
+    }
+    sets_blank(sets)
+}
+
+// Whether a join dependency in use is good, or one not in use is blank.
+fn join_fits(relations: u8, widths: [u8; 8], j: JoinDependency, used: bool) -> bool
+    requires { ⌜ goodRelations relations widths ≡ true ⌝ }
+    ensures { λ r. ⌜ r ≡ cond used (goodJoin (take relations widths) j) (blankJoin j) ⌝ }
+{
+    if used {
+        join_good(relations, widths, j)
+    } else {
+        join_blank(j)
+    }
+}
+
+// Whether at most 4 join dependencies are held, each good, and no slot beyond them is in use.
+pub fn joins_good(relations: u8, widths: [u8; 8], joined: u8, joins: [JoinDependency; 4]) -> bool
+    requires { ⌜ goodRelations relations widths ≡ true ⌝ }
+    ensures { λ r. ⌜ r ≡ goodJoins (take relations widths) joined joins ⌝ }
+{
+    if 4 < joined {
+        return false;
+    }
+    let used = joined as usize;
+    for i in 0..4 {
+        if !join_fits(relations, widths, joins[i], i < used) {
             return false;
         }
     }

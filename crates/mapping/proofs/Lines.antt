@@ -1,4 +1,4 @@
--- The entries of a stored query in one line are those of the theory's query, with constant 0 in the columns that are not in use:
+-- The entries of a query in one line are those of the theory's query, with constant 0 in the columns that are not in use:
 --   1. blank elements, 2. one query, 3. rows of two queries, 4. a mapping of the theory is one by positions.
 -- The lengths of arrays are the types', so the laws ask them.
 use mathlib.Core.Path.{_≡_, sym, _∙_, ap, subst}
@@ -22,12 +22,12 @@ use Rattle.query.specs.declared.Cell.{Cell}
 use Rattle.query.specs.declared.Query.{Query}
 use Rattle.query.specs.View.{entryOf, queryOf}
 use Rattle.lists.specs.Tests.{every, inUse}
-use Rattle.query.specs.Rule.{goodCell, blankCell, headInUse, goodQuery, noCell}
+use Rattle.query.specs.Rule.{goodCell, blankCell, headInUse, goodUpTo, goodQuery, noCell}
 use Rattle.lists.proofs.Tests.{below-or-past, every-getD, used-blank, used-all}
 use Rattle.lists.proofs.Positions.{getD-in, in-getD, length-none}
-use Rattle.query.proofs.Good.{GoodQuery, good-query}
+use Rattle.query.proofs.Good.{GoodUpTo, good-query}
 use Rattle.query.proofs.Stored.{Within, entry-within, blank-good, row-at, row-parts}
-use Rattle.query.proofs.Shape.{head-length, row-count, rowFrom, row-is, column-is, head-is, blank-cell}
+use Rattle.query.proofs.Shape.{SizedFor, head-length, row-count, rowFrom, row-is, column-is, head-is, blank-cell}
 use Rattle.mapping.specs.internal.Mapped.{Narrow}
 use Rattle.mapping.specs.internal.Lines.{cellAt, entryAt}
 use Rattle.mapping.proofs.Wide.{Wide}
@@ -44,24 +44,19 @@ blank-at cells n i e h k =
 -- ---- 2. one query
 
 -- The cells of a query in one line, first those of the rows, then those of the head
-cell-row : (q : Query) (k : ℕ) → k < 96 → cellAt q k ≡ getD (q .cells) k noCell
-cell-row q k h = ap (λ (t : Bool). cond t (getD (q .cells) k noCell) (getD (q .head) (k - 96) noCell)) (lt-ltb k 96 h)
+cell-row : (most : ℕ) (q : Query) (k : ℕ) → k < 8 * most → cellAt most q k ≡ getD (q .cells) k noCell
+cell-row most q k h = ap (λ (t : Bool). cond t (getD (q .cells) k noCell) (getD (q .head) (k - 8 * most) noCell)) (lt-ltb k (8 * most) h)
 
-cell-head : (q : Query) (i : ℕ) → cellAt q (96 + i) ≡ getD (q .head) i noCell
-cell-head q i =
-    let back : 96 + i - 96 ≡ i = omega arith in
-    ap (λ (t : Bool). cond t (getD (q .cells) (96 + i) noCell) (getD (q .head) (96 + i - 96) noCell)) (le-ltb (96 + i) 96 (omega arith))
+cell-head : (most : ℕ) (q : Query) (i : ℕ) → cellAt most q (8 * most + i) ≡ getD (q .head) i noCell
+cell-head most q i =
+    let back : 8 * most + i - 8 * most ≡ i = omega arith in
+    ap (λ (t : Bool). cond t (getD (q .cells) (8 * most + i) noCell) (getD (q .head) (8 * most + i - 8 * most) noCell))
+    (le-ltb (8 * most + i) (8 * most) (omega arith))
     ∙ ap (λ (j : ℕ). getD (q .head) j noCell) back
 
--- The three arrays of a query are as long as their types say
-pub record Sizes (q : Query) : Type 0 where
-  pub head : length (q .head) ≡ 8
-  pub relations : length (q .relations) ≡ 12
-  pub cells : length (q .cells) ≡ 96
-
-module _ (schema : List ℕ) (q : Query) (good : goodQuery schema q ≡ true) (sizes : Sizes q) where
-  parts : GoodQuery schema q
-  parts = good-query 12 schema q good
+module _ (most : ℕ) (schema : List ℕ) (q : Query) (good : goodUpTo most schema q ≡ true) (sizes : SizedFor most q) where
+  parts : GoodUpTo most schema q
+  parts = good-query most schema q good
 
   taken : (r : ℕ) → r < q .size → getD (take (q .size) (q .relations)) r 0 ≡ getD (q .relations) r 0
   taken r h = getD-take (q .size) (q .relations) r 0 h
@@ -82,19 +77,19 @@ module _ (schema : List ℕ) (q : Query) (good : goodQuery schema q ≡ true) (s
   stretch-at : (r i : ℕ) → i < 8 → getD (take 8 (drop (8 * r) (q .cells))) i noCell ≡ getD (q .cells) (8 * r + i) noCell
   stretch-at r i k = getD-take 8 (drop (8 * r) (q .cells)) i noCell k ∙ getD-drop (8 * r) (q .cells) i noCell
 
-  pub row-blank : (r i : ℕ) → r < q .size → getD schema (getD (q .relations) r 0) 0 ≤ i → i < 8 → entryAt q (8 * r + i) ≡ constant 0
+  pub row-blank : (r i : ℕ) → r < q .size → getD schema (getD (q .relations) r 0) 0 ≤ i → i < 8 → entryAt most q (8 * r + i) ≡ constant 0
   row-blank r i h past k =
       let w : ℕ = getD schema (getD (q .relations) r 0) 0 in
       ap (λ (c : Cell). entryOf (c .entry))
-      (cell-row q (8 * r + i) (omega (arith, parts .size)) ∙ sym (stretch-at r i k)
+      (cell-row most q (8 * r + i) (omega (arith, parts .size)) ∙ sym (stretch-at r i k)
       ∙ blank-at (take 8 (drop (8 * r) (q .cells))) w i (used-blank w goodCell blankCell (take 8 (drop (8 * r) (q .cells))) (row-used r h)) past
       (rw (stretch r h) k))
 
   -- Past the rows, all is blank
-  pub cells-blank : (k : ℕ) → 8 * q .size ≤ k → k < 96 → entryAt q k ≡ constant 0
+  pub cells-blank : (k : ℕ) → 8 * q .size ≤ k → k < 8 * most → entryAt most q k ≡ constant 0
   cells-blank k past h =
       ap (λ (c : Cell). entryOf (c .entry))
-      (cell-row q k h ∙ blank-at (q .cells) (8 * q .size) k (parts .cells) past (omega (arith, sizes .cells)))
+      (cell-row most q k h ∙ blank-at (q .cells) (8 * q .size) k (parts .cells) past (omega (arith, sizes .cells)))
 
   used-head : headInUse q ≤ q .arity
   used-head = go (eqb (q .size) 0)
@@ -103,37 +98,37 @@ module _ (schema : List ℕ) (q : Query) (good : goodQuery schema q ≡ true) (s
       go true = omega arith
       go false = omega arith
 
-  pub head-blank : (i : ℕ) → q .arity ≤ i → i < 8 → entryAt q (96 + i) ≡ constant 0
+  pub head-blank : (i : ℕ) → q .arity ≤ i → i < 8 → entryAt most q (8 * most + i) ≡ constant 0
   head-blank i past h =
       ap (λ (c : Cell). entryOf (c .entry))
-      (cell-head q i
+      (cell-head most q i
       ∙ blank-at (q .head) (headInUse q) i (used-blank (headInUse q) goodCell blankCell (q .head) (parts .head)) (omega (arith, used-head))
       (omega (arith, sizes .head)))
 
   -- Every entry is within the limits
-  row-within : (r i : ℕ) → r < q .size → i < 8 → Within (entryAt q (8 * r + i))
+  row-within : (r i : ℕ) → r < q .size → i < 8 → Within (entryAt most q (8 * r + i))
   row-within r i h k =
-      subst (λ (c : Cell). Within (entryOf (c .entry))) (stretch-at r i k ∙ sym (cell-row q (8 * r + i) (omega (arith, parts .size))))
+      subst (λ (c : Cell). Within (entryOf (c .entry))) (stretch-at r i k ∙ sym (cell-row most q (8 * r + i) (omega (arith, parts .size))))
       (entry-within (getD (take 8 (drop (8 * r) (q .cells))) i noCell .entry)
       (every-getD goodCell (take 8 (drop (8 * r) (q .cells))) i noCell
       (used-all (getD schema (getD (q .relations) r 0) 0) goodCell blankCell (take 8 (drop (8 * r) (q .cells))) (λ c. blank-good (c .entry)) (row-used r h))
       (rw (stretch r h) k)))
 
-  head-within : (i : ℕ) → i < 8 → Within (entryAt q (96 + i))
+  head-within : (i : ℕ) → i < 8 → Within (entryAt most q (8 * most + i))
   head-within i h =
-      subst (λ (c : Cell). Within (entryOf (c .entry))) (sym (cell-head q i))
+      subst (λ (c : Cell). Within (entryOf (c .entry))) (sym (cell-head most q i))
       (entry-within (getD (q .head) i noCell .entry)
       (every-getD goodCell (q .head) i noCell (used-all (headInUse q) goodCell blankCell (q .head) (λ c. blank-good (c .entry)) (parts .head))
       (omega (arith, sizes .head))))
 
-  pub all-within : (k : ℕ) → k < 104 → Within (entryAt q k)
-  all-within k h = go (decLt k (8 * q .size)) (decLt k 96)
+  pub all-within : (k : ℕ) → k < 8 * most + 8 → Within (entryAt most q k)
+  all-within k h = go (decLt k (8 * q .size)) (decLt k (8 * most))
     where
-      go : Dec (k < 8 * q .size) → Dec (k < 96) → Within (entryAt q k)
-      go (yes l) t = let e : 8 * (k / 8) + k % 8 ≡ k = omega arith in subst (λ (j : ℕ). Within (entryAt q j)) e
+      go : Dec (k < 8 * q .size) → Dec (k < 8 * most) → Within (entryAt most q k)
+      go (yes l) t = let e : 8 * (k / 8) + k % 8 ≡ k = omega arith in subst (λ (j : ℕ). Within (entryAt most q j)) e
           (row-within (k / 8) (k % 8) (omega arith) (omega arith))
       go (no l) (yes m) = subst Within (sym (cells-blank k (omega arith) m)) (lit< tt)
-      go (no l) (no m) = let e : 96 + (k - 96) ≡ k = omega arith in subst (λ (j : ℕ). Within (entryAt q j)) e (head-within (k - 96) (omega arith))
+      go (no l) (no m) = let e : 8 * most + (k - 8 * most) ≡ k = omega arith in subst (λ (j : ℕ). Within (entryAt most q j)) e (head-within (k - 8 * most) (omega arith))
 
   -- ---- in a schema of at most 8 columns a relation
 
@@ -154,11 +149,11 @@ module _ (schema : List ℕ) (q : Query) (good : goodQuery schema q ≡ true) (s
 
     -- and has its entries from 8 * r on
     pub row-entry : (r i : ℕ) → r < q .size → i < 8
-        → getD (rowFrom schema (q .cells) (8 * r) (getD (q .relations) r 0) .values) i (constant 0) ≡ entryAt q (8 * r + i)
+        → getD (rowFrom schema (q .cells) (8 * r) (getD (q .relations) r 0) .values) i (constant 0) ≡ entryAt most q (8 * r + i)
     row-entry r i h k = ⊎-elim
         (λ l.
         column-is (getD schema (getD (q .relations) r 0) 0) (8 * r) (q .cells) i l
-        ∙ ap (λ (c : Cell). entryOf (c .entry)) (sym (cell-row q (8 * r + i) (omega (arith, parts .size)))))
+        ∙ ap (λ (c : Cell). entryOf (c .entry)) (sym (cell-row most q (8 * r + i) (omega (arith, parts .size)))))
         (λ l.
         List·getD-eq-default (rowFrom schema (q .cells) (8 * r) (getD (q .relations) r 0) .values) (constant 0) {n = i} (rw (row-long r h) l)
         ∙ sym (row-blank r i h l k))
@@ -170,20 +165,20 @@ module _ (schema : List ℕ) (q : Query) (good : goodQuery schema q ≡ true) (s
     pub long-head : length (queryOf schema q .head) ≡ q .arity
     long-head = head-length schema q (omega (arith, parts .arity, sizes .head))
 
-    pub head-entry : (i : ℕ) → i < 8 → getD (queryOf schema q .head) i (constant 0) ≡ entryAt q (96 + i)
+    pub head-entry : (i : ℕ) → i < 8 → getD (queryOf schema q .head) i (constant 0) ≡ entryAt most q (8 * most + i)
     head-entry i k = ⊎-elim
-        (λ l. head-is schema q i l ∙ ap (λ (c : Cell). entryOf (c .entry)) (sym (cell-head q i)))
+        (λ l. head-is schema q i l ∙ ap (λ (c : Cell). entryOf (c .entry)) (sym (cell-head most q i)))
         (λ l. List·getD-eq-default (queryOf schema q .head) (constant 0) {n = i} (rw long-head l) ∙ sym (head-blank i l k))
         (below-or-past i (q .arity))
 
     -- A variable of the query stands at a position
-    pub variable-placed : (v : ℕ) → ((k : ℕ) → k < 104 → entryAt q k ≡ variable v → ⊥) → v ∈ variables (queryOf schema q) → ⊥
+    pub variable-placed : (v : ℕ) → ((k : ℕ) → k < 8 * most + 8 → entryAt most q k ≡ variable v → ⊥) → v ∈ variables (queryOf schema q) → ⊥
     variable-placed v none at =
         ⊎-elim
         (λ m.
         let w = in-getD (queryOf schema q .head) (constant 0) m in
         let l : w .0 < q .arity = rw long-head at (w .1) in
-        none (96 + w .0) (omega (arith, parts .arity)) (sym (head-entry (w .0) (omega (arith, parts .arity))) ∙ w .2))
+        none (8 * most + w .0) (omega (arith, parts .arity)) (sym (head-entry (w .0) (omega (arith, parts .arity))) ∙ w .2))
         (λ m.
         let u = row-of-entry (queryOf schema q .rows) m in
         let x = in-getD (queryOf schema q .rows) (rowFrom schema [] 0 0) (u .1) in
@@ -200,18 +195,18 @@ module _ (schema : List ℕ) (q : Query) (good : goodQuery schema q ≡ true) (s
         (variablesOf-mem v (queryOf schema q .head ++ rowEntries (queryOf schema q .rows)) at))
 
     -- and what stands at a position is a variable of the query
-    pub placed-variable : (v k : ℕ) → k < 104 → entryAt q k ≡ variable v → v ∈ variables (queryOf schema q)
-    placed-variable v k h is = mem-variablesOf v (queryOf schema q .head ++ rowEntries (queryOf schema q .rows)) (go (decLt k (8 * q .size)) (decLt k 96))
+    pub placed-variable : (v k : ℕ) → k < 8 * most + 8 → entryAt most q k ≡ variable v → v ∈ variables (queryOf schema q)
+    placed-variable v k h is = mem-variablesOf v (queryOf schema q .head ++ rowEntries (queryOf schema q .rows)) (go (decLt k (8 * q .size)) (decLt k (8 * most)))
       where
-        zero-not : entryAt q k ≡ constant 0 → ⊥
+        zero-not : entryAt most q k ≡ constant 0 → ⊥
         zero-not e = constant-variable 0 v (sym e ∙ is)
 
-        go : Dec (k < 8 * q .size) → Dec (k < 96) → variable v ∈ (queryOf schema q .head ++ rowEntries (queryOf schema q .rows))
+        go : Dec (k < 8 * q .size) → Dec (k < 8 * most) → variable v ∈ (queryOf schema q .head ++ rowEntries (queryOf schema q .rows))
         go (yes l) t =
             let r : k / 8 < q .size = omega arith in
             let e : 8 * (k / 8) + k % 8 ≡ k = omega arith in
             let row : theory.Row theory.Entry = rowFrom schema (q .cells) (8 * (k / 8)) (getD (q .relations) (k / 8) 0) in
-            let here : getD (row .values) (k % 8) (constant 0) ≡ entryAt q k = row-entry (k / 8) (k % 8) r (omega arith) ∙ ap (entryAt q) e in
+            let here : getD (row .values) (k % 8) (constant 0) ≡ entryAt most q k = row-entry (k / 8) (k % 8) r (omega arith) ∙ ap (entryAt most q) e in
             let there : row ∈ queryOf schema q .rows =
             Memᴰ·cast (sym (row-stored (k / 8) (rowFrom schema [] 0 0) r)) (getD-in (queryOf schema q .rows) (k / 8) (rowFrom schema [] 0 0) (rw count-rows r))
             in
@@ -222,16 +217,16 @@ module _ (schema : List ℕ) (q : Query) (good : goodQuery schema q ≡ true) (s
             (getD-mem (row .values) (k % 8) (constant 0))
         go (no l) (yes m) = absurd (zero-not (cells-blank k (omega arith) m))
         go (no l) (no m) =
-            let e : 96 + (k - 96) ≡ k = omega arith in
-            let here : getD (queryOf schema q .head) (k - 96) (constant 0) ≡ entryAt q k = head-entry (k - 96) (omega arith) ∙ ap (entryAt q) e in
+            let e : 8 * most + (k - 8 * most) ≡ k = omega arith in
+            let here : getD (queryOf schema q .head) (k - 8 * most) (constant 0) ≡ entryAt most q k = head-entry (k - 8 * most) (omega arith) ∙ ap (entryAt most q) e in
             ⊎-elim (λ z. absurd (zero-not (sym here ∙ z)))
             (λ m. Memᴰ·append-left {s = queryOf schema q .head} (rowEntries (queryOf schema q .rows)) (Memᴰ·cast (sym (here ∙ is)) m))
-            (getD-mem (queryOf schema q .head) (k - 96) (constant 0))
+            (getD-mem (queryOf schema q .head) (k - 8 * most) (constant 0))
 
 -- ---- 3. rows of two queries
 
-module _ (schema : List ℕ) (narrow : Narrow schema) (source target : Query) (good : goodQuery schema source ≡ true) (good' : goodQuery schema target ≡ true)
-    (sizes : Sizes source) (sizes' : Sizes target) where
+module _ (most : ℕ) (schema : List ℕ) (narrow : Narrow schema) (source target : Query) (good : goodQuery schema source ≡ true)
+    (good' : goodUpTo most schema target ≡ true) (sizes : SizedFor 12 source) (sizes' : SizedFor most target) where
   -- Row r of the source and row d of the target
   abbrev sourceRow : ℕ → theory.Row theory.Entry
   sourceRow r = rowFrom schema (source .cells) (8 * r) (getD (source .relations) r 0)
@@ -241,33 +236,33 @@ module _ (schema : List ℕ) (narrow : Narrow schema) (source target : Query) (g
 
   -- Under f a row is another exactly when the relations and the entries in all 8 places are
   row-places : (f : ℕ → theory.Entry) (r d : ℕ) → r < source .size → d < target .size → mapRow (valueOf constant f) (sourceRow r) ≡ targetRow d
-      → (i : ℕ) → i < 8 → valueOf constant f (entryAt source (8 * r + i)) ≡ entryAt target (8 * d + i)
+      → (i : ℕ) → i < 8 → valueOf constant f (entryAt 12 source (8 * r + i)) ≡ entryAt most target (8 * d + i)
   row-places f r d h k e i l =
-      ap (valueOf constant f) (sym (row-entry schema source good sizes narrow r i h l))
+      ap (valueOf constant f) (sym (row-entry 12 schema source good sizes narrow r i h l))
       ∙ sym (List·getD-map (valueOf constant f) (sourceRow r .values) i (constant 0))
-      ∙ ap (λ (row : theory.Row theory.Entry). getD (row .values) i (constant 0)) e ∙ row-entry schema target good' sizes' narrow d i k l
+      ∙ ap (λ (row : theory.Row theory.Entry). getD (row .values) i (constant 0)) e ∙ row-entry most schema target good' sizes' narrow d i k l
 
   places-row : (f : ℕ → theory.Entry) (r d : ℕ) → r < source .size → d < target .size → getD (source .relations) r 0 ≡ getD (target .relations) d 0
-      → ((i : ℕ) → i < 8 → valueOf constant f (entryAt source (8 * r + i)) ≡ entryAt target (8 * d + i))
+      → ((i : ℕ) → i < 8 → valueOf constant f (entryAt 12 source (8 * r + i)) ≡ entryAt most target (8 * d + i))
       → mapRow (valueOf constant f) (sourceRow r) ≡ targetRow d
   places-row f r d h k same at =
       let long : length (map (valueOf constant f) (sourceRow r .values)) ≡ getD schema (getD (source .relations) r 0) 0 =
-      length-map (sourceRow r .values) (valueOf constant f) ∙ row-long schema source good sizes narrow r h
+      length-map (sourceRow r .values) (valueOf constant f) ∙ row-long 12 schema source good sizes narrow r h
       in
       let values : map (valueOf constant f) (sourceRow r .values) ≡ targetRow d .values =
       ext-getD (constant 0) (map (valueOf constant f) (sourceRow r .values)) (targetRow d .values)
-      (long ∙ ap (λ (n : ℕ). getD schema n 0) same ∙ sym (row-long schema target good' sizes' narrow d k))
+      (long ∙ ap (λ (n : ℕ). getD schema n 0) same ∙ sym (row-long most schema target good' sizes' narrow d k))
       (λ i l.
       let l8 : i < 8 = omega (arith, narrow (getD (source .relations) r 0), long) in
-      List·getD-map (valueOf constant f) (sourceRow r .values) i (constant 0) ∙ ap (valueOf constant f) (row-entry schema source good sizes narrow r i h l8)
-      ∙ at i l8 ∙ sym (row-entry schema target good' sizes' narrow d i k l8))
+      List·getD-map (valueOf constant f) (sourceRow r .values) i (constant 0) ∙ ap (valueOf constant f) (row-entry 12 schema source good sizes narrow r i h l8)
+      ∙ at i l8 ∙ sym (row-entry most schema target good' sizes' narrow d i k l8))
       in
       λ t. record { relation = same t; values = values t }
 
   -- ---- 4. a mapping of the theory is one by positions
 
   abbrev pub WideOf : (ℕ → theory.Entry) → Type 0
-  WideOf f = Wide (entryAt source) (entryAt target) (source .relations) (target .relations) (source .size) (target .size) f
+  WideOf f = Wide (8 * most) (entryAt 12 source) (entryAt most target) (source .relations) (target .relations) (source .size) (target .size) f
 
   pub mapping-wide : (f : ℕ → theory.Entry) → IsMapping (queryOf schema source) (queryOf schema target) f → WideOf f
   mapping-wide f m =
@@ -276,24 +271,24 @@ module _ (schema : List ℕ) (narrow : Narrow schema) (source target : Query) (g
         rows = λ r h.
             let z : theory.Row theory.Entry = sourceRow 0 in
             let at : sourceRow r ∈ queryOf schema source .rows =
-            Memᴰ·cast (sym (row-stored schema source good sizes narrow r z h))
-            (getD-in (queryOf schema source .rows) r z (rw (count-rows schema source good sizes narrow) h))
+            Memᴰ·cast (sym (row-stored 12 schema source good sizes narrow r z h))
+            (getD-in (queryOf schema source .rows) r z (rw (count-rows 12 schema source good sizes narrow) h))
             in
             let w = in-getD (queryOf schema target .rows) z (m .carries .to-rows (sourceRow r) at) in
-            let k : w .0 < target .size = rw (count-rows schema target good' sizes' narrow) at (w .1) in
-            let same : mapRow (valueOf constant f) (sourceRow r) ≡ targetRow (w .0) = sym (w .2) ∙ row-stored schema target good' sizes' narrow (w .0) z k in
+            let k : w .0 < target .size = rw (count-rows most schema target good' sizes' narrow) at (w .1) in
+            let same : mapRow (valueOf constant f) (sourceRow r) ≡ targetRow (w .0) = sym (w .2) ∙ row-stored most schema target good' sizes' narrow (w .0) z k in
             (w .0, k, ap (λ (row : theory.Row theory.Entry). row .relation) same, row-places f r (w .0) h k same);
         head = λ i l.
-            ap (valueOf constant f) (sym (head-entry schema source good sizes narrow i l))
+            ap (valueOf constant f) (sym (head-entry 12 schema source good sizes narrow i l))
             ∙ sym (List·getD-map (valueOf constant f) (queryOf schema source .head) i (constant 0))
-            ∙ ap (λ (es : List theory.Entry). getD es i (constant 0)) (m .carries .to-head) ∙ head-entry schema target good' sizes' narrow i l;
-        elsewhere = λ v none. m .elsewhere v (variable-placed schema source good sizes narrow v none);
+            ∙ ap (λ (es : List theory.Entry). getD es i (constant 0)) (m .carries .to-head) ∙ head-entry most schema target good' sizes' narrow i l;
+        elsewhere = λ v none. m .elsewhere v (variable-placed 12 schema source good sizes narrow v none);
       }
     where
       some : Dec (0 < source .size) → 0 < source .size
       some (yes h) = h
       some (no h) =
-          absurd (m .carries .not-never (length-none (queryOf schema source .rows) (count-rows schema source good sizes narrow ∙ omega arith)))
+          absurd (m .carries .not-never (length-none (queryOf schema source .rows) (count-rows 12 schema source good sizes narrow ∙ omega arith)))
 
   pub wide-mapping : (f : ℕ → theory.Entry) → source .arity ≡ target .arity → WideOf f → IsMapping (queryOf schema source) (queryOf schema target) f
   wide-mapping f arity w =
@@ -301,41 +296,41 @@ module _ (schema : List ℕ) (narrow : Narrow schema) (source target : Query) (g
         carries =
             record {
               not-never = λ e.
-                  let none : source .size ≡ 0 = sym (count-rows schema source good sizes narrow) ∙ ap length e in
+                  let none : source .size ≡ 0 = sym (count-rows 12 schema source good sizes narrow) ∙ ap length e in
                   omega (arith, w .some-row);
               to-head =
                   ext-getD (constant 0) (map (valueOf constant f) (queryOf schema source .head)) (queryOf schema target .head)
-                  (length-map (queryOf schema source .head) (valueOf constant f) ∙ long-head schema source good sizes narrow ∙ arity
-                  ∙ sym (long-head schema target good' sizes' narrow))
+                  (length-map (queryOf schema source .head) (valueOf constant f) ∙ long-head 12 schema source good sizes narrow ∙ arity
+                  ∙ sym (long-head most schema target good' sizes' narrow))
                   (λ i l.
                   let l8 : i < 8 =
                   omega (
                     arith,
                     length-map (queryOf schema source .head) (valueOf constant f),
-                    long-head schema source good sizes narrow,
+                    long-head 12 schema source good sizes narrow,
                     good-query 12 schema source good .arity,
                   )
                   in
                   List·getD-map (valueOf constant f) (queryOf schema source .head) i (constant 0)
-                  ∙ ap (valueOf constant f) (head-entry schema source good sizes narrow i l8) ∙ w .head i l8
-                  ∙ sym (head-entry schema target good' sizes' narrow i l8));
+                  ∙ ap (valueOf constant f) (head-entry 12 schema source good sizes narrow i l8) ∙ w .head i l8
+                  ∙ sym (head-entry most schema target good' sizes' narrow i l8));
               to-rows = λ row at.
                   let z : theory.Row theory.Entry = sourceRow 0 in
                   let u = in-getD (queryOf schema source .rows) z at in
-                  let h : u .0 < source .size = rw (count-rows schema source good sizes narrow) at (u .1) in
-                  let here : row ≡ sourceRow (u .0) = sym (u .2) ∙ row-stored schema source good sizes narrow (u .0) z h in
+                  let h : u .0 < source .size = rw (count-rows 12 schema source good sizes narrow) at (u .1) in
+                  let here : row ≡ sourceRow (u .0) = sym (u .2) ∙ row-stored 12 schema source good sizes narrow (u .0) z h in
                   let x = w .rows (u .0) h in
                   let there : targetRow (x .0) ∈ queryOf schema target .rows =
-                  Memᴰ·cast (sym (row-stored schema target good' sizes' narrow (x .0) z (x .1)))
-                  (getD-in (queryOf schema target .rows) (x .0) z (rw (count-rows schema target good' sizes' narrow) (x .1)))
+                  Memᴰ·cast (sym (row-stored most schema target good' sizes' narrow (x .0) z (x .1)))
+                  (getD-in (queryOf schema target .rows) (x .0) z (rw (count-rows most schema target good' sizes' narrow) (x .1)))
                   in
                   Memᴰ·cast (ap (mapRow (valueOf constant f)) here ∙ places-row f (u .0) (x .0) h (x .1) (x .2) (x .3)) there;
             };
-        elsewhere = λ v out. w .elsewhere v (λ k h is. out (placed-variable schema source good sizes narrow v k h is));
+        elsewhere = λ v out. w .elsewhere v (λ k h is. out (placed-variable 12 schema source good sizes narrow v k h is));
       }
 
   -- A mapping has heads of one length
   pub mapping-arity : (f : ℕ → theory.Entry) → IsMapping (queryOf schema source) (queryOf schema target) f → source .arity ≡ target .arity
   mapping-arity f m =
-      sym (long-head schema source good sizes narrow) ∙ sym (length-map (queryOf schema source .head) (valueOf constant f)) ∙ ap length (m .carries .to-head)
-      ∙ long-head schema target good' sizes' narrow
+      sym (long-head 12 schema source good sizes narrow) ∙ sym (length-map (queryOf schema source .head) (valueOf constant f)) ∙ ap length (m .carries .to-head)
+      ∙ long-head most schema target good' sizes' narrow

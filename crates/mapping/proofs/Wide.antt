@@ -1,4 +1,5 @@
--- A mapping by positions. Two queries are given by their entries in one line: row r has those from 8 * r on, the head those from 96 on, blanks included.
+-- A mapping by positions. Two queries are given by their entries in one line: row r has those from 8 * r on, a source's head those from 96 on,
+-- a target's those from `top` on (192 where the search finds it), blanks included.
 -- Here: 1. what a mapping is by positions, 2. where rows and candidates are, 3. a solution of the search is a mapping, 4. a mapping is a solution.
 -- Assumes nothing.
 use mathlib.Core.Path.{_≡_, refl, sym, _∙_, ap, subst}
@@ -28,12 +29,12 @@ use Rattle.candidates.proofs.Repeats.{first-like}
 
 -- ---- 1. a mapping by positions
 
--- f carries each row of a source to a row of a target of the same relation and its head to the target's head. The source has a row
-pub record Wide (source target : ℕ → Entry) (named offered : List ℕ) (size count : ℕ) (f : ℕ → Entry) : Type 0 where
+-- f carries each row of a source to a row of a target of the same relation and its head to the target's head, at `top`. The source has a row
+pub record Wide (top : ℕ) (source target : ℕ → Entry) (named offered : List ℕ) (size count : ℕ) (f : ℕ → Entry) : Type 0 where
   pub some-row : 0 < size
   pub rows : (r : ℕ) → r < size
       → (d : ℕ) × (d < count) × (getD named r 0 ≡ getD offered d 0) × ((i : ℕ) → i < 8 → valueOf constant f (source (8 * r + i)) ≡ target (8 * d + i))
-  pub head : (i : ℕ) → i < 8 → valueOf constant f (source (96 + i)) ≡ target (96 + i)
+  pub head : (i : ℕ) → i < 8 → valueOf constant f (source (96 + i)) ≡ target (top + i)
   pub elsewhere : (v : ℕ) → ((k : ℕ) → k < 104 → source k ≡ variable v → ⊥) → f v ≡ constant 0
 
 -- ---- 2. where rows and candidates are
@@ -45,11 +46,11 @@ head-start size = ap (λ (t : Bool). cond t 96 (8 * size)) (eq-eqb size size ref
 row-start : (size r : ℕ) → r < size → rowStart size r ≡ 8 * r
 row-start size r h = ap (λ (t : Bool). cond t 96 (8 * r)) (ne-eqb r size (λ e. let z : r ≡ size = e in omega arith))
 
-head-image : (size d : ℕ) → imageStart size size d ≡ 96
-head-image size d = ap (λ (t : Bool). cond t 96 (8 * d)) (eq-eqb size size refl)
+head-image : (size d : ℕ) → imageStart size size d ≡ 192
+head-image size d = ap (λ (t : Bool). cond t 192 (8 * d)) (eq-eqb size size refl)
 
 row-image : (size r d : ℕ) → r < size → imageStart size r d ≡ 8 * d
-row-image size r d h = ap (λ (t : Bool). cond t 96 (8 * d)) (ne-eqb r size (λ e. let z : r ≡ size = e in omega arith))
+row-image size r d h = ap (λ (t : Bool). cond t 192 (8 * d)) (ne-eqb r size (λ e. let z : r ≡ size = e in omega arith))
 
 -- A row is the head or not
 row-cases : (size r : ℕ) → r ≤ size → (r < size) ⊎ (r ≡ size)
@@ -64,20 +65,20 @@ row-inside size r i few h k =
     ⊎-elim (λ l. let e : rowStart size r ≡ 8 * r = row-start size r l in omega arith)
     (λ same. let e : rowStart size r ≡ 96 = ap (rowStart size) same ∙ head-start size in omega arith) (row-cases size r h)
 
-image-inside : (size r d i : ℕ) → r ≤ size → d < 12 → i < 8 → imageStart size r d + i < 104
+image-inside : (size r d i : ℕ) → r ≤ size → d < 24 → i < 8 → imageStart size r d + i < 200
 image-inside size r d i h small k =
     ⊎-elim (λ l. let e : imageStart size r d ≡ 8 * d = row-image size r d l in omega arith)
-    (λ same. let e : imageStart size r d ≡ 96 = ap (λ (x : ℕ). imageStart size x d) same ∙ head-image size d in omega arith) (row-cases size r h)
+    (λ same. let e : imageStart size r d ≡ 192 = ap (λ (x : ℕ). imageStart size x d) same ∙ head-image size d in omega arith) (row-cases size r h)
 
-module _ (source target : ℕ → Entry) (from to named offered : List ℕ) (size count : ℕ) (few : size ≤ 12) (few' : count ≤ 12)
-    (from-is : (k : ℕ) → k < 104 → getD from k 0 ≡ freeze 2147483648 (source k)) (to-is : (k : ℕ) → k < 104 → getD to k 0 ≡ freeze 2147483648 (target k))
-    (from-within : (k : ℕ) → k < 104 → Within (source k)) (to-within : (k : ℕ) → k < 104 → Within (target k))
+module _ (source target : ℕ → Entry) (from to named offered : List ℕ) (size count : ℕ) (few : size ≤ 12) (few' : count ≤ 24)
+    (from-is : (k : ℕ) → k < 104 → getD from k 0 ≡ freeze 2147483648 (source k)) (to-is : (k : ℕ) → k < 200 → getD to k 0 ≡ freeze 2147483648 (target k))
+    (from-within : (k : ℕ) → k < 104 → Within (source k)) (to-within : (k : ℕ) → k < 200 → Within (target k))
     (domain table : List ℕ) (is-domain : IsDomain from to named offered size count domain) (is-table : IsTable from to size count table) where
   -- Equal codes of the source, or of the target, are equal entries
   from-same : (j k : ℕ) → j < 104 → k < 104 → getD from j 0 ≡ getD from k 0 → source j ≡ source k
   from-same j k hj hk e = code-same (source j) (source k) (from-within j hj) (from-within k hk) (sym (from-is j hj) ∙ e ∙ from-is k hk)
 
-  to-same : (j k : ℕ) → j < 104 → k < 104 → getD to j 0 ≡ getD to k 0 → target j ≡ target k
+  to-same : (j k : ℕ) → j < 200 → k < 200 → getD to j 0 ≡ getD to k 0 → target j ≡ target k
   to-same j k hj hk e = code-same (target j) (target k) (to-within j hj) (to-within k hk) (sym (to-is j hj) ∙ e ∙ to-is k hk)
 
   -- A choice of candidates that f lands on
@@ -87,7 +88,7 @@ module _ (source target : ℕ → Entry) (from to named offered : List ℕ) (siz
     pub first : (r : ℕ) → r < size → Repeats to offered (choice r) → ⊥
     pub carried : (r i : ℕ) → r ≤ size → i < 8 → valueOf constant f (source (rowStart size r + i)) ≡ target (imageStart size r (choice r) + i)
 
-  few-choices : (choice : ℕ → ℕ) → ((r : ℕ) → r ≤ size → choice r < candidatesOf size count r) → (r : ℕ) → r ≤ size → choice r < 12
+  few-choices : (choice : ℕ → ℕ) → ((r : ℕ) → r ≤ size → choice r < candidatesOf size count r) → (r : ℕ) → r ≤ size → choice r < 24
   few-choices choice is r h = le-trans (is r h) (few-candidates size count r few')
 
   -- ---- 3. a choice that f lands on is a solution
@@ -96,7 +97,7 @@ module _ (source target : ℕ → Entry) (from to named offered : List ℕ) (siz
     at-row : (r i : ℕ) → r ≤ size → i < 8 → rowStart size r + i < 104
     at-row r i h k = row-inside size r i few h k
 
-    at-image : (r i : ℕ) → r ≤ size → i < 8 → imageStart size r (choice r) + i < 104
+    at-image : (r i : ℕ) → r ≤ size → i < 8 → imageStart size r (choice r) + i < 200
     at-image r i h k = image-inside size r (choice r) i h (few-choices choice (lands .is-candidate) r h) k
 
     lands-together : (r q : ℕ) → r ≤ size → q ≤ size → Together from to size r (choice r) q (choice q)
@@ -135,7 +136,7 @@ module _ (source target : ℕ → Entry) (from to named offered : List ℕ) (siz
         }
 
   -- A mapping lands on a choice: of the rows that are the same as the image of a row, the first
-  pub wide-solution : (f : ℕ → Entry) → Wide source target named offered size count f → (choice : ℕ → ℕ) × Solution (size + 1) domain table choice
+  pub wide-solution : (f : ℕ → Entry) → Wide 192 source target named offered size count f → (choice : ℕ → ℕ) × Solution (size + 1) domain table choice
   wide-solution f wide = (choice, lands-solution f choice lands)
     where
       pick : (r : ℕ) → Dec (r < size) → ℕ
@@ -210,15 +211,15 @@ module _ (source target : ℕ → Entry) (from to named offered : List ℕ) (siz
     chosen-together r q h k =
         is-table r (choice r) q h k (chosen-candidate r h) .1 (choice q) (chosen-candidate q k) .0 (solution .joined r q (omega arith) (omega arith))
 
-    pub chosen-small : (r : ℕ) → r ≤ size → choice r < 12
+    pub chosen-small : (r : ℕ) → r ≤ size → choice r < 24
     chosen-small r h = few-choices choice chosen-candidate r h
 
-    module _ (cells images : List Cell) (cells-are : (k : ℕ) → k < 104 → entryIn cells k ≡ target k) (long : length images ≡ 96)
+    module _ (cells images : List Cell) (cells-are : (k : ℕ) → k < 200 → entryIn cells k ≡ target k) (long : length images ≡ 96)
         (assigned : Assigned from cells size choice (size + 1) images) where
       place : (r i : ℕ) → r ≤ size → i < 8 → rowStart size r + i < 104
       place r i h k = row-inside size r i few h k
 
-      image-place : (r i : ℕ) → r ≤ size → i < 8 → imageStart size r (choice r) + i < 104
+      image-place : (r i : ℕ) → r ≤ size → i < 8 → imageStart size r (choice r) + i < 200
       image-place r i h k = image-inside size r (choice r) i h (chosen-small r h) k
 
       -- Two places of one variable have images that are one entry
@@ -284,7 +285,7 @@ module _ (source target : ℕ → Entry) (from to named offered : List ℕ) (siz
               (sym (from-is (rowStart size (w .0) + w .1) (place (w .0) (w .1) l (w .3))) ∙ w .4))))
               (assigned v below)
 
-      pub solution-wide : 0 < size → Wide source target named offered size count (imagesOf images)
+      pub solution-wide : 0 < size → Wide 192 source target named offered size count (imagesOf images)
       solution-wide some =
           record {
             some-row = some;

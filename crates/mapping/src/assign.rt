@@ -12,11 +12,11 @@ ghost use Rattle.mapping.specs.internal.Lines.{choiceOf, RowAssigned, As
 pub fn assign_row(
     images: [Cell; 96],
     source: [u32; 104],
-    target: [Cell; 104],
+    target: [Cell; 200],
     row: usize,
     image: usize,
 ) -> [Cell; 96]
-    requires { ⌜ (row + 8 ≤ 104) × (image + 8 ≤ 104) × ((k : ℕ) → k < 104 → getD source k 0 < 2147483744) ⌝ }
+    requires { ⌜ (row + 8 ≤ 104) × (image + 8 ≤ 200) × ((k : ℕ) → k < 104 → getD source k 0 < 2147483744) ⌝ }
     ensures { λ out. ⌜ RowAssigned images source target row image 8 out ⌝ }
 {
     let mut out = images;
@@ -33,8 +33,8 @@ pub fn assign_row(
 }
 
 // The images that a choice of a candidate for each row gives.
-pub fn assign(source: [u32; 104], target: [Cell; 104], size: usize, chosen: [u8; 13]) -> [Cell; 96]
-    requires { ⌜ (size ≤ 12) × ((r : ℕ) → r ≤ size → getD chosen r 0 < 12) × ((k : ℕ) → k < 104 → getD source k 0 < 2147483744) ⌝ }
+pub fn assign(source: [u32; 104], target: [Cell; 200], size: usize, chosen: [u8; 13]) -> [Cell; 96]
+    requires { ⌜ (size ≤ 12) × ((r : ℕ) → r ≤ size → getD chosen r 0 < 24) × ((k : ℕ) → k < 104 → getD source k 0 < 2147483744) ⌝ }
     ensures { λ images. ⌜ Assigned source target size (choiceOf chosen) (size + 1) images ⌝ }
 {
     let mut images = [query::NO_CELL; 96];

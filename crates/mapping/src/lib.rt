@@ -1,7 +1,7 @@
-// Mappings between stored queries: found by search, and checked. A query without rows has none.
+// Mappings from a stored query: found by search to a tableau, and checked to a stored query. A query without rows has none.
 mod assign; // assign.rt: the images of the variables, from the images of the rows
 mod carry; // carry.rt: whether given images carry entries, rows and a head
-mod cells; // cells.rt: a query in one line of cells, and their codes
+mod cells; // cells.rt: a query or a tableau in one line of cells, and their codes
 
 use crate::assign::assign;
 use crate::carry::all_land;
@@ -9,12 +9,15 @@ use crate::carry::carries;
 use crate::carry::rest_blank;
 use crate::cells::codes;
 use crate::cells::flat;
+use crate::cells::tableau_codes;
+use crate::cells::tableau_flat;
 use candidates::table::domains;
 use candidates::table::table;
 use query::Cell;
 use query::Query;
+use query::Tableau;
 ghost use mathlib.Core.Path.{_≡_};
-ghost use Rattle.mapping.specs.internal.Mapped.{noMapping, Storable, Finds, Checks};
+ghost use Rattle.mapping.specs.internal.Mapped.{noMapping, Storable, StorableTableau, Finds, Checks};
 
 // A mapping that was looked for: whether there is one, and the image of each variable. Where there is none the images hold constant 0.
 pub struct Mapped {
@@ -33,9 +36,9 @@ pub fn no_mapping() -> Mapped
     }
 }
 
-// A mapping from one query to another of the same arity, if there is one. Which one is free.
-pub fn find(source: Query, target: Query) -> Mapped
-    requires { ⌜ Storable source × Storable target ⌝ }
+// A mapping from a query to a tableau of the same arity, if there is one. Which one is free.
+pub fn find(source: Query, target: Tableau) -> Mapped
+    requires { ⌜ Storable source × StorableTableau target ⌝ }
     ensures { λ r. ⌜ Finds source target r ⌝ }
 {
     let size = source.size as usize;
@@ -43,9 +46,9 @@ pub fn find(source: Query, target: Query) -> Mapped
     if size == 0 {
         return no_mapping();
     }
-    let cells = flat(target);
+    let cells = tableau_flat(target);
     let from = codes(flat(source));
-    let to = codes(cells);
+    let to = tableau_codes(cells);
     let named = source.relations;
     let offered = target.relations;
     let domain = domains(&from, &to, named, offered, size, count);

@@ -1,4 +1,4 @@
--- The calls keep the rule: a good record with another content of a place, with one dependency more, and a record just opened are good.
+-- The calls keep the rule: a good record with another content of a place, with one dependency of either kind more, and a record just opened are good.
 -- A place that holds a good query with a safe head is good, and so is a vacant one
 use mathlib.Core.Path.{_≡_, refl}
 use mathlib.Core.Bool.{true}
@@ -9,13 +9,15 @@ use lib.ListN.{length, take, getD}
 use lib.Seq.{getD-set-same}
 use Rattle.query.specs.declared.Query.{Query}
 use Rattle.query.specs.declared.Dependency.{Dependency}
+use Rattle.query.specs.declared.JoinDependency.{JoinDependency}
 use Rattle.query.specs.declared.Place.{Place}
 use Rattle.record.specs.declared.Record.{Record}
 use Rattle.record.specs.View.{schemaOf}
 use Rattle.lists.specs.Tests.{every}
-use Rattle.query.specs.Rule.{goodRelations, goodDependency, blankDependency, goodQuery, headSafe, blankQuery, goodPlace, noPlace, placeWith}
+use Rattle.query.specs.Rule.{goodRelations, goodDependency, blankDependency, goodJoin, blankJoin, goodQuery, headSafe, blankQuery, goodPlace, noPlace}
+use Rattle.query.specs.Rule.{placeWith}
 use Rattle.record.specs.Rule.{goodRecord, emptyRecord}
-use Rattle.record.specs.Calls.{withPlace, withDependency}
+use Rattle.record.specs.Calls.{withPlace, withDependency, withJoin}
 use Rattle.lists.proofs.Tests.{and-both, every-set, every-replicate, used-more}
 use Rattle.record.proofs.Good.{good-record, make-record}
 
@@ -36,10 +38,12 @@ place-kept r place p good fits =
       relations = g .relations;
       held = g .held;
       dependencies = g .dependencies;
+      joined = g .joined;
+      joins = g .joins;
       places = every-set (goodPlace (schemaOf r)) (r .places) place p (g .places) fits;
     })
 
--- One dependency more
+-- One functional dependency more
 pub dependency-kept : (r : Record) (d : Dependency) → goodRecord r ≡ true → goodDependency (schemaOf r) d ≡ true → r .held < 32
     → length (r .dependencies) ≡ 32 → goodRecord (withDependency r d) ≡ true
 dependency-kept r d good fits room long =
@@ -50,6 +54,23 @@ dependency-kept r d good fits room long =
       held = omega arith;
       dependencies =
           used-more (r .held) (goodDependency (schemaOf r)) blankDependency (r .dependencies) d (omega arith) fits (g .dependencies);
+      joined = g .joined;
+      joins = g .joins;
+      places = g .places;
+    })
+
+-- One join dependency more
+pub join-kept : (r : Record) (j : JoinDependency) → goodRecord r ≡ true → goodJoin (schemaOf r) j ≡ true → r .joined < 4 → length (r .joins) ≡ 4
+    → goodRecord (withJoin r j) ≡ true
+join-kept r j good fits room long =
+    let g = good-record r good in
+    make-record (withJoin r j)
+    (record {
+      relations = g .relations;
+      held = g .held;
+      dependencies = g .dependencies;
+      joined = omega arith;
+      joins = used-more (r .joined) (goodJoin (schemaOf r)) blankJoin (r .joins) j (omega arith) fits (g .joins);
       places = g .places;
     })
 
@@ -62,6 +83,8 @@ opened-good relations widths good =
       relations = good;
       held = omega arith;
       dependencies = refl;
+      joined = omega arith;
+      joins = refl;
       places = every-replicate (goodPlace (take relations widths)) 8 noPlace (empty-place (take relations widths));
     })
 

@@ -20,12 +20,12 @@ use Rattle.record.specs.declared.Record.{Record}
 use Rattle.query.specs.View.{columnsFrom, columnsOf, maskOf}
 use Rattle.record.specs.View.{schemaOf, dependenciesOf}
 use Rattle.lists.specs.Tests.{between, every}
-use Rattle.query.specs.Rule.{goodSet, goodRelations, goodDependency, goodQuery, headSafe, noPlace, placeWith}
+use Rattle.query.specs.Rule.{goodSet, goodRelations, goodDependency, goodJoin, goodQuery, headSafe, noPlace, placeWith}
 use Rattle.record.specs.Rule.{goodRecord, blankRecord, emptyRecord}
 use Rattle.refusals.specs.Refusals.{firstHolding, gives, reply}
-use Rattle.record.specs.Calls.{concluded, brokenRecord, unknownPlace, vacant, filled, withPlace, withDependency}
-use Rattle.record.specs.Calls.{openRecord, addDependency, putQuery, dropQuery, determinedColumns}
-use Rattle.record.specs.Meaning.{OpenKeeps, AddKeeps, PutKeeps, DropKeeps, BlankBroken, DeterminedMeans}
+use Rattle.record.specs.Calls.{concluded, brokenRecord, unknownPlace, vacant, filled, withPlace, withDependency, withJoin}
+use Rattle.record.specs.Calls.{openRecord, addDependency, addJoin, putQuery, dropQuery, determinedColumns}
+use Rattle.record.specs.Meaning.{OpenKeeps, AddKeeps, AddJoinKeeps, PutKeeps, DropKeeps, BlankBroken, DeterminedMeans}
 use Rattle.closure.specs.internal.Closure.{growMask}
 use Rattle.record.proofs.Good.{good-record}
 use Rattle.query.proofs.Good.{good-set}
@@ -35,7 +35,7 @@ use Rattle.closure.proofs.Masks.{same-columns, columns-member, columns-count}
 use Rattle.closure.proofs.Closure.{is-columns, determined-mask, grow-lt}
 use Rattle.refusals.proofs.Refusals.{none-holds, refused-gives, reply-gives}
 use Rattle.record.proofs.Outcomes.{widths-judged}
-use Rattle.record.proofs.Kept.{filled-place, empty-place, place-kept, dependency-kept, opened-good}
+use Rattle.record.proofs.Kept.{filled-place, empty-place, place-kept, dependency-kept, join-kept, opened-good}
 
 -- ---- accepted calls keep the rule
 
@@ -55,7 +55,7 @@ open-keeps widths e =
     opened-good (length widths) (widths ++ replicate (8 - length widths) 0)
     (widths-judged widths (8 - length widths) ∙ not-false fit (none-holds (not fit) 3 [] clear .0)))
 
--- Add a dependency
+-- Add a functional dependency
 pub add-keeps : AddKeeps
 unfolding addDependency
 add-keeps r d long e =
@@ -70,6 +70,22 @@ add-keeps r d long e =
     let few : r .held ≡ 32 → ⊥ = eqb-false (r .held) 32 (c .0) in
     let most = good-record r good .held in
     dependency-kept r d good (not-false fit (b .0)) (omega arith) long)
+
+-- Add a join dependency
+pub add-join-keeps : AddJoinKeeps
+unfolding addJoin
+add-join-keeps r j long e =
+    let fit : Bool = goodJoin (schemaOf r) j in
+    let full : (Bool × ℕ) = (eqb (r .joined) 4, 16) in
+    accepted (firstHolding (brokenRecord r ∷ (not fit, 15) ∷ full ∷ [])) r (withJoin r j) e
+    (λ clear.
+    let a = none-holds (not (goodRecord r)) 14 ((not fit, 15) ∷ full ∷ []) clear in
+    let b = none-holds (not fit) 15 (full ∷ []) (a .1) in
+    let c = none-holds (eqb (r .joined) 4) 16 [] (b .1) in
+    let good : goodRecord r ≡ true = not-false (goodRecord r) (a .0) in
+    let few : r .joined ≡ 4 → ⊥ = eqb-false (r .joined) 4 (c .0) in
+    let most = good-record r good .joined in
+    join-kept r j good (not-false fit (b .0)) (omega arith) long)
 
 -- Put a query
 pub put-keeps : PutKeeps

@@ -17,17 +17,18 @@ use Rattle.theory.specs.Query.{_∈_}
 use Rattle.determination.specs.Determined.{determined}
 use Rattle.query.specs.declared.Query.{Query}
 use Rattle.query.specs.declared.Dependency.{Dependency}
+use Rattle.query.specs.declared.JoinDependency.{JoinDependency}
 use Rattle.record.specs.declared.Lookup.the-variants as lookup
 use Rattle.record.specs.declared.Record.{Record}
 use Rattle.query.specs.View.{columnsOf, maskOf}
 use Rattle.record.specs.View.{schemaOf, dependenciesOf}
 use Rattle.lists.specs.Tests.{between, every, isZero}
-use Rattle.query.specs.Rule.{goodSet, blankDependency, goodRelations, goodDependency, goodQuery, headSafe, noPlace, placeWith}
+use Rattle.query.specs.Rule.{goodSet, blankDependency, goodRelations, goodDependency, goodJoin, goodQuery, headSafe, noPlace, placeWith}
 use Rattle.record.specs.Rule.{blankRecord, goodRecord, emptyRecord}
 use Rattle.refusals.specs.Refusals.{firstHolding, refused, gives}
 use Rattle.record.specs.Calls.{concluded, brokenRecord, unknownPlace, vacant}
 use Rattle.record.specs.internal.Lookup.{placeAt, filledPlace, vacantPlace}
-use Rattle.record.specs.Calls.{withPlace, withDependency, openRecord, addDependency, putQuery, dropQuery, determinedColumns}
+use Rattle.record.specs.Calls.{withPlace, withDependency, withJoin, openRecord, addDependency, addJoin, putQuery, dropQuery, determinedColumns}
 use Rattle.closure.specs.internal.Closure.{growMask, rightNarrow}
 use Rattle.lists.proofs.Tests.{every-replicate, every-weaken, used-good}
 use Rattle.record.proofs.Good.{good-record}
@@ -155,6 +156,25 @@ module _ (r : Record) (d : Dependency) where
       pub add-done : (r .held ≡ 32 → ⊥) → concluded none (withDependency r d) (withDependency r d) ≡ addDependency r d
       unfolding addDependency firstHolding
       add-done e = rw (good, fit, ne-eqb (r .held) 32 e)
+
+module _ (r : Record) (j : JoinDependency) where
+  pub join-broken : goodRecord r ≡ false → concluded (some 14) r r ≡ addJoin r j
+  unfolding addJoin firstHolding
+  join-broken e = rw e
+
+  module _ (good : goodRecord r ≡ true) where
+    pub join-unfit : goodJoin (schemaOf r) j ≡ false → concluded (some 15) r r ≡ addJoin r j
+    unfolding addJoin firstHolding
+    join-unfit e = rw (good, e)
+
+    module _ (fit : goodJoin (schemaOf r) j ≡ true) where
+      pub join-full : r .joined ≡ 4 → concluded (some 16) r r ≡ addJoin r j
+      unfolding addJoin firstHolding
+      join-full e = rw (good, fit, eq-eqb (r .joined) 4 e)
+
+      pub join-done : (r .joined ≡ 4 → ⊥) → concluded none (withJoin r j) (withJoin r j) ≡ addJoin r j
+      unfolding addJoin firstHolding
+      join-done e = rw (good, fit, ne-eqb (r .joined) 4 e)
 
 -- ---- determined columns
 

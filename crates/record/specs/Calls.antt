@@ -9,6 +9,7 @@ use Rattle.theory.specs.Query as theory
 use Rattle.determination.specs.Determined.{determined}
 use Rattle.query.specs.declared.Query.{Query}
 use Rattle.query.specs.declared.Dependency.{Dependency}
+use Rattle.query.specs.declared.JoinDependency.{JoinDependency}
 use Rattle.query.specs.declared.Place.{Place}
 use Rattle.record.specs.declared.Record.{Record}
 use Rattle.record.specs.declared.Status.{Status}
@@ -19,9 +20,9 @@ use Rattle.record.specs.declared.Columns.the-variants as columns
 use Rattle.query.specs.View.{columnsOf, queryOf, maskOf}
 use Rattle.record.specs.View.{schemaOf, dependenciesOf}
 use Rattle.lists.specs.Tests.{between, every}
-use Rattle.query.specs.Rule.{goodSet, goodDependency, goodQuery, headSafe, noPlace, placeWith}
+use Rattle.query.specs.Rule.{goodSet, goodDependency, goodJoin, goodQuery, headSafe, noPlace, placeWith}
 use Rattle.record.specs.Rule.{goodRecord, emptyRecord, blankRecord}
-use Rattle.refusals.specs.Refusals.{badDependency, badQuery, badRecord, badRelations, dependenciesFull}
+use Rattle.refusals.specs.Refusals.{badDependency, badJoin, badQuery, badRecord, badRelations, dependenciesFull, joinsFull}
 use Rattle.refusals.specs.Refusals.{Condition, firstHolding, noSuchPlace, placeFilled, placeVacant, unsafeHead}
 use Rattle.refusals.specs.Refusals.{Reply, refused, gives, reply}
 
@@ -79,12 +80,41 @@ filled r place = (isFilled r place, placeFilled)
 -- The record with another content of one place
 abbrev pub withPlace : Record → ℕ → Place → Record
 withPlace r place p =
-    record { relations = r .relations; widths = r .widths; held = r .held; dependencies = r .dependencies; places = set (r .places) place p }
+    record {
+      relations = r .relations;
+      widths = r .widths;
+      held = r .held;
+      dependencies = r .dependencies;
+      joined = r .joined;
+      joins = r .joins;
+      places = set (r .places) place p;
+    }
 
--- The record with one dependency more, after those held
+-- The record with one functional dependency more, after those held
 abbrev pub withDependency : Record → Dependency → Record
 withDependency r d =
-    record { relations = r .relations; widths = r .widths; held = r .held + 1; dependencies = set (r .dependencies) (r .held) d; places = r .places }
+    record {
+      relations = r .relations;
+      widths = r .widths;
+      held = r .held + 1;
+      dependencies = set (r .dependencies) (r .held) d;
+      joined = r .joined;
+      joins = r .joins;
+      places = r .places;
+    }
+
+-- The record with one join dependency more, after those held
+abbrev pub withJoin : Record → JoinDependency → Record
+withJoin r j =
+    record {
+      relations = r .relations;
+      widths = r .widths;
+      held = r .held;
+      dependencies = r .dependencies;
+      joined = r .joined + 1;
+      joins = set (r .joins) (r .joined) j;
+      places = r .places;
+    }
 
 -- ---- the calls
 
@@ -98,13 +128,21 @@ openRecord widths =
     concluded (firstHolding (openConditions widths)) blankRecord
     (emptyRecord (length widths) (widths ++ replicate (8 - length widths) 0))
 
--- What adding a dependency asks: 14; 4 unless it is good; 13 where 32 are held
+-- What adding a functional dependency asks: 14; 4 unless it is good; 13 where 32 are held
 abbrev pub addConditions : Record → Dependency → List Condition
 addConditions r d = brokenRecord r ∷ (not (goodDependency (schemaOf r) d), badDependency) ∷ (eqb (r .held) 32, dependenciesFull) ∷ []
 
--- Add a dependency after those held
+-- Add a functional dependency after those held
 unfoldable pub addDependency : Record → Dependency → Reply (Unit {0}) × Record
 addDependency r d = concluded (firstHolding (addConditions r d)) r (withDependency r d)
+
+-- What adding a join dependency asks: 14; 15 unless it is good; 16 where 4 are held
+abbrev pub addJoinConditions : Record → JoinDependency → List Condition
+addJoinConditions r j = brokenRecord r ∷ (not (goodJoin (schemaOf r) j), badJoin) ∷ (eqb (r .joined) 4, joinsFull) ∷ []
+
+-- Add a join dependency after those held
+unfoldable pub addJoin : Record → JoinDependency → Reply (Unit {0}) × Record
+addJoin r j = concluded (firstHolding (addJoinConditions r j)) r (withJoin r j)
 
 -- What putting a query asks: 14; 7; 5 unless it keeps the limits and holds nothing where it is not in use; 6 where a head variable is in no row; 12
 abbrev pub putConditions : Record → ℕ → Query → List Condition

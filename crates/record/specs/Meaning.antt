@@ -9,12 +9,13 @@ use Rattle.theory.specs.Query.{_∈_}
 use Rattle.determination.specs.Determined.{Determined}
 use Rattle.query.specs.declared.Query.{Query}
 use Rattle.query.specs.declared.Dependency.{Dependency}
+use Rattle.query.specs.declared.JoinDependency.{JoinDependency}
 use Rattle.record.specs.declared.Record.{Record}
 use Rattle.refusals.specs.Refusals.{Reply, gives}
 use Rattle.query.specs.View.{columnsOf}
 use Rattle.record.specs.View.{schemaOf, dependenciesOf}
 use Rattle.record.specs.Rule.{goodRecord, blankRecord}
-use Rattle.record.specs.Calls.{openRecord, addDependency, putQuery, dropQuery, determinedColumns}
+use Rattle.record.specs.Calls.{openRecord, addDependency, addJoin, putQuery, dropQuery, determinedColumns}
 
 -- A call that is done leaves a record that 14 passes
 abbrev pub LeavesGood : Reply (Unit {0}) × Record → Type 0
@@ -24,9 +25,13 @@ LeavesGood said = said .0 ≡ gives tt → goodRecord (said .1) ≡ true
 abbrev pub OpenKeeps : Type 0
 OpenKeeps = (widths : List ℕ) → LeavesGood (openRecord widths)
 
--- So does adding a dependency: a record has room for 32
+-- So does adding a functional dependency: a record has room for 32
 abbrev pub AddKeeps : Type 0
 AddKeeps = (r : Record) (d : Dependency) → length (r .dependencies) ≡ 32 → LeavesGood (addDependency r d)
+
+-- So does adding a join dependency: a record has room for 4
+abbrev pub AddJoinKeeps : Type 0
+AddJoinKeeps = (r : Record) (j : JoinDependency) → length (r .joins) ≡ 4 → LeavesGood (addJoin r j)
 
 -- So does putting a query
 abbrev pub PutKeeps : Type 0

@@ -5,6 +5,7 @@ use crate::Outcome;
 use crate::Record;
 use crate::Status;
 use query::Dependency;
+use query::JoinDependency;
 use query::Place;
 use query::Query;
 ghost use mathlib.Core.Path.{_≡_};
@@ -12,7 +13,7 @@ ghost use mathlib.Core.Option.{none, some};
 ghost use Prim.Native.Nat.{_<_};
 ghost use Rattle.query.specs.Rule.{noPlace};
 ghost use Rattle.record.specs.Rule.{blankRecord, emptyRecord};
-ghost use Rattle.record.specs.Calls.{outcomeReply, columnsReply, concluded, storedAt, withPlace, withDependency, openRecord, addDependency, putQuery, dropQuery, determinedColumns};
+ghost use Rattle.record.specs.Calls.{outcomeReply, columnsReply, concluded, storedAt, withPlace, withDependency, withJoin, openRecord, addDependency, addJoin, putQuery, dropQuery, determinedColumns};
 ghost use Rattle.record.specs.internal.Lookup.{placeAt, filledPlace, vacantPlace, numberOf};
 
 // A call is done.
@@ -85,7 +86,7 @@ pub fn with_place(given: Record, place: usize, p: Place) -> Record
     next
 }
 
-// The record with one dependency more, after those held.
+// The record with one functional dependency more, after those held.
 fn with_dependency(given: Record, d: Dependency) -> Record
     requires { ⌜ given .held < 32 ⌝ }
     ensures { λ r. ⌜ r ≡ withDependency given d ⌝ }
@@ -97,17 +98,32 @@ fn with_dependency(given: Record, d: Dependency) -> Record
     next
 }
 
+// The record with one join dependency more, after those held.
+fn with_join(given: Record, j: JoinDependency) -> Record
+    requires { ⌜ given .joined < 4 ⌝ }
+    ensures { λ r. ⌜ r ≡ withJoin given j ⌝ }
+{
+    let joined = given.joined;
+    let mut next = given;
+    next.joins[joined as usize] = j;
+    next.joined = joined + 1;
+    next
+}
+
 // A record of the given relations, without dependencies, all places vacant.
 fn opened(relations: u8, widths: [u8; 8]) -> Record
     ensures { λ r. ⌜ r ≡ emptyRecord relations widths ⌝ }
 {
     let unused = query::NO_DEPENDENCY;
+    let unjoined = query::NO_JOIN_DEPENDENCY;
     let vacant = no_place();
     Record {
         relations,
         widths,
         held: 0,
         dependencies: [unused; 32],
+        joined: 0,
+        joins: [unjoined; 4],
         places: [vacant; 8],
     }
 }
@@ -207,7 +223,7 @@ impl Record {
         done(with_place(self, at, p))
     }
 
-    // Add a dependency after those held.
+    // Add a functional dependency after those held.
     pub fn add_dependency(self, d: Dependency) -> Outcome
         ensures { λ o. ⌜ outcomeReply o ≡ addDependency self d ⌝ }
     {
@@ -224,6 +240,25 @@ impl Record {
             return refused(refusals::DEPENDENCIES_FULL, self);
         }
         done(with_dependency(self, d))
+    }
+
+    // Add a join dependency after those held.
+    pub fn add_join(self, j: JoinDependency) -> Outcome
+        ensures { λ o. ⌜ outcomeReply o ≡ addJoin self j ⌝ }
+    {
+        let relations = self.relations;
+        let widths = self.widths;
+        let joined = self.joined;
+        if !self.is_good() {
+            return refused(refusals::BAD_RECORD, self);
+        }
+        if !limits::join_good(relations, widths, j) {
+            return refused(refusals::BAD_JOIN, self);
+        }
+        if joined == 4 {
+            return refused(refusals::JOINS_FULL, self);
+        }
+        done(with_join(self, j))
     }
 
     // The columns of a relation that a set of its columns determines.

@@ -1,16 +1,20 @@
 // The record of relations, dependencies and saved queries: its types, its rule, and the calls that change or ask it alone.
 pub mod rule; // rule.rt: whether a record is as SPECIFICATION, The record, describes
-pub mod calls; // calls.rt: open, add a dependency, put and drop a query, determined columns
+pub mod calls; // calls.rt: open, add a dependency of either kind, put and drop a query, determined columns
 
 use query::Dependency;
+use query::JoinDependency;
 use query::Place;
 
-// The record: there are `relations` relations, relation r has widths[r] columns, and the first `held` dependencies are held.
+// The record: there are `relations` relations, relation r has widths[r] columns, the first `held` functional dependencies are held, and the first `joined`
+// join dependencies.
 pub struct Record {
     pub relations: u8,
     pub widths: [u8; 8],
     pub held: u8,
     pub dependencies: [Dependency; 32],
+    pub joined: u8,
+    pub joins: [JoinDependency; 4],
     pub places: [Place; 8],
 }
 

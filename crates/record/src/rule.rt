@@ -12,11 +12,16 @@ impl Record {
         let widths = self.widths;
         let held = self.held;
         let dependencies = self.dependencies;
+        let joined = self.joined;
+        let joins = self.joins;
         let places = self.places;
         if !limits::relations_good(relations, widths) {
             return false;
         }
         if !limits::dependencies_good(relations, widths, held, dependencies) {
+            return false;
+        }
+        if !limits::joins_good(relations, widths, joined, joins) {
             return false;
         }
         limits::places_good(relations, widths, places)

@@ -16,7 +16,7 @@ use Rattle.query.specs.declared.Place.{Place}
 use Rattle.record.specs.declared.Record.{Record}
 use Rattle.record.specs.declared.Status.the-variants as status
 use Rattle.record.specs.declared.Lookup.the-variants as lookup
-use Rattle.query.specs.View.{queryOf, heldOf, imagesOf}
+use Rattle.query.specs.View.{queryOf, asQuery, heldOf, imagesOf}
 use Rattle.record.specs.View.{schemaOf, dependenciesOf}
 use Rattle.lists.specs.Tests.{every, between}
 use Rattle.query.specs.Rule.{goodDependencies, goodQuery, headSafe, noCell, noPlace, placeWith}
@@ -27,18 +27,24 @@ use Rattle.record.specs.internal.Lookup.{placeAt, filledPlace, vacantPlace}
 use Rattle.lists.proofs.Tests.{and-both}
 use Rattle.record.proofs.Good.{good-record}
 use Rattle.record.proofs.Stored.{place-good, filled-parts}
+use Rattle.query.proofs.Good.{good-query}
+use Rattle.query.proofs.Shape.{SizedFor}
 use Rattle.query.proofs.Stored.{well-formed}
 use Rattle.record.proofs.Kept.{filled-place, place-kept, place-read}
 use Rattle.record.proofs.Refusals.{found-refused, filled-at, vacant-at, place-refused, vacant-refused}
 use Rattle.chase.specs.declared.Chased.{Chased}
 use Rattle.chase.specs.internal.Outcome.{IsChased}
-use Rattle.chase.proofs.Callers.{good-widths, width-le, chased-count}
+use Rattle.chase.proofs.Callers.{good-widths, width-le}
+use Rattle.tableaux.specs.internal.Tableaux.{tableauOf, storedOf}
+use Rattle.tableaux.proofs.Tableaux.{tableau-query, stored-query, stored-good}
 use Rattle.theory.specs.Query as theory
 use Rattle.theory.specs.Query.{WellFormed, variablesOf, rowEntries, _∈_}
 use Rattle.theory.specs.Answer.{IsMapping, Mapping}
 use Rattle.theory.specs.Chase.{chase}
+use Rattle.theory.specs.Database as database
 use Rattle.minimization.specs.Reduction.{Reduction}
 use Rattle.theory.proofs.Carry.{mapping-target}
+use Rattle.theory.proofs.Chase.{chase-count-le}
 use Rattle.theory.proofs.Lists.{subset-of}
 use Rattle.minimization.proofs.Reduction.{reduction-answers, reduction-minimal, reduction-mapping, reduction-wellformed}
 use Rattle.mapping.specs.declared.Mapped.{Mapped}
@@ -51,12 +57,32 @@ use Rattle.reduction.specs.internal.Steps.{Shortenable, IsShortened, Red
 
 -- ---- 1. the shortened query
 
+-- The chase of the tableau of a query, as a stored query again
+module _ (schema : List ℕ) (widths : every (between 1 8) schema ≡ true) (dependencies : List Dependency) (held : ℕ) (q : Query) (sized : SizedFor 12 q)
+    (good : goodQuery schema q ≡ true) (chased : Chased) (is : IsChased schema dependencies held (tableauOf q) chased)
+    (room : SizedFor 24 (asQuery (chased .query))) where
+  same-source : queryOf schema (asQuery (tableauOf q)) ≡ queryOf schema q
+  same-source = tableau-query schema q sized good (width-le schema widths)
+
+  fits-12 : chased .query .size ≤ 12
+  fits-12 = omega (arith, is .no-more-rows, good-query 12 schema q good .size)
+
+  -- It is the chased query
+  pub chased-query : queryOf schema (storedOf (chased .query)) ≡ chase (heldOf dependencies held) (queryOf schema q) .query
+  chased-query =
+      stored-query schema (chased .query) room fits-12 (width-le schema widths) ∙ is .query-is
+      ∙ ap (λ (x : theory.Query). chase (heldOf dependencies held) x .query) same-source
+
+  pub chased-counted : chased .count ≡ chase (heldOf dependencies held) (queryOf schema q) .count
+  chased-counted = is .count-is ∙ ap (λ (x : theory.Query). chase (heldOf dependencies held) x .count) same-source
+
+  pub chased-good : goodQuery schema (storedOf (chased .query)) ≡ true
+  chased-good = stored-good schema (chased .query) room fits-12 (is .good)
+
 -- Losing rows of the chased query gives a result of reduction
-result-of : {schema : List ℕ} {dependencies : List Dependency} {held : ℕ} {q result : Query} {chased : Chased} → IsChased schema dependencies held q chased
-    → IsCoreOf schema (chased .query) result → Reduction (heldOf dependencies held) (queryOf schema q) (queryOf schema result)
-result-of {schema} {dependencies} {held} {q} {result} {chased} c p =
-    let ds = heldOf dependencies held in
-    let is : queryOf schema (chased .query) ≡ chase ds (queryOf schema q) .query = c .query-is in
+result-of : {schema : List ℕ} (ds : List database.Dependency) (q : Query) {query result : Query} → queryOf schema query ≡ chase ds (queryOf schema q) .query
+    → IsCoreOf schema query result → Reduction ds (queryOf schema q) (queryOf schema result)
+result-of {schema} ds q {query} {result} is p =
     record {
       head = p .head ∙ ap (λ (x : theory.Query). x .head) is;
       rows = λ r at. subst (λ (x : theory.Query). r ∈ x .rows) is (p .rows r at);
@@ -68,34 +94,31 @@ result-of {schema} {dependencies} {held} {q} {result} {chased} c p =
     }
 
 -- A search that must find a mapping finds it
-found-mapping : {schema : List ℕ} {source target : Query} {r : Mapped} → IsMapped schema source target r
-    → Mapping (queryOf schema source) (queryOf schema target)
-    → IsMapping (queryOf schema source) (queryOf schema target) (imagesOf (r .images))
-found-mapping {schema} {source} {target} {r} is m = go (r .found) refl
+found-mapping : {S T : theory.Query} {r : Mapped} → IsMapped S T r → Mapping S T → IsMapping S T (imagesOf (r .images))
+found-mapping {S} {T} {r} is m = go (r .found) refl
   where
-    go : (b : Bool) → r .found ≡ b → IsMapping (queryOf schema source) (queryOf schema target) (imagesOf (r .images))
+    go : (b : Bool) → r .found ≡ b → IsMapping S T (imagesOf (r .images))
     go true e = is .mapping e
     go false e = absurd (is .none e m)
 
 -- One that can find none leaves blanks
-found-none : {schema : List ℕ} {source target : Query} {r : Mapped} → IsMapped schema source target r → queryOf schema target .rows ≡ []
-    → r .images ≡ replicate 96 noCell
-found-none {schema} {source} {target} {r} is empty = go (r .found) refl
+found-none : {S T : theory.Query} {r : Mapped} → IsMapped S T r → T .rows ≡ [] → r .images ≡ replicate 96 noCell
+found-none {S} {T} {r} is empty = go (r .found) refl
   where
     go : (b : Bool) → r .found ≡ b → r .images ≡ replicate 96 noCell
-    go true e = absurd (mapping-target (queryOf schema source) (queryOf schema target) (imagesOf (r .images), is .mapping e) empty)
+    go true e = absurd (mapping-target S T (imagesOf (r .images), is .mapping e) empty)
     go false e = is .blank e
 
-pub shortened : (schema : List ℕ) (dependencies : List Dependency) (held : ℕ) (q result : Query) (chased : Chased) (mapped : Mapped)
+pub shortened : (schema : List ℕ) (ds : List database.Dependency) (q query result : Query) (count : ℕ) (mapped : Mapped)
     → every (between 1 8) schema ≡ true → 8 * q .size ≤ length (q .cells) → goodQuery schema q ≡ true → headSafe schema q ≡ true
-    → IsChased schema dependencies held q chased → IsCoreOf schema (chased .query) result → IsMapped schema q result mapped
-    → IsShortened schema (heldOf dependencies held) q (record { query = result; count = chased .count; images = mapped .images })
+    → queryOf schema query ≡ chase ds (queryOf schema q) .query → count ≡ chase ds (queryOf schema q) .count → IsCoreOf schema query result
+    → IsMapped (queryOf schema q) (queryOf schema result) mapped
+    → IsShortened schema ds q (record { query = result; count = count; images = mapped .images })
 unfolding headSafe
-shortened schema dependencies held q result chased mapped widths long good safe c p m =
-    let ds = heldOf dependencies held in
+shortened schema ds q query result count mapped widths long good safe is counted p m =
     let S = queryOf schema q in
     let T = queryOf schema result in
-    let reduced : Reduction ds S T = result-of c p in
+    let reduced : Reduction ds S T = result-of ds q is p in
     let well : WellFormed schema S = well-formed 12 schema (width-le schema widths) q good long safe in
     record {
       good = p .good;
@@ -105,8 +128,8 @@ shortened schema dependencies held q result chased mapped widths long good safe 
         mapping = λ some-rows. found-mapping m (reduction-mapping ds S T reduced some-rows);
         answers = reduction-answers ds S T reduced;
         minimal = reduction-minimal schema ds S T (well .rows-fit) reduced;
-        counted = c .count-is;
-        count-le = chased-count c;
+        counted = counted;
+        count-le = rw counted (chase-count-le ds S);
       };
       no-mapping = found-none m;
     }

@@ -9,6 +9,8 @@ use record::Record;
 use record::Status;
 use record::calls::stored;
 use record::calls::with_place;
+use tableaux::from_query;
+use tableaux::to_query;
 ghost use mathlib.Core.Path.{_≡_};
 ghost use mathlib.Core.Bool.{true};
 ghost use mathlib.Core.List.{List};
@@ -54,10 +56,11 @@ fn shorten(q: Query, dependencies: [Dependency; 32], held: usize) -> Shortened
     ensures { λ r. ⌜ ((schema : List ℕ) → every (between 1 8) schema ≡ true → goodQuery schema q ≡ true → headSafe schema q ≡ true → IsShortened schema
         (heldOf dependencies held) q r) ⌝ }
 {
-    let chased = chase::chase(q, dependencies, held);
-    let query = chased.query;
+    let chased = chase::chase(from_query(q), dependencies, held);
+    let tableau = chased.query;
+    let query = to_query(tableau);
     let result = core::core_of(query);
-    let mapped = mapping::find(q, result);
+    let mapped = mapping::find(q, from_query(result));
     let images = mapped.images;
     Shortened {
         query: result,

@@ -2,8 +2,8 @@
 use mathlib.Core.Path.{_≡_, refl, ap}
 use mathlib.Core.Logic.{_⊎_, inl, inr}
 use mathlib.Core.Bool.{Bool, true, false, cond}
-use mathlib.Core.List.{List, [], _∷_}
-use mathlib.Core.Option.{Option, none, some}
+use mathlib.Core.List.{List, [], _∷_, _++_}
+use mathlib.Core.Option.{Option, none, some, orElse}
 use Prim.Native.Nat.{ℕ}
 use native.Mathlib.Omega.{arith}
 use Rattle.refusals.specs.Refusals.{firstHolding, refused, gives, reply, refusalIn}
@@ -36,6 +36,17 @@ module _ (b : Bool) (n : ℕ) (rest : List (Bool × ℕ)) where
 pub nothing-holds : (m : ℕ) → firstHolding [] ≡ some m → ⊥
 unfolding firstHolding
 nothing-holds m e = let z : _≡_ {A = ℕ} 0 1 = cc in omega arith
+
+-- Of some conditions followed by others the first that holds is one of the first ones, or where none of these does one of the others
+pub holds-append : (cs ds : List (Bool × ℕ)) → firstHolding (cs ++ ds) ≡ orElse (firstHolding cs) (firstHolding ds)
+unfolding firstHolding orElse
+holds-append [] ds = refl
+holds-append (c ∷ cs) ds = go (c .0) (holds-append cs ds)
+  where
+    go : (t : Bool) → firstHolding (cs ++ ds) ≡ orElse (firstHolding cs) (firstHolding ds)
+        → cond t (some (c .1)) (firstHolding (cs ++ ds)) ≡ orElse (cond t (some (c .1)) (firstHolding cs)) (firstHolding ds)
+    go true rest = refl
+    go false rest = rest
 
 -- ---- replies
 

@@ -1,8 +1,8 @@
 -- Laws of one step of the chase on stored entries: the replacement, the survivor, and what stands in a head. Assumes nothing.
-use mathlib.Core.Path.{_≡_, _∙_, ap}
+use mathlib.Core.Path.{_≡_, refl, _∙_, ap, ap₂}
 use mathlib.Core.Bool.{Bool, true, false, cond}
-use mathlib.Core.List.{List}
-use Prim.Native.Nat.{ℕ, _+_, _≤_, _<_}
+use mathlib.Core.List.{List, [], _∷_, map}
+use Prim.Native.Nat.{ℕ, zero, suc, _+_, _≤_, _<_}
 use lib.Dec.{ltb}
 use lib.ListN.{length, take, drop, getD}
 use borrow.Author.Tests.{eq-eqb, ne-eqb}
@@ -10,7 +10,11 @@ use Rattle.query.specs.declared.Entry.{Entry}
 use Rattle.query.specs.declared.Entry.the-variants.{Constant, Variable}
 use Rattle.query.specs.declared.Cell.{Cell}
 use Rattle.query.specs.View.{entryOf, entriesOf}
-use Rattle.query.specs.Rule.{noCell}
+use Rattle.query.specs.Rule.{noCell, blankCell}
+use Rattle.lists.specs.Tests.{every}
+use Rattle.lists.proofs.Tests.{and-left, and-right}
+use Rattle.lists.proofs.Maps.{mapFirst}
+use Rattle.query.proofs.Shape.{blank-entry}
 use Rattle.lists.proofs.Positions.{left-cons, left-none}
 use Rattle.replacement.specs.internal.Replacement.{substituteEntry, substituteCell, entryInHead}
 use Rattle.theory.specs.Query.{variable, variablesOf, member}
@@ -32,6 +36,21 @@ substitute-same v e c w is same = ap cellOf (rw (is, eq-eqb w v same))
 pub substitute-other : (v : ℕ) (e : Entry) (c : Cell) (w : ℕ) → c .entry ≡ Variable w → (w ≡ v → ⊥) → c ≡ substituteCell v e c
 unfolding substituteEntry
 substitute-other v e c w is other = ap cellOf (is ∙ rw (is, ne-eqb w v other))
+
+-- A cell that is not in use holds a constant, and stays
+substitute-unused : (v : ℕ) (e : Entry) (c : Cell) → blankCell c ≡ true → c ≡ substituteCell v e c
+substitute-unused v e c blank = substitute-constant v e c 0 (blank-entry (c .entry) blank)
+
+-- With all that is in use replaced, all cells are
+pub substitute-all : (v : ℕ) (e : Entry) (k : ℕ) (cells : List Cell) → every blankCell (drop k cells) ≡ true
+    → mapFirst (substituteCell v e) k cells ≡ map (substituteCell v e) cells
+unfolding mapFirst every
+substitute-all v e zero [] blank = refl
+substitute-all v e zero (c ∷ cs) blank =
+    ap₂ _∷_ (substitute-unused v e c (and-left (blankCell c) (every blankCell cs) blank))
+    (substitute-all v e zero cs (and-right (blankCell c) (every blankCell cs) blank))
+substitute-all v e (suc k) [] blank = refl
+substitute-all v e (suc k) (c ∷ cs) blank = ap (λ (l : List Cell). substituteCell v e c ∷ l) (substitute-all v e k cs blank)
 
 -- ---- the survivor
 

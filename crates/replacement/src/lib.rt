@@ -1,13 +1,15 @@
 // What a step of the chase does with the two entries that it finds (SPECIFICATION, The chase): which of them survives, and the replacement of the other.
 use query::Cell;
 use query::Entry;
-use query::Query;
+use query::Tableau;
 ghost use mathlib.Core.Path.{_≡_};
-ghost use mathlib.Core.Bool.{Bool};
+ghost use mathlib.Core.Bool.{Bool, true};
 ghost use mathlib.Core.List.{map};
-ghost use Prim.Native.Nat.{ℕ, _≤_};
-ghost use lib.ListN.{take};
-ghost use Rattle.query.specs.View.{entryOf, entriesOf};
+ghost use Prim.Native.Nat.{ℕ, _*_, _≤_};
+ghost use lib.ListN.{take, drop};
+ghost use Rattle.query.specs.View.{entryOf, entriesOf, asQuery};
+ghost use Rattle.query.specs.Rule.{blankCell};
+ghost use Rattle.lists.specs.Tests.{every};
 ghost use Rattle.replacement.specs.internal.Replacement.{headHolds, entryInHead, resolutionOf, Survivor, substituteCell, mapCells};
 ghost use Rattle.theory.specs.Query as theory;
 ghost use Rattle.theory.specs.Chase as chasing;
@@ -39,15 +41,15 @@ fn stands(head: [Cell; 8], arity: usize, v: u8) -> bool
 }
 
 // Whether an entry is a variable that stands in the head.
-fn in_head(q: Query, e: Entry) -> bool
-    requires { ⌜ q .arity ≤ 8 ⌝ }
-    ensures { λ r. ⌜ r ≡ entryInHead (headHolds q) (entryOf e) ⌝ }
+fn in_head(t: Tableau, e: Entry) -> bool
+    requires { ⌜ t .arity ≤ 8 ⌝ }
+    ensures { λ r. ⌜ r ≡ entryInHead (headHolds (asQuery t)) (entryOf e) ⌝ }
 {
     match e {
         Entry::Constant(_) => false,
         Entry::Variable(v) => {
-            let head = q.head;
-            stands(head, q.arity as usize, v)
+            let head = t.head;
+            stands(head, t.arity as usize, v)
         }
     }
 }
@@ -90,12 +92,12 @@ fn survivor(a: Entry, a_in_head: bool, b: Entry, b_in_head: bool) -> Resolution
     }
 }
 
-// What two different entries of a query lead to.
-pub fn resolve(q: Query, a: Entry, b: Entry) -> Resolution
-    requires { ⌜ q .arity ≤ 8 ⌝ }
-    ensures { λ r. ⌜ resolutionOf r ≡ chasing.resolve (headHolds q) (entryOf a) (entryOf b) ⌝ }
+// What two different entries of a tableau lead to.
+pub fn resolve(t: Tableau, a: Entry, b: Entry) -> Resolution
+    requires { ⌜ t .arity ≤ 8 ⌝ }
+    ensures { λ r. ⌜ resolutionOf r ≡ chasing.resolve (headHolds (asQuery t)) (entryOf a) (entryOf b) ⌝ }
 {
-    survivor(a, in_head(q, a), b, in_head(q, b))
+    survivor(a, in_head(t, a), b, in_head(t, b))
 }
 
 // A cell with entry e in place of variable v.
@@ -120,29 +122,31 @@ fn substitute_head(head: [Cell; 8], v: u8, e: Entry) -> [Cell; 8]
     out
 }
 
-// The same in each cell of the rows.
-fn substitute_cells(cells: [Cell; 96], v: u8, e: Entry) -> [Cell; 96]
+// The same in each of the first `used` cells of the rows. Those after them are not in use and hold a constant, which stays.
+fn substitute_cells(cells: [Cell; 192], used: usize, v: u8, e: Entry) -> [Cell; 192]
+    requires { ⌜ (used ≤ 192) × (every blankCell (drop used cells) ≡ true) ⌝ }
     ensures { λ r. ⌜ r ≡ map (substituteCell v e) cells ⌝ }
 {
     let mut out = cells;
-    for k in 0..96 {
+    for k in 0..used {
         out[k] = substitute(cells[k], v, e);
     }
     out
 }
 
-// Entry e in place of variable v, in the head and in all rows. Cells that are not in use hold a constant, which stays.
-pub fn replace(q: Query, v: u8, e: Entry) -> Query
-    ensures { λ r. ⌜ r ≡ mapCells (substituteCell v e) q ⌝ }
+// Entry e in place of variable v, in the head and in all rows.
+pub fn replace(t: Tableau, v: u8, e: Entry) -> Tableau
+    requires { ⌜ (t .size ≤ 24) × (every blankCell (drop (8 * t .size) (t .cells)) ≡ true) ⌝ }
+    ensures { λ r. ⌜ asQuery r ≡ mapCells (substituteCell v e) (asQuery t) ⌝ }
 {
-    let relations = q.relations;
-    let head = q.head;
-    let cells = q.cells;
+    let relations = t.relations;
+    let head = t.head;
+    let cells = t.cells;
     let new_head = substitute_head(head, v, e);
-    let new_cells = substitute_cells(cells, v, e);
-    Query {
-        arity: q.arity,
-        size: q.size,
+    let new_cells = substitute_cells(cells, 8 * (t.size as usize), v, e);
+    Tableau {
+        arity: t.arity,
+        size: t.size,
         head: new_head,
         relations: relations,
         cells: new_cells,

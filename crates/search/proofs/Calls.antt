@@ -1,5 +1,5 @@
 -- What `place_row` and `try_candidate` ask of each other at each call, and what they answer.
--- The work: placing asks for more than 14 for each row that is not placed, trying for 14 less what the candidates passed have
+-- The work: placing asks for more than 26 for each row that is not placed, trying for 26 less what the candidates passed have
 -- cost, and each call takes 1. Assumes nothing.
 use mathlib.Core.Path.{_≡_, subst, subst⁻¹}
 use mathlib.Core.Bool.{Bool, true, false}
@@ -24,13 +24,13 @@ not-both b p q = let z : _≡_ {A = ℕ} 0 1 = cc in omega arith
 module _ (rows : ℕ) (domain table : List ℕ) (s : State) where
   -- ---- at the start
   -- where no row is placed and each has all its candidates, the search can begin
-  pub placeable-start : rows ≤ 13 → s .placed ≡ 0 → s .current ≡ domain → Below (s .chosen) → Placeable rows domain table s (14 * rows + 1)
+  pub placeable-start : rows ≤ 13 → s .placed ≡ 0 → s .current ≡ domain → Below (s .chosen) → Placeable rows domain table s (26 * rows + 1)
   placeable-start few none all below =
       record {
         rows-few = few;
         below = below;
         sound = λ q h f sol ag. subst⁻¹ (λ (l : List ℕ). Bit (getD l q 0) (f q)) all (sol .held q h);
-        enough = subst⁻¹ (λ (p : ℕ). 14 * missing p rows < 14 * rows + 1) none (omega (arith, missing-none rows));
+        enough = subst⁻¹ (λ (p : ℕ). 26 * missing p rows < 26 * rows + 1) none (omega (arith, missing-none rows));
       }
 
   -- also once it is settled
@@ -40,7 +40,7 @@ module _ (rows : ℕ) (domain table : List ℕ) (s : State) where
         rows-few = pre .rows-few;
         below = subst⁻¹ Below (settles .chosen) (pre .below);
         sound = settles .sound domain (pre .sound);
-        enough = subst⁻¹ (λ (p : ℕ). 14 * missing p rows < work) (settles .placed) (pre .enough);
+        enough = subst⁻¹ (λ (p : ℕ). 26 * missing p rows < work) (settles .placed) (pre .enough);
       }
 
   -- and a failure without a placed row says that there is no solution
@@ -54,7 +54,7 @@ module _ (rows : ℕ) (domain table : List ℕ) (s : State) where
     tryable-first some n =
         let within : r ≤ rows = next .within in
         let h : r < rows = omega arith in
-        let e : 14 * missing (s .placed) rows < work = pre .enough in
+        let e : 26 * missing (s .placed) rows < work = pre .enough in
         record {
           rows-few = pre .rows-few;
           below = pre .below;
@@ -82,7 +82,7 @@ module _ (rows : ℕ) (domain table : List ℕ) (s : State) where
   -- ---- from trying a candidate
   module _ (work row c blame d : ℕ) (pre : Tryable rows domain table s work row c blame) (is : IsCandidate (getD (s .current) row 0) c d) where
     -- none is left
-    pub failed-exhausted : d ≡ 12 → (a : Attempt) → a .found ≡ false → a .blame ≡ blame → Attempted rows domain table s a
+    pub failed-exhausted : d ≡ 24 → (a : Attempt) → a .found ≡ false → a .blame ≡ blame → Attempted rows domain table s a
     failed-exhausted e a no-luck same =
         record {
           solved = λ p. absurd (not-both (a .found) p no-luck);
@@ -94,28 +94,28 @@ module _ (rows : ℕ) (domain table : List ℕ) (s : State) where
     fewer : missing (bitOr (s .placed) (2 ^ row)) rows < missing (s .placed) rows
     fewer = missing-less (s .placed) row rows (pre .row-in) (pre .free)
 
-    pub some-work : (d ≡ 12 → ⊥) → 2 < work
+    pub some-work : (d ≡ 24 → ⊥) → 2 < work
     some-work n =
-        let a : 14 * missing (s .placed) rows ≤ work + c = pre .enough in
+        let a : 26 * missing (s .placed) rows ≤ work + c = pre .enough in
         let b : c ≤ d = is .from in
-        let w : d ≤ 12 = is .within in
+        let w : d ≤ 24 = is .within in
         omega (arith, fewer)
 
     -- after the choice of candidate d
-    module _ (n : d ≡ 12 → ⊥) (t : State) (after : Follows rows table s t row d) (long : length (s .chosen) ≡ 13) where
+    module _ (n : d ≡ 24 → ⊥) (t : State) (after : Follows rows table s t row d) (long : length (s .chosen) ≡ 13) where
       fits : row < length (s .chosen)
       fits = let a : row < rows = pre .row-in in let b : rows ≤ 13 = pre .rows-few in omega arith
 
       pub placeable-next : Placeable rows domain table t (work - 1)
       placeable-next =
-          let w : d ≤ 12 = is .within in
-          let a : 14 * missing (s .placed) rows ≤ work + c = pre .enough in
+          let w : d ≤ 24 = is .within in
+          let a : 26 * missing (s .placed) rows ≤ work + c = pre .enough in
           let b : c ≤ d = is .from in
           record {
             rows-few = pre .rows-few;
             below = subst⁻¹ Below (after .chosen) (below-set (s .chosen) row d (pre .below) (omega arith));
             sound = after .sound domain (pre .sound);
-            enough = subst⁻¹ (λ (p : ℕ). 14 * missing p rows < work - 1) (after .placed) (omega (arith, fewer));
+            enough = subst⁻¹ (λ (p : ℕ). 26 * missing p rows < work - 1) (after .placed) (omega (arith, fewer));
           }
 
       module _ (deeper : Attempt) (said : Attempted rows domain table t deeper) (no-luck : deeper .found ≡ false) where
@@ -130,8 +130,8 @@ module _ (rows : ℕ) (domain table : List ℕ) (s : State) where
         -- the next candidate can be tried
         pub tryable-next : Tryable rows domain table s (work - 1) row (d + 1) (bitOr blame (deeper .blame))
         tryable-next =
-            let w : d ≤ 12 = is .within in
-            let a : 14 * missing (s .placed) rows ≤ work + c = pre .enough in
+            let w : d ≤ 24 = is .within in
+            let a : 26 * missing (s .placed) rows ≤ work + c = pre .enough in
             let b : c ≤ d = is .from in
             let ex = excludes rows domain table s t row d (after .chosen) (after .placed) fits (pre .free) (deeper .blame) (said .failed no-luck) in
             record {

@@ -27,10 +27,10 @@ module _ (rows : ℕ) (domain table : List ℕ) (placed blame : ℕ) (chosen : L
       go (no more) = omega arith
 
   -- where none is left, the rows to blame exclude all
-  pub exhausted : row < rows → d ≡ 12 → Refuted rows domain table placed blame chosen
+  pub exhausted : row < rows → d ≡ 24 → Refuted rows domain table placed blame chosen
   exhausted h e f sol ag =
       let far : d ≤ f row = reaches f sol ag in
-      let near : f row < 12 = sol .below row h in
+      let near : f row < 24 = sol .below row h in
       omega arith
 
   module _ (m : ℕ) (excluded : (f : ℕ → ℕ) → Solution rows domain table f → HasChosen placed m chosen f → f row ≡ d → ⊥) where

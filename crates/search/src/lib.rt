@@ -43,8 +43,8 @@ struct Best {
 }
 
 // How late a row is placed: the fewest candidates first, and of two with as many the one with more links.
-fn rank(candidates: u16, links: u16) -> u32 {
-    u16::count_ones(candidates) * 32 + (16 - u16::count_ones(links))
+fn rank(candidates: u32, links: u16) -> u32 {
+    u32::count_ones(candidates) * 32 + (16 - u16::count_ones(links))
 }
 
 // Of row q with its rank and the best row so far, the one to be placed first. A placed row is passed over.
@@ -79,25 +79,29 @@ fn next_row(links: &[u16; 13], rows: usize, state: State) -> usize
     best.row
 }
 
-// The first candidate of the mask from c on, or 12.
-fn next_candidate(mask: u16, c: usize) -> usize
-    requires { ⌜ c ≤ 12 ⌝ }
+// The first candidate of the mask from c on, or 24.
+fn next_candidate(mask: u32, c: usize) -> usize
+    requires { ⌜ c ≤ 24 ⌝ }
     ensures { λ d. ⌜ IsCandidate mask c d ⌝ }
 {
     let mut d = c;
-    while d < 12 {
-        if (mask >> d) % 2 == 1 {
+    while d < 24 {
+        let rest = mask >> d;
+        if rest == 0 {
+            return 24;
+        }
+        if rest % 2 == 1 {
             return d;
         }
         d += 1;
     }
-    12
+    24
 }
 
 // Whether row r has one of its candidates and goes together with every row.
 fn test_row(
-    domain: &[u16; 13],
-    table: &[u16; 2028],
+    domain: &[u32; 13],
+    table: &[u32; 4056],
     rows: usize,
     chosen: [u8; 13],
     r: usize,
@@ -110,7 +114,7 @@ fn test_row(
         return Clash::Rows(1 << r);
     }
     for q in 0..rows {
-        if (table[(r * 12 + d) * 13 + q] >> chosen[q]) % 2 == 0 {
+        if (table[(r * 24 + d) * 13 + q] >> chosen[q]) % 2 == 0 {
             return Clash::Rows((1 << r) | (1 << q));
         }
     }
@@ -118,7 +122,7 @@ fn test_row(
 }
 
 // Whether the choices are a solution.
-fn test_choices(domain: &[u16; 13], table: &[u16; 2028], rows: usize, chosen: [u8; 13]) -> Clash
+fn test_choices(domain: &[u32; 13], table: &[u32; 4056], rows: usize, chosen: [u8; 13]) -> Clash
     requires { ⌜ (rows ≤ 13) × Below chosen ⌝ }
     ensures { λ c. ⌜ TestSays rows (now (domain .entry)) (now (table .entry)) chosen (Solution rows (now (domain .entry)) (now (table .entry)) (λ q. getD chosen q 0)) c ⌝ }
 {
@@ -134,12 +138,12 @@ fn test_choices(domain: &[u16; 13], table: &[u16; 2028], rows: usize, chosen: [u
 // Place the next row, or test the choices where all rows are placed. (Where the table says the same both ways round, and each
 // candidate goes together with itself, the test finds nothing.)
 //
-// The work left falls with each call, and a row takes at most 14 of it. Calls go at most 170 deep: for each of 13 rows one that
-// places it and 12 that try a candidate, and the last. Compiled, placing takes 0.35 KB and trying 0.56 KB, so 92 KB of stack at
+// The work left falls with each call, and a row takes at most 26 of it. Calls go at most 326 deep: for each of 13 rows one that
+// places it and 24 that try a candidate, and the last. Compiled, placing takes 0.35 KB and trying 0.56 KB, so 92 KB of stack at
 // the deepest.
 fn place_row(
-    domain: &[u16; 13],
-    table: &[u16; 2028],
+    domain: &[u32; 13],
+    table: &[u32; 4056],
     links: &[u16; 13],
     rows: usize,
     state: State,
@@ -171,8 +175,8 @@ fn place_row(
 
 // Try the next candidate of the row, from c on. The placed rows of `blame` exclude each one before c and each that is not current.
 fn try_candidate(
-    domain: &[u16; 13],
-    table: &[u16; 2028],
+    domain: &[u32; 13],
+    table: &[u32; 4056],
     links: &[u16; 13],
     rows: usize,
     state: State,
@@ -186,7 +190,7 @@ fn try_candidate(
 {
     let d = next_candidate(state.current[row], c);
     let chosen = state.chosen;
-    if d == 12 {
+    if d == 24 {
         return Attempt {
             found: false,
             chosen,
@@ -214,15 +218,15 @@ fn try_candidate(
     )
 }
 
-// A solution, where there is one; found says whether. Candidates from 12 on are passed over.
-pub fn solve(domain: &[u16; 13], table: &[u16; 2028], rows: usize) -> Solved
+// A solution, where there is one; found says whether. Candidates from 24 on are passed over.
+pub fn solve(domain: &[u32; 13], table: &[u32; 4056], rows: usize) -> Solved
     requires { ⌜ rows ≤ 13 ⌝ }
     ensures found { λ o. ⌜ (o .found ≡ true → Solution rows (now (domain .entry)) (now (table .entry)) (λ r. getD (o .chosen) r 0)) ⌝ }
     ensures none { λ o. ⌜ (o .found ≡ false → (f : ℕ → ℕ) → Solution rows (now (domain .entry)) (now (table .entry)) f → ⊥) ⌝ }
 {
     let links = all_links(domain, table, rows);
     let state = settled(&links, table, rows, start(domain));
-    let last = place_row(domain, table, &links, rows, state, 14 * rows + 1);
+    let last = place_row(domain, table, &links, rows, state, 26 * rows + 1);
     let chosen = last.chosen;
     Solved {
         found: last.found,

@@ -40,20 +40,20 @@ Marks n mask P = (mask < 2 ^ n) × ((e : ℕ) → e < n → (Has mask e ↔ P e)
 abbrev pub rowStart : ℕ → ℕ → ℕ
 rowStart size r = cond (eqb r size) 96 (8 * r)
 
--- Where the codes of candidate d of row r start: the head's one candidate is the target's head
+-- Where the codes of candidate d of row r start: the head's one candidate is the target's head, after 24 rows
 abbrev pub imageStart : ℕ → ℕ → ℕ → ℕ
-imageStart size r d = cond (eqb r size) 96 (8 * d)
+imageStart size r d = cond (eqb r size) 192 (8 * d)
 
 -- How many candidates row r has, of a target with `count` rows
 abbrev pub candidatesOf : ℕ → ℕ → ℕ → ℕ
 candidatesOf size count r = cond (eqb r size) 1 count
 
--- A source and a target as 104 codes each, with at most 12 rows
+-- A source as 104 codes, with at most 12 rows, and a target as 200, with at most 24
 pub record Laid (source target : List ℕ) (size count : ℕ) : Type 0 where
   pub source-length : length source ≡ 104
-  pub target-length : length target ≡ 104
+  pub target-length : length target ≡ 200
   pub few-rows : size ≤ 12
-  pub few-images : count ≤ 12
+  pub few-images : count ≤ 24
 
 -- Candidate d of row r goes together with candidate e of row q
 abbrev pub Together : List ℕ → List ℕ → ℕ → ℕ → ℕ → ℕ → ℕ → Type 0
@@ -72,8 +72,11 @@ abbrev pub IsDomain : List ℕ → List ℕ → List ℕ → List ℕ → ℕ �
 IsDomain source target named offered size count domain =
     (r : ℕ) → r ≤ size → Marks (candidatesOf size count r) (getD domain r 0) (Possible source target named offered size r)
 
--- Masks of the candidates of each row that go together with each candidate of each row
+-- The mask of the candidates of row q that go together with candidate d of row r
+abbrev pub IsMask : List ℕ → List ℕ → ℕ → ℕ → List ℕ → ℕ → ℕ → ℕ → Type 0
+IsMask source target size count table r d q = Marks (candidatesOf size count q) (goes table r d q) (Together source target size r d q)
+
+-- All these masks
 abbrev pub IsTable : List ℕ → List ℕ → ℕ → ℕ → List ℕ → Type 0
 IsTable source target size count table =
-    (r d q : ℕ) → r ≤ size → q ≤ size → d < candidatesOf size count r
-    → Marks (candidatesOf size count q) (goes table r d q) (Together source target size r d q)
+    (r d q : ℕ) → r ≤ size → q ≤ size → d < candidatesOf size count r → IsMask source target size count table r d q

@@ -7,7 +7,7 @@ use native.Mathlib.Omega.{arith}
 use borrow.Author.Needs.{needs}
 use lib.ListN.{length}
 use Rattle.first_step.specs.internal.Wide.{wideQuery}
-use Rattle.query.specs.View.{heldOf}
+use Rattle.query.specs.View.{asQuery, heldOf}
 use Rattle.lists.proofs.Loops.{mapped-length}
 use Rattle.chase.proofs.Rounds.{Under, under-start, under-replace, replaced-count, under-count, under-rest, under-clash}
 use Rattle.query.specs.declared.Query.{Query}
@@ -17,17 +17,17 @@ use Rattle.chase.proofs.chase.Statement.{statement}
 use Rattle.chase.proofs.chase.Tie as tie
 
 abbrev Inv-loop : tie.InvT-loop
-Inv-loop q dependencies held query₀ count₀ query count =
-    (length (q .relations) ≡ 12) × (length (q .head) ≡ 8) × Under q (heldOf dependencies held) query count
+Inv-loop t dependencies held query₀ count₀ query count =
+    (length (t .relations) ≡ 24) × (length (t .head) ≡ 8) × Under (asQuery t) (heldOf dependencies held) (asQuery query) count
 
 abbrev μ-loop : tie.MeasureT-loop
-μ-loop q dependencies held query₀ count₀ query count = chasing.chase (heldOf dependencies held) (wideQuery query) .count
+μ-loop t dependencies held query₀ count₀ query count = chasing.chase (heldOf dependencies held) (wideQuery (asQuery query)) .count
 
 loop-holds : tie.Need-loop-holds Inv-loop μ-loop
 loop-holds c =
-    let twelve : length (c .args .q .relations) ≡ 12 = search (mapped-length, needs) in
-    let eight : length (c .args .q .head) ≡ 8 = search (mapped-length, needs) in
-    (twelve, eight, under-start _ _)
+    let room : length (c .args .t .relations) ≡ 24 = search (mapped-length, needs) in
+    let eight : length (c .args .t .head) ≡ 8 = search (mapped-length, needs) in
+    (room, eight, under-start _ _ (c .pre .rest-blank))
 
 find-step-requires : tie.Need-find-step-requires Inv-loop μ-loop
 find-step-requires c κs =
@@ -38,6 +38,7 @@ find-step-requires c κs =
       size-fits = rw (u .same-size) (p .size-fits);
       held-fits = p .held-fits;
       right-fits = p .right-fits;
+      rest-blank = u .rest-blank;
     }
 
 enum-known-found : tie.Need-enum-known-found Inv-loop μ-loop
@@ -51,12 +52,12 @@ returns c =
     let s = c .before .before .before .before in
     let a = s .args in
     let l = c .before .before .before .loop in
-    let twelve = l .inv .0 in
+    let room = l .inv .0 in
     λ schema good widths.
     under-rest
     (a .dependencies)
     (a .held)
-    (a .q)
+    (a .t)
     (l .query)
     (l .count)
     (l .inv .2)
@@ -84,7 +85,7 @@ returns-2 c =
     let a = s .args in
     let l = c .before .before .before .before .before .before .before .before .loop in
     let f = c .before .before .before .before .before .found .given in
-    let twelve = l .inv .0 in
+    let room = l .inv .0 in
     let eight = l .inv .1 in
     λ schema good widths.
     rw
@@ -92,7 +93,7 @@ returns-2 c =
     (under-clash
     (a .dependencies)
     (a .held)
-    (a .q)
+    (a .t)
     (l .query)
     (l .count)
     (l .inv .2)
@@ -108,23 +109,26 @@ returns-2 c =
     (rw (c .before .enum-told2 .given .1) at (c .before .before .before .resolve .ensures)))
 
 replace-requires : tie.Need-replace-requires Inv-loop μ-loop
-replace-requires c κs = search needs
+replace-requires c κs =
+    let s = c .before .before .before .before .before .before .before .before .before in
+    let l = c .before .before .before .before .before .before .before .before .loop in
+    (rw (l .inv .2 .same-size) (s .pre .size-fits), l .inv .2 .rest-blank)
 
 -- The dependencies and the query before a replacement
 abbrev heldAt : tie.After-replace Inv-loop μ-loop → List Dependency
 heldAt c = let a = c .before .before .before .before .before .before .before .before .before .before .args in heldOf (a .dependencies) (a .held)
 
 abbrev queryAt : tie.After-replace Inv-loop μ-loop → Query
-queryAt c = c .before .before .before .before .before .before .before .before .before .loop .query
+queryAt c = asQuery (c .before .before .before .before .before .before .before .before .before .loop .query)
 
 -- After it one replacement fewer is left
 fewer : (c : tie.After-replace Inv-loop μ-loop)
-    → chasing.chase (heldAt c) (wideQuery (queryAt c)) .count ≡ suc (chasing.chase (heldAt c) (wideQuery (c .replace .result)) .count)
+    → chasing.chase (heldAt c) (wideQuery (queryAt c)) .count ≡ suc (chasing.chase (heldAt c) (wideQuery (asQuery (c .replace .result))) .count)
 fewer c =
     let f = c .before .before .before .before .before .before .found .given in
     let e = c .before .before .resolution .given in
     replaced-count
-    (c .before .before .before .before .before .before .before .before .before .before .args .q)
+    (asQuery (c .before .before .before .before .before .before .before .before .before .before .args .t))
     (heldAt c)
     (queryAt c)
     (f .0 .0)
@@ -139,7 +143,7 @@ add-count : tie.Need-add-count Inv-loop μ-loop
 add-count c =
     let s = c .before .before .before .before .before .before .before .before .before .before in
     let l = c .before .before .before .before .before .before .before .before .before .loop in
-    let bound = under-count (s .args .q) (heldAt c) (queryAt c) (l .count) (l .inv .2) (s .pre .arity-fits) (s .pre .size-fits) in
+    let bound = under-count (asQuery (s .args .t)) (heldAt c) (queryAt c) (l .count) (l .inv .2) (s .pre .arity-fits) (s .pre .size-fits) in
     record { fits = omega (arith, fewer c, bound) }
 
 loop-less : tie.Need-loop-less Inv-loop μ-loop
@@ -151,9 +155,9 @@ loop-again c =
     let l = c .before .before .before .before .before .before .before .before .before .loop in
     let f = c .before .before .before .before .before .before .found .given in
     let e = c .before .before .resolution .given in
-    let twelve = l .inv .0 in
+    let room = l .inv .0 in
     let next = under-replace
-    (s .args .q)
+    (asQuery (s .args .t))
     (heldAt c)
     (queryAt c)
     (f .0 .0)
@@ -166,7 +170,7 @@ loop-again c =
     (l .inv .2)
     (omega (arith, s .pre .size-fits))
     (rw (f .1) at (c .before .before .before .before .before .before .before .before .find-step .ensures .1)) in
-    (twelve, l .inv .1, rw (c .replace .ensures) next)
+    (room, l .inv .1, rw (c .replace .ensures) next)
 
 pub chase-spec : {M : Type 1} → statement M
 chase-spec =

@@ -5,10 +5,10 @@ use Rattle.consistency.proofs.restricts.Statement.{statement}
 use Rattle.consistency.proofs.restricts.Tie as tie
 
 abbrev Inv-loop : tie.InvT-loop
-Inv-loop domain table r q own other d₀ d = d ≤ 12
+Inv-loop domain table r q own other d₀ d = d ≤ 24
 
 abbrev μ-loop : tie.MeasureT-loop
-μ-loop domain table r q own other d₀ d = 12 - d
+μ-loop domain table r q own other d₀ d = 24 - d
 
 mul-own : tie.Need-mul-own Inv-loop μ-loop
 mul-own c = search needs
@@ -25,32 +25,35 @@ element-copy-out-other c = search needs
 loop-holds : tie.Need-loop-holds Inv-loop μ-loop
 loop-holds c = search needs
 
-cast-if1 : tie.Need-cast-if1 Inv-loop μ-loop
-cast-if1 c = search needs
+cast-rest : tie.Need-cast-rest Inv-loop μ-loop
+cast-rest c = search needs
 
-shr-if1 : tie.Need-shr-if1 Inv-loop μ-loop
-shr-if1 c = search needs
-
-mul-if2 : tie.Need-mul-if2 Inv-loop μ-loop
-mul-if2 c = search needs
-
-add-if2 : tie.Need-add-if2 Inv-loop μ-loop
-add-if2 c = search needs
-
-mul-if2-2 : tie.Need-mul-if2-2 Inv-loop μ-loop
-mul-if2-2 c = search needs
-
-add-if2-2 : tie.Need-add-if2-2 Inv-loop μ-loop
-add-if2-2 c = search needs
-
-mul-if2-3 : tie.Need-mul-if2-3 Inv-loop μ-loop
-mul-if2-3 c = search needs
-
-element-copy-out-if2 : tie.Need-element-copy-out-if2 Inv-loop μ-loop
-element-copy-out-if2 c = search needs
+shr-rest : tie.Need-shr-rest Inv-loop μ-loop
+shr-rest c = search needs
 
 returns : tie.Need-returns Inv-loop μ-loop
 returns c = search needs
+
+mul-if3 : tie.Need-mul-if3 Inv-loop μ-loop
+mul-if3 c = search needs
+
+add-if3 : tie.Need-add-if3 Inv-loop μ-loop
+add-if3 c = search needs
+
+mul-if3-2 : tie.Need-mul-if3-2 Inv-loop μ-loop
+mul-if3-2 c = search needs
+
+add-if3-2 : tie.Need-add-if3-2 Inv-loop μ-loop
+add-if3-2 c = search needs
+
+mul-if3-3 : tie.Need-mul-if3-3 Inv-loop μ-loop
+mul-if3-3 c = search needs
+
+element-copy-out-if3 : tie.Need-element-copy-out-if3 Inv-loop μ-loop
+element-copy-out-if3 c = search needs
+
+returns-2 : tie.Need-returns-2 Inv-loop μ-loop
+returns-2 c = search needs
 
 add-d : tie.Need-add-d Inv-loop μ-loop
 add-d c = search needs
@@ -61,8 +64,8 @@ loop-less c = search needs
 loop-again : tie.Need-loop-again Inv-loop μ-loop
 loop-again c = search needs
 
-returns-2 : tie.Need-returns-2 Inv-loop μ-loop
-returns-2 c = search needs
+returns-3 : tie.Need-returns-3 Inv-loop μ-loop
+returns-3 c = search needs
 
 pub restricts-spec : {M : Type 1} → statement M
 restricts-spec =
@@ -75,16 +78,17 @@ restricts-spec =
     mul-other
     element-copy-out-other
     loop-holds
-    cast-if1
-    shr-if1
-    mul-if2
-    add-if2
-    mul-if2-2
-    add-if2-2
-    mul-if2-3
-    element-copy-out-if2
+    cast-rest
+    shr-rest
     returns
+    mul-if3
+    add-if3
+    mul-if3-2
+    add-if3-2
+    mul-if3-3
+    element-copy-out-if3
+    returns-2
     add-d
     loop-less
     loop-again
-    returns-2)
+    returns-3)

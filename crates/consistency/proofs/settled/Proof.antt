@@ -7,10 +7,10 @@ use Rattle.consistency.proofs.settled.Statement.{statement}
 use Rattle.consistency.proofs.settled.Tie as tie
 
 abbrev Inv-loop : tie.InvT-loop
-Inv-loop links table rows next₀ turn₀ next turn = (turn ≤ 169) × Settles rows table next₀ next
+Inv-loop links table rows next₀ turn₀ next turn = (turn ≤ 325) × Settles rows table next₀ next
 
 abbrev μ-loop : tie.MeasureT-loop
-μ-loop links table rows next₀ turn₀ next turn = 169 - turn
+μ-loop links table rows next₀ turn₀ next turn = 325 - turn
 
 loop-holds : tie.Need-loop-holds Inv-loop μ-loop
 loop-holds c = (search needs, settles-same _ _ _)

@@ -1,23 +1,23 @@
--- `search::support` meets its contract. The loop's invariant: what the candidates passed support is in the mask. Assumes nothing.
+-- `search::support` meets its contract. The loop's invariant: what the candidates passed support is in the mask; a mask that ends has no more candidates. Assumes nothing.
 use borrow.Author.Needs.{needs}
 use mathlib.Core.Path.{_≡_, subst, subst⁻¹}
 use mathlib.Core.Logic.{⊎-elim}
 use mathlib.Core.List.{List}
 use native.Mathlib.Decide.{decLt}
 use native.Mathlib.Omega.{arith}
-use Prim.Native.Nat.{ℕ, _+_, _-_, _<_, _≤_}
+use Prim.Native.Nat.{ℕ, _+_, _-_, _/_, _^_, _<_, _≤_}
 use lib.Bits.{bitOr}
 use Rattle.consistency.specs.internal.Solution.{Bit, together}
 use Rattle.consistency.specs.internal.Steps.{Supports}
-use Rattle.consistency.proofs.Masks.{bit-or-left, bit-or-right}
+use Rattle.consistency.proofs.Masks.{bit-or-left, bit-or-right, bit-past}
 use Rattle.consistency.proofs.support.Statement.{statement}
 use Rattle.consistency.proofs.support.Tie as tie
 
 abbrev Inv-loop : tie.InvT-loop
-Inv-loop table own p q mask₀ d₀ mask d = (d ≤ 12) × Supports table own p q d mask
+Inv-loop table own p q mask₀ d₀ mask d = (d ≤ 24) × Supports table own p q d mask
 
 abbrev μ-loop : tie.MeasureT-loop
-μ-loop table own p q mask₀ d₀ mask d = 12 - d
+μ-loop table own p q mask₀ d₀ mask d = 24 - d
 
 -- one more candidate: the mask has what the earlier ones support, and what this one does if it is a candidate
 more : (table : List ℕ) (own p q d m n : ℕ) → Supports table own p q d m → ((e : ℕ) → Bit m e → Bit n e)
@@ -30,14 +30,28 @@ more table own p q d m n before sub at k e h b goes = go (decLt k d)
         let same : k ≡ d = omega arith in
         at (subst (Bit own) same b) e (subst (λ (x : ℕ). Bit (together table p x q) e) same goes)
 
+-- a mask that ends before d has no candidate from d on
+whole : (table : List ℕ) (own p q d m : ℕ) → own / 2 ^ d ≡ 0 → Supports table own p q d m → Supports table own p q 24 m
+whole table own p q d m ends before k e h b goes = go (decLt k d)
+  where
+    go : Dec (k < d) → Bit m e
+    go (yes less) = before k e less b goes
+    go (no more) = absurd (bit-past own d k ends (omega arith) b)
+
 loop-holds : tie.Need-loop-holds Inv-loop μ-loop
 loop-holds c = (search needs, λ d e h. absurd (omega arith))
 
-cast-if1 : tie.Need-cast-if1 Inv-loop μ-loop
-cast-if1 c = search needs
+cast-rest : tie.Need-cast-rest Inv-loop μ-loop
+cast-rest c = search needs
 
-shr-if1 : tie.Need-shr-if1 Inv-loop μ-loop
-shr-if1 c = search needs
+shr-rest : tie.Need-shr-rest Inv-loop μ-loop
+shr-rest c = search needs
+
+returns : tie.Need-returns Inv-loop μ-loop
+returns c =
+    let args = c .before .before .before .args in
+    let loop = c .before .before .loop in
+    whole (args .table .now) (args .own) (args .p) (args .q) (loop .d) (loop .mask) (c .if1 .taken) (loop .inv .1)
 
 mul-mask : tie.Need-mul-mask Inv-loop μ-loop
 mul-mask c = search needs
@@ -65,8 +79,8 @@ loop-less c = search needs
 
 loop-again : tie.Need-loop-again Inv-loop μ-loop
 loop-again c =
-    let args = c .before .before .before .args in
-    let loop = c .before .before .loop in
+    let args = c .before .before .before .before .args in
+    let loop = c .before .before .before .loop in
     let goes = together (args .table .now) (args .p) (loop .d) (args .q) in (
       search needs,
       ⊎-elim
@@ -77,11 +91,11 @@ loop-again c =
           (λ w.
           subst⁻¹ (Supports (args .table .now) (args .own) (args .p) (args .q) (loop .d + 1)) (w .1)
           (more (args .table .now) (args .own) (args .p) (args .q) (loop .d) (loop .mask) (loop .mask) (loop .inv .1)
-          (λ e b. b) (λ h e b. absurd (w .0 .left h)))) (c .if1 .came),
+          (λ e b. b) (λ h e b. absurd (w .0 .left h)))) (c .if2 .came),
     )
 
-returns : tie.Need-returns Inv-loop μ-loop
-returns c d e h = c .before .loop .inv .1 d e (omega arith)
+returns-2 : tie.Need-returns-2 Inv-loop μ-loop
+returns-2 c d e h = c .before .loop .inv .1 d e (omega arith)
 
 pub support-spec : {M : Type 1} → statement M
 support-spec =
@@ -90,8 +104,9 @@ support-spec =
     Inv-loop
     μ-loop
     loop-holds
-    cast-if1
-    shr-if1
+    cast-rest
+    shr-rest
+    returns
     mul-mask
     add-mask
     mul-mask-2
@@ -101,4 +116,4 @@ support-spec =
     add-d
     loop-less
     loop-again
-    returns)
+    returns-2)

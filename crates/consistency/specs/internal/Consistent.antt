@@ -12,9 +12,9 @@ use Rattle.consistency.specs.declared.State.{State}
 abbrev pub NoBit : ℕ → ℕ → Type 0
 NoBit m i = m / 2 ^ i % 2 ≡ 0
 
--- each choice is below 12
+-- each choice is below 24
 abbrev pub Below : List ℕ → Type 0
-Below chosen = (q : ℕ) → getD chosen q 0 < 12
+Below chosen = (q : ℕ) → getD chosen q 0 < 24
 
 -- f has what is chosen at each placed row of the mask
 abbrev pub HasChosen : ℕ → ℕ → List ℕ → (ℕ → ℕ) → Type 0

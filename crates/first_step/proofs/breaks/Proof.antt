@@ -5,6 +5,7 @@ use borrow.Author.Needs.{needs}
 use borrow.Author.Tests.{not-true, not-false}
 use lib.ListN.{getD}
 use Rattle.first_step.proofs.Columns.{wide-same, breaks-other-first, breaks-other-second, breaks-by}
+use Rattle.query.specs.View.{asQuery}
 use Rattle.first_step.proofs.breaks.Statement.{statement}
 use Rattle.first_step.proofs.breaks.Tie as tie
 
@@ -17,7 +18,7 @@ array-read-if1 c = search needs
 returns : tie.Need-returns
 returns c =
     let a = c .before .before .before .before .before .args in
-    breaks-other-first (a .q) (a .d) (a .i) (a .j) (c .if1 .taken)
+    breaks-other-first (asQuery (a .t)) (a .d) (a .i) (a .j) (c .if1 .taken)
 
 array-read-if2 : tie.Need-array-read-if2
 array-read-if2 c = search needs
@@ -25,7 +26,7 @@ array-read-if2 c = search needs
 returns-2 : tie.Need-returns-2
 returns-2 c =
     let a = c .before .before .before .before .before .before .before .args in
-    breaks-other-second (a .q) (a .d) (a .i) (a .j) (c .before .before .if1 .left) (c .if2 .taken)
+    breaks-other-second (asQuery (a .t)) (a .d) (a .i) (a .j) (c .before .before .if1 .left) (c .if2 .taken)
 
 agree-requires : tie.Need-agree-requires
 agree-requires c κs = search needs
@@ -33,7 +34,7 @@ agree-requires c κs = search needs
 returns-3 : tie.Need-returns-3
 returns-3 c =
     let a = c .before .before .before .before .before .before .before .before .before .args in
-    breaks-by (a .q) (a .d) (a .i) (a .j) false _ (c .before .before .before .before .if1 .left) (c .before .before .if2 .left)
+    breaks-by (asQuery (a .t)) (a .d) (a .i) (a .j) false _ (c .before .before .before .before .if1 .left) (c .before .before .if2 .left)
     (sym (not-true _ (c .if3 .taken)) ∙ c .before .agree .ensures) refl
 
 mul-entry-at : tie.Need-mul-entry-at
@@ -62,9 +63,9 @@ returns-4 c =
     let at4 = c .before .before .before .before in
     let at = at4 in
     let a = at .before .before .before .before .before .before .before .before .args in
-    breaks-by (a .q) (a .d) (a .i) (a .j) true (c .same-entry .result) (at .before .before .before .if1 .left) (at .before .if2 .left)
+    breaks-by (asQuery (a .t)) (a .d) (a .i) (a .j) true (c .same-entry .result) (at .before .before .before .if1 .left) (at .before .if2 .left)
     (sym (not-false _ (c .before .before .before .if3 .left)) ∙ at .agree .ensures)
-    (wide-same (getD (a .q .relations) (a .i) 0) (getD (a .q .relations) (a .j) 0) (a .q .cells) (a .i) (a .j) (a .d .right) _ _ _ (search needs)
+    (wide-same (getD (a .t .relations) (a .i) 0) (getD (a .t .relations) (a .j) 0) (a .t .cells) (a .i) (a .j) (a .d .right) _ _ _ (search needs)
     (c .before .before .entry-at .ensures)
     (c .before .entry-at2 .ensures)
     (c .same-entry .ensures))

@@ -10,33 +10,34 @@ use Rattle.first_step.proofs.Search.{pair-last, nothing-found, pair-fou
 use Rattle.lists.proofs.Tests.{and-both}
 use Rattle.first_step.proofs.Columns.{good-read}
 use Rattle.query.specs.Rule.{noDependency}
+use Rattle.query.specs.View.{asQuery}
 use Rattle.first_step.proofs.find_step.Statement.{statement}
 use Rattle.first_step.proofs.find_step.Tie as tie
 
 abbrev Inv-loop3 : tie.InvT-loop3
-Inv-loop3 q held dependencies size cells d dependency right i j₀ j = (i < j) × (j ≤ size)
-    × (brokenFrom q dependencies held 0 ≡ brokenFromPair q dependencies held d i j)
+Inv-loop3 t held dependencies size cells d dependency right i j₀ j = (i < j) × (j ≤ size)
+    × (brokenFrom (asQuery t) dependencies held 0 ≡ brokenFromPair (asQuery t) dependencies held d i j)
 
 abbrev μ-loop3 : tie.MeasureT-loop3
-μ-loop3 q held dependencies size cells d dependency right i j₀ j = size - j
+μ-loop3 t held dependencies size cells d dependency right i j₀ j = size - j
 
 abbrev Inv-loop2 : tie.InvT-loop2
-Inv-loop2 q held dependencies size cells d dependency right i₀ i = (i ≤ size) × (brokenFrom q dependencies held 0 ≡ brokenFromRow q dependencies held d i)
+Inv-loop2 t held dependencies size cells d dependency right i₀ i = (i ≤ size) × (brokenFrom (asQuery t) dependencies held 0 ≡ brokenFromRow (asQuery t) dependencies held d i)
 
 abbrev μ-loop2 : tie.MeasureT-loop2
-μ-loop2 q held dependencies size cells d dependency right i₀ i = size - i
+μ-loop2 t held dependencies size cells d dependency right i₀ i = size - i
 
 abbrev Inv-loop : tie.InvT-loop
-Inv-loop q held dependencies size cells d₀ d = (d ≤ held) × (brokenFrom q dependencies held 0 ≡ brokenFrom q dependencies held d)
+Inv-loop t held dependencies size cells d₀ d = (d ≤ held) × (brokenFrom (asQuery t) dependencies held 0 ≡ brokenFrom (asQuery t) dependencies held d)
 
 abbrev μ-loop : tie.MeasureT-loop
-μ-loop q held dependencies size cells d₀ d = held - d
+μ-loop t held dependencies size cells d₀ d = held - d
 
 abbrev Inv-search : tie.InvT-search
-Inv-search q held dependencies size cells = Unit {0}
+Inv-search t held dependencies size cells = Unit {0}
 
 abbrev μ-search : tie.MeasureT-search
-μ-search q held dependencies size cells = 0
+μ-search t held dependencies size cells = 0
 
 cast-size :
     tie.Need-cast-size Inv-loop3 μ-loop3 Inv-loop2 μ-loop2 Inv-loop μ-loop Inv-search μ-search
@@ -75,7 +76,7 @@ loop2-holds :
 loop2-holds c =
     let a = c .before .before .before .before .before .before .before .args in
     let d = c .before .before .before .loop .d in
-    (search needs, c .before .before .before .loop .inv .1 ∙ dependency-next (a .q) (a .t2) (a .held) d (search needs) (search needs))
+    (search needs, c .before .before .before .loop .inv .1 ∙ dependency-next (asQuery (a .t)) (a .t2) (a .held) d (search needs) (search needs))
 
 add-j : tie.Need-add-j Inv-loop3 μ-loop3 Inv-loop2 μ-loop2 Inv-loop μ-loop Inv-search μ-search
 add-j c = search needs
@@ -86,7 +87,7 @@ loop3-holds c =
     let a = c .before .before .before .before .before .before .before .before .before .args in
     let d = c .before .before .before .before .before .loop .d in
     let i = c .before .loop2 .i in
-    (search needs, search needs, c .before .loop2 .inv .1 ∙ row-next (a .q) (a .t2) (a .held) d i (search needs))
+    (search needs, search needs, c .before .loop2 .inv .1 ∙ row-next (asQuery (a .t)) (a .t2) (a .held) d i (search needs))
 
 breaks-requires :
     tie.Need-breaks-requires
@@ -128,7 +129,7 @@ entry-at-requires c κs =
     let j = c .before .before .before .loop3 .j in
     let fits : getD (a .t2) d noDependency .right < 8 =
     c .before .before .before .before .before .before .before .before .before .before .before .before .before .pre .right-fits d (search needs) in
-    let inside : 8 * i + getD (a .t2) d noDependency .right < 96 = omega arith in
+    let inside : 8 * i + getD (a .t2) d noDependency .right < 192 = omega arith in
     inside
 
 mul-entry-at-2 :
@@ -159,7 +160,7 @@ entry-at-requires-2 c κs =
     let i = at6 .loop2 .i in
     let j = at4 .loop3 .j in
     let fits : getD (a .t2) d noDependency .right < 8 = at14 .pre .right-fits d (search needs) in
-    let inside : 8 * j + getD (a .t2) d noDependency .right < 96 = omega arith in
+    let inside : 8 * j + getD (a .t2) d noDependency .right < 192 = omega arith in
     inside
 
 add-j-2 : tie.Need-add-j-2 Inv-loop3 μ-loop3 Inv-loop2 μ-loop2 Inv-loop μ-loop Inv-search μ-search
@@ -179,7 +180,7 @@ loop3-again c =
       search needs,
       search needs,
       c .before .before .before .loop3 .inv .2
-          ∙ pair-next (a .q) (a .t2) (a .held) d i j (search needs) (sym (c .before .breaks .ensures) ∙ c .if1 .left),
+          ∙ pair-next (asQuery (a .t)) (a .t2) (a .held) d i j (search needs) (sym (c .before .breaks .ensures) ∙ c .if1 .left),
     )
 
 add-i : tie.Need-add-i Inv-loop3 μ-loop3 Inv-loop2 μ-loop2 Inv-loop μ-loop Inv-search μ-search
@@ -196,7 +197,7 @@ loop2-again c =
     let d = c .before .before .before .before .before .before .before .loop .d in
     let i = c .before .before .before .loop2 .i in
     let j = c .before .loop3 .j in
-    (search needs, c .before .loop3 .inv .2 ∙ pair-last (a .q) (a .t2) (a .held) d i j (search needs))
+    (search needs, c .before .loop3 .inv .2 ∙ pair-last (asQuery (a .t)) (a .t2) (a .held) d i j (search needs))
 
 add-d : tie.Need-add-d Inv-loop3 μ-loop3 Inv-loop2 μ-loop2 Inv-loop μ-loop Inv-search μ-search
 add-d c = search needs
@@ -211,7 +212,7 @@ loop-again c =
     let a = c .before .before .before .before .before .before .before .before .before .args in
     let d = c .before .before .before .before .before .loop .d in
     let i = c .before .loop2 .i in
-    (search needs, c .before .loop2 .inv .1 ∙ row-last (a .q) (a .t2) (a .held) d i (search needs))
+    (search needs, c .before .loop2 .inv .1 ∙ row-last (asQuery (a .t)) (a .t2) (a .held) d i (search needs))
 
 returns : tie.Need-returns Inv-loop3 μ-loop3 Inv-loop2 μ-loop2 Inv-loop μ-loop Inv-search μ-search
 returns c =
@@ -224,7 +225,7 @@ returns c =
     let i = at7 .loop2 .i in
     let j = at5 .loop3 .j in
     let fits : getD (a .t2) d noDependency .right < 8 = at15 .pre .right-fits d (search needs) in (
-      pair-found (a .q) (a .t2) (a .held) d i j _ _ (search needs) fits (sym (c .before .before .if1 .taken) ∙ c .before .before .before .breaks .ensures)
+      pair-found (asQuery (a .t)) (a .t2) (a .held) d i j _ _ (search needs) fits (sym (c .before .before .if1 .taken) ∙ c .before .before .before .breaks .ensures)
           (c .before .entry-at .ensures) (c .entry-at2 .ensures) (at5 .loop3 .inv .2),
       λ good. and-both _ _ (good-read _ _ _ (c .before .entry-at .ensures) good) (good-read _ _ _ (c .entry-at2 .ensures) good),
     )
@@ -234,7 +235,7 @@ returns-2 :
 returns-2 c =
     let a = c .before .before .before .before .before .args in
     let l = c .before .loop in
-    (nothing-found (a .q) (a .t2) (a .held) (l .inv .1 ∙ dependency-last (a .q) (a .t2) (a .held) (l .d) (search needs)), λ good. refl)
+    (nothing-found (asQuery (a .t)) (a .t2) (a .held) (l .inv .1 ∙ dependency-last (asQuery (a .t)) (a .t2) (a .held) (l .d) (search needs)), λ good. refl)
 
 pub find-step-spec : {M : Type 1} → statement M
 find-step-spec =

@@ -1,5 +1,6 @@
 -- A stored query as the code of the chase reads it: its rows with all their 8 cells, and what the search for a step answers.
 -- A column that a row's relation does not have holds constant 0, so the chase of these wide rows is that of the rows.
+use mathlib.Core.Path.{_≡_}
 use mathlib.Core.Bool.{Bool, true, _&&_}
 use mathlib.Core.List.{List, [], _∷_}
 use mathlib.Core.Option.{Option, none, some, Option·map}
@@ -8,9 +9,11 @@ use lib.ListN.{take, drop, getD}
 use Rattle.query.specs.declared.Entry.{Entry}
 use Rattle.query.specs.declared.Cell.{Cell}
 use Rattle.query.specs.declared.Query.{Query}
+use Rattle.query.specs.declared.Tableau.{Tableau}
 use Rattle.query.specs.declared.Dependency.{Dependency}
 use Rattle.query.specs.View.{entryOf, entriesOf}
-use Rattle.query.specs.Rule.{goodEntry, noDependency}
+use Rattle.query.specs.Rule.{goodEntry, blankCell, noDependency}
+use Rattle.lists.specs.Tests.{every}
 use Rattle.first_step.specs.declared.NextStep.{NextStep}
 use Rattle.first_step.specs.declared.NextStep.the-variants.{Rest, Step}
 use Rattle.theory.specs.Query as theory
@@ -59,9 +62,11 @@ goodNextStep (Step a b) = goodEntry a && goodEntry b
 
 -- ---- what the search asks
 
--- What the chase asks of its caller, so that each cell that it reads is there: every good query and good dependencies have it
-pub record Chasable (q : Query) (dependencies : List Dependency) (held : ℕ) : Type 0 where
-  pub arity-fits : q .arity ≤ 8
-  pub size-fits : q .size ≤ 12
+-- What the chase asks of its caller, so that each cell that it reads is there and those not in use hold no variable: every good tableau and good
+-- dependencies have it
+pub record Chasable (t : Tableau) (dependencies : List Dependency) (held : ℕ) : Type 0 where
+  pub arity-fits : t .arity ≤ 8
+  pub size-fits : t .size ≤ 24
   pub held-fits : held ≤ 32
   pub right-fits : (d : ℕ) → d < held → getD dependencies d noDependency .right < 8
+  pub rest-blank : every blankCell (drop (8 * t .size) (t .cells)) ≡ true

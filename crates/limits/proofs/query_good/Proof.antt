@@ -9,7 +9,7 @@ use borrow.Author.Tests.{le-leb, lt-leb, not-true, not-false}
 use borrow.Author.Needs.{needs}
 use Rattle.query.specs.declared.Query.{Query}
 use Rattle.lists.specs.Tests.{every, inUse, isZero}
-use Rattle.query.specs.Rule.{goodCell, blankCell, goodRows, goodQuery, headInUse}
+use Rattle.query.specs.Rule.{goodCell, blankCell, goodRows, goodUpTo, goodQuery, headInUse}
 use Rattle.limits.proofs.query_good.Statement.{statement}
 use Rattle.limits.proofs.query_good.Tie as tie
 

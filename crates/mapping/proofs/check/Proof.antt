@@ -7,7 +7,7 @@ use mathlib.Core.Bool.{false≢true}
 use Prim.Native.Nat.{_<_}
 use lib.ListN.{length}
 use Rattle.lists.proofs.Loops.{mapped-length}
-use Rattle.mapping.proofs.Lines.{Sizes}
+use Rattle.query.proofs.Shape.{SizedFor}
 use Rattle.mapping.proofs.Results.{storable-size, check-fails, check-arity, check-size, check-tells, good-head, good-rows, good-rest, parts-good}
 use Rattle.mapping.proofs.check.Statement.{statement}
 use Rattle.mapping.proofs.check.Tie as tie
@@ -32,10 +32,10 @@ Start =
       rest-blank-reads.Learnt,
     ) reads.Pre reads.Post
 
-source-sizes : (c : Start) → Sizes (c .args .source)
+source-sizes : (c : Start) → SizedFor 12 (c .args .source)
 source-sizes c = record { head = search (mapped-length, needs); relations = search (mapped-length, needs); cells = search (mapped-length, needs) }
 
-target-sizes : (c : Start) → Sizes (c .args .target)
+target-sizes : (c : Start) → SizedFor 12 (c .args .target)
 target-sizes c = record { head = search (mapped-length, needs); relations = search (mapped-length, needs); cells = search (mapped-length, needs) }
 
 images-long : (c : Start) → length (c .args .images) ≡ 96

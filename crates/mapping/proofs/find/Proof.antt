@@ -6,17 +6,16 @@ use mathlib.Core.Path.{_≡_, sym, subst}
 use mathlib.Core.Bool.{true}
 use Prim.Native.Nat.{ℕ, _+_, _≤_, _<_}
 use lib.ListN.{getD, length}
-use Rattle.theory.specs.Containment.{freeze}
 use Rattle.query.specs.declared.Query.{Query}
+use Rattle.query.specs.declared.Tableau.{Tableau}
+use Rattle.query.specs.View.{asQuery}
 use Rattle.lists.proofs.Loops.{mapped-length}
 use native.Mathlib.Omega.{arith}
 use Rattle.mapping.specs.internal.Lines.{choiceOf}
 use Rattle.candidates.specs.internal.Candidates.{Laid}
 use Rattle.mapping.specs.internal.Mapped.{Finds}
-use Rattle.mapping.specs.internal.Lines.{entryAt}
-use Rattle.mapping.proofs.Wide.{chosen-small}
-use Rattle.mapping.proofs.Lines.{Sizes, all-within}
-use Rattle.mapping.proofs.Results.{storable-size, line-code, code-small, none-size, none-solution, found-solution}
+use Rattle.query.proofs.Shape.{SizedFor}
+use Rattle.mapping.proofs.Results.{storable-size, tableau-size, CodesOf, line-code, code-small, none-size, none-solution, solution-small, found-solution}
 use Rattle.mapping.proofs.find.Statement.{statement}
 use Rattle.mapping.proofs.find.Tie as tie
 use Rattle.mapping.proofs.find.Reads as reads
@@ -25,6 +24,8 @@ use Rattle.mapping.proofs.no_mapping.Reads as no-mapping-reads
 use Rattle.mapping.proofs.assign.assign.Reads as assign-reads
 use Rattle.mapping.proofs.cells.flat.Reads as flat-reads
 use Rattle.mapping.proofs.cells.codes.Reads as codes-reads
+use Rattle.mapping.proofs.cells.tableau_flat.Reads as tableau-flat-reads
+use Rattle.mapping.proofs.cells.tableau_codes.Reads as tableau-codes-reads
 use Rattle.candidates.proofs.table.domains.Reads as domains-reads
 use Rattle.candidates.proofs.table.table.Reads as table-reads
 use Rattle.search.proofs.solve.Reads as solve-reads
@@ -36,10 +37,14 @@ abbrev claims : lts.Claims
 claims = (
   no-mapping-reads.Asked,
   no-mapping-reads.Learnt,
+  tableau-flat-reads.Asked,
+  tableau-flat-reads.Learnt,
   flat-reads.Asked,
   flat-reads.Learnt,
   codes-reads.Asked,
   codes-reads.Learnt,
+  tableau-codes-reads.Asked,
+  tableau-codes-reads.Learnt,
   domains-reads.Asked,
   domains-reads.Learnt,
   table-reads.Asked,
@@ -56,8 +61,8 @@ Start = lts.Start claims reads.Pre reads.Post
 abbrev After-codes : Type 0
 After-codes = lts.After-codes claims reads.Pre reads.Post
 
-abbrev After-codes2 : Type 0
-After-codes2 = lts.After-codes2 claims reads.Pre reads.Post
+abbrev After-tableau-codes : Type 0
+After-tableau-codes = lts.After-tableau-codes claims reads.Pre reads.Post
 
 abbrev After-table : Type 0
 After-table = lts.After-table claims reads.Pre reads.Post
@@ -68,48 +73,47 @@ After-solve = lts.After-solve claims reads.Pre reads.Post
 abbrev After-assign : Type 0
 After-assign = lts.After-assign claims reads.Pre reads.Post
 
-source-sizes : (c : Start) → Sizes (c .args .source)
+source-sizes : (c : Start) → SizedFor 12 (c .args .source)
 source-sizes c = record { head = search (mapped-length, needs); relations = search (mapped-length, needs); cells = search (mapped-length, needs) }
 
-target-sizes : (c : Start) → Sizes (c .args .target)
+target-sizes : (c : Start) → SizedFor 24 (asQuery (c .args .target))
 target-sizes c = record { head = search (mapped-length, needs); relations = search (mapped-length, needs); cells = search (mapped-length, needs) }
 
 from-long : (c : After-codes) → length (c .codes .result) ≡ 104
 from-long c = search needs
 
-to-long : (c : After-codes2) → length (c .codes2 .result) ≡ 104
+to-long : (c : After-tableau-codes) → length (c .tableau-codes .result) ≡ 200
 to-long c = search needs
 
 images-long : (c : After-assign) → length (c .assign .result) ≡ 96
 images-long c = search needs
 
--- The two queries, where the codes of both are made
-abbrev sourceAt : After-codes2 → Query
+-- The query and the tableau, where the codes of both are made
+abbrev sourceAt : After-tableau-codes → Query
 sourceAt c = c .before .before .before .before .before .before .before .args .source
 
-abbrev targetAt : After-codes2 → Query
+abbrev targetAt : After-tableau-codes → Tableau
 targetAt c = c .before .before .before .before .before .before .before .args .target
 
-laid : (c : After-codes2) → Laid (c .before .codes .result) (c .codes2 .result) (sourceAt c .size) (targetAt c .size)
+laid : (c : After-tableau-codes) → Laid (c .before .codes .result) (c .tableau-codes .result) (sourceAt c .size) (targetAt c .size)
 laid c =
     let at7 = c .before .before .before .before .before .before .before in
     record {
       source-length = from-long (c .before);
       target-length = to-long c;
       few-rows = storable-size (at7 .args .source) (at7 .pre .0);
-      few-images = storable-size (at7 .args .target) (at7 .pre .1);
+      few-images = tableau-size (at7 .args .target) (at7 .pre .1);
     }
 
--- The codes are those of the two queries
-from-is : (c : After-codes2) (k : ℕ) → k < 104 → getD (c .before .codes .result) k 0 ≡ freeze 2147483648 (entryAt (sourceAt c) k)
+-- The codes are those of the query and of the tableau
+from-is : (c : After-tableau-codes) → CodesOf 12 (sourceAt c) (c .before .codes .result)
 from-is c =
-    let at7 = c .before .before .before .before .before .before .before in
-    line-code (at7 .args .source) (c .before .before .flat2 .result) (c .before .codes .result) (c .before .before .flat2 .ensures) (c .before .codes .ensures)
+    line-code 12 (sourceAt c) (c .before .before .flat .result) (c .before .codes .result) (c .before .before .flat .ensures) (c .before .codes .ensures)
 
-to-is : (c : After-codes2) (k : ℕ) → k < 104 → getD (c .codes2 .result) k 0 ≡ freeze 2147483648 (entryAt (targetAt c) k)
+to-is : (c : After-tableau-codes) → CodesOf 24 (asQuery (targetAt c)) (c .tableau-codes .result)
 to-is c =
-    let at7 = c .before .before .before .before .before .before .before in
-    line-code (at7 .args .target) (c .before .before .before .flat .result) (c .codes2 .result) (c .before .before .before .flat .ensures) (c .codes2 .ensures)
+    line-code 24 (asQuery (targetAt c)) (c .before .before .before .tableau-flat .result) (c .tableau-codes .result)
+    (c .before .before .before .tableau-flat .ensures) (c .tableau-codes .ensures)
 
 -- The search is given few enough rows
 few-rows : (c : After-table) → c .before .before .before .before .before .before .before .before .before .before .before .before .before .before .before .args
@@ -119,9 +123,9 @@ few-rows c =
     let few : at15 .args .source .size ≤ 12 = storable-size (at15 .args .source) (at15 .pre .0) in
     omega arith
 
--- A choice that solves it has candidates below 12
+-- A choice that solves it has candidates below 24
 chosen-below : (c : After-solve) → c .solve .result .found ≡ true → (r : ℕ)
-    → r ≤ sourceAt (c .before .before .before .before .before .before .before .before .before .before .before) .size → getD (c .solve .result .chosen) r 0 < 12
+    → r ≤ sourceAt (c .before .before .before .before .before .before .before .before .before .before .before) .size → getD (c .solve .result .chosen) r 0 < 24
 chosen-below c found =
     let at6 = c .before .before .before .before .before .before in
     let at11 = at6 .before .before .before .before .before in
@@ -129,11 +133,10 @@ chosen-below c found =
     let at18 = at12 .before .before .before .before .before .before in
     let source = at18 .args .source in
     let target = at18 .args .target in
-    chosen-small (entryAt source) (entryAt target) (at12 .codes .result) (at11 .codes2 .result) (source .relations) (target .relations)
-    (source .size) (target .size) (storable-size source (at18 .pre .0)) (storable-size target (at18 .pre .1)) (from-is (at11))
-    (to-is (at11)) (all-within (at18 .pre .0 .0) source (at18 .pre .0 .1) (source-sizes (at18)))
-    (all-within (at18 .pre .1 .0) target (at18 .pre .1 .1) (target-sizes (at18))) (at6 .domains .result) (c .before .before .before .table .result)
-    (at6 .domains .ensures) (c .before .before .before .table .ensures) (choiceOf (c .solve .result .chosen)) (c .solve .ensures .0 found)
+    solution-small source target (source-sizes at18) (target-sizes at18) (at18 .pre .0) (at18 .pre .1) (at12 .before .before .tableau-flat .result)
+    (at12 .codes .result) (at11 .tableau-codes .result) (at6 .domains .result) (c .before .before .before .table .result) (from-is at11)
+    (at12 .before .before .tableau-flat .ensures) (to-is at11) (at6 .domains .ensures) (c .before .before .before .table .ensures)
+    (choiceOf (c .solve .result .chosen)) (c .solve .ensures .0 found)
 
 -- ---- the needs
 
@@ -155,14 +158,14 @@ returns c =
 flat-requires : tie.Need-flat-requires
 flat-requires c κs = search needs
 
-flat-requires-2 : tie.Need-flat-requires-2
-flat-requires-2 c κs = search needs
+tableau-flat-requires : tie.Need-tableau-flat-requires
+tableau-flat-requires c κs = search needs
 
 codes-requires : tie.Need-codes-requires
 codes-requires c κs = search needs
 
-codes-requires-2 : tie.Need-codes-requires-2
-codes-requires-2 c κs = search needs
+tableau-codes-requires : tie.Need-tableau-codes-requires
+tableau-codes-requires c κs = search needs
 
 slice-aggregate-domains : tie.Need-slice-aggregate-domains
 slice-aggregate-domains c = search needs
@@ -201,8 +204,8 @@ returns-2 c =
     let at21 = at17 .before .before .before .before in
     subst (Finds (at21 .args .source) (at21 .args .target)) (sym (c .no-mapping2 .ensures))
     (none-solution (at21 .args .source) (at21 .args .target) (source-sizes (at21)) (target-sizes (at21)) (at21 .pre .0) (at21 .pre .1)
-    (at17 .flat .result) (at15 .codes .result) (at14 .codes2 .result) (at9 .domains .result) (at6 .table .result)
-    (from-is (at14)) (at17 .flat .ensures) (to-is (at14)) (at9 .domains .ensures) (at6 .table .ensures)
+    (at17 .tableau-flat .result) (at15 .codes .result) (at14 .tableau-codes .result) (at9 .domains .result) (at6 .table .result)
+    (from-is (at14)) (at17 .tableau-flat .ensures) (to-is (at14)) (at9 .domains .ensures) (at6 .table .ensures)
     (c .before .before .before .solve .ensures .1 (not-true _ (c .before .if2 .taken))))
 
 assign-requires : tie.Need-assign-requires
@@ -226,8 +229,8 @@ returns-3 c =
     let at22 = at18 .before .before .before .before in
     let some : 0 < at22 .args .source .size = search needs in
     found-solution (at22 .args .source) (at22 .args .target) (source-sizes (at22)) (target-sizes (at22)) (at22 .pre .0) (at22 .pre .1)
-    (at18 .flat .result) (at16 .codes .result) (at15 .codes2 .result) (at10 .domains .result) (at7 .table .result)
-    (from-is (at15)) (at18 .flat .ensures) (to-is (at15)) (at10 .domains .ensures) (at7 .table .ensures)
+    (at18 .tableau-flat .result) (at16 .codes .result) (at15 .tableau-codes .result) (at10 .domains .result) (at7 .table .result)
+    (from-is (at15)) (at18 .tableau-flat .ensures) (to-is (at15)) (at10 .domains .ensures) (at7 .table .ensures)
     (choiceOf (at4 .solve .result .chosen)) (c .assign .result) some (at4 .solve .ensures .0 (not-false _ (c .before .before .if2 .left))) (images-long c)
     (c .assign .ensures)
 
@@ -239,10 +242,10 @@ find-spec =
     cast-count
     no-mapping-requires
     returns
+    tableau-flat-requires
     flat-requires
-    flat-requires-2
     codes-requires
-    codes-requires-2
+    tableau-codes-requires
     slice-aggregate-domains
     slice-aggregate-domains-2
     domains-requires

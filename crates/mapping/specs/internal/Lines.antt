@@ -1,4 +1,4 @@
--- Queries laid out in one line of 104 cells: what images carry there, and how they are collected. Only functions of this crate cite these.
+-- Queries laid out in one line of cells, 104 of a query and 200 of a tableau: what images carry there, and how they are collected. Only functions of this crate cite these.
 use mathlib.Core.Path.{_≡_}
 use mathlib.Core.Bool.{cond}
 use mathlib.Core.List.{List}
@@ -14,19 +14,19 @@ use Rattle.query.specs.View.{entryOf, imagesOf}
 use Rattle.query.specs.Rule.{noCell}
 use Rattle.candidates.specs.internal.Candidates.{rowStart, imageStart}
 
--- The cells of a query in one line: 96 of the rows, then 8 of the head
-abbrev pub cellAt : Query → ℕ → Cell
-cellAt q k = cond (ltb k 96) (getD (q .cells) k noCell) (getD (q .head) (k - 96) noCell)
+-- The cells of a query with room for so many rows in one line: 8 of each row, then 8 of the head
+abbrev pub cellAt : ℕ → Query → ℕ → Cell
+cellAt most q k = cond (ltb k (8 * most)) (getD (q .cells) k noCell) (getD (q .head) (k - 8 * most) noCell)
 
 -- The entries of a query in one line
-abbrev pub entryAt : Query → ℕ → theory.Entry
-entryAt q k = entryOf (cellAt q k .entry)
+abbrev pub entryAt : ℕ → Query → ℕ → theory.Entry
+entryAt most q k = entryOf (cellAt most q k .entry)
 
 -- The entry that a cell of an array stands for
 abbrev pub entryIn : List Cell → ℕ → theory.Entry
 entryIn cells k = entryOf (getD cells k noCell .entry)
 
--- ---- what images carry, by positions: row r has the entries from 8 * r on, the head those from 96 on
+-- ---- what images carry, by positions: row r has the entries from 8 * r on
 
 -- The images carry the 8 entries from `row` on to those from `image` on
 abbrev pub Carried : List Cell → List Cell → List Cell → ℕ → ℕ → Type 0

@@ -1,6 +1,7 @@
 -- `replacement::resolve` meets its contract: the survivor rule at the head of the query. Assumes nothing.
 use mathlib.Core.Path.{sym}
 use borrow.Author.Needs.{needs}
+use Rattle.query.specs.View.{asQuery}
 use Rattle.replacement.specs.internal.Replacement.{headHolds}
 use Rattle.replacement.proofs.resolve.Statement.{statement}
 use Rattle.replacement.proofs.resolve.Tie as tie
@@ -17,7 +18,7 @@ survivor-requires c κs = search needs
 returns : tie.Need-returns
 returns c =
     c .survivor .ensures
-    (headHolds (c .before .before .before .args .q))
+    (headHolds (asQuery (c .before .before .before .args .t)))
     (sym (c .before .before .in-head .ensures))
     (sym (c .before .in-head2 .ensures))
 

@@ -1,17 +1,19 @@
 -- `replacement::substitute_cells` meets its contract. The loop's invariant: the first k cells are done. Assumes nothing.
-use mathlib.Core.Path.{_≡_}
-use Prim.Native.Nat.{_≤_, _-_}
+use mathlib.Core.Path.{_≡_, ap, _∙_}
+use Prim.Native.Nat.{ℕ, _≤_, _-_}
+use native.Mathlib.Omega.{arith}
 use borrow.Author.Needs.{needs}
 use Rattle.replacement.specs.internal.Replacement.{substituteCell}
-use Rattle.lists.proofs.Maps.{mapFirst, mapFirst-none, mapFirst-more, mapFirst-done}
+use Rattle.lists.proofs.Maps.{mapFirst, mapFirst-none, mapFirst-more}
+use Rattle.replacement.proofs.Steps.{substitute-all}
 use Rattle.replacement.proofs.substitute_cells.Statement.{statement}
 use Rattle.replacement.proofs.substitute_cells.Tie as tie
 
 abbrev Inv-loop : tie.InvT-loop
-Inv-loop v e cells out₀ k₀ out k = (k ≤ 96) × (out ≡ mapFirst (substituteCell v e) k cells)
+Inv-loop used v e cells out₀ k₀ out k = (k ≤ used) × (out ≡ mapFirst (substituteCell v e) k cells)
 
 abbrev μ-loop : tie.MeasureT-loop
-μ-loop v e cells out₀ k₀ out k = 96 - k
+μ-loop used v e cells out₀ k₀ out k = used - k
 
 loop-holds : tie.Need-loop-holds Inv-loop μ-loop
 loop-holds c = (search needs, mapFirst-none _ _)
@@ -41,7 +43,11 @@ loop-again : tie.Need-loop-again Inv-loop μ-loop
 loop-again c = (search needs, mapFirst-more _ _ _ _ _ _ (c .before .before .before .loop .inv .1) (c .substitute .ensures) (search needs))
 
 returns : tie.Need-returns Inv-loop μ-loop
-returns c = mapFirst-done _ _ 96 _ _ (c .before .loop .inv .1) (search needs) (search needs)
+returns c =
+    let a = c .before .before .args in
+    let all : c .before .loop .k ≡ a .used = omega arith in
+    c .before .loop .inv .1 ∙ ap (λ (n : ℕ). mapFirst (substituteCell (a .v) (a .e)) n (a .t1)) all
+    ∙ substitute-all (a .v) (a .e) (a .used) (a .t1) (c .before .before .pre .1)
 
 pub substitute-cells-spec : {M : Type 1} → statement M
 substitute-cells-spec =

@@ -15,7 +15,7 @@ use Rattle.replacement.specs.declared.Resolution.the-variants.{Clash, Re
 use Rattle.theory.specs.Query as theory
 use Rattle.theory.specs.Chase as chasing
 
--- Whether a variable stands in the head of a stored query
+-- Whether a variable stands in the head of a query
 abbrev pub headHolds : Query → ℕ → Bool
 headHolds q v = theory.member v (theory.variablesOf (entriesOf (take (q .arity) (q .head))))
 
@@ -44,7 +44,7 @@ substituteEntry v e (Variable w) = cond (eqb w v) e (Variable w)
 abbrev pub substituteCell : ℕ → Entry → Cell → Cell
 substituteCell v e c = record { entry = substituteEntry v e (c .entry) }
 
--- A function applied to each cell of a stored query, in the head and in the rows
+-- A function applied to each cell of a query, in the head and in the rows
 abbrev pub mapCells : (Cell → Cell) → Query → Query
 mapCells f q =
     record { arity = q .arity; size = q .size; head = map f (q .head); relations = q .relations; cells = map f (q .cells) }

@@ -117,7 +117,7 @@ place-row-try-candidate-requires : (t : ℕ) → place-row-lts.Need-try-candidat
 place-row-try-candidate-requires t c κs =
     let at4 = c .before .before .before .before in
     let s = at4 in
-    let e : 14 * missing (s .args .t5 .placed) (s .args .rows) < s .args .work = s .pre .1 .enough in (
+    let e : 26 * missing (s .args .t5 .placed) (s .args .rows) < s .args .work = s .pre .1 .enough in (
       omega (arith, s .pre .0),
       tryable-first (s .args .rows) (s .args .domain .now) (s .args .table .now) (s .args .t5) (s .args .work) _ (s .pre .1)
           (c .before .before .before .next-row .ensures) (omega arith) (c .before .if1 .left),

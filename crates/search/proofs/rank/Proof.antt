@@ -1,22 +1,18 @@
--- `search::rank` is safe: a mask of 16 bits has at most 16 members. Assumes nothing.
+-- `search::rank` is safe: a mask of 32 bits has at most 32 members, one of 16 bits at most 16. Assumes nothing.
 use borrow.Author.Needs.{needs}
-use Prim.Native.Nat.{ℕ, _^_, _<_, _≤_}
 use native.Mathlib.Omega.{arith}
-use lib.Count.{ones, ones-le}
+use lib.Count.{ones-le}
 use Rattle.search.proofs.rank.Statement.{statement}
 use Rattle.search.proofs.rank.Tie as tie
 
-few : (n : ℕ) → n < 2 ^ 16 → ones n ≤ 16
-few n h = ones-le 16 n h
-
 mul-result : tie.Need-mul-result
-mul-result c = omega (arith, few (c .args .candidates) (c .fits .candidates .fits))
+mul-result c = omega (arith, ones-le 32 (c .args .candidates) (c .fits .candidates .fits))
 
 sub-result : tie.Need-sub-result
-sub-result c = omega (arith, few (c .args .links) (c .fits .links .fits))
+sub-result c = omega (arith, ones-le 16 (c .args .links) (c .fits .links .fits))
 
 add-result : tie.Need-add-result
-add-result c = omega (arith, few (c .args .candidates) (c .fits .candidates .fits))
+add-result c = omega (arith, ones-le 32 (c .args .candidates) (c .fits .candidates .fits))
 
 returns : tie.Need-returns
 returns c = search needs

@@ -28,11 +28,11 @@ pub record IsNext (rows placed r : ℕ) : Type 0 where
   pub free : r < rows → NoBit placed r
   pub full : rows ≤ r → (q : ℕ) → q < rows → Bit placed q
 
--- d is the first member of the mask from c on, or 12
+-- d is the first member of the mask from c on, or 24
 pub record IsCandidate (mask c d : ℕ) : Type 0 where
   pub from : c ≤ d
-  pub within : d ≤ 12
-  pub member : d < 12 → Bit mask d
+  pub within : d ≤ 24
+  pub member : d < 24 → Bit mask d
   pub first : (k : ℕ) → c ≤ k → k < d → Bit mask k → ⊥
 
 -- row r has one of its candidates, and goes together with every row
@@ -60,7 +60,7 @@ pub record Placeable (rows : ℕ) (domain table : List ℕ) (s : State) (work : 
   pub rows-few : rows ≤ 13
   pub below : Below (s .chosen)
   pub sound : Accounted rows domain table s
-  pub enough : 14 * missing (s .placed) rows < work
+  pub enough : 26 * missing (s .placed) rows < work
 
 -- a state in which the candidates of a row from c on can be tried: every solution that has what is chosen at the placed rows
 -- to blame has one of these
@@ -70,7 +70,7 @@ pub record Tryable (rows : ℕ) (domain table : List ℕ) (s : State) (work row 
   pub sound : Accounted rows domain table s
   pub row-in : row < rows
   pub free : NoBit (s .placed) row
-  pub from-few : c ≤ 12
-  pub enough : 14 * missing (s .placed) rows ≤ work + c
+  pub from-few : c ≤ 24
+  pub enough : 26 * missing (s .placed) rows ≤ work + c
   pub left : Left rows domain table (s .placed) blame (s .chosen) row (getD (s .current) row 0)
   pub from : (f : ℕ → ℕ) → Solution rows domain table f → HasChosen (s .placed) blame (s .chosen) f → c ≤ f row

@@ -21,7 +21,7 @@ sub-e c = search needs
 
 mul-mask : tie.Need-mul-mask Inv-loop μ-loop
 mul-mask c =
-    let room : c .before .loop .mask < 2048 =
+    let room : c .before .loop .mask < 8388608 =
     marks-room (λ e. Unit {0}) (c .before .before .args .n) (c .before .loop .e) (c .before .loop .mask) (c .before .before .pre) (search needs)
     (c .before .loop .inv .0) (c .before .loop .inv .1)
     in
@@ -29,7 +29,7 @@ mul-mask c =
 
 add-mask : tie.Need-add-mask Inv-loop μ-loop
 add-mask c =
-    let room : c .before .loop .mask < 2048 =
+    let room : c .before .loop .mask < 8388608 =
     marks-room (λ e. Unit {0}) (c .before .before .args .n) (c .before .loop .e) (c .before .loop .mask) (c .before .before .pre) (search needs)
     (c .before .loop .inv .0) (c .before .loop .inv .1)
     in

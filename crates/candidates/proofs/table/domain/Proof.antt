@@ -39,7 +39,7 @@ possible-requires c κs =
 mul-mask : tie.Need-mul-mask Inv-loop μ-loop
 mul-mask c =
     let at4 = c .before .before .before .before in
-    let room : c .before .before .before .loop .mask < 2048 = marks-room _ (at4 .candidates .result) (c .before .before .before .loop .d)
+    let room : c .before .before .before .loop .mask < 8388608 = marks-room _ (at4 .candidates .result) (c .before .before .before .loop .d)
     (c .before .before .before .loop .mask)
     (at4 .candidates .ensures .1) (search needs) (c .before .before .before .loop .inv .0) (c .before .before .before .loop .inv .1) in
     search needs
@@ -47,7 +47,7 @@ mul-mask c =
 add-mask : tie.Need-add-mask Inv-loop μ-loop
 add-mask c =
     let at4 = c .before .before .before .before in
-    let room : c .before .before .before .loop .mask < 2048 = marks-room _ (at4 .candidates .result) (c .before .before .before .loop .d)
+    let room : c .before .before .before .loop .mask < 8388608 = marks-room _ (at4 .candidates .result) (c .before .before .before .loop .d)
     (c .before .before .before .loop .mask)
     (at4 .candidates .ensures .1) (search needs) (c .before .before .before .loop .inv .0) (c .before .before .before .loop .inv .1) in
     search needs
@@ -70,7 +70,7 @@ loop-again c =
 mul-mask-2 : tie.Need-mul-mask-2 Inv-loop μ-loop
 mul-mask-2 c =
     let at4 = c .before .before .before .before in
-    let room : c .before .before .before .loop .mask < 2048 = marks-room _ (at4 .candidates .result) (c .before .before .before .loop .d)
+    let room : c .before .before .before .loop .mask < 8388608 = marks-room _ (at4 .candidates .result) (c .before .before .before .loop .d)
     (c .before .before .before .loop .mask)
     (at4 .candidates .ensures .1) (search needs) (c .before .before .before .loop .inv .0) (c .before .before .before .loop .inv .1) in
     search needs

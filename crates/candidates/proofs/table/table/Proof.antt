@@ -1,60 +1,54 @@
--- `table` has each mask in its place. The invariant: it has those passed.
+-- `table` has each mask in its place. The invariant: those for the candidates of the rows passed are there.
 -- Assumes nothing.
 use borrow.Author.Needs.{needs}
-use borrow.Author.Count.{below-none}
+use borrow.Author.Count.{below-none, below-more}
 use mathlib.Core.Path.{_≡_}
 use Prim.Native.Nat.{ℕ, _-_, _≤_, _<_}
-use lib.ListN.{getD, length}
-use Rattle.candidates.specs.internal.Sharing.{IsMask}
-use Rattle.lists.proofs.Positions.{stored-more}
-use Rattle.candidates.proofs.Candidates.{masks-table}
+use native.Mathlib.Omega.{arith}
+use lib.ListN.{length}
+use Rattle.candidates.specs.internal.Sharing.{IsPair}
 use Rattle.candidates.proofs.table.table.Statement.{statement}
 use Rattle.candidates.proofs.table.table.Tie as tie
 
 abbrev Inv-loop : tie.InvT-loop
-Inv-loop source target size count all₀ k₀ all k =
-    (k ≤ 2028) × (length all ≡ 2028) × ((j : ℕ) → j < k → IsMask source target size count j (getD all j 0))
+Inv-loop source target size count all₀ r₀ r-end all r =
+    (r ≤ r-end) × (length all ≡ 4056) × ((k : ℕ) → k < r → (q : ℕ) → q ≤ size → IsPair source target size count all k q)
 
 abbrev μ-loop : tie.MeasureT-loop
-μ-loop source target size count all₀ k₀ all k = 2028 - k
+μ-loop source target size count all₀ r₀ r-end all r = r-end - r
+
+add-r-end : tie.Need-add-r-end Inv-loop μ-loop
+add-r-end c = search needs
 
 loop-holds : tie.Need-loop-holds Inv-loop μ-loop
 loop-holds c = (search needs, search needs, below-none _)
 
-mask-at-requires : tie.Need-mask-at-requires Inv-loop μ-loop
-mask-at-requires c κs = search needs
+slice-aggregate-put-row : tie.Need-slice-aggregate-put-row Inv-loop μ-loop
+slice-aggregate-put-row c = search needs
 
-mul-all : tie.Need-mul-all Inv-loop μ-loop
-mul-all c = search needs
+put-row-requires : tie.Need-put-row-requires Inv-loop μ-loop
+put-row-requires c κs = (c .before .before .before .before .before .pre, omega arith, c .before .before .loop .inv .1)
 
-array-write-all : tie.Need-array-write-all Inv-loop μ-loop
-array-write-all c = search needs
-
-add-k : tie.Need-add-k Inv-loop μ-loop
-add-k c = search needs
+add-r : tie.Need-add-r Inv-loop μ-loop
+add-r c = search needs
 
 loop-less : tie.Need-loop-less Inv-loop μ-loop
 loop-less c = search needs
 
 loop-again : tie.Need-loop-again Inv-loop μ-loop
 loop-again c =
-    let args = c .before .before .before .before .before .args in
-    let all = c .before .before .loop .all in
-    let k = c .before .before .loop .k in
-    let long : k < length all = search needs in (
+    let put = c .before .put-row in
+    let loop = c .before .before .before .before .loop in
+    let start = c .before .before .before .before .before .before .before in
+    let args = start .args in (
       search needs,
-      search needs,
-      stored-more (IsMask (args .source .now) (args .target .now) (args .size) (args .count)) all k (c .mask-at .result) 0 long
-          (c .before .before .loop .inv .2)
-          (c .mask-at .ensures),
+      c .all2 .given,
+      below-more (λ k. (q : ℕ) → q ≤ args .size → IsPair (args .source .now) (args .target .now) (args .size) (args .count) (put .last .0) k q) (loop .r)
+          (λ k h q hq d hd. put .ensures .0 k d q (omega arith) hq hd (loop .inv .2 k h q hq d hd)) (put .ensures .1),
     )
 
 returns : tie.Need-returns Inv-loop μ-loop
-returns c =
-    let at4 = c .before .before .before .before in
-    let args = at4 .args in
-    masks-table (args .source .now) (args .target .now) (args .size) (args .count) (c .before .loop .all) (at4 .pre .few-rows) (at4 .pre .few-images)
-    (λ k h. c .before .loop .inv .2 k (search needs))
+returns c r d q hr hq hd = c .before .loop .inv .2 r (omega arith) q hq d hd
 
 pub table-spec : {M : Type 1} → statement M
 table-spec =
@@ -62,11 +56,11 @@ table-spec =
     (tie.spec
     Inv-loop
     μ-loop
+    add-r-end
     loop-holds
-    mask-at-requires
-    mul-all
-    array-write-all
-    add-k
+    slice-aggregate-put-row
+    put-row-requires
+    add-r
     loop-less
     loop-again
     returns)

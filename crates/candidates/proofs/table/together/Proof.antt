@@ -47,7 +47,7 @@ agrees-requires c κs = search needs
 
 mul-mask : tie.Need-mul-mask Inv-loop μ-loop
 mul-mask c =
-    let room : c .before .before .before .before .loop .mask < 2048 = marks-room _ (c .before .before .before .before .before .candidates .result)
+    let room : c .before .before .before .before .loop .mask < 8388608 = marks-room _ (c .before .before .before .before .before .candidates .result)
     (c .before .before .before .before .loop .e) (c .before .before .before .before .loop .mask)
     (c .before .before .before .before .before .candidates .ensures .1) (search needs)
     (c .before .before .before .before .loop .inv .0) (c .before .before .before .before .loop .inv .1) in
@@ -55,7 +55,7 @@ mul-mask c =
 
 add-mask : tie.Need-add-mask Inv-loop μ-loop
 add-mask c =
-    let room : c .before .before .before .before .loop .mask < 2048 = marks-room _ (c .before .before .before .before .before .candidates .result)
+    let room : c .before .before .before .before .loop .mask < 8388608 = marks-room _ (c .before .before .before .before .before .candidates .result)
     (c .before .before .before .before .loop .e) (c .before .before .before .before .loop .mask)
     (c .before .before .before .before .before .candidates .ensures .1) (search needs)
     (c .before .before .before .before .loop .inv .0) (c .before .before .before .before .loop .inv .1) in
@@ -86,7 +86,7 @@ loop-again c =
 
 mul-mask-2 : tie.Need-mul-mask-2 Inv-loop μ-loop
 mul-mask-2 c =
-    let room : c .before .before .before .before .loop .mask < 2048 = marks-room _ (c .before .before .before .before .before .candidates .result)
+    let room : c .before .before .before .before .loop .mask < 8388608 = marks-room _ (c .before .before .before .before .before .candidates .result)
     (c .before .before .before .before .loop .e) (c .before .before .before .before .loop .mask)
     (c .before .before .before .before .before .candidates .ensures .1) (search needs)
     (c .before .before .before .before .loop .inv .0) (c .before .before .before .before .loop .inv .1) in

@@ -63,7 +63,7 @@ loop-again c =
     let all = c .before .before .loop .all in
     let k = c .before .before .loop .k in
     let long : k < length all = search needs in
-    let same : ℕ → Cell → Type 0 = λ j x. x ≡ cellAt q j in (
+    let same : ℕ → Cell → Type 0 = λ j x. x ≡ cellAt 12 q j in (
       search needs,
       ⊎-elim (λ w. ap length (w .2) ∙ simp length-set (c .before .before .loop .inv .1))
           (λ w. ap length (w .2) ∙ simp length-set (c .before .before .loop .inv .1)) (c .if1 .came),

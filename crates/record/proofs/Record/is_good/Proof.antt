@@ -7,7 +7,7 @@ use borrow.Author.Needs.{needs}
 use Rattle.record.specs.declared.Record.{Record}
 use Rattle.record.specs.View.{schemaOf}
 use Rattle.lists.specs.Tests.{every}
-use Rattle.query.specs.Rule.{goodRelations, goodDependencies, goodPlace}
+use Rattle.query.specs.Rule.{goodRelations, goodDependencies, goodJoins, goodPlace}
 use Rattle.record.specs.Rule.{goodRecord}
 use Rattle.record.proofs.Record.is_good.Statement.{statement}
 use Rattle.record.proofs.Record.is_good.Tie as tie
@@ -22,33 +22,49 @@ module _ (r : Record) where
     unfolding goodRecord
     stops-2 e = rw (relations, e)
 
-    goes : goodDependencies (schemaOf r) (r .held) (r .dependencies) ≡ true → every (goodPlace (schemaOf r)) (r .places) ≡ goodRecord r
-    unfolding goodRecord
-    goes e = rw (relations, e)
+    module _ (dependencies : goodDependencies (schemaOf r) (r .held) (r .dependencies) ≡ true) where
+      stops-3 : goodJoins (schemaOf r) (r .joined) (r .joins) ≡ false → false ≡ goodRecord r
+      unfolding goodRecord
+      stops-3 e = rw (relations, dependencies, e)
+
+      goes : goodJoins (schemaOf r) (r .joined) (r .joins) ≡ true → every (goodPlace (schemaOf r)) (r .places) ≡ goodRecord r
+      unfolding goodRecord
+      goes e = rw (relations, dependencies, e)
 
 relations-good-requires : tie.Need-relations-good-requires
 relations-good-requires c κs = search needs
 
 returns : tie.Need-returns
-returns c = stops-1 (c .before .before .before .before .before .args .self) (sym (c .before .relations-good .ensures) ∙ not-true _ (c .if1 .taken))
+returns c = stops-1 (c .before .before .before .before .before .before .args .self) (sym (c .before .relations-good .ensures) ∙ not-true _ (c .if1 .taken))
 
 dependencies-good-requires : tie.Need-dependencies-good-requires
 dependencies-good-requires c κs = sym (c .before .relations-good .ensures) ∙ not-false _ (c .if1 .left)
 
 returns-2 : tie.Need-returns-2
 returns-2 c =
-    stops-2 (c .before .before .before .before .before .before .before .args .self)
+    stops-2 (c .before .before .before .before .before .before .before .before .args .self)
     (sym (c .before .before .before .relations-good .ensures) ∙ not-false _ (c .before .before .if1 .left))
     (sym (c .before .dependencies-good .ensures) ∙ not-true _ (c .if2 .taken))
 
-places-good-requires : tie.Need-places-good-requires
-places-good-requires c κs = (sym (c .before .before .before .relations-good .ensures) ∙ not-false _ (c .before .before .if1 .left))
+joins-good-requires : tie.Need-joins-good-requires
+joins-good-requires c κs = sym (c .before .before .before .relations-good .ensures) ∙ not-false _ (c .before .before .if1 .left)
 
 returns-3 : tie.Need-returns-3
 returns-3 c =
-    c .places-good .ensures ∙ goes (c .before .before .before .before .before .before .before .before .args .self)
-    (sym (c .before .before .before .before .relations-good .ensures) ∙ not-false _ (c .before .before .before .if1 .left))
-    (sym (c .before .before .dependencies-good .ensures) ∙ not-false _ (c .before .if2 .left))
+    stops-3 (c .before .before .before .before .before .before .before .before .before .before .args .self)
+    (sym (c .before .before .before .before .before .relations-good .ensures) ∙ not-false _ (c .before .before .before .before .if1 .left))
+    (sym (c .before .before .before .dependencies-good .ensures) ∙ not-false _ (c .before .before .if2 .left))
+    (sym (c .before .joins-good .ensures) ∙ not-true _ (c .if3 .taken))
+
+places-good-requires : tie.Need-places-good-requires
+places-good-requires c κs = sym (c .before .before .before .before .before .relations-good .ensures) ∙ not-false _ (c .before .before .before .before .if1 .left)
+
+returns-4 : tie.Need-returns-4
+returns-4 c =
+    c .places-good .ensures ∙ goes (c .before .before .before .before .before .before .before .before .before .before .before .args .self)
+    (sym (c .before .before .before .before .before .before .relations-good .ensures) ∙ not-false _ (c .before .before .before .before .before .if1 .left))
+    (sym (c .before .before .before .before .dependencies-good .ensures) ∙ not-false _ (c .before .before .before .if2 .left))
+    (sym (c .before .before .joins-good .ensures) ∙ not-false _ (c .before .if3 .left))
 
 pub is-good-spec : {M : Type 1} → statement M
 is-good-spec =
@@ -58,5 +74,7 @@ is-good-spec =
     returns
     dependencies-good-requires
     returns-2
+    joins-good-requires
+    returns-3
     places-good-requires
-    returns-3)
+    returns-4)

@@ -5,7 +5,7 @@ use lib.ListN.{replicate}
 use borrow.Author.Needs.{needs}
 use Rattle.query.specs.declared.Place.{Place}
 use Rattle.record.specs.declared.Record.{Record}
-use Rattle.query.specs.Rule.{noDependency}
+use Rattle.query.specs.Rule.{noDependency, noJoin}
 use Rattle.record.proofs.calls.opened.Statement.{statement}
 use Rattle.record.proofs.calls.opened.Tie as tie
 
@@ -22,6 +22,8 @@ returns c =
       widths = c .before .args .widths;
       held = 0;
       dependencies = replicate 32 noDependency;
+      joined = 0;
+      joins = replicate 4 noJoin;
       places = replicate 8 p;
     }
     in

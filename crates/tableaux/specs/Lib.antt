@@ -1,0 +1,2 @@
+-- What internal functions alone cite.
+pub mod internal

@@ -1,0 +1,2 @@
+-- A stored query as a tableau, and back.
+pub mod Tableaux
