@@ -58,7 +58,7 @@ is-some test start (suc n) i low high passes =
 -- ---- columns
 
 -- A column of a set goes or does not
-goes-cases : (codes chosen : List ℕ) (i c : ℕ) → goesAt codes chosen i c ≡ true → (getD chosen c 0 ≡ free) ⊎ (getD chosen c 0 ≡ getD codes (8 * i + c) 0)
+pub goes-cases : (codes chosen : List ℕ) (i c : ℕ) → goesAt codes chosen i c ≡ true → (getD chosen c 0 ≡ free) ⊎ (getD chosen c 0 ≡ getD codes (8 * i + c) 0)
 goes-cases codes chosen i c e =
     bool-cases (eqb (getD chosen c 0) free) (λ p. inl (eqb-true _ _ p))
     (λ p. inr (eqb-true _ _ (sym (ap (λ b. cond b true (eqb (getD chosen c 0) (getD codes (8 * i + c) 0))) p) ∙ e)))
