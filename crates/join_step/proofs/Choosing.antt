@@ -70,7 +70,7 @@ more-cases front p q at old new =
     ⊎-elim old (λ last. mem-cases last new (λ none. absurd (List·Memᴰ·not-nil none))) (List·Memᴰ·append-cases front at)
 
 -- A test that each element passes
-every-of : {A : Type 0} (test : A → Bool) (xs : List A) → ((x : A) → x ∈ xs → test x ≡ true) → every test xs ≡ true
+pub every-of : {A : Type 0} (test : A → Bool) (xs : List A) → ((x : A) → x ∈ xs → test x ≡ true) → every test xs ≡ true
 unfolding every
 every-of test [] passes = refl
 every-of test (x ∷ xs) passes =
@@ -85,7 +85,7 @@ pub code-not-free : (e : Entry) → Within e → code e ≡ free → ⊥
 code-not-free e within is = let below = code-below e within in absurd (omega (arith, below, is))
 
 -- All columns are in the set of all
-all-columns : (c : ℕ) → c < 8 → c ∈ columnsOf 255
+pub all-columns : (c : ℕ) → c < 8 → c ∈ columnsOf 255
 unfolding columnsFrom numbersWhere
 all-columns c h = let at : c ∈ numbersWhere (λ c. true) 0 8 = where-of (λ c. true) 0 8 c (omega arith) (omega arith) refl in at
 
