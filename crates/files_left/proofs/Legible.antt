@@ -8,26 +8,29 @@ use native.Mathlib.Omega.{arith}
 use lib.Dec.{eqb, leb, ltb}
 use lib.ListN.{length, take, drop, replicate, length-append, length-replicate, length-set}
 use lib.Seq.{take-at}
-use borrow.Author.Tests.{leb-true}
+use borrow.Author.Tests.{leb-true, eq-eqb, not-false}
 use Rattle.query.specs.declared.Cell.{Cell}
 use Rattle.query.specs.declared.Query.{Query}
 use Rattle.query.specs.declared.Dependency.{Dependency}
+use Rattle.query.specs.declared.JoinDependency.{JoinDependency}
 use Rattle.query.specs.declared.Place.{Place}
 use Rattle.record.specs.declared.Record.{Record}
 use Rattle.record.specs.View.{schemaOf}
 use Rattle.query.specs.View.{queryOf}
 use Rattle.lists.specs.Tests.{between, every}
-use Rattle.query.specs.Rule.{goodDependency, goodQuery, headSafe, goodPlace, noPlace, shapedQuery, placeWith}
+use Rattle.query.specs.Rule.{goodDependency, goodJoin, goodQuery, headSafe, goodPlace, noPlace, shapedQuery, shapedJoin, placeWith}
+use Rattle.query.proofs.Good.{good-join}
 use Rattle.record.specs.Rule.{goodRecord, blankRecord, emptyRecord}
 use Rattle.refusals.specs.Refusals.{_>>=_, badQuery, bufferTooShort, firstHolding, gives, refused, reply, Reply}
 use Rattle.record.specs.Calls.{queryAt, concluded, brokenRecord, unknownPlace, vacant, filled}
-use Rattle.record.specs.Calls.{withPlace, withDependency, openRecord, addDependency, putQuery}
+use Rattle.record.specs.Calls.{withPlace, withDependency, withJoin, openRecord, addDependency, addJoin, putQuery}
 use Rattle.record.specs.Calls.{dropQuery}
-use Rattle.refusals.proofs.Refusals.{refused-gives}
+use Rattle.refusals.proofs.Refusals.{refused-gives, none-holds}
 use Rattle.lists.proofs.Tests.{and-left, and-right, and-both, every-set}
 use Rattle.record.proofs.Good.{good-record}
-use Rattle.record.proofs.Meaning.{open-keeps, add-keeps, put-keeps, drop-keeps}
-use Rattle.lists.specs.Over.{over}
+use Rattle.record.proofs.Meaning.{open-keeps, add-keeps, add-join-keeps, put-keeps, drop-keeps}
+use Rattle.lists.specs.Over.{over, pad}
+use Rattle.lists.proofs.Over.{length-pad}
 use Rattle.format.specs.Bytes.{Bytes}
 use Rattle.format.specs.Parts.{query}
 use Rattle.format.specs.File.{complete, isVacant, safeQuery, readPlace, readFile, fileOf, shaped}
@@ -44,10 +47,10 @@ use Rattle.comparison.specs.Comparison.{chasedAt, verdictReply, verdictOn, Comp
 use Rattle.minimization.specs.Search as search
 use Rattle.reduction.specs.declared.Reduced.{Reduced}
 use Rattle.lent_numbers.specs.Lent.{fitted, Wrote}
-use Rattle.record_on_files.specs.Records.{resultOf, fileFitted, putPart}
+use Rattle.record_on_files.specs.Records.{resultOf, fileFitted, joinWith, putPart}
 use Rattle.reduction_on_files.specs.Shortening.{ReductionGiven, Reducing}
 use Rattle.comparison_on_files.specs.Queries.{comparisonFits, ComparisonGiven, ComparisonShape, Comparing}
-use Rattle.files_left.specs.Legible.{FileLeft, WriteLeft, OpenLeft, AddLeft, PutLeft, DropLeft, ReduceLeft, CompareLeft}
+use Rattle.files_left.specs.Legible.{FileLeft, WriteLeft, OpenLeft, AddLeft, AddJoinLeft, PutLeft, DropLeft, ReduceLeft, CompareLeft}
 use Rattle.lent_numbers.proofs.Lent.{goes-on}
 use Rattle.comparison_on_files.proofs.Verdicts.{query-part, comparison-apart, comparison-contained, comparison-never, compared-sound}
 
@@ -95,9 +98,9 @@ read-whole : (file : List ℕ) → Bytes file → (r : Record) → readFile file
 read-whole file hb r e = let k = file-written-back file r hb e in (k .0, k .1)
 
 -- A record's arrays, one by one
-shaped-from : (r : Record) → length (r .widths) ≡ 8 → length (r .dependencies) ≡ 32 → length (r .places) ≡ 8
-    → every (λ p. shapedQuery (p .query)) (r .places) ≡ true → shaped r ≡ true
-shaped-from r w d p q = rw (w, d, p, q)
+shaped-from : (r : Record) → length (r .widths) ≡ 8 → length (r .dependencies) ≡ 32 → length (r .joins) ≡ 4 → every shapedJoin (r .joins) ≡ true
+    → length (r .places) ≡ 8 → every (λ p. shapedQuery (p .query)) (r .places) ≡ true → shaped r ≡ true
+shaped-from r w d j s p q = rw (w, d, j, s, p, q)
 
 -- no test but one can refuse, and it did not
 unrefused : (fit : Bool) → cond {A = Option ℕ} (not fit) (some 3) none ≡ none → fit ≡ true
@@ -114,23 +117,32 @@ open-shaped widths e =
     let most = leb-true (length widths) 8 (and-right (leb 1 (length widths)) (leb (length widths) 8)
     (and-left few (every (between 1 8) widths) (unrefused fit clear))) in
     let long : length (widths ++ replicate (8 - length widths) 0) ≡ 8 = rw (length-append, length-replicate) (omega arith) in
-    shaped-from (emptyRecord (length widths) (widths ++ replicate (8 - length widths) 0)) long refl refl refl)
+    shaped-from (emptyRecord (length widths) (widths ++ replicate (8 - length widths) 0)) long refl refl refl refl refl)
 
 module _ (r : Record) (w : Whole r) where
   queries : every (λ p. shapedQuery (p .query)) (r .places) ≡ true
   queries =
-      and-right (eqb (length (r .widths)) 8 && eqb (length (r .dependencies)) 32 && eqb (length (r .places)) 8)
+      and-right
+      (eqb (length (r .widths)) 8 && eqb (length (r .dependencies)) 32 && eqb (length (r .joins)) 4 && every shapedJoin (r .joins) && eqb (length (r .places)) 8)
       (every (λ p. shapedQuery (p .query)) (r .places)) (w .1)
 
   dependency-shaped : (d : Dependency) → shaped (withDependency r d) ≡ true
   dependency-shaped d =
       let k = sound-record r (w .0) (w .1) in
-      shaped-from (withDependency r d) (k .widths-long) (length-set (r .dependencies) (r .held) d ∙ k .dependencies-long) (k .places-long) queries
+      shaped-from (withDependency r d) (k .widths-long) (length-set (r .dependencies) (r .held) d ∙ k .dependencies-long) (k .joins-long) (k .sets-long)
+      (k .places-long) queries
+
+  join-shaped : (j : JoinDependency) → shapedJoin j ≡ true → shaped (withJoin r j) ≡ true
+  join-shaped j s =
+      let k = sound-record r (w .0) (w .1) in
+      shaped-from (withJoin r j) (k .widths-long) (k .dependencies-long) (length-set (r .joins) (r .joined) j ∙ k .joins-long)
+      (every-set shapedJoin (r .joins) (r .joined) j (k .sets-long) s) (k .places-long) queries
 
   place-shaped : (place : ℕ) (p : Place) → shapedQuery (p .query) ≡ true → shaped (withPlace r place p) ≡ true
   place-shaped place p s =
       let k = sound-record r (w .0) (w .1) in
-      shaped-from (withPlace r place p) (k .widths-long) (k .dependencies-long) (length-set (r .places) place p ∙ k .places-long)
+      shaped-from (withPlace r place p) (k .widths-long) (k .dependencies-long) (k .joins-long) (k .sets-long)
+      (length-set (r .places) place p ∙ k .places-long)
       (every-set (λ p. shapedQuery (p .query)) (r .places) place p queries s)
 
   add-shaped : (d : Dependency) → addDependency r d .0 ≡ gives tt → shaped (addDependency r d .1) ≡ true
@@ -138,6 +150,20 @@ module _ (r : Record) (w : Whole r) where
   add-shaped d e =
       concluded-shaped (firstHolding (brokenRecord r ∷ (not (goodDependency (schemaOf r) d), 4) ∷ (eqb (r .held) 32, 13) ∷ [])) r (withDependency r d) e
       (λ _. dependency-shaped d)
+
+  -- A join dependency that is accepted has at most 4 sets
+  add-join-shaped : (relation : ℕ) (sets : List ℕ) → addJoin r (joinWith relation sets) .0 ≡ gives tt → shaped (addJoin r (joinWith relation sets) .1) ≡ true
+  unfolding addJoin
+  add-join-shaped relation sets e =
+      let j : JoinDependency = joinWith relation sets in
+      let fit : Bool = goodJoin (schemaOf r) j in
+      let full : (Bool × ℕ) = (eqb (r .joined) 4, 16) in
+      concluded-shaped (firstHolding (brokenRecord r ∷ (not fit, 15) ∷ full ∷ [])) r (withJoin r j) e
+      (λ clear.
+      let a = none-holds (not (goodRecord r)) 14 ((not fit, 15) ∷ full ∷ []) clear in
+      let b = none-holds (not fit) 15 (full ∷ []) (a .1) in
+      let few = good-join (schemaOf r) j (not-false fit (b .0)) .most in
+      join-shaped j (eq-eqb (length (pad 4 0 sets)) 4 (length-pad 4 0 sets few)))
 
   put-shaped : (place : ℕ) (q : Query) → shapedQuery q ≡ true → putQuery r place q .0 ≡ gives tt → shaped (putQuery r place q .1) ≡ true
   unfolding putQuery
@@ -170,8 +196,8 @@ module _ (r : Record) (w : Whole r) where
           let (q, g, s) = bind-ok (complete badQuery (query schema .get part)) (safeQuery schema) p e in
           let (safe, s₁) = cond-ok (headSafe schema q) (gives (placeWith q)) 6 p s in
           let same : placeWith q ≡ p = cc in
-          let (good, put) = complete-get badQuery (query schema) (query-lawful schema narrow) part q hb g in
-          subst (λ (x : Place). shapedQuery (x .query) ≡ true) same (good-query schema q good .0)
+          let (good, put) = complete-get badQuery (query schema) (query-lawful 12 schema narrow) part q hb g in
+          subst (λ (x : Place). shapedQuery (x .query) ≡ true) same (good-query 12 schema q good .0)
 
   put-whole : (place : ℕ) (part : List ℕ) → Bytes part → (after : Record) → putPart place part r ≡ gives after → Whole after
   put-whole place part hb after e =
@@ -201,6 +227,13 @@ add-left file hb relation left right =
     let d : Dependency = record { relation = relation; left = left; right = right } in
     after-read file hb (λ r. resultOf (addDependency r d))
     (λ r after w e. outcome-whole (addDependency r d) after e (λ a. (add-keeps r d (sound-record r (w .0) (w .1) .dependencies-long) a, add-shaped r w d a)))
+
+pub add-join-left : AddJoinLeft
+add-join-left file hb relation sets =
+    after-read file hb (λ r. resultOf (addJoin r (joinWith relation sets)))
+    (λ r after w e.
+    outcome-whole (addJoin r (joinWith relation sets)) after e
+    (λ a. (add-join-keeps r (joinWith relation sets) (sound-record r (w .0) (w .1) .joins-long) a, add-join-shaped r w relation sets a)))
 
 pub put-left : PutLeft
 put-left file hb place part hp = after-read file hb (putPart place part) (λ r after w e. put-whole r w place part hp after e)

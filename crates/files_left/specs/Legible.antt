@@ -11,7 +11,7 @@ use Rattle.query.specs.declared.Query.{Query}
 use Rattle.record.specs.declared.Record.{Record}
 use Rattle.record.specs.View.{schemaOf}
 use Rattle.query.specs.View.{queryOf}
-use Rattle.record.specs.Calls.{openRecord, addDependency, dropQuery}
+use Rattle.record.specs.Calls.{openRecord, addDependency, addJoin, dropQuery}
 use Rattle.format.specs.Bytes.{Bytes}
 use Rattle.refusals.specs.Refusals.{Reply, gives, _>>=_}
 use Rattle.query.specs.Rule.{placeWith}
@@ -20,7 +20,7 @@ use Rattle.comparison.specs.Comparison.{chasedAt, pairRefusal}
 use Rattle.reduction.specs.declared.Reduced.{Reduced}
 use Rattle.reduction.specs.Reduced.{reductionRefusal, IsReduced}
 use Rattle.lent_numbers.specs.Lent.{Wrote}
-use Rattle.record_on_files.specs.Records.{resultOf, copied, opened, added, putPart, putIn, dropped}
+use Rattle.record_on_files.specs.Records.{resultOf, copied, opened, added, joinWith, addedJoin, putPart, putIn, dropped}
 use Rattle.reduction_on_files.specs.Shortening.{ReduceGives}
 use Rattle.comparison_on_files.specs.Queries.{CompareGives}
 
@@ -38,11 +38,17 @@ WriteLeft = (file : List ℕ) → Bytes file → FileLeft (readFile file) (copie
 abbrev pub OpenLeft : Type 0
 OpenLeft = (widths : List ℕ) → FileLeft (resultOf (openRecord widths)) (opened widths)
 
--- A file with a dependency added
+-- A file with a functional dependency added
 abbrev pub AddLeft : Type 0
 AddLeft =
     (file : List ℕ) → Bytes file → (relation left right : ℕ)
     → FileLeft (readFile file >>= λ r. resultOf (addDependency r (record { relation = relation; left = left; right = right }))) (added file relation left right)
+
+-- With a join dependency added
+abbrev pub AddJoinLeft : Type 0
+AddJoinLeft =
+    (file : List ℕ) → Bytes file → (relation : ℕ) (sets : List ℕ)
+    → FileLeft (readFile file >>= λ r. resultOf (addJoin r (joinWith relation sets))) (addedJoin file relation sets)
 
 -- With a query put into a place
 abbrev pub PutLeft : Type 0

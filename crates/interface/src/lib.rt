@@ -4,7 +4,7 @@ ghost use mathlib.Core.Path.{_≡_};
 ghost use lib.ListN.{length};
 ghost use Rattle.format.specs.File.{readFile};
 ghost use Rattle.lent_numbers.specs.Lent.{returned, leaves, Wrote};
-ghost use Rattle.record_on_files.specs.Records.{copied, opened, added, putIn, dropped, determinedIn};
+ghost use Rattle.record_on_files.specs.Records.{copied, opened, added, addedJoin, putIn, dropped, determinedIn};
 ghost use Rattle.reduction_on_files.specs.Shortening.{ReduceGives};
 ghost use Rattle.comparison_on_files.specs.Queries.{CompareGives, checkedIn, bit};
 ghost use Rattle.admission.specs.Conditions.{testConditions, searchConditions};
@@ -40,7 +40,7 @@ pub extern "C" fn spernevan_open(widths: &[u8], out: &mut [u8], size: &mut usize
     record_on_files::open_file(widths, out, size)
 }
 
-// Adds a dependency after those held.
+// Adds a functional dependency after those held.
 #[no_mangle]
 pub extern "C" fn spernevan_add(
     file: &[u8],
@@ -54,6 +54,21 @@ pub extern "C" fn spernevan_add(
         (out .exit)) (now (size .exit)) ⌝ }
 {
     record_on_files::add_in_file(file, relation, left, right, out, size)
+}
+
+// Adds a join dependency, a byte for each set, after those held.
+#[no_mangle]
+pub extern "C" fn spernevan_add_join(
+    file: &[u8],
+    relation: u8,
+    sets: &[u8],
+    out: &mut [u8],
+    size: &mut usize,
+) -> u8
+    ensures { λ r. ⌜ Wrote (addedJoin (now (file .entry)) relation (now (sets .entry)) (length (now (out .entry)))) (now (out .entry)) (now (size .entry)) r
+        (now (out .exit)) (now (size .exit)) ⌝ }
+{
+    record_on_files::add_join_in_file(file, relation, sets, out, size)
 }
 
 // Puts a query, the bytes of a query part, into a vacant place.

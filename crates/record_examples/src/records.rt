@@ -6,6 +6,7 @@ use example_parts::show;
 use query::Cell;
 use query::Dependency;
 use query::Entry;
+use query::JoinDependency;
 use query::Query;
 use record::Columns;
 use record::Outcome;
@@ -213,6 +214,73 @@ fn full(r: Record) -> Record {
     grown
 }
 
+// a b and b c of S, the same with two sets more, and join dependencies that are refused.
+fn join(case: u8) -> JoinDependency {
+    let mut j = JoinDependency {
+        relation: 1,
+        count: 2,
+        sets: [3, 6, 0, 0],
+    };
+    match case {
+        0 => {}
+        // b c once more, and a
+        1 => {
+            j.count = 4;
+            j.sets[2] = 6;
+            j.sets[3] = 1;
+        }
+        // an unknown relation
+        2 => {
+            j.relation = 2;
+        }
+        // one set, of all columns
+        3 => {
+            j.count = 1;
+            j.sets[0] = 7;
+            j.sets[1] = 0;
+        }
+        // five sets
+        4 => {
+            j.count = 5;
+        }
+        // an empty set
+        5 => {
+            j.sets[0] = 0;
+        }
+        // column 3
+        6 => {
+            j.sets[0] = 11;
+        }
+        // a in no set
+        7 => {
+            j.sets[0] = 2;
+        }
+        // past the sets
+        _ => {
+            j.sets[2] = 1;
+        }
+    }
+    j
+}
+
+// Add the join dependency of each case. Where the record is good and holds fewer than 4, 15 is given for 2 to 8.
+fn joins(r: Record) {
+    for case in 0..9u8 {
+        show::case(b"join ", case);
+        answer(r.add_join(join(case)));
+    }
+}
+
+// The record with the first two join dependencies added twice each, so that 4 are held.
+fn joined(r: Record) -> Record {
+    let mut grown = r;
+    for case in 0..4u8 {
+        show::case(b"join to ", case);
+        grown = answer(grown.add_join(join(case % 2)));
+    }
+    grown
+}
+
 // The columns of a relation that each of its sets, and the empty one, determines.
 fn determined(r: Record, relation: u8) {
     for left in 0..9u8 {
@@ -229,6 +297,7 @@ pub fn all() {
     puts(r, 0);
     puts(r, 8);
     adds(r);
+    joins(r);
     let filled = queries::put(r, 7, query(0));
     puts(filled, 7);
     drops(filled);
@@ -237,9 +306,14 @@ pub fn all() {
     determined(grown, 1);
     determined(grown, 0);
     determined(grown, 2);
+    let four = joined(grown);
+    joins(four);
+    adds(four);
+    determined(four, 1);
     let broken = queries::spoilt(r);
     puts(broken, 8);
     drops(broken);
     adds(broken);
+    joins(broken);
     determined(broken, 1);
 }
