@@ -388,3 +388,7 @@ module _ (schema : List ℕ) (narrow : (i : ℕ) → getD schema i 0 ≤ 8) (t :
 
   pub repeats-arity : distinctTo t (t .size) .arity ≡ t .arity
   repeats-arity = distinct-head t (t .size) .0
+
+  pub repeats-long : (length (distinctTo t (t .size) .relations) ≡ 24) × (length (distinctTo t (t .size) .cells) ≡ 192)
+  unfolding less
+  repeats-long = (less-good .relations-long, less-good .cells-long)
