@@ -1,4 +1,4 @@
-// What a round of the chase with join dependencies does to a tableau after the functional chase (SPECIFICATION, The chase): repeated rows go, and the
+// What a round of the chase with join dependencies does to a tableau after the functional chase (SPECIFICATION, The chase with join dependencies): repeated rows go, and the
 // first row that a join dependency asks for and that is not there is added at the end.
 use entries::code::code;
 use entries::code::decode;
