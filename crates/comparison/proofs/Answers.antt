@@ -1,47 +1,53 @@
--- What the code has shown when it answers, and the promise that follows: first for a comparison of two stored queries, then for the places that they come from,
--- then for the checking of a mapping. The cases themselves are in `Verdicts`. Assumes nothing.
+-- What the code has shown when it answers, and the promise that follows: for a comparison of two places, then for the checking of a mapping.
+-- The cases themselves are in `Verdicts`. Assumes nothing.
 use mathlib.Core.Path.{_≡_, refl, sym, ap, ap₂, subst, subst₂, _∙_}
 use mathlib.Core.Logic.{_≢_}
-use mathlib.Core.Bool.{Bool, true, false, _&&_}
+use mathlib.Core.Bool.{Bool, true, false, cond}
 use mathlib.Core.List.{List, [], _∷_, List·Memᴰ·head, List·Memᴰ·not-nil}
 use mathlib.Core.Option.{Option, none, some}
 use Prim.Native.Nat.{ℕ, _≤_, _<_}
 use native.Mathlib.Omega.{arith}
+use lib.Dec.{leb}
 use lib.ListN.{length}
+use borrow.Author.Tests.{le-leb}
 use Rattle.record.specs.Calls.{storedAt, queryAt}
-use Rattle.mapping.proofs.Never.{never-rows}
 use Rattle.query.specs.declared.Cell.{Cell}
 use Rattle.query.specs.declared.Query.{Query}
-use Rattle.query.specs.declared.Dependency.{Dependency}
 use Rattle.record.specs.declared.Record.{Record}
-use Rattle.query.specs.View.{entriesOf, queryOf, imagesOf}
-use Rattle.record.specs.View.{schemaOf}
-use Rattle.lists.specs.Tests.{every, between}
+use Rattle.query.specs.View.{entriesOf, queryOf, asQuery, imagesOf}
+use Rattle.record.specs.View.{schemaOf, dependenciesOf, joinsOf}
+use Rattle.lists.specs.Tests.{every}
 use Rattle.record.specs.Rule.{goodRecord}
-use Rattle.query.specs.Rule.{goodQuery, goodRelations, goodDependencies, noQuery, goodPlace}
-use Rattle.lists.proofs.Tests.{and-left, and-right}
+use Rattle.query.specs.Rule.{goodDependencies, goodJoins, shapedJoin, noTableau}
+use Rattle.lists.proofs.Tests.{and-both}
+use Rattle.record.proofs.Good.{good-record}
 use Rattle.query.proofs.Good.{good-query}
-use Rattle.query.proofs.Shape.{row-count}
-use Rattle.chase.specs.declared.Chased.{Chased}
-use Rattle.first_step.specs.internal.Wide.{Chasable}
-use Rattle.chase.specs.internal.Outcome.{IsChased}
-use Rattle.chase.proofs.Callers.{chasable}
+use Rattle.query.proofs.Shape.{SizedFor, row-count}
+use Rattle.tableaux.specs.internal.Tableaux.{tableauOf}
+use Rattle.tableaux.proofs.Tableaux.{tableau-query, tableau-good}
+use Rattle.join_chase.specs.declared.JoinChased.{JoinChased}
+use Rattle.join_chase.specs.internal.JoinChased.{outcomeOf, IsJoinChased, JoinChasable}
+use Rattle.join_rule.proofs.Fitting.{good-joins-fit}
+use Rattle.joins.specs.Join.{JoinsFit}
+use Rattle.joins.specs.JoinChase.{chased, overflow, joinChase}
 use Rattle.mapping.specs.declared.Mapped.{Mapped}
-use Rattle.mapping.specs.internal.Mapped.{Storable, IsMapped, Finds, Checks}
+use Rattle.mapping.specs.internal.Mapped.{Storable, StorableTableau, IsMapped, Finds, Checks}
+use Rattle.mapping.proofs.Never.{never-rows}
 use Rattle.theory.specs.Query as theory
 use Rattle.theory.specs.Query.{_∈_}
 use Rattle.theory.specs.Answer as answer
 use Rattle.minimization.specs.Checking.{mapsTo}
 use Rattle.refusals.specs.Refusals.{gives, reply}
-use Rattle.comparison.specs.declared.Pair.the-variants.{Places, Refused}
+use Rattle.comparison.specs.declared.Pair.the-variants.{Places}
+use Rattle.comparison.specs.declared.Comparison.{Comparison}
 use Rattle.comparison.specs.declared.Verdict.the-variants as verdict
 use Rattle.comparison.specs.declared.Checked.the-variants as checked
-use Rattle.comparison.specs.Comparison.{chasedAt, pairRefusal, Compared, CheckedMapping}
-use Rattle.comparison.specs.internal.Pairs.{paired, bare, Drawn}
-use Rattle.comparison.proofs.Pairs.{standing, paired-places}
-use Rattle.comparison.proofs.Verdicts.{queries, compared-never, compared-contained, compared-apart}
+use Rattle.comparison.specs.Comparison.{outcomeAt, queryIn, chasedAt, pairRefusal, Compared, CheckedMapping}
+use Rattle.comparison.specs.internal.Pairs.{paired, bare}
+use Rattle.comparison.proofs.Pairs.{standing, paired-places, compare-over}
+use Rattle.comparison.proofs.Verdicts.{queries, compared-refused, compared-never, compared-contained, compared-apart}
 
--- ---- two stored queries
+-- ---- the chase of the first query
 
 -- A query that is mapped to has rows
 mapping-rows : (S T : theory.Query) (f : ℕ → theory.Entry) → answer.IsMapping S T f → T .rows ≢ []
@@ -54,83 +60,99 @@ mapping-rows S T f is empty = go (S .rows) refl
         List·Memᴰ·not-nil
         (subst (λ (l : List (theory.Row theory.Entry)). theory.mapRow (answer.valueOf theory.constant f) x ∈ l) empty (is .carries .to-rows x at))
 
-dependencies-good : (r : Record) → goodRecord r ≡ true → goodDependencies (schemaOf r) (r .held) (r .dependencies) ≡ true
-unfolding goodRecord
-dependencies-good r good =
-    let a : Bool = goodRelations (r .relations) (r .widths) in
-    let b : Bool = goodDependencies (schemaOf r) (r .held) (r .dependencies) in
-    and-right a b (and-left (a && b) (every (goodPlace (schemaOf r)) (r .places)) good)
+-- The dependencies of a good record are good
+functional-good : (r : Record) → goodRecord r ≡ true → goodDependencies (schemaOf r) (r .held) (r .dependencies) ≡ true
+unfolding goodDependencies
+functional-good r good =
+    let g = good-record r good in
+    and-both (leb (r .held) 32) _ (le-leb (r .held) 32 (g .held)) (g .dependencies)
 
-module _ (r : Record) (p q : ℕ) (first second : Query) (dependencies : List Dependency) (held : ℕ) (drawn : Drawn r p q first second dependencies held) where
-  good-first : goodQuery (schemaOf r) first ≡ true
-  good-first = rw (drawn .first-is) (queries r p q (drawn .accepted) .good-p)
+joins-good : (r : Record) → goodRecord r ≡ true → goodJoins (schemaOf r) (r .joined) (r .joins) ≡ true
+unfolding goodJoins
+joins-good r good =
+    let g = good-record r good in
+    and-both (leb (r .joined) 4) _ (le-leb (r .joined) 4 (g .joined)) (g .joins)
 
-  good-second : goodQuery (schemaOf r) second ≡ true
-  good-second = rw (drawn .second-is) (queries r p q (drawn .accepted) .good-q)
+module _ (r : Record) (p q : ℕ) (accepted : pairRefusal r p q ≡ none) (sized : SizedFor 12 (storedAt r p)) where
+  -- The tableau of the first query can be chased
+  pub can-be-chased : JoinChasable (tableauOf (storedAt r p)) (r .relations) (r .widths) (r .dependencies) (r .held) (r .joins) (r .joined)
+  can-be-chased =
+      let s = standing r p q accepted in
+      record {
+        relations-good = good-record r (s .good) .relations;
+        dependencies-good = functional-good r (s .good);
+        joins-good = joins-good r (s .good);
+        tableau-good = tableau-good (schemaOf r) (storedAt r p) sized (queries r p q accepted .good-p);
+      }
 
-  -- Each can be chased
-  good-chasable : (x : Query) → goodQuery (schemaOf r) x ≡ true → Chasable x dependencies held
-  good-chasable x good-x =
-      chasable (schemaOf r) held dependencies x (queries r p q (drawn .accepted) .widths)
-      (rw (drawn .dependencies-are, drawn .held-is) (dependencies-good r (standing r p q (drawn .accepted) .good))) good-x
+  module _ (shaped : every shapedJoin (r .joins) ≡ true) (result : JoinChased)
+      (is : IsJoinChased (tableauOf (storedAt r p)) (r .relations) (r .widths) (r .dependencies) (r .held) (r .joins) (r .joined) result) where
+    fit : JoinsFit (schemaOf r) (joinsOf r)
+    fit = good-joins-fit (schemaOf r) (r .joined) (r .joins) shaped (joins-good r (standing r p q accepted .good))
 
-  pub drawn-chasable : Chasable first dependencies held × Chasable second dependencies held
-  drawn-chasable = (good-chasable first good-first, good-chasable second good-second)
+    -- It ends as the chase of the query ends
+    outcome : outcomeOf (schemaOf r) result ≡ outcomeAt r p
+    outcome =
+        let k = queries r p q accepted in
+        is .outcome-is
+        ∙ ap (joinChase (schemaOf r) (dependenciesOf r) (joinsOf r) 24) (tableau-query (schemaOf r) (storedAt r p) sized (k .good-p) (k .narrow))
 
-  -- With the chased query
-  module _ (chased : Chased)
-      (is : (schema : List ℕ) → goodQuery schema first ≡ true → every (between 1 8) schema ≡ true → IsChased schema dependencies held first chased) where
-    here : IsChased (schemaOf r) dependencies held first chased
-    here = is (schemaOf r) good-first (queries r p q (drawn .accepted) .widths)
+    -- before a row that would be one too many
+    pub answers-over : result .over ≡ true → Compared r p q (bare (verdict.Refused 17))
+    answers-over e =
+        compared-refused r p q 17
+        (compare-over r p q accepted (sym outcome ∙ ap (λ (b : Bool). cond b overflow (chased (queryOf (schemaOf r) (asQuery (result .query))))) e))
 
-    chased-is : queryOf (schemaOf r) (chased .query) ≡ chasedAt r p
-    chased-is = rw (drawn .first-is, drawn .dependencies-are, drawn .held-is) at (here .query-is)
+    -- or in a query
+    module _ (under : result .over ≡ false) where
+      ends : outcomeAt r p ≡ chased (queryOf (schemaOf r) (asQuery (result .query)))
+      ends = sym outcome ∙ ap (λ (b : Bool). cond b overflow (chased (queryOf (schemaOf r) (asQuery (result .query))))) under
 
-    -- a mapping to it can be looked for
-    pub drawn-storable : Storable second × Storable (chased .query)
-    drawn-storable = ((schemaOf r, good-second), (schemaOf r, here .good))
+      chased-is : queryOf (schemaOf r) (asQuery (result .query)) ≡ chasedAt r p
+      chased-is = sym (ap queryIn ends)
 
-    -- It is never
-    pub answers-never : chased .query .size ≡ 0 → Compared r p q (bare verdict.Never)
-    answers-never zero =
-        compared-never r p q (drawn .accepted) (ap (λ (x : theory.Query). x .rows) (sym chased-is) ∙ never-rows (schemaOf r) (chased .query) zero)
+      ends-so : outcomeAt r p ≡ chased (chasedAt r p)
+      ends-so = ends ∙ ap chased chased-is
 
-    module _ (mapped : Mapped) (finds : Finds second (chased .query) mapped) where
-      found : IsMapped (schemaOf r) second (chased .query) mapped
-      found =
-          let k = queries r p q (drawn .accepted) in
-          finds (schemaOf r) (k .narrow) good-second (here .good)
-          (ap (λ (x : Query). x .arity) (drawn .second-is) ∙ sym (k .same-arity) ∙ ap (λ (x : Query). x .arity) (sym (drawn .first-is))
-          ∙ sym (here .same-arity))
+      -- to which a mapping can be looked for
+      pub both-storable : Storable (storedAt r q) × StorableTableau (result .query)
+      both-storable = ((schemaOf r, queries r p q accepted .good-q), (schemaOf r, is .good under))
 
-      -- There is one
-      pub answers-contained : mapped .found ≡ true
-          → Compared r p q (record { verdict = verdict.Contained; images = mapped .images; query = noQuery })
-      answers-contained e =
-          let is-mapping : answer.IsMapping (queryAt r q) (chasedAt r p) (imagesOf (mapped .images)) =
-          subst₂ (λ (S T : theory.Query). answer.IsMapping S T (imagesOf (mapped .images))) (ap (queryOf (schemaOf r)) (drawn .second-is)) chased-is
-          (found .mapping e)
-          in
-          compared-contained r p q (drawn .accepted) (mapping-rows (queryAt r q) (chasedAt r p) (imagesOf (mapped .images)) is-mapping)
-          (mapped .images) is-mapping
+      -- It is never
+      pub answers-never : result .query .size ≡ 0 → Compared r p q (bare verdict.Never)
+      answers-never zero =
+          compared-never r p q accepted fit ends-so
+          (ap (λ (x : theory.Query). x .rows) (sym chased-is) ∙ never-rows (schemaOf r) (asQuery (result .query)) zero)
 
-      -- There is none
-      module _ (named : length (chased .query .relations) ≡ 12) (size : chased .query .size ≢ 0) where
-        some-rows : chasedAt r p .rows ≢ []
-        some-rows empty =
-            let fits : chased .query .size ≤ length (chased .query .relations) = omega (arith, good-query 12 (schemaOf r) (chased .query) (here .good) .size) in
-            size (sym (row-count (schemaOf r) (chased .query) fits) ∙ ap length (ap (λ (x : theory.Query). x .rows) chased-is ∙ empty))
+      module _ (mapped : Mapped) (finds : Finds (storedAt r q) (result .query) mapped) where
+        found : IsMapped (queryAt r q) (chasedAt r p) mapped
+        found =
+            let k = queries r p q accepted in
+            subst (λ (T : theory.Query). IsMapped (queryAt r q) T mapped) chased-is
+            (finds (schemaOf r) (k .narrow) (k .good-q) (is .good under) (sym (k .same-arity) ∙ sym (is .same-arity under)))
 
-        pub answers-apart : length (first .cells) ≡ 96 → mapped .found ≡ false
-            → Compared r p q (record { verdict = verdict.Apart; images = mapped .images; query = chased .query })
-        answers-apart long e =
-            subst (λ (images : List Cell). Compared r p q (record { verdict = verdict.Apart; images = images; query = chased .query })) (sym (found .blank e))
-            (compared-apart r p q (drawn .accepted) some-rows (ap (λ (x : Query). length (x .cells)) (sym (drawn .first-is)) ∙ long) (chased .query) chased-is
-            (here .good)
-            (λ m. found .none e (subst₂ answer.Mapping (ap (queryOf (schemaOf r)) (sym (drawn .second-is))) (sym chased-is) m)))
+        -- There is one
+        pub answers-contained : mapped .found ≡ true → Compared r p q (record { verdict = verdict.Contained; images = mapped .images; query = noTableau })
+        answers-contained e =
+            compared-contained r p q accepted fit ends-so (mapping-rows (queryAt r q) (chasedAt r p) (imagesOf (mapped .images)) (found .mapping e))
+            (mapped .images) (found .mapping e)
+
+        -- There is none
+        module _ (named : length (result .query .relations) ≡ 24) (size : result .query .size ≢ 0) where
+          some-rows : chasedAt r p .rows ≢ []
+          some-rows empty =
+              let t : Query = asQuery (result .query) in
+              let fits : t .size ≤ length (t .relations) = omega (arith, named, good-query 24 (schemaOf r) t (is .good under) .size) in
+              size (sym (row-count (schemaOf r) t fits) ∙ ap length (ap (λ (x : theory.Query). x .rows) chased-is ∙ empty))
+
+          pub answers-apart : mapped .found ≡ false → Compared r p q (record { verdict = verdict.Apart; images = mapped .images; query = result .query })
+          answers-apart e =
+              subst (λ (images : List Cell). Compared r p q (record { verdict = verdict.Apart; images = images; query = result .query })) (sym (found .blank e))
+              (compared-apart r p q accepted fit ends-so some-rows (sized .cells) (result .query) chased-is (is .good under) (found .none e))
 
 -- ---- two places
 
+-- Two places that were found are those that were given, and are not refused
 module _ (r : Record) (p q a b : ℕ) (is : paired (pairRefusal r p q) p q ≡ Places a b) where
   pub places-low : (a < 8) × (b < 8)
   places-low =
@@ -138,17 +160,21 @@ module _ (r : Record) (p q a b : ℕ) (is : paired (pairRefusal r p q) p q ≡ P
       let s = standing r p q (f .0) in
       (omega (arith, f .1, s .low-p), omega (arith, f .2, s .low-q))
 
-  pub draws : (x y : Query) (dependencies : List Dependency) (held : ℕ) → x ≡ storedAt r a → y ≡ storedAt r b → dependencies ≡ r .dependencies → held ≡ r .held
-      → Drawn r p q x y dependencies held
-  draws x y dependencies held is-x is-y same-dependencies same-held =
+  pub places-accepted : pairRefusal r a b ≡ none
+  places-accepted =
       let f = paired-places (pairRefusal r p q) p q a b is in
-      record {
-        accepted = f .0;
-        first-is = is-x ∙ ap (storedAt r) (sym (f .1));
-        second-is = is-y ∙ ap (storedAt r) (sym (f .2));
-        dependencies-are = same-dependencies;
-        held-is = same-held;
-      }
+      subst₂ (λ (x y : ℕ). pairRefusal r x y ≡ none) (f .1) (f .2) (f .0)
+
+  pub places-compared : (c : Comparison) → Compared r a b c → Compared r p q c
+  places-compared c =
+      let f = paired-places (pairRefusal r p q) p q a b is in
+      subst₂ (λ (x y : ℕ). Compared r x y c) (sym (f .1)) (sym (f .2))
+
+  -- The queries that are read are theirs
+  pub places-read : (x y : Query) → x ≡ storedAt r a → y ≡ storedAt r b → (pairRefusal r p q ≡ none) × (x ≡ storedAt r p) × (y ≡ storedAt r q)
+  places-read x y is-x is-y =
+      let f = paired-places (pairRefusal r p q) p q a b is in
+      (f .0, is-x ∙ ap (storedAt r) (sym (f .1)), is-y ∙ ap (storedAt r) (sym (f .2)))
 
 -- ---- the checking of a mapping
 

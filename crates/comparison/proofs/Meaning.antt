@@ -1,25 +1,32 @@
 -- The statements of `specs/Meaning`. Assumes nothing.
 use mathlib.Core.Path.{_≡_, refl, sym, ap, _∙_}
 use mathlib.Core.Logic.{_⊎_, inl, inr, ⊎-elim}
-use mathlib.Core.List.{List}
+use mathlib.Core.List.{List, [], List·Memᴰ·not-nil}
 use mathlib.Core.Option.{Option, none, some}
 use Prim.Native.Nat.{ℕ}
 use native.Mathlib.Omega.{arith}
 use Rattle.refusals.specs.Refusals.{gives}
 use Rattle.refusals.proofs.Refusals.{reply-gives}
 use Rattle.theory.specs.Answer.{IsMapping}
+use Rattle.theory.specs.Chase.{chase}
+use Rattle.theory.specs.Database.{JoinDependency}
+use Rattle.joins.specs.JoinChase.{chased, joinChase}
+use Rattle.joins.proofs.Theorems.{join-chase-computes, without-joins}
 use Rattle.query.specs.declared.Cell.{Cell}
-use Rattle.query.specs.View.{imagesOf}
+use Rattle.query.specs.declared.Query.{Query}
+use Rattle.query.specs.declared.Tableau.{Tableau}
+use Rattle.query.specs.View.{asQuery, heldJoins, imagesOf}
 use Rattle.query.proofs.Meaning.{stored-unique}
 use Rattle.record.specs.declared.Record.{Record}
-use Rattle.record.specs.View.{schemaOf}
+use Rattle.record.specs.View.{schemaOf, dependenciesOf, joinsOf}
 use Rattle.record.specs.Calls.{queryAt}
 use Rattle.comparison.specs.declared.Verdict.{Verdict}
 use Rattle.comparison.specs.declared.Verdict.the-variants as verdict
 use Rattle.comparison.specs.declared.Checked.{Checked}
 use Rattle.comparison.specs.declared.Checked.the-variants.{Yes, No, Refused}
-use Rattle.comparison.specs.Comparison.{pairRefusal, notContained, verdictReply, verdictOf, CheckedMapping}
-use Rattle.comparison.specs.Meaning.{CheckMeans, CheckDenies, ComparedOnce}
+use Rattle.comparison.specs.Comparison.{pairRefusal, comparisonRefusal, notContained, verdictReply, verdictOf, CheckedMapping}
+use Rattle.comparison.specs.Meaning.{CheckMeans, CheckDenies, ComparedOnce, FunctionalAlone}
+use Rattle.comparison.proofs.Pairs.{compare-stands}
 use Rattle.comparison.proofs.Checks.{checked-refused, checked-decided}
 use Rattle.comparison.proofs.Verdicts.{queries, verdict-same, refused-apart}
 
@@ -85,7 +92,11 @@ apart-or-not (verdict.Refused n) = inr (refused-apart n)
 
 -- Apart is never said of places that are refused
 apart-accepted : (r : Record) (p q : ℕ) → verdictOf r p q ≡ gives notContained → pairRefusal r p q ≡ none
-apart-accepted r p q h = reply-gives (pairRefusal r p q) _ notContained h .0
+apart-accepted r p q h = compare-stands r p q (reply-gives (comparisonRefusal r p q) _ notContained h .0)
+
+-- A query as a tableau
+abbrev asTableau : Query → Tableau
+asTableau q = record { arity = q .arity; size = q .size; head = q .head; relations = q .relations; cells = q .cells }
 
 pub compared-once : ComparedOnce
 compared-once r p q c d sized-c sized-d is is′ =
@@ -95,8 +106,19 @@ compared-once r p q c d sized-c sized-d is is′ =
           (λ (a : c .verdict ≡ verdict.Apart).
           let b : d .verdict ≡ verdict.Apart = sym same ∙ a in
           let known = queries r p q (apart-accepted r p q (sym (is .verdict) ∙ ap verdictReply a)) in
-          stored-unique (schemaOf r) (known .narrow) (c .query) (d .query) sized-c sized-d (is .chased a .1) (is′ .chased b .1)
-          (is .chased a .0 ∙ sym (is′ .chased b .0)))
+          ap asTableau
+          (stored-unique 24 (schemaOf r) (known .narrow) (asQuery (c .query)) (asQuery (d .query)) sized-c sized-d (is .chased a .1) (is′ .chased b .1)
+          (is .chased a .0 ∙ sym (is′ .chased b .0))))
           (λ (a : c .verdict ≡ verdict.Apart → ⊥). is .no-query a ∙ sym (is′ .no-query (λ b. a (same ∙ b))))
           (apart-or-not (c .verdict)),
     )
+
+-- No join dependency is among the first 0
+pub functional-alone : FunctionalAlone
+functional-alone r p none-held =
+    let ds = dependenciesOf r in
+    let q = queryAt r p in
+    let nothing : joinsOf r ≡ [] = ap (heldJoins (r .joins)) none-held in
+    ap (λ (js : List JoinDependency). joinChase (schemaOf r) ds js 24 q) nothing
+    ∙ join-chase-computes (schemaOf r) ds [] 24 q (chased (chase ds q .query)) (λ j held. absurd (List·Memᴰ·not-nil held)) .0
+    (without-joins (schemaOf r) ds 24 q (chased (chase ds q .query)) .1 refl)

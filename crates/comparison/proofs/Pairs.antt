@@ -1,10 +1,11 @@
--- The refusals of a call on two places: `pairRefusal` by the test that decides it, in the order of SPECIFICATION, Refusals, and what it tells where none holds.
+-- The refusals of a call on two places: `pairRefusal` by the test that decides it, in the order of SPECIFICATION, Refusals, and what it tells where none holds;
+-- then those of a comparison.
 -- Assumes nothing.
 use mathlib.Core.Path.{_≡_, refl, sym, ap, ap₂, _∙_}
 use mathlib.Core.Logic.{⊎-elim}
-use mathlib.Core.Bool.{true, false, not}
+use mathlib.Core.Bool.{true, false, not, cond}
 use mathlib.Core.List.{[], _∷_}
-use mathlib.Core.Option.{Option, none, some}
+use mathlib.Core.Option.{Option, none, some, orElse}
 use Prim.Native.Nat.{ℕ, _<_}
 use native.Mathlib.Omega.{arith}
 use lib.Dec.{eqb, ltb}
@@ -16,10 +17,12 @@ use Rattle.record.specs.Rule.{goodRecord}
 use Rattle.refusals.specs.Refusals.{firstHolding}
 use Rattle.record.specs.Calls.{unknownPlace, vacant, isFilled, storedAt}
 use Rattle.record.specs.internal.Lookup.{placeAt, filledPlace}
-use Rattle.refusals.proofs.Refusals.{first-goes, some-holds, none-holds, nothing-holds}
+use Rattle.refusals.proofs.Refusals.{first-goes, some-holds, none-holds, nothing-holds, holds-append}
 use Rattle.record.proofs.Refusals.{found-refused, place-refused, filled-at}
+use Rattle.theory.specs.Query as theory
+use Rattle.joins.specs.JoinChase.{Outcome, chased, overflow}
 use Rattle.comparison.specs.declared.Pair.the-variants.{Places, Refused}
-use Rattle.comparison.specs.Comparison.{pairRefusal}
+use Rattle.comparison.specs.Comparison.{pairConditions, pairRefusal, outcomeAt, overflows, comparisonRefusal}
 use Rattle.comparison.specs.internal.Pairs.{paired}
 
 -- A place below 8 that is refused is vacant
@@ -133,3 +136,34 @@ paired-places (some n) p q a b e = let z : _≡_ {A = ℕ} 0 1 = cc in absurd (o
 pub paired-refused : (o : Option ℕ) (p q n : ℕ) → paired o p q ≡ Refused n → o ≡ some n
 paired-refused none p q n e = let z : _≡_ {A = ℕ} 0 1 = cc in absurd (omega arith)
 paired-refused (some m) p q n e = cc
+
+-- ---- the refusals of a comparison
+
+module _ (r : Record) (p q : ℕ) where
+  asks-pair : (o : Option ℕ) → pairRefusal r p q ≡ o → comparisonRefusal r p q ≡ orElse o (firstHolding ((overflows (outcomeAt r p), 17) ∷ []))
+  unfolding pairRefusal comparisonRefusal
+  asks-pair o e =
+      holds-append (pairConditions r p q) ((overflows (outcomeAt r p), 17) ∷ [])
+      ∙ ap (λ (x : Option ℕ). orElse x (firstHolding ((overflows (outcomeAt r p), 17) ∷ []))) e
+
+  -- Two places that are refused are refused with the same number
+  pub compare-pair : (n : ℕ) → pairRefusal r p q ≡ some n → comparisonRefusal r p q ≡ some n
+  unfolding orElse
+  compare-pair n e = asks-pair (some n) e
+
+  -- Two that are not: by the end of the chase
+  pub compare-over : pairRefusal r p q ≡ none → outcomeAt r p ≡ overflow → comparisonRefusal r p q ≡ some 17
+  unfolding orElse firstHolding
+  compare-over e ends = asks-pair none e ∙ ap (λ (o : Outcome). cond (overflows o) (some 17) none) ends
+
+  pub compare-ends : pairRefusal r p q ≡ none → (C : theory.Query) → outcomeAt r p ≡ chased C → comparisonRefusal r p q ≡ none
+  unfolding orElse firstHolding
+  compare-ends e C ends = asks-pair none e ∙ ap (λ (o : Outcome). cond (overflows o) (some 17) none) ends
+
+  -- A comparison that is not refused is of places that are not
+  pub compare-stands : comparisonRefusal r p q ≡ none → pairRefusal r p q ≡ none
+  compare-stands e = go (pairRefusal r p q) refl
+    where
+      go : (o : Option ℕ) → pairRefusal r p q ≡ o → pairRefusal r p q ≡ none
+      go none f = f
+      go (some n) f = let z : none ≡ some n = sym e ∙ compare-pair n f in let y : _≡_ {A = ℕ} 0 1 = cc in absurd (omega arith)

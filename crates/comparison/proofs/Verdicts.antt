@@ -1,9 +1,9 @@
 -- What a comparison promises (`Compared`), case by case: refused, never, contained by a mapping, not contained.
--- Each case is Chandra and Merlin's theorem with functional dependencies (`Rattle.theory.proofs.Containment`) for the queries of two places that are
+-- Each case is Chandra and Merlin's theorem with dependencies of both kinds (`Rattle.joins.proofs.Theorems`) for the queries of two places that are
 -- not refused.
 -- Assumes nothing.
 use mathlib.Core.Path.{_≡_, refl, sym, ap, subst, _∙_}
-use mathlib.Core.Logic.{_≢_, inl, inr}
+use mathlib.Core.Logic.{_≢_, _⊎_, inl, inr}
 use mathlib.Core.Bool.{Bool, true, false, cond}
 use mathlib.Core.List.{List, [], _∷_}
 use mathlib.Core.Option.{Option, none, some}
@@ -12,14 +12,14 @@ use native.Mathlib.Omega.{arith}
 use lib.ListN.{length, getD, replicate}
 use Rattle.refusals.specs.Refusals.{gives, reply}
 use Rattle.query.specs.declared.Cell.{Cell}
-use Rattle.query.specs.declared.Query.{Query}
+use Rattle.query.specs.declared.Tableau.{Tableau}
 use Rattle.refusals.proofs.Refusals.{refused-gives}
 use Rattle.record.proofs.Kept.{empty-place}
 use Rattle.record.specs.declared.Record.{Record}
-use Rattle.query.specs.View.{queryOf, imagesOf}
-use Rattle.record.specs.View.{schemaOf, dependenciesOf}
+use Rattle.query.specs.View.{queryOf, asQuery, imagesOf}
+use Rattle.record.specs.View.{schemaOf, dependenciesOf, joinsOf}
 use Rattle.lists.specs.Tests.{every, between}
-use Rattle.query.specs.Rule.{goodQuery, headSafe, noCell, noQuery, goodPlace, noPlace}
+use Rattle.query.specs.Rule.{goodQuery, goodTableau, headSafe, noCell, noTableau, goodPlace, noPlace}
 use Rattle.record.specs.Rule.{goodRecord}
 use Rattle.record.specs.Calls.{isFilled, storedAt, queryAt}
 use Rattle.record.proofs.Good.{good-record}
@@ -31,16 +31,17 @@ use Rattle.lists.proofs.Positions.{every-getD-else}
 use Rattle.theory.specs.Query as theory
 use Rattle.theory.specs.Answer as answer
 use Rattle.theory.specs.Containment as containment
-use Rattle.theory.specs.Database as database
+use Rattle.joins.specs.Join.{ObeysBoth, LegalForBoth, JoinsFit}
+use Rattle.joins.specs.JoinChase.{chased, JoinChases}
 use Rattle.minimization.specs.Search as search
 use Rattle.minimization.proofs.Search.{mappable-exact}
-use Rattle.theory.proofs.Containment.{contained-of-mapping, counterexample}
+use Rattle.joins.proofs.Theorems.{join-chase-computes, join-contained-obeying, join-chased-counterexample}
 use Rattle.comparison.specs.declared.Verdict.{Verdict}
 use Rattle.comparison.specs.declared.Verdict.the-variants.{Never, Contained, Apart, Refused}
-use Rattle.comparison.specs.Comparison.{chasedAt, pairRefusal, notContained, containedByMapping, containedAsNever, verdictReply, verdictOn}
-use Rattle.comparison.specs.Comparison.{verdictOf, base, Compared}
+use Rattle.comparison.specs.Comparison.{outcomeAt, chasedAt, pairRefusal, comparisonRefusal, notContained, containedByMapping, containedAsNever}
+use Rattle.comparison.specs.Comparison.{verdictReply, verdictOn, verdictOf, base, Compared}
 use Rattle.comparison.specs.internal.Pairs.{bare}
-use Rattle.comparison.proofs.Pairs.{standing}
+use Rattle.comparison.proofs.Pairs.{standing, compare-ends}
 
 -- ---- the queries of two places
 
@@ -118,7 +119,7 @@ refused-apart n e = let z : _≡_ {A = ℕ} 0 1 = cc in omega arith
 -- ---- the cases
 
 -- Refused
-pub compared-refused : (r : Record) (p q n : ℕ) → pairRefusal r p q ≡ some n → Compared r p q (bare (Refused n))
+pub compared-refused : (r : Record) (p q n : ℕ) → comparisonRefusal r p q ≡ some n → Compared r p q (bare (Refused n))
 compared-refused r p q n refused =
     record {
       verdict = rw refused;
@@ -130,12 +131,23 @@ compared-refused r p q n refused =
       apart = λ e. absurd (refused-apart n e);
     }
 
-module _ (r : Record) (p q : ℕ) (accepted : pairRefusal r p q ≡ none) where
+-- The chase of the first query ends in a query
+module _ (r : Record) (p q : ℕ) (accepted : pairRefusal r p q ≡ none) (fit : JoinsFit (schemaOf r) (joinsOf r))
+    (ends : outcomeAt r p ≡ chased (chasedAt r p)) where
+  chases : JoinChases (schemaOf r) (dependenciesOf r) (joinsOf r) 24 (queryAt r p) (chased (chasedAt r p))
+  chases = join-chase-computes (schemaOf r) (dependenciesOf r) (joinsOf r) 24 (queryAt r p) (chased (chasedAt r p)) fit .1 ends
+
   verdict-is : (v : ℕ) → verdictOn (chasedAt r p .rows) (search.mappable (queryAt r q) (chasedAt r p)) ≡ v → gives v ≡ verdictOf r p q
   verdict-is v e =
-      ap gives (sym e) ∙ ap (λ (o : Option ℕ). reply o (verdictOn (chasedAt r p .rows) (search.mappable (queryAt r q) (chasedAt r p)))) (sym accepted)
+      ap gives (sym e)
+      ∙ ap (λ (o : Option ℕ). reply o (verdictOn (chasedAt r p .rows) (search.mappable (queryAt r q) (chasedAt r p))))
+      (sym (compare-ends r p q accepted (chasedAt r p) ends))
 
-  -- The first query chases to never
+  within : (chasedAt r p .rows ≡ []) ⊎ answer.Mapping (queryAt r q) (chasedAt r p)
+      → containment.Contained (ObeysBoth (schemaOf r) (dependenciesOf r) (joinsOf r)) (queryAt r p) (queryAt r q)
+  within why = join-contained-obeying (schemaOf r) (dependenciesOf r) (joinsOf r) 24 (queryAt r p) (queryAt r q) (chasedAt r p) fit chases why
+
+  -- It is never
   pub compared-never : chasedAt r p .rows ≡ [] → Compared r p q (bare Never)
   compared-never empty =
       record {
@@ -146,7 +158,7 @@ module _ (r : Record) (p q : ℕ) (accepted : pairRefusal r p q ≡ none) where
         no-mapping = λ e. refl;
         chased = λ e. absurd (never-apart e);
         no-query = λ e. refl;
-        contained = λ e. contained-of-mapping (dependenciesOf r) (queryAt r p) (queryAt r q) (inl empty);
+        contained = λ e. within (inl empty);
         apart = λ e. absurd (never-apart e);
       }
 
@@ -156,9 +168,9 @@ module _ (r : Record) (p q : ℕ) (accepted : pairRefusal r p q ≡ none) where
         verdict-is (cond b containedByMapping notContained)
         (verdict-some (chasedAt r p .rows) (search.mappable (queryAt r q) (chasedAt r p)) filled ∙ ap (λ (t : Bool). cond t containedByMapping notContained) e)
 
-    -- The second query maps to the first, chased
+    -- The second query maps to it
     pub compared-contained : (images : List Cell) → answer.IsMapping (queryAt r q) (chasedAt r p) (imagesOf images)
-        → Compared r p q (record { verdict = Contained; images = images; query = noQuery })
+        → Compared r p q (record { verdict = Contained; images = images; query = noTableau })
     compared-contained images is =
         record {
           verdict = verdict-found true (mappable-exact (queryAt r q) (chasedAt r p) .1 (imagesOf images, is));
@@ -166,15 +178,15 @@ module _ (r : Record) (p q : ℕ) (accepted : pairRefusal r p q ≡ none) where
           no-mapping = λ e. absurd (e refl);
           chased = λ e. absurd (contained-apart e);
           no-query = λ e. refl;
-          contained = λ e. contained-of-mapping (dependenciesOf r) (queryAt r p) (queryAt r q) (inr (imagesOf images, is));
+          contained = λ e. within (inr (imagesOf images, is));
           apart = λ e. absurd (contained-apart e);
         }
 
     -- It does not: the chased query, read as a database, shows it
-    pub compared-apart : length (storedAt r p .cells) ≡ 96 → (query : Query) → queryOf (schemaOf r) query ≡ chasedAt r p → goodQuery (schemaOf r) query ≡ true
-        → (answer.Mapping (queryAt r q) (chasedAt r p) → ⊥)
-        → Compared r p q (record { verdict = Apart; images = replicate 96 noCell; query = query })
-    compared-apart long query is good not =
+    pub compared-apart : length (storedAt r p .cells) ≡ 96 → (t : Tableau) → queryOf (schemaOf r) (asQuery t) ≡ chasedAt r p
+        → goodTableau (schemaOf r) t ≡ true → (answer.Mapping (queryAt r q) (chasedAt r p) → ⊥)
+        → Compared r p q (record { verdict = Apart; images = replicate 96 noCell; query = t })
+    compared-apart long t is good not =
         record {
           verdict = verdict-found false (unmappable (search.mappable (queryAt r q) (chasedAt r p)) refl);
           mapping = λ e. absurd (contained-apart (sym e));
@@ -198,14 +210,14 @@ module _ (r : Record) (p q : ℕ) (accepted : pairRefusal r p q ≡ none) where
         formed : theory.WellFormed (schemaOf r) (queryAt r p)
         formed = query-stored.well-formed 12 (schemaOf r) (known .narrow) (storedAt r p) (known .good-p) fits (known .safe-p)
 
-        shown : containment.Counterexample (database.Legal (schemaOf r) (dependenciesOf r)) (queryAt r p) (queryAt r q)
-            (containment.frozenRows base (queryOf (schemaOf r) query)) (containment.frozenHead base (queryOf (schemaOf r) query))
+        shown : containment.Counterexample (LegalForBoth (schemaOf r) (dependenciesOf r) (joinsOf r)) (queryAt r p) (queryAt r q)
+            (containment.frozenRows base (queryOf (schemaOf r) (asQuery t))) (containment.frozenHead base (queryOf (schemaOf r) (asQuery t)))
         shown =
             subst
             (λ (C : theory.Query).
-            containment.Counterexample (database.Legal (schemaOf r) (dependenciesOf r)) (queryAt r p) (queryAt r q) (containment.frozenRows base C)
+            containment.Counterexample (LegalForBoth (schemaOf r) (dependenciesOf r) (joinsOf r)) (queryAt r p) (queryAt r q) (containment.frozenRows base C)
             (containment.frozenHead base C))
             (sym is)
-            (counterexample (schemaOf r) (dependenciesOf r) (queryAt r p) (queryAt r q) base (formed .rows-fit)
-            (query-stored.constants-below 12 (schemaOf r) (known .narrow) (storedAt r p) (known .good-p))
+            (join-chased-counterexample (schemaOf r) (dependenciesOf r) (joinsOf r) 24 (queryAt r p) (queryAt r q) (chasedAt r p) base fit chases
+            (formed .rows-fit) (query-stored.constants-below 12 (schemaOf r) (known .narrow) (storedAt r p) (known .good-p))
             (query-stored.constants-below 12 (schemaOf r) (known .narrow) (storedAt r q) (known .good-q)) (omega arith) filled not)

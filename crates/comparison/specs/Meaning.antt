@@ -6,15 +6,18 @@ use mathlib.Core.List.{List}
 use mathlib.Core.Option.{none}
 use Prim.Native.Nat.{ℕ}
 use Rattle.theory.specs.Answer.{IsMapping}
+use Rattle.theory.specs.Chase.{chase}
+use Rattle.joins.specs.JoinChase.{chased}
 use Rattle.query.specs.declared.Cell.{Cell}
 use Rattle.query.specs.View.{imagesOf}
-use Rattle.query.specs.Rule.{shapedQuery}
+use Rattle.query.specs.Rule.{shapedTableau}
 use Rattle.record.specs.declared.Record.{Record}
+use Rattle.record.specs.View.{dependenciesOf}
 use Rattle.record.specs.Calls.{queryAt}
 use Rattle.comparison.specs.declared.Comparison.{Comparison}
 use Rattle.comparison.specs.declared.Checked.{Checked}
 use Rattle.comparison.specs.declared.Checked.the-variants as checked
-use Rattle.comparison.specs.Comparison.{pairRefusal, Compared, CheckedMapping}
+use Rattle.comparison.specs.Comparison.{pairRefusal, outcomeAt, Compared, CheckedMapping}
 
 -- Checking says yes exactly when the two places are not refused and the images are a mapping from q's query to p's, both as they are stored. A mapping takes
 -- each variable that q's query does not have to constant 0
@@ -32,5 +35,9 @@ CheckDenies =
 -- Two comparisons of the same places, with arrays as long as their types say, have the same verdict and the same query
 abbrev pub ComparedOnce : Type 0
 ComparedOnce =
-    (r : Record) (p q : ℕ) (c d : Comparison) → shapedQuery (c .query) ≡ true → shapedQuery (d .query) ≡ true → Compared r p q c → Compared r p q d
+    (r : Record) (p q : ℕ) (c d : Comparison) → shapedTableau (c .query) ≡ true → shapedTableau (d .query) ≡ true → Compared r p q c → Compared r p q d
     → (c .verdict ≡ d .verdict) × (c .query ≡ d .query)
+
+-- With no join dependency held the chase is that with the functional dependencies, repeated rows and all, and has room
+abbrev pub FunctionalAlone : Type 0
+FunctionalAlone = (r : Record) (p : ℕ) → r .joined ≡ 0 → outcomeAt r p ≡ chased (chase (dependenciesOf r) (queryAt r p) .query)

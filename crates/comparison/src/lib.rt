@@ -1,17 +1,18 @@
 // Comparing two places of a record, and checking a mapping between their queries.
 
-use entries::no_query;
 use query::Cell;
-use query::Dependency;
-use query::Query;
+use query::Tableau;
 use record::Lookup;
 use record::Record;
 use record::calls::number;
 use record::calls::place_at;
 use record::calls::stored;
+use tableaux::from_query;
+use tableaux::no_tableau;
 ghost use mathlib.Core.Path.{_≡_};
+ghost use mathlib.Core.Option.{none};
 ghost use Rattle.comparison.specs.Comparison.{pairRefusal, Compared, CheckedMapping};
-ghost use Rattle.comparison.specs.internal.Pairs.{paired, numberIn, bare, Comparable, Compares};
+ghost use Rattle.comparison.specs.internal.Pairs.{paired, numberIn, bare};
 
 // Two places to be read whose heads have one length, or the number of the refusal.
 pub enum Pair {
@@ -38,7 +39,7 @@ pub enum Verdict {
 pub struct Comparison {
     pub verdict: Verdict,
     pub images: [Cell; 96],
-    pub query: Query,
+    pub query: Tableau,
 }
 
 // What checking a mapping says.
@@ -97,32 +98,41 @@ fn only(verdict: Verdict) -> Comparison
     Comparison {
         verdict: verdict,
         images: [blank; 96],
-        query: no_query(),
+        query: no_tableau(),
     }
 }
 
-// The comparison of two queries: the first is chased, the second is not.
-fn compare_queries(
-    first: Query,
-    second: Query,
-    dependencies: [Dependency; 32],
-    held: usize,
-) -> Comparison
-    requires { ⌜ Comparable first second dependencies held ⌝ }
-    ensures { λ c. ⌜ Compares first second dependencies held c ⌝ }
+// The comparison of two places that are not refused: the query of the first is chased, that of the second is not.
+fn compare_places(given: Record, p: usize, q: usize) -> Comparison
+    requires { ⌜ pairRefusal given p q ≡ none ⌝ }
+    ensures { λ c. ⌜ Compared given p q c ⌝ }
 {
-    let chased = chase::chase(first, dependencies, held);
+    let widths = given.widths;
+    let dependencies = given.dependencies;
+    let joins = given.joins;
+    let chased = join_chase::chase(
+        from_query(stored(given, p)),
+        given.relations,
+        widths,
+        dependencies,
+        given.held as usize,
+        joins,
+        given.joined as usize,
+    );
+    if chased.over {
+        return only(Verdict::Refused(refusals::TOO_MANY_ROWS));
+    }
     let query = chased.query;
     if query.size == 0 {
         return only(Verdict::Never);
     }
-    let mapped = mapping::find(second, query);
+    let mapped = mapping::find(stored(given, q), query);
     let images = mapped.images;
     if mapped.found {
         return Comparison {
             verdict: Verdict::Contained,
             images: images,
-            query: no_query(),
+            query: no_tableau(),
         };
     }
     Comparison {
@@ -140,13 +150,7 @@ pub fn compare(given: Record, p: usize, q: usize) -> Comparison
     let Pair::Places(first, second) = found else {
         return only(Verdict::Refused(refusal(found)));
     };
-    let dependencies = given.dependencies;
-    compare_queries(
-        stored(given, first),
-        stored(given, second),
-        dependencies,
-        given.held as usize,
-    )
+    compare_places(given, first, second)
 }
 
 // Whether the images are a mapping from the query of place q to that of place p, as they are stored.

@@ -2,21 +2,20 @@
 use mathlib.Core.Path.{_≡_, refl, sym, ap, subst}
 use mathlib.Core.Logic.{⊎-elim}
 use mathlib.Core.Bool.{true}
-use mathlib.Core.List.{List, [], _∷_, map, flatten, List·Memᴰ·head, List·Memᴰ·tail, List·Memᴰ·append-cases, Memᴰ·of-map}
-use Prim.Native.Nat.{ℕ, _<_}
+use mathlib.Core.List.{List, _∷_, flatten, List·Memᴰ·head, List·Memᴰ·tail, List·Memᴰ·append-cases, Memᴰ·of-map}
+use Prim.Native.Nat.{ℕ}
 use native.Mathlib.Omega.{arith}
 use lib.Dec.{leb}
 use lib.ListN.{length, take, getD, length-map}
 use lib.Seq.{length-take-le}
 use borrow.Author.Tests.{eqb-true}
-use Rattle.lists.specs.Tests.{every, inUse, isZero}
+use Rattle.lists.specs.Tests.{inUse, isZero}
 use Rattle.lists.specs.Numbers.{numbersWhere}
 use Rattle.lists.proofs.Tests.{and-right, every-getD, every-member, every-take, used-good}
 use Rattle.lists.proofs.Numbers.{where-of}
 use Rattle.theory.specs.Query.{_∈_}
 use Rattle.theory.proofs.Lists.{subset-true}
-use Rattle.query.specs.declared.JoinDependency.{JoinDependency}
-use Rattle.query.specs.View.{columnsOf, joinOf, heldJoins}
+use Rattle.query.specs.View.{columnsOf, joinOf}
 use Rattle.query.specs.Rule.{goodSet, blankJoin, goodJoin, goodJoins, shapedJoin}
 use Rattle.query.proofs.Good.{good-set, good-join}
 use Rattle.query.proofs.Stored.{columns-below}

@@ -5,10 +5,10 @@ use mathlib.Core.List.{List, [], _∷_, map}
 use Prim.Native.Nat.{ℕ}
 use lib.ListN.{length}
 use mir.Val.{Val}
-use denote.Array.{each}
+use denote.Array.{Array, each}
 use denote.Laws.{Is}
 use denote.Shadow.{shadow}
-use denote.Struct.Field.{Field, u8-field, array-field}
+use denote.Struct.Field.{u8-field, array-field}
 use Rattle.lists.specs.Tests.{every}
 use Rattle.lists.proofs.Loops.{mapped-length}
 use Rattle.query.specs.declared.JoinDependency.{JoinDependency}
@@ -34,3 +34,17 @@ elements-shaped (j ∷ js) (u ∷ us) p =
 pub joins-shaped : (n : ℕ) (joins : List JoinDependency) (vs : List Val)
     → Is (array-field dependency.the-field n .row) (array-field dependency.the-field n .into joins) vs → every shapedJoin joins ≡ true
 joins-shaped n joins vs p = elements-shaped joins _ (p .1 .1)
+
+-- All of an array that is handed over
+arguments-shaped : (joins : List JoinDependency) (us : List Val)
+    → shadow (each (dependency.the-row .Denot) (dependency.the-row .own) joins us) → every shapedJoin joins ≡ true
+unfolding every
+arguments-shaped [] us p = refl
+arguments-shaped (j ∷ js) [] p = absurd p
+arguments-shaped (j ∷ js) (u ∷ us) p =
+    let first = join-shaped j _ (p .0) in
+    let rest = arguments-shaped js us (p .1) in rw (first, rest)
+
+pub argument-shaped : (n : ℕ) (joins : List JoinDependency) (vs : List Val)
+    → Is (Array dependency.the-row n) joins vs → every shapedJoin joins ≡ true
+argument-shaped n joins vs p = arguments-shaped joins _ (p .1 .1)

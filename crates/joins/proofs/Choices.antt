@@ -123,12 +123,12 @@ pub chosen-entry-in : (choice : Choice) (c : ℕ) (p : List ℕ × Row Entry) �
 chosen-entry-in choice c p at there = ⊎-elim (λ found. found) (λ nothing. absurd (nothing .0 p at there)) (chosen-entry choice c)
 
 -- The numbers from `start` on
-numbers-length : (start n : ℕ) → length (numbersWhere (λ c. true) start n) ≡ n
+pub numbers-length : (start n : ℕ) → length (numbersWhere (λ c. true) start n) ≡ n
 unfolding numbersWhere
 numbers-length start zero = refl
 numbers-length start (suc n) = ap suc (numbers-length (suc start) n)
 
-numbers-at : {B : Type 0} (f : ℕ → B) (start n c : ℕ) (z : B) → c < n → getD (map f (numbersWhere (λ c. true) start n)) c z ≡ f (start + c)
+pub numbers-at : {B : Type 0} (f : ℕ → B) (start n c : ℕ) (z : B) → c < n → getD (map f (numbersWhere (λ c. true) start n)) c z ≡ f (start + c)
 unfolding numbersWhere
 numbers-at f start zero c z less = absurd (omega arith)
 numbers-at f start (suc n) zero z less = ap f (omega arith)

@@ -21,14 +21,14 @@ use Rattle.joins.specs.Join.{inSome, joinFits}
 use Rattle.joins.specs.JoinTheorems.{JoinFitsExactly}
 
 -- A column is in a set exactly when one of the sets has it
-inSome-set : (c : ℕ) (sets : List (List ℕ)) → inSome c sets ≡ true → (set : List ℕ) × set ∈ sets × c ∈ set
+pub inSome-set : (c : ℕ) (sets : List (List ℕ)) → inSome c sets ≡ true → (set : List ℕ) × set ∈ sets × c ∈ set
 unfolding inSome
 inSome-set c [] e = absurd (false≢true e)
 inSome-set c (set ∷ sets) e =
     bool-cases (member c set) (λ p. (set, List·Memᴰ·head refl, member-mem c set p))
     (λ p. let later = inSome-set c sets (sym (ap (λ b. cond b true (inSome c sets)) p) ∙ e) in (later .0, List·Memᴰ·tail (later .1), later .2))
 
-set-inSome : (c : ℕ) (sets : List (List ℕ)) (set : List ℕ) → set ∈ sets → c ∈ set → inSome c sets ≡ true
+pub set-inSome : (c : ℕ) (sets : List (List ℕ)) (set : List ℕ) → set ∈ sets → c ∈ set → inSome c sets ≡ true
 unfolding inSome
 set-inSome c (s ∷ sets) set (List·Memᴰ·head e) there =
     ap (λ b. cond b true (inSome c sets)) (mem-member c s (subst (λ l. c ∈ l) e there))

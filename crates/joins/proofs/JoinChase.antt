@@ -133,7 +133,7 @@ measure-falls limit (suc n) before after rows rows' fewer less same =
 
 module _ (widths : List ℕ) (ds : List Dependency) (js : List JoinDependency) (limit : ℕ) where
   -- How many rounds the chase of q can still make
-  rounds : Query → ℕ
+  unfoldable pub rounds : Query → ℕ
   rounds q = variableCount q * suc limit + (limit - length (withoutRepeats js q .rows))
 
   -- A round that adds a row leaves fewer
@@ -163,7 +163,7 @@ module _ (widths : List ℕ) (ds : List Dependency) (js : List JoinDependency) (
       (λ p. rw p (let less = ltb-true (length (settle ds js q .rows)) limit p in adds (chase-chases ds q) is less (next r is less)))
       (λ p. rw p (exceeds (chase-chases ds q) is (ltb-false (length (settle ds js q .rows)) limit p)))
 
-  settled-falls : JoinsFit widths js → (q : Query) (r : Row Entry) → nextRow widths js (settle ds js q .rows) ≡ some r
+  pub settled-falls : JoinsFit widths js → (q : Query) (r : Row Entry) → nextRow widths js (settle ds js q .rows) ≡ some r
       → length (settle ds js q .rows) < limit → rounds (addRow (settle ds js q) r) < rounds q
   unfolding settle
   settled-falls fit q r is less = round-falls fit (chase-chases ds q) is less

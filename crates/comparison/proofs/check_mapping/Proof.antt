@@ -1,13 +1,13 @@
 -- `comparison::check_mapping` meets its contract: the refusals are those of two places, the rest is what `mapping::check` tells of the queries stored there.
 -- Assumes nothing.
-use mathlib.Core.Path.{_≡_, refl, sym, ap, subst, _∙_}
+use mathlib.Core.Path.{_≡_, sym, ap, subst, _∙_}
 use Prim.Native.Nat.{ℕ}
 use borrow.Author.Needs.{needs}
 use Rattle.comparison.specs.declared.Checked.the-variants.{Refused}
 use Rattle.comparison.specs.Comparison.{pairRefusal, CheckedMapping}
 use Rattle.comparison.specs.internal.Pairs.{numberIn}
 use Rattle.comparison.proofs.Pairs.{paired-refused}
-use Rattle.comparison.proofs.Answers.{places-low, draws, checks-refused, check-storable, checks-yes, checks-no}
+use Rattle.comparison.proofs.Answers.{places-low, places-read, checks-refused, check-storable, checks-yes, checks-no}
 use Rattle.comparison.proofs.check_mapping.Statement.{statement}
 use Rattle.comparison.proofs.check_mapping.Tie as tie
 
@@ -60,8 +60,8 @@ check-requires c κs =
     let q = c .before .before .before .before .before .before .args .q in
     let found = c .before .before .before .found .given in
     let is = sym (c .before .before .before .before .before .filled-pair .ensures) ∙ found .1 in
-    let drawn = draws given p q _ _ is (c .stored2 .result) (c .before .stored .result) _ _ (c .stored2 .ensures) (c .before .stored .ensures) refl refl in
-    check-storable given p q (c .before .before .before .before .before .before .args .images) _ _ (drawn .accepted) (drawn .first-is) (drawn .second-is)
+    let drawn = places-read given p q _ _ is (c .stored2 .result) (c .before .stored .result) (c .stored2 .ensures) (c .before .stored .ensures) in
+    check-storable given p q (c .before .before .before .before .before .before .args .images) _ _ (drawn .0) (drawn .1) (drawn .2)
 
 returns-2 : tie.Need-returns-2
 returns-2 c =
@@ -70,10 +70,10 @@ returns-2 c =
     let q = c .before .before .before .before .before .before .before .before .args .q in
     let found = c .before .before .before .before .before .found .given in
     let is = sym (c .before .before .before .before .before .before .before .filled-pair .ensures) ∙ found .1 in
-    let drawn = draws given p q _ _ is (c .before .before .stored2 .result) (c .before .before .before .stored .result) _ _
-    (c .before .before .stored2 .ensures) (c .before .before .before .stored .ensures) refl refl in
-    checks-yes given p q (c .before .before .before .before .before .before .before .before .args .images) _ _ (drawn .accepted) (drawn .first-is)
-    (drawn .second-is) (c .before .check .result) (c .before .check .ensures) (c .if1 .taken)
+    let drawn = places-read given p q _ _ is (c .before .before .stored2 .result) (c .before .before .before .stored .result)
+    (c .before .before .stored2 .ensures) (c .before .before .before .stored .ensures) in
+    checks-yes given p q (c .before .before .before .before .before .before .before .before .args .images) _ _ (drawn .0) (drawn .1)
+    (drawn .2) (c .before .check .result) (c .before .check .ensures) (c .if1 .taken)
 
 returns-3 : tie.Need-returns-3
 returns-3 c =
@@ -82,10 +82,10 @@ returns-3 c =
     let q = c .before .before .before .before .before .before .before .before .args .q in
     let found = c .before .before .before .before .before .found .given in
     let is = sym (c .before .before .before .before .before .before .before .filled-pair .ensures) ∙ found .1 in
-    let drawn = draws given p q _ _ is (c .before .before .stored2 .result) (c .before .before .before .stored .result) _ _
-    (c .before .before .stored2 .ensures) (c .before .before .before .stored .ensures) refl refl in
-    checks-no given p q (c .before .before .before .before .before .before .before .before .args .images) _ _ (drawn .accepted) (drawn .first-is)
-    (drawn .second-is) (c .before .check .result) (c .before .check .ensures) (c .if1 .left)
+    let drawn = places-read given p q _ _ is (c .before .before .stored2 .result) (c .before .before .before .stored .result)
+    (c .before .before .stored2 .ensures) (c .before .before .before .stored .ensures) in
+    checks-no given p q (c .before .before .before .before .before .before .before .before .args .images) _ _ (drawn .0) (drawn .1)
+    (drawn .2) (c .before .check .result) (c .before .check .ensures) (c .if1 .left)
 
 pub check-mapping-spec : {M : Type 1} → statement M
 check-mapping-spec =

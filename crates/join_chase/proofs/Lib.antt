@@ -1,0 +1,2 @@
+-- A round of the chase (Rounds).
+pub mod Rounds
