@@ -29,6 +29,8 @@ static void fail(const char *what) {
 
 #define MOST ((size_t)1 << 27)
 #define HUGE_WORDS ((size_t)1 << 20)
+#define HEADS_FOR_JOINS (word_count)
+#define NODES_FOR_JOINS (4 * word_count)
 
 static uint32_t *words, *answers, *theirs;
 static size_t word_count;
@@ -75,6 +77,14 @@ static void add(uint8_t relation, uint8_t left, uint8_t right) {
     uint8_t out[SPERNEVAN_FILE];
     size_t length;
     if (spernevan_add(file, file_length, relation, left, right, out, sizeof out, &length)) fail("add");
+    memcpy(file, out, length);
+    file_length = length;
+}
+
+static void add_join(uint8_t relation, size_t count, const uint8_t *sets) {
+    uint8_t out[SPERNEVAN_FILE];
+    size_t length;
+    if (spernevan_add_join(file, file_length, relation, sets, count, out, sizeof out, &length)) fail("add a join dependency");
     memcpy(file, out, length);
     file_length = length;
 }
@@ -138,20 +148,22 @@ static double engine_evaluate(size_t *count) {
     return best;
 }
 
-static double engine_test(int *obeys_out) {
+// With `joins` told to be held, memory as the header has it for join dependencies.
+static double engine_test(int joins, int *obeys_out) {
     double best = 1e9;
-    uint8_t obeys;
-    size_t d, i, j, heads_size = word_count / 2, nodes_size = 2 * word_count;
+    uint8_t verdict;
+    size_t d, rows[4], heads_size = joins ? HEADS_FOR_JOINS : word_count / 2, nodes_size = joins ? NODES_FOR_JOINS : 2 * word_count;
     for (int k = 0; k < turns(); k++) {
         double t = now();
         uint32_t *heads = lent(heads_size), *nodes = lent(nodes_size);
-        if (spernevan_test_lent(file, file_length, words, word_count, heads, heads_size, nodes, nodes_size, &obeys, &d, &i, &j)) fail("test");
+        if (spernevan_test_lent(file, file_length, words, word_count, heads, heads_size, nodes, nodes_size, &verdict, &d, rows, rows + 1, rows + 2, rows + 3))
+            fail("test");
         returned(heads, heads_size);
         returned(nodes, nodes_size);
         t = now() - t;
         if (t < best) best = t;
     }
-    *obeys_out = obeys;
+    *obeys_out = verdict == 1;
     return best;
 }
 
@@ -315,7 +327,7 @@ static void compare_tests(uint32_t n) {
         free(p);
         int obeys;
         size_t found;
-        double engine = engine_test(&obeys);
+        double engine = engine_test(0, &obeys);
         double plain = sqlite_all(widths, 1, 0, tests, 1, &found);
         if ((found == 0) != obeys) fail("the verdicts differ");
         double keyed = sqlite_all(widths, 1, 1, tests, 1, &found);
@@ -324,11 +336,66 @@ static void compare_tests(uint32_t n) {
     }
 }
 
+// One table R0(a, b, c, d, e), 20 rows for each a: the product of 2 values of b, 2 of c and 5 of d; e is a's. In random order.
+static void products(uint32_t n) {
+    word_count = 0;
+    uint32_t *p = shuffled(n);
+    for (uint32_t i = 0; i < n; i++) {
+        uint32_t a = p[i] / 20, k = p[i] % 20;
+        row(0, 5, (uint32_t[]){a, 2 * a + k % 2, 2 * a + k / 2 % 2, 5 * a + k / 4, 3 * a});
+    }
+    free(p);
+}
+
+// Columns a and e, and b, c, d.
+enum { AE = 17, B = 2, C = 4, D = 8 };
+
+static void add_joins(void) {
+    add_join(0, 2, (uint8_t[]){AE | B, AE | C | D});
+    add_join(0, 2, (uint8_t[]){AE | B | C, AE | D});
+    add_join(0, 3, (uint8_t[]){AE | B, AE | C, AE | D});
+    add_join(0, 3, (uint8_t[]){AE | D, AE | C, AE | B});
+}
+
+// Testing four join dependencies of two and three sets, all obeyed, beside four functional ones on the same rows; then with a row left out.
+static void compare_join_tests(uint32_t n) {
+    const int widths[] = {5};
+    const char *tests = "select a, b, c, d, e from (select distinct a, b, e from R0) natural join (select distinct a, c, d, e from R0) except select * from R0 limit 1;"
+                        "select a, b, c, d, e from (select distinct a, b, c, e from R0) natural join (select distinct a, d, e from R0) except select * from R0 limit 1;"
+                        "select a, b, c, d, e from (select distinct a, b, e from R0) natural join (select distinct a, c, e from R0) natural join"
+                        " (select distinct a, d, e from R0) except select * from R0 limit 1;"
+                        "select a, b, c, d, e from (select distinct a, d, e from R0) natural join (select distinct a, c, e from R0) natural join"
+                        " (select distinct a, b, e from R0) except select * from R0 limit 1";
+    int obeys;
+    size_t found;
+    open_record((uint8_t[]){5}, 1);
+    add(0, 1, 4);
+    add(0, 1 | B, 4);
+    add(0, 1 | C, 4);
+    add(0, 1 | D, 4);
+    products(n);
+    double functional = engine_test(0, &obeys);
+    if (!obeys) fail("the test");
+    for (int broken = 0; broken < 2; broken++) {
+        open_record((uint8_t[]){5}, 1);
+        add_joins();
+        products(n);
+        if (broken) word_count -= 6;
+        double engine = engine_test(1, &obeys);
+        double sqlite = sqlite_all(widths, 1, 0, tests, 5, &found);
+        if ((found == 0) != obeys) fail("the verdicts differ");
+        printf("| test, 4 join dependencies%s | %u | %d | %.2f | %.2f | – | %.1f; %.1f times 4 functional ones |\n", broken ? ", the last row left out" : " obeyed", n, obeys,
+               engine, sqlite, sqlite / engine, engine / functional);
+        fflush(stdout);
+    }
+}
+
 static void beside_sqlite(void) {
     printf("| Case | rows a table | answers | engine | SQLite | SQLite, keys declared | times faster |\n|---|---|---|---|---|---|---|\n");
     for (uint32_t n = 10000; n <= 1000000; n *= 10) {
         compare_joins(n);
         compare_tests(n);
+        compare_join_tests(n);
     }
 }
 
@@ -434,7 +501,27 @@ static void grow_tests(void) {
         uint32_t *p = shuffled(n);
         for (uint32_t i = 0; i < n; i++) row(0, 3, (uint32_t[]){p[i], p[i] ^ 1, p[i] * 7});
         free(p);
-        double took = engine_test(&obeys);
+        double took = engine_test(0, &obeys);
+        if (!obeys) fail("the test");
+        if (before > 0)
+            printf(" %.1f (%.2f) |", took, took / before);
+        else
+            printf(" %.1f |", took);
+        fflush(stdout);
+        before = took;
+    }
+    printf(" – |\n");
+}
+
+static void grow_join_tests(void) {
+    double before = 0;
+    printf("| test, 4 join dependencies |");
+    for (int k = SIZES - 1; k >= 0; k--) {
+        int obeys;
+        open_record((uint8_t[]){5}, 1);
+        add_joins();
+        products((LARGEST >> k) / 20 * 20);
+        double took = engine_test(1, &obeys);
         if (!obeys) fail("the test");
         if (before > 0)
             printf(" %.1f (%.2f) |", took, took / before);
@@ -457,6 +544,7 @@ static void growth(void) {
     grow("cycle of three rows", triangles);
     grow("pairs of a group, of a quarter of the rows", pairs);
     grow_tests();
+    grow_join_tests();
 }
 
 // ---- repeats, and rows that are not asked for

@@ -13,15 +13,16 @@ __version__ = "1.0.0"
 from .data import Database, DataError
 from .engine import EngineMissing, Refused
 from .files import Failure
-from .model import Constant, Dependency, Entry, Mapping, Query, Row, Variable
+from .model import Constant, Dependency, Entry, JoinDependency, Mapping, Query, Row, Variable
 from .notation import Names, NotationError, Table, format_mapping, format_query, parse_query, read_names
-from .record import Broken, Comparison, Record, Reduction
+from .record import Broken, BrokenJoin, Comparison, Record, Reduction
 from .sources import read_database
 from .text import pack, unpack
 from .values import Value, Values
 
 __all__ = [
     "Broken",
+    "BrokenJoin",
     "Comparison",
     "Constant",
     "DataError",
@@ -30,6 +31,7 @@ __all__ = [
     "EngineMissing",
     "Entry",
     "Failure",
+    "JoinDependency",
     "Mapping",
     "Names",
     "NotationError",

@@ -72,20 +72,20 @@ def usage() -> Parser:
     parser.add_argument("--version", action="version", version=f"spernevan {__version__}")
     commands = parser.add_subparsers(metavar="COMMAND", required=True)
 
-    def command(name: str, run: Callable[[Options], int], text: str) -> argparse.ArgumentParser:
-        made = commands.add_parser(name, help=text, description=text[:1].upper() + text[1:] + ".")
+    def command(name: str, run: Callable[[Options], int], text: str, more: str = "") -> argparse.ArgumentParser:
+        made = commands.add_parser(name, help=text, description=text[:1].upper() + text[1:] + "." + more)
         made.set_defaults(run=run)
         return made
 
-    def on_file(name: str, run: Callable[[Options], int], text: str) -> argparse.ArgumentParser:
-        made = command(name, run, text)
+    def on_file(name: str, run: Callable[[Options], int], text: str, more: str = "") -> argparse.ArgumentParser:
+        made = command(name, run, text, more)
         made.add_argument("file", metavar="FILE", help="an archive file, the text of one, or - for standard input")
         made.add_argument("--names", metavar="NAMES", help="a names file other than the one beside FILE")
         made.add_argument("--plain", action="store_true", help="no names: tables R0, R1, .., variables v0, v1, .., constants as numbers")
         return made
 
-    def changing(name: str, run: Callable[[Options], int], text: str) -> argparse.ArgumentParser:
-        made = command(name, run, text)
+    def changing(name: str, run: Callable[[Options], int], text: str, more: str = "") -> argparse.ArgumentParser:
+        made = command(name, run, text, more)
         made.add_argument("file", metavar="FILE", help="an archive file, which is changed; or a text, with --output; or - for standard input")
         made.add_argument(
             "-o",
@@ -123,6 +123,7 @@ def usage() -> Parser:
             "--separator", metavar="SIGN", type=separator, help="the sign between the cells of CSV files, or tab (if not given, the header tells)"
         )
 
+    functional = " The short form is judged under the functional dependencies only: join dependencies do not make it shorter."
     query = "a place, 0 to 7, or a rule, 'ans(x) :- ..', or - for a rule on standard input"
     for_programs = "print JSON, for programs"
 
@@ -140,9 +141,9 @@ def usage() -> Parser:
         made.add_argument("--fragment", action="store_true", help="LaTeX to be \\input, not a document")
         written(made)
 
-    made = on_file("list", list_command, "print each saved query, its short form, the mapping and the count, or definitions in LaTeX, SQL or JSON")
+    made = on_file("list", list_command, "print each saved query, its short form, the mapping and the count, or definitions in LaTeX, SQL or JSON", functional)
     shaped(made, json_too=True)
-    made = on_file("show", show_command, "print an archive as text, or some of its queries, or rules, with their short forms")
+    made = on_file("show", show_command, "print an archive as text, or some of its queries, or rules, with their short forms", functional)
     made.add_argument("query", metavar="QUERY", nargs="*", type=place_or_rule, help=query)
     made.add_argument("--json", action="store_true", help=for_programs)
     for name, run, text in (
@@ -161,11 +162,11 @@ def usage() -> Parser:
         "--format", choices=("rows", "csv", "json"), default="rows", help="rows such as ans(101, 31200), or CSV or JSON with the names of the columns"
     )
     group.add_argument("--count", action="store_true", help="print how many answers there are, and nothing else")
-    with_data(on_file("test", test_command, "say whether a database obeys the dependencies"))
-    made = on_file("determined", determined_command, "print the columns that some columns determine")
+    with_data(on_file("test", test_command, "say whether a database obeys the dependencies, functional and join dependencies"))
+    made = on_file("determined", determined_command, "print the columns that some columns determine by the functional dependencies")
     made.add_argument("table", metavar="TABLE", help="the name of a table")
     made.add_argument("column", metavar="COLUMN", nargs="+", help="the name of a column of it")
-    made = changing("reduce", reduce_command, "put the short form of a query into a vacant place")
+    made = changing("reduce", reduce_command, "put the short form of a query into a vacant place", functional)
     made.add_argument("query", metavar="QUERY", type=place_or_rule, help=query)
     made.add_argument("target", metavar="PLACE", nargs="?", type=place, help="the vacant place, 0 to 7; without it, the first")
     made = changing("put", put_command, "put a rule into a vacant place")
@@ -178,14 +179,15 @@ def usage() -> Parser:
         "dependency",
         metavar="DEPENDENCY",
         nargs="+",
-        help="as in 'layer: flight, level -> height, temperature', or a key, 'layer(flight*, level*, height, temperature)'",
+        help="as in 'layer: flight, level -> height, temperature', or a key, 'layer(flight*, level*, height, temperature)', "
+        "or a join dependency, 'layer: join (flight, level, height) (flight, level, temperature)'",
     )
     made = command("pack", pack_command, "make an archive file, and its names file, from a text")
     made.add_argument("text", metavar="TEXT", help="the text of an archive, or - for standard input")
     made.add_argument("file", metavar="FILE", type=output, help="the archive file to write, or - for standard output, which has no names then")
     made = on_file("unpack", unpack_command, "print an archive file as a text; packed again it is the same file, to the byte")
     made.add_argument("text", metavar="TEXT", nargs="?", default="-", type=output, help="a file to write the text to; without it, or with -, it is printed")
-    made = on_file("define", define_command, "print a query's definition: tables, dependencies, both forms, mapping")
+    made = on_file("define", define_command, "print a query's definition: tables, dependencies, both forms, mapping", functional)
     made.add_argument("query", metavar="QUERY", type=place_or_rule, help=query)
     shaped(made)
     made = on_file("page", page_command, "make an HTML page of all saved queries, their short forms and containments")

@@ -50,7 +50,7 @@ from .notation import (
 )
 from .page import page
 from .publish import Shape, reduction_text, render, render_one, write_definition
-from .record import Asked, Broken, Comparison, Record
+from .record import AnyBroken, Asked, BrokenJoin, Comparison, Record
 from .sources import Csv, read_for_command
 from .sql import labels
 from .text import pack, unpack
@@ -344,9 +344,21 @@ def _two(options: Options) -> Tuple[Record, Subject, Subject]:
     return record, p, Subject(record, options.q, "the second rule" if rules else "the rule")
 
 
+def _compare(record: Record, p: Subject, q: Subject) -> Union[Comparison, Refused]:
+    """A comparison; if it is given up, the refusal, which says what is too long."""
+    try:
+        return record.compare(p.asked, q.asked)
+    except Refused as refused:
+        if refused.number != 17:
+            raise
+        return Refused(17, refused.meaning.replace("the first query", p.title))
+
+
 def compare_command(options: Options) -> int:
     record, p, q = _two(options)
-    compared = record.compare(p.asked, q.asked)
+    compared = _compare(record, p, q)
+    if isinstance(compared, Refused):
+        raise compared
     if options.json:
         print(json.dumps({"p": p.shown, "q": q.shown, **comparison_json(compared, record.names, p.variables, q.variables)}, indent=2))
     else:
@@ -356,24 +368,24 @@ def compare_command(options: Options) -> int:
 
 def equivalent_command(options: Options) -> int:
     record, p, q = _two(options)
-    there, back = record.compare(p.asked, q.asked), record.compare(q.asked, p.asked)
-    same = there.contained and back.contained
+    ways = [(one, other, _compare(record, one, other)) for one, other in ((p, q), (q, p))]
+    no = [(one, other, compared) for one, other, compared in ways if isinstance(compared, Comparison) and not compared.contained]
+    for _, _, compared in ways:
+        if isinstance(compared, Refused) and not no:
+            raise compared
     if options.json:
-        shape = {
-            "p": p.shown,
-            "q": q.shown,
-            "equivalent": same,
-            "p_in_q": comparison_json(there, record.names, p.variables, q.variables),
-            "q_in_p": comparison_json(back, record.names, q.variables, p.variables),
-        }
-        print(json.dumps(shape, indent=2))
-    elif same:
-        print(f"Equivalent: {p.title} and {q.title} have the same answers on every database that obeys the dependencies.")
-    else:
-        one, other, compared = (p, q, there) if not there.contained else (q, p, back)
+        there, back = (
+            comparison_json(compared, record.names, one.variables, other.variables) if isinstance(compared, Comparison) else None
+            for one, other, compared in ways
+        )
+        print(json.dumps({"p": p.shown, "q": q.shown, "equivalent": not no, "p_in_q": there, "q_in_p": back}, indent=2))
+    elif no:
+        one, other, found = no[0]
         verdict = f"Not equivalent: {one.title} is not contained in {other.title}."
-        print("\n".join(_compared(record, one, other, compared, verdict)))
-    return YES if same else NO
+        print("\n".join(_compared(record, one, other, found, verdict)))
+    else:
+        print(f"Equivalent: {p.title} and {q.title} have the same answers on every database that obeys the dependencies.")
+    return NO if no else YES
 
 
 def _data(options: Options, record: Record, query: Optional[Asked] = None) -> Database:
@@ -421,11 +433,17 @@ def _say_notes(database: Database, relations: Iterable[int]) -> None:
             say(f"spernevan: {note.text}")
 
 
-def _broken(record: Record, database: Database, broken: Broken) -> List[str]:
+def _broken(record: Record, database: Database, broken: AnyBroken) -> List[str]:
     """A broken dependency for people."""
-    dependency = format_dependency(record.dependencies[broken.dependency], record.names)
-    rows = [f"  {database.say(position)}" for position in (broken.first, broken.second)]
-    return [f"Breaks {dependency} (dependency {broken.dependency}):", *rows]
+    dependency = format_dependency(record.dependency_of(broken), record.names)
+    if not isinstance(broken, BrokenJoin):
+        rows = [f"  {database.say(position)}" for position in (broken.first, broken.second)]
+        return [f"Breaks {dependency} (dependency {broken.dependency}):", *rows]
+    join = record.join_dependencies[broken.dependency]
+    rows = [
+        f"  {database.say(position)} gives {format_columns(join.relation, sorted(columns), record.names)}" for position, columns in zip(broken.rows, join.sets)
+    ]
+    return [f"Breaks {dependency} (join dependency {broken.dependency}):", *rows, f"  missing: {record.missing(broken, database)}"]
 
 
 def evaluate_command(options: Options) -> int:
@@ -466,11 +484,11 @@ def evaluate_command(options: Options) -> int:
 def test_command(options: Options) -> int:
     record, _ = load(options)
     database = _data(options, record)
-    _say_notes(database, [dependency.relation for dependency in record.dependencies])
+    _say_notes(database, [dependency.relation for dependency in record.all_dependencies])
     with database.progress.during("testing the dependencies"):
         broken = record.test(database)
     if broken is None:
-        print(f"Obeys: {count(len(database), 'row')}, {count(len(record.dependencies), 'dependency')}")
+        print(f"Obeys: {count(len(database), 'row')}, {count(len(record.all_dependencies), 'dependency')}")
         return YES
     print("\n".join(_broken(record, database, broken)))
     return NO
@@ -559,10 +577,10 @@ def drop_command(options: Options) -> int:
 def add_command(options: Options) -> int:
     record, was_text = load_record(options.file)
     given = [one for text in options.dependency for one in parse_dependencies(text, record.names)]
-    new = [one for one in dict.fromkeys(given) if one not in record.dependencies]
-    again = [one for one in dict.fromkeys(given) if one in record.dependencies]
+    new = [one for one in dict.fromkeys(given) if one not in record.all_dependencies]
+    again = [one for one in dict.fromkeys(given) if one in record.all_dependencies]
     after = record.add_all(new)
-    said = f"{count(len(new), 'dependency')} added, {len(after.dependencies)} in all"
+    said = f"{count(len(new), 'dependency')} added, {len(after.all_dependencies)} in all"
     if again:
         said += f"; held already: {'; '.join(format_dependencies(again, record.names))}"
     save(options, after, was_text, said)

@@ -10,7 +10,7 @@ from dataclasses import dataclass, field
 from functools import cached_property
 from typing import Callable, Dict, List, Optional, Sequence, Tuple
 
-from .model import Constant, Dependency, Entry, Mapping, Query, Row, Variable
+from .model import Constant, Dependency, Entry, JoinDependency, Mapping, Query, Row, Variable
 from .notation import Names
 from .record import Record
 from .values import Value, format_value
@@ -26,7 +26,7 @@ def itself(number: int) -> Value:
 
 @dataclass(frozen=True)
 class Definition:
-    """A query of a record and its reduction, as a paper prints them."""
+    """A query of a record and its reduction, as a paper prints them. The reduction is by the functional dependencies alone."""
 
     names: Names
     record: Record
@@ -42,16 +42,21 @@ class Definition:
     def dependencies(self) -> Tuple[Dependency, ...]:
         return self.record.dependencies
 
+    @property
+    def join_dependencies(self) -> List[JoinDependency]:
+        """The join dependencies of the long form's relations, which make no form shorter."""
+        return [one for one in self.record.join_dependencies if one.relation in self.relations]
+
     @cached_property
     def chased(self) -> Query:
-        """The long form after the chase, row by row: what the engine shows when it is compared with never."""
+        """The long form after the chase with the functional dependencies, row by row: what the engine shows when it is compared with never."""
         never = Query.never(self.long.head_length)
         compared = _under(self.record, range(len(self.dependencies))).put(0, self.long).put(1, never).compare(0, 1)
         return never if compared.chased is None else compared.chased
 
     @cached_property
     def used(self) -> Tuple[int, ...]:
-        """The positions of dependencies under which alone the two forms have the same answers; without any one of them they have not."""
+        """The positions of functional dependencies under which alone the two forms have the same answers; without any one of them they have not."""
         return used_dependencies(self.record, self.long, self.short)
 
     @property
@@ -114,7 +119,7 @@ def define_all(record: Record, names: Names, decode: Decode = itself) -> List[De
 
 
 def _under(record: Record, held: Sequence[int]) -> Record:
-    """A record of the same tables with some of the dependencies and every place vacant."""
+    """A record of the same tables with some of the functional dependencies and every place vacant."""
     bare = Record.open(record.widths)
     for number in held:
         dependency = record.dependencies[number]
@@ -123,7 +128,7 @@ def _under(record: Record, held: Sequence[int]) -> Record:
 
 
 def used_dependencies(record: Record, long: Query, short: Query) -> Tuple[int, ...]:
-    """Positions of dependencies under which alone the engine finds each query contained in the other.
+    """Positions of functional dependencies under which alone the engine finds each query contained in the other.
 
     From the last to the first, each is left out if the others that are left do without it. More dependencies never
     end a containment, so in the end none can be left out.

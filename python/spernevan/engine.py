@@ -21,8 +21,9 @@ from typing import Any, Callable, List, NamedTuple, Optional, Sequence, Tuple, T
 
 from .model import BYTE, VARIABLES, Words, whole
 
-LONGEST_FILE = 4420
+LONGEST_FILE = 4445
 LONGEST_QUERY = 534
+LONGEST_CHASED = 1026
 MAPPING_WORDS = 2 * VARIABLES
 SIZE = ctypes.c_size_t(-1).value
 
@@ -30,8 +31,8 @@ MEANINGS = {
     1: "the file does not begin as an archive file does; it is cut short, or of another kind",
     2: "the parts of the file do not follow one another to its end; it is cut short, or something was added to it",
     3: "there must be 1 to 8 tables of 1 to 8 columns each, and in a file nothing else in their part",
-    4: "a dependency, or a set of columns, is wrong: its table and columns must exist, at least one of them on the left, "
-    "and in a file there are at most 32 and nothing else in their part",
+    4: "a functional dependency, or a set of columns, is wrong: its table and columns must exist, at least one of them on the left, "
+    "and in a file there are at most 32",
     5: "a query is wrong: at most 8 entries in the head, 12 rows, variables to v95, constants to 2147483647, "
     "rows of tables that exist, and in a file nothing else in its part and no vacant place at the end",
     6: "a variable of the head is in no row",
@@ -41,8 +42,12 @@ MEANINGS = {
     10: "the answers, or the file, are longer than the buffer lent for them",
     11: "the place is vacant",
     12: "the place to be filled is filled",
-    13: "32 dependencies are held, which is as many as there may be",
+    13: "32 functional dependencies are held, which is as many as there may be",
     14: "the record breaks the rules of a record",
+    15: "a join dependency is wrong: its table must exist, and it has 2 to 4 sets of columns, none of them empty and together all columns of the table; "
+    "in a file there are at most 4, and nothing else after the functional ones in their part",
+    16: "4 join dependencies are held, which is as many as there may be",
+    17: "the comparison was given up: the join dependencies make the first query longer than 24 rows",
 }
 
 
@@ -79,15 +84,16 @@ _CALLS = {
     "write": _BYTES + _OUT,
     "open": _BYTES + _OUT,
     "add": _BYTES + _BYTE * 3 + _OUT,
+    "add_join": _BYTES + _BYTE + _BYTES + _OUT,
     "put": _BYTES + _PLACE + _BYTES + _OUT,
     "drop": _BYTES + _PLACE + _OUT,
     "determined": _BYTES + _BYTE * 2 + _BYTE_OUT * 2,
     "reduce": _BYTES + _PLACE * 2 + _OUT + _BYTE_OUT + _WORDS,
     "compare": _BYTES + _PLACE * 2 + _BYTE_OUT + _WORDS + _OUT,
     "check": _BYTES + _PLACE * 2 + _WORDS + _BYTE_OUT,
-    "test": _BYTES + _WORDS + _BYTE_OUT + _SIZE_OUT * 3,
+    "test": _BYTES + _WORDS + _BYTE_OUT + _SIZE_OUT * 5,
     "evaluate": _BYTES + _PLACE + _WORDS * 2 + _SIZE_OUT,
-    "test_lent": _BYTES + _WORDS * 3 + _BYTE_OUT + _SIZE_OUT * 3,
+    "test_lent": _BYTES + _WORDS * 3 + _BYTE_OUT + _SIZE_OUT * 5,
     "evaluate_lent": _BYTES + _PLACE + _WORDS * 6 + _SIZE_OUT,
     "count": _BYTES + _PLACE + _WORDS + _SIZE_OUT,
     "count_lent": _BYTES + _PLACE + _WORDS * 5 + _SIZE_OUT,
@@ -254,10 +260,17 @@ def open_record(widths: bytes) -> bytes:
 
 
 def add(file: bytes, relation: int, left: int, right: int) -> bytes:
-    """The file after a dependency is added; `left` is a set of columns as a byte."""
+    """The file after a functional dependency is added; `left` is a set of columns as a byte."""
     room = _Room(LONGEST_FILE)
     numbers = _byte("a relation", relation), _byte("a left set", left), _byte("a right column", right)
     _call("add", *_slice(file), *numbers, *room.lent())
+    return room.bytes()
+
+
+def add_join(file: bytes, relation: int, sets: bytes) -> bytes:
+    """The file after a join dependency is added; each of its sets of columns is a byte."""
+    room = _Room(LONGEST_FILE)
+    _call("add_join", *_slice(file), _byte("a relation", relation), *_slice(sets), *room.lent())
     return room.bytes()
 
 
@@ -293,7 +306,7 @@ def reduce(file: bytes, source: int, target: int) -> Tuple[bytes, int, List[int]
 
 def compare(file: bytes, p: int, q: int) -> Tuple[int, List[int], bytes]:
     """The verdict, the mapping as 192 words, and the chased query of p as a part of the file."""
-    room, verdict, mapping = _Room(LONGEST_QUERY), ctypes.c_uint8(), (ctypes.c_uint32 * MAPPING_WORDS)()
+    room, verdict, mapping = _Room(LONGEST_CHASED), ctypes.c_uint8(), (ctypes.c_uint32 * MAPPING_WORDS)()
     places = _place(p), _place(q)
     _call("compare", *_slice(file), *places, ctypes.byref(verdict), mapping, MAPPING_WORDS, *room.lent())
     return verdict.value, list(mapping), room.bytes()
@@ -392,17 +405,34 @@ def _for_answers(words: int, size: Size, answers: int) -> List[int]:
     return [index, states, 2 * answers + 64, 2 * answers + 64]
 
 
-def test(file: bytes, words: Words) -> Optional[Tuple[int, int, int]]:
-    """None if the database obeys; else the first broken dependency and its first pair of rows."""
-    obeys = ctypes.c_uint8()
-    found = [ctypes.c_size_t() for _ in range(3)]
-    outs = [ctypes.byref(obeys), *(ctypes.byref(place) for place in found)]
-    number = _number("test_lent", *_slice(file), *_words(words), *_flat(_lent(words, [len(words) // 2, 2 * len(words)])), *outs)
+def _for_test(words: int, joins: bool) -> List[int]:
+    """The words of heads and nodes for a test, with join dependencies or without, as include/spernevan.h has them."""
+    return [words, 4 * words] if joins else [words // 2, 2 * words]
+
+
+class Break(NamedTuple):
+    """A broken dependency, which may be a join dependency; its position among those of its kind, and its first rows, by position."""
+
+    is_join: bool
+    dependency: int
+    rows: Tuple[int, ...]
+
+
+def test(file: bytes, words: Words, joins: bool) -> Optional[Break]:
+    """None if the database obeys; else the first broken dependency. `joins` says whether join dependencies are held.
+
+    The rows of a functional one are two, and of a join dependency four, of which it has one for each of its sets.
+    """
+    verdict = ctypes.c_uint8()
+    found = [ctypes.c_size_t() for _ in range(5)]
+    outs = [ctypes.byref(verdict), *(ctypes.byref(place) for place in found)]
+    number = _number("test_lent", *_slice(file), *_words(words), *_flat(_lent(words, _for_test(len(words), joins))), *outs)
     if number != 0:
         raise Refused(number)
-    if obeys.value == 1:
+    if verdict.value == 1:
         return None
-    return found[0].value, found[1].value, found[2].value
+    dependency, *rows = (place.value for place in found)
+    return Break(True, dependency, tuple(rows)) if verdict.value == 2 else Break(False, dependency, tuple(rows[:2]))
 
 
 def _evaluated(file: bytes, place: int, words: Words, size: Size, room: int, most: int) -> Tuple[int, int, Words, int]:

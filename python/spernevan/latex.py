@@ -11,7 +11,7 @@ import unicodedata
 from typing import Dict, Iterable, List, Optional, Sequence, Tuple
 
 from .definition import Definition
-from .model import Constant, Dependency, Entry, Query
+from .model import AnyDependency, Constant, Entry, JoinDependency, Query
 from .notation import Names
 from .scan import count
 from .values import Value, bare
@@ -180,11 +180,16 @@ def tables(relations: Sequence[int], names: Names) -> str:
     return _lines(f"{table_name(table.name)}({', '.join(map(column_name, table.columns))})" for table in shown)
 
 
-def dependency(one: Dependency, names: Names) -> str:
+def dependency(one: AnyDependency, names: Names) -> str:
     """A dependency under the names of its table and columns."""
     table = names.tables[one.relation]
-    left = ", ".join(column_name(table.columns[column]) for column in sorted(one.left))
-    return rf"{table_name(table.name)}: {left}~$\to$~{column_name(table.columns[one.right])}"
+
+    def listed(columns: Iterable[int]) -> str:
+        return ", ".join(column_name(table.columns[column]) for column in sorted(columns))
+
+    if isinstance(one, JoinDependency):
+        return rf"{table_name(table.name)}:~$\bowtie$~{' '.join(f'({listed(columns)})' for columns in one.sets)}"
+    return rf"{table_name(table.name)}: {listed(one.left)}~$\to$~{column_name(table.columns[one.right])}"
 
 
 def form(query: Query, definition: Definition) -> str:
@@ -239,7 +244,8 @@ def _titled(title: str, body: str) -> str:
 
 def claim(definition: Definition) -> str:
     """What the engine has proved of the two forms, in a sentence."""
-    where = "every finite database that obeys these dependencies" if definition.used else "every finite database"
+    kind = "functional dependencies" if definition.join_dependencies else "dependencies"
+    where = f"every finite database that obeys these {kind}" if definition.used else "every finite database"
     if definition.short.is_never:
         return f"On {where} the long form has no answer."
     rows = count(len(definition.short.rows), "row")
@@ -255,6 +261,9 @@ def fragment(definition: Definition, title: Optional[str] = None) -> str:
     if definition.relations:
         parts.append(_titled("Tables.", "\n" + tables(definition.relations, names)))
     parts.append(_titled("Dependencies.", "\n" + _lines(used) if used else "None is needed."))
+    if definition.join_dependencies:
+        joins = _lines(dependency(one, names) for one in definition.join_dependencies)
+        parts.append(_titled("Join dependencies, which the short form does not use.", "\n" + joins))
     parts.append(_titled(f"Long form, {count(len(definition.long.rows), 'row')}.", "\n" + form(definition.long, definition)))
     parts.append(
         _titled(f"Short form, {count(len(definition.short.rows), 'row')}.", "\n" + form(definition.short, definition))

@@ -27,8 +27,13 @@ PLACES = 8
 MOST_RELATIONS = 8
 MOST_COLUMNS = 8
 MOST_DEPENDENCIES = 32
+MOST_JOIN_DEPENDENCIES = 4
+LEAST_SETS = 2
+MOST_SETS = 4
 MOST_HEAD = 8
 MOST_ROWS = 12
+# A query that a comparison has chased with join dependencies.
+MOST_CHASED_ROWS = 24
 VARIABLES = 96
 LARGEST_CONSTANT = 2**31 - 1
 
@@ -162,7 +167,7 @@ class Query:
 
 @dataclass(frozen=True)
 class Dependency:
-    """Rows of the relation that agree on every left column agree on the right one."""
+    """A functional dependency: rows of the relation that agree on every left column agree on the right one."""
 
     relation: int
     left: FrozenSet[int]
@@ -172,6 +177,34 @@ class Dependency:
         whole("a dependency's relation", self.relation, BYTE)
         object.__setattr__(self, "left", columns_of(mask_of(self.left)))
         whole("a dependency's right column", self.right, BYTE)
+
+    def columns(self) -> FrozenSet[int]:
+        """The columns of which it speaks."""
+        return self.left | {self.right}
+
+
+@dataclass(frozen=True)
+class JoinDependency:
+    """The relation is the join of its parts: rows, one for each set of columns, that agree where sets overlap yield a row that is there."""
+
+    relation: int
+    sets: Tuple[FrozenSet[int], ...]
+
+    def __post_init__(self) -> None:
+        whole("a join dependency's relation", self.relation, BYTE)
+        object.__setattr__(self, "sets", tuple(columns_of(mask_of(one)) for one in items("the sets of a join dependency", self.sets)))
+
+    def columns(self) -> FrozenSet[int]:
+        """The columns of which it speaks."""
+        return frozenset(column for one in self.sets for column in one)
+
+    def joined(self, rows: Sequence[Sequence[T]]) -> Tuple[T, ...]:
+        """The row that rows yield, one for each set, in the order of the sets: from each row the columns of its set."""
+        found = {column: row[column] for one, row in zip(self.sets, rows) for column in one}
+        return tuple(found[column] for column in sorted(found))
+
+
+AnyDependency = Union[Dependency, JoinDependency]
 
 
 def mask_of(columns: Iterable[int]) -> int:
@@ -238,10 +271,11 @@ def decode_query(part: bytes, widths: Sequence[int]) -> Query:
 
 @dataclass(frozen=True)
 class Contents:
-    """What an accepted file holds: widths, dependencies in held order, and the eight places."""
+    """What an accepted file holds: widths, functional and join dependencies in held order, and the eight places."""
 
     widths: Tuple[int, ...]
     dependencies: Tuple[Dependency, ...]
+    join_dependencies: Tuple[JoinDependency, ...]
     queries: Tuple[Optional[Query], ...]
 
 
@@ -251,10 +285,22 @@ def decode_file(file: bytes) -> Contents:
     pairs = struct.iter_unpack("<HH", file[2 : 2 + 4 * count])
     parts = [file[offset : offset + length] for offset, length in pairs]
     widths = tuple(parts[0][1:])
+    joins_at = 1 + 3 * parts[1][0]
     dependencies = tuple(
         Dependency(relation, columns_of(left), right)
-        for relation, left, right in struct.iter_unpack("BBB", parts[1][1:])
+        for relation, left, right in struct.iter_unpack("BBB", parts[1][1:joins_at])
     )
     queries = [None if part == b"\xff" else decode_query(part, widths) for part in parts[2:]]
     queries += [None] * (PLACES - len(queries))
-    return Contents(widths, dependencies, tuple(queries))
+    return Contents(widths, dependencies, _decode_joins(parts[1][joins_at:]), tuple(queries))
+
+
+def _decode_joins(rest: bytes) -> Tuple[JoinDependency, ...]:
+    """The join dependencies of what stands after the functional ones in part 1; nothing where there is none."""
+    found: List[JoinDependency] = []
+    at = 1
+    while at < len(rest):
+        relation, number = rest[at], rest[at + 1]
+        at += 2 + number
+        found.append(JoinDependency(relation, tuple(columns_of(mask) for mask in rest[at - number : at])))
+    return tuple(found)

@@ -19,15 +19,19 @@ from dataclasses import dataclass, field
 from typing import Dict, Iterable, List, NamedTuple, Optional, Sequence, Tuple, Union
 
 from .model import (
+    LEAST_SETS,
     MOST_COLUMNS,
     MOST_HEAD,
     MOST_RELATIONS,
     MOST_ROWS,
+    MOST_SETS,
     PLACES,
     VARIABLES,
+    AnyDependency,
     Constant,
     Dependency,
     Entry,
+    JoinDependency,
     Mapping,
     Query,
     Row,
@@ -448,10 +452,13 @@ def constants(query: Query) -> List[int]:
 # ---- dependencies
 
 
-def read_dependencies(reader: Reader, names: Names) -> List[Dependency]:
-    """`layer: flight, level -> height, temperature`: a dependency for each column on the right."""
+def read_dependencies(reader: Reader, names: Names) -> Sequence[AnyDependency]:
+    """`layer: flight, level -> height, temperature`, a functional dependency for each column on the right; or a join dependency,
+    `layer: join (flight, level, height) (flight, level, temperature)`."""
     relation = names.relation(reader)
     reader.take(":")
+    if reader.next.text == "join" and (reader.then.kind == "(" or "join" not in names.tables[relation].columns):
+        return [_read_join(reader, names, relation)]
     left = [names.column(relation, reader)]
     while reader.try_take(","):
         left.append(names.column(relation, reader))
@@ -466,11 +473,36 @@ def read_dependencies(reader: Reader, names: Names) -> List[Dependency]:
     return [Dependency(relation, frozenset(left), column) for column in right]
 
 
-def parse_dependencies(text: str, names: Names, source: str = "dependency") -> List[Dependency]:
-    """The dependencies of a line such as `layer: flight, level -> height`, or `layer(flight*, level*, height)` for a key of a table."""
+def _read_join(reader: Reader, names: Names, relation: int) -> JoinDependency:
+    """`join (flight, level, height) (flight, level, temperature)`: sets of columns, each between parentheses."""
+    start = reader.take("name")
+    if reader.next.kind != "(":
+        raise reader.expected("a set of columns between parentheses")
+    sets: List[List[int]] = []
+    while reader.next.kind == "(":
+        if len(sets) == MOST_SETS:
+            raise reader.error(reader.next, f"a join has {MOST_SETS} sets of columns at most")
+        sets.append(reader.listed(lambda: names.column(relation, reader)))
+        if not sets[-1]:
+            raise reader.error(reader.last, "a set of a join has at least one column")
+    if reader.next.kind == ",":
+        raise reader.error(reader.next, "no comma goes between the sets of a join")
+    if len(sets) < LEAST_SETS:
+        raise reader.error(start, f"a join has {LEAST_SETS} to {MOST_SETS} sets of columns, each between parentheses")
+    table = names.tables[relation]
+    missing = [name for column, name in enumerate(table.columns) if not any(column in one for one in sets)]
+    if missing:
+        are = "is" if len(missing) == 1 else "are"
+        raise reader.error(start, f"the sets of a join have every column of {table} among them; {', '.join(missing)} {are} in none")
+    return JoinDependency(relation, tuple(frozenset(one) for one in sets))
+
+
+def parse_dependencies(text: str, names: Names, source: str = "dependency") -> Sequence[AnyDependency]:
+    """The dependencies of a line such as `layer: flight, level -> height`, or `layer(flight*, level*, height)` for a key of a table,
+    or `layer: join (flight, level) (level, height)`."""
     reader = Reader(text, source)
     reader.at_end()
-    found = read_key(reader, names) if reader.then.kind == "(" else read_dependencies(reader, names)
+    found: Sequence[AnyDependency] = read_key(reader, names) if reader.then.kind == "(" else read_dependencies(reader, names)
     if not reader.at_end():
         raise reader.expected("the end")
     return found
@@ -501,17 +533,22 @@ def format_columns(relation: int, columns: Sequence[int], names: Names) -> str:
     return ", ".join(names.tables[relation].columns[column] for column in sorted(columns))
 
 
-def format_dependency(dependency: Dependency, names: Names) -> str:
+def format_dependency(dependency: AnyDependency, names: Names) -> str:
     """A dependency under the names of its table and columns."""
     return format_dependencies([dependency], names)[0]
 
 
-def format_dependencies(dependencies: Sequence[Dependency], names: Names) -> List[str]:
-    """Dependencies in their order, those that follow one another with the same left side in one line."""
+def format_dependencies(dependencies: Sequence[AnyDependency], names: Names) -> List[str]:
+    """Dependencies in their order, functional ones that follow one another with the same left side in one line."""
     lines: List[str] = []
     before: Optional[Tuple[int, frozenset[int]]] = None
     for dependency in dependencies:
         table = names.tables[dependency.relation]
+        if isinstance(dependency, JoinDependency):
+            sets = [f"({format_columns(dependency.relation, sorted(one), names)})" for one in dependency.sets]
+            lines.append(f"{table.name}: join {' '.join(sets)}")
+            before = None
+            continue
         right = table.columns[dependency.right]
         if before == (dependency.relation, dependency.left):
             lines[-1] += f", {right}"

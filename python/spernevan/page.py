@@ -10,12 +10,12 @@ from __future__ import annotations
 
 import unicodedata
 from html import escape
-from typing import Callable, Dict, Iterable, List, Optional, Sequence, Tuple
+from typing import Callable, Dict, Iterable, List, Optional, Sequence, Tuple, Union
 
 from .definition import Decode, Definition, Writer, define_all, itself, variable_text
 from .engine import Refused
-from .model import FROZEN, Entry, Query, Variable
-from .notation import Names, format_dependency
+from .model import FROZEN, MOST_CHASED_ROWS, Entry, Query, Variable
+from .notation import Names, format_dependencies, format_dependency
 from .record import Comparison, DataRow, Record
 from .scan import count
 from .style import BESIDE, STYLE
@@ -33,12 +33,12 @@ def page(record: Record, names: Names, title: str = "Archive", decode: Decode = 
     definitions = define_all(record, names, decode)
     verdicts = _compared(record, [one.place for one in definitions if one.place is not None])
     style = STYLE + "".join(_beside(one) for one in definitions)
-    tables, held = len(record.widths), len(record.dependencies)
+    tables, held = len(record.widths), len(record.all_dependencies)
     counts = f"{count(tables, 'table')}, {_counted(held, 'dependency', 'dependencies')}"
     saved = _counted(len(definitions), "saved query", "saved queries")
     body = [f"<header><h1>{escape(title)}</h1>", f"<p>{counts}, {saved}.</p></header>", "<main>"]
     if definitions:
-        body += [_overview(definitions), _matrix(definitions, verdicts)]
+        body += [_overview(record, definitions), _matrix(definitions, verdicts)]
         body += [_place(one, definitions, verdicts) for one in definitions]
     else:
         body.append("<p>Every place is vacant.</p>")
@@ -64,8 +64,8 @@ def page(record: Record, names: Names, title: str = "Archive", decode: Decode = 
     )
 
 
-# The comparison of two places; None where their heads differ in length.
-Verdicts = Dict[Tuple[int, int], Optional[Comparison]]
+# The comparison of two places, or the number of its refusal: 8 where their heads differ in length, 17 where it was given up.
+Verdicts = Dict[Tuple[int, int], Union[Comparison, int]]
 
 
 def _compared(record: Record, places: Sequence[int]) -> Verdicts:
@@ -76,9 +76,9 @@ def _compared(record: Record, places: Sequence[int]) -> Verdicts:
             try:
                 found[p, q] = record.compare(p, q)
             except Refused as refused:
-                if refused.number != 8:
+                if refused.number not in (8, 17):
                     raise
-                found[p, q] = None
+                found[p, q] = refused.number
     return found
 
 
@@ -89,7 +89,7 @@ def _counted(number: int, one: str, many: str) -> str:
 # ---- the whole archive
 
 
-def _overview(definitions: Sequence[Definition]) -> str:
+def _overview(record: Record, definitions: Sequence[Definition]) -> str:
     """A line for each place."""
     rows = []
     for one in definitions:
@@ -100,10 +100,12 @@ def _overview(definitions: Sequence[Definition]) -> str:
     titles = ["Query", "Head", "Rows of the long form", "Rows of the short form", "Variables replaced"]
     header = "".join(f'<th scope="col">{title}</th>' for title in titles)
     table = f'<table class="plain"><thead><tr>{header}</tr></thead><tbody>{"".join(rows)}</tbody></table>'
+    kind = "functional dependencies" if record.join_dependencies else "dependencies"
+    joins = " Join dependencies make no form shorter." if record.join_dependencies else ""
     return (
         '<h2 id="queries">Saved queries</h2>'
-        "<p>On every database that obeys the dependencies the short form has the answers of the long one, and no query "
-        f'with those answers has fewer rows.</p><div class="scroll">{table}</div>'
+        f"<p>On every database that obeys the {kind} the short form has the answers of the long one, and no query "
+        f'with those answers has fewer rows.{joins}</p><div class="scroll">{table}</div>'
     )
 
 
@@ -119,10 +121,14 @@ def _matrix(definitions: Sequence[Definition], verdicts: Verdicts) -> str:
         '<table class="plain matrix"><caption class="dim">Is each answer of the place on the left an answer of the place '
         f'above?</caption><thead><tr><td></td>{header}</tr></thead><tbody>{"".join(rows)}</tbody></table>'
     )
+    given_up = (
+        " A question mark stands where the comparison was given up, since the join dependencies make the place on the left "
+        f"longer than {MOST_CHASED_ROWS} rows."
+    )
     return (
         '<h2 id="containment">Which is contained in which</h2>'
         "<p>A yes holds on every database that obeys the dependencies. A no leads to such a database with an answer that "
-        "is missing. A dash stands where the heads differ in length.</p>"
+        f"is missing. A dash stands where the heads differ in length.{given_up if 17 in verdicts.values() else ''}</p>"
         f'<div class="scroll">{table}</div>'
     )
 
@@ -131,8 +137,9 @@ def _verdict(p: int, q: int, verdicts: Verdicts) -> str:
     """A cell of the matrix."""
     found = verdicts[p, q]
     same = " same" if p == q else ""
-    if found is None:
-        return f'<td class="none{same}">\u2013</td>'
+    if isinstance(found, int):
+        sign = "?" if found == 17 else "\u2013"
+        return f'<td class="none{same}">{sign}</td>'
     if found.contained:
         return f'<td class="yes{same}">\u2713 yes</td>'
     return f'<td class="no{same}"><a href="#place-{p}-not" title="Place {p} is not contained in place {q}">\u2717 no</a></td>'
@@ -141,7 +148,7 @@ def _verdict(p: int, q: int, verdicts: Verdicts) -> str:
 def _schema(record: Record, names: Names) -> str:
     """The tables and what they obey."""
     tables = "".join(f"<li><code>{escape(str(table))}</code></li>" for table in names.tables)
-    held = [f"<li><code>{escape(_arrow(format_dependency(one, names)))}</code></li>" for one in record.dependencies]
+    held = [f"<li><code>{escape(_arrow(format_dependency(one, names)))}</code></li>" for one in record.all_dependencies]
     dependencies = f"<ul>{''.join(held)}</ul>" if held else "<p>None.</p>"
     return f'<h2 id="tables">Tables</h2><ul>{tables}</ul><h2 id="dependencies">Dependencies</h2>{dependencies}'
 
@@ -381,9 +388,15 @@ def _facts(one: Definition) -> str:
         facts.append(("Mapping of the variables", ", ".join(images) + note if images else "as its rows"))
     needed = [_arrow(format_dependency(one.dependencies[number], one.names)) for number in one.used]
     without = "none: the two forms have the same answers on every database"
-    facts.append(("Dependencies needed", "; ".join(f"<code>{escape(text)}</code>" for text in needed) or without))
+    facts.append(("Dependencies needed", _codes(needed) or without))
+    if one.join_dependencies:
+        facts.append(("Join dependencies, which the short form does not use", _codes(format_dependencies(one.join_dependencies, one.names))))
     facts.append(("Replaced by the dependencies", count(one.replaced, "variable")))
     return "<dl>" + "".join(f"<dt>{name}</dt><dd>{text}</dd>" for name, text in facts) + "</dl>"
+
+
+def _codes(texts: Iterable[str]) -> str:
+    return "; ".join(f"<code>{escape(text)}</code>" for text in texts)
 
 
 def _others(one: Definition, definitions: Sequence[Definition], verdicts: Verdicts) -> str:
@@ -403,7 +416,7 @@ def _others(one: Definition, definitions: Sequence[Definition], verdicts: Verdic
     examples: Dict[Tuple[Tuple[DataRow, ...], Tuple[int, ...]], List[int]] = {}
     for q in others:
         found = verdicts[p, q]
-        example = None if found is None else found.counterexample()
+        example = None if isinstance(found, int) else found.counterexample()
         if example is not None:
             examples.setdefault((tuple(example[0]), example[1]), []).append(q)
     for number, ((rows, answer), missing) in enumerate(examples.items()):
@@ -420,8 +433,8 @@ def _others(one: Definition, definitions: Sequence[Definition], verdicts: Verdic
     return "".join(lines)
 
 
-def _holds(found: Optional[Comparison]) -> bool:
-    return found is not None and found.contained
+def _holds(found: Union[Comparison, int]) -> bool:
+    return not isinstance(found, int) and found.contained
 
 
 def _places(places: Sequence[int]) -> str:

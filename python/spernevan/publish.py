@@ -13,8 +13,8 @@ from typing import Dict, List, Optional, Sequence
 from . import latex, sql
 from .definition import Definition, Writer, variable_text
 from .files import FILE_BYTES, Failure, read_bytes, write_files
-from .model import Constant, Dependency, Entry, Query
-from .notation import Names, format_dependency
+from .model import Constant, Dependency, Entry, JoinDependency, Query
+from .notation import Names, format_dependencies, format_dependency
 from .scan import count
 from .values import format_value
 
@@ -40,6 +40,9 @@ def definition_text(definition: Definition) -> str:
         lines += [f"    {names.tables[relation]}" for relation in definition.relations]
     lines.append("  Dependencies needed:")
     lines += [f"    {format_dependency(definition.dependencies[number], names)}" for number in definition.used] or ["    none"]
+    if definition.join_dependencies:
+        lines.append("  Join dependencies, which the short form does not use:")
+        lines += [f"    {line}" for line in format_dependencies(definition.join_dependencies, names)]
     return "\n".join(lines) + "\n" + reduction_text(definition)
 
 
@@ -117,6 +120,12 @@ def dependency_json(dependency: Dependency, names: Names) -> Dict[str, object]:
     }
 
 
+def join_dependency_json(dependency: JoinDependency, names: Names) -> Dict[str, object]:
+    """A join dependency under the names of its table and columns."""
+    table = names.tables[dependency.relation]
+    return {"table": table.name, "sets": [[table.columns[column] for column in sorted(one)] for one in dependency.sets]}
+
+
 def definition_json(definition: Definition) -> Dict[str, object]:
     """A definition; `kept` and `images` count rows from 0, and have null and nothing where the short form is never."""
     mapping: Optional[Dict[str, object]] = None
@@ -130,6 +139,7 @@ def definition_json(definition: Definition) -> Dict[str, object]:
         "place": definition.place,
         "tables": [{"table": table.name, "columns": list(table.columns)} for table in tables],
         "dependencies": [dependency_json(definition.dependencies[number], definition.names) for number in definition.used],
+        "join_dependencies": [join_dependency_json(one, definition.names) for one in definition.join_dependencies],
         "long": query_json(definition.long, definition),
         "short": query_json(definition.short, definition),
         "mapping": mapping,

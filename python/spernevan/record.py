@@ -34,14 +34,17 @@ from .model import (
     BYTE,
     FROZEN,
     MOST_DEPENDENCIES,
+    MOST_JOIN_DEPENDENCIES,
     PLACES,
     VARIABLES,
     WORD,
     Words,
+    AnyDependency,
     Constant,
     Contents,
     Dependency,
     Entry,
+    JoinDependency,
     Mapping,
     Query,
     Row,
@@ -60,6 +63,7 @@ from .notation import (
     Table,
     constants,
     count,
+    format_datum,
     format_dependency,
     format_names,
     parse_dependencies,
@@ -115,11 +119,25 @@ class Comparison:
 
 @dataclass(frozen=True)
 class Broken:
-    """The first dependency that a database breaks, and the first two rows that break it, by position."""
+    """The first functional dependency that a database breaks, and the first two rows that break it, by position."""
 
     dependency: int
     first: int
     second: int
+
+
+@dataclass(frozen=True)
+class BrokenJoin:
+    """The first join dependency that a database breaks, and the first rows that break it, one for each of its sets, by position.
+
+    The row that they yield (JoinDependency.joined) is missing.
+    """
+
+    dependency: int
+    rows: Tuple[int, ...]
+
+
+AnyBroken = Union[Broken, BrokenJoin]
 
 
 def _is_archive(file: bytes) -> bool:
@@ -243,7 +261,7 @@ class Record:
 
     def __repr__(self) -> str:
         tables = ", ".join(table.name for table in self.names.tables)
-        return f"<Record of {tables}; {count(len(self.dependencies), 'dependency')}; filled places: {_listed(self.filled()) or 'none'}>"
+        return f"<Record of {tables}; {count(len(self.all_dependencies), 'dependency')}; filled places: {_listed(self.filled()) or 'none'}>"
 
     def __str__(self) -> str:
         from .text import unpack
@@ -296,8 +314,18 @@ class Record:
 
     @property
     def dependencies(self) -> Tuple[Dependency, ...]:
-        """The dependencies, in the order added."""
+        """The functional dependencies, in the order added."""
         return self._contents.dependencies
+
+    @property
+    def join_dependencies(self) -> Tuple[JoinDependency, ...]:
+        """The join dependencies, in the order added."""
+        return self._contents.join_dependencies
+
+    @property
+    def all_dependencies(self) -> Tuple[AnyDependency, ...]:
+        """The functional dependencies, then the join dependencies."""
+        return (*self.dependencies, *self.join_dependencies)
 
     @property
     def queries(self) -> Tuple[Optional[Query], ...]:
@@ -326,7 +354,7 @@ class Record:
         elif refused.number == 12:
             meaning = f"place {fill} is filled; " + (f"vacant: {vacant}" if vacant else "every place is: drop one first")
         elif refused.number == 13:
-            meaning = "32 dependencies are held, which is as many as there may be; each column on the right counts one"
+            meaning = f"{refused.meaning}; each column on the right counts one"
         elif refused.number == 8:
             lengths = [query.head_length for query in (self.queries[place] for place in read) if query is not None]
             shows = f"the first query shows {count(lengths[0], 'column')} and the second {lengths[-1]}"
@@ -334,9 +362,10 @@ class Record:
         return Refused(refused.number, meaning)
 
     def add(self, relation: Union[int, str], left: Iterable[int] = (), right: int = 0) -> Record:
-        """The record with one more dependency: the left columns determine the right one.
+        """The record with one more functional dependency: the left columns determine the right one.
 
-        A text such as `layer: flight, level -> height, temperature` adds one for each column on its right.
+        A text such as `layer: flight, level -> height, temperature` adds one for each column on its right, and
+        `layer: join (flight, level, height) (flight, level, temperature)` adds a join dependency, as `add_join` does.
         """
         if isinstance(relation, str):
             return self.add_all(parse_dependencies(relation, self.names))
@@ -345,23 +374,32 @@ class Record:
         except Refused as refused:
             raise self._explained(refused) from None
 
-    def add_all(self, dependencies: Iterable[Dependency]) -> Record:
-        """The record with more dependencies, all or none."""
-        held, more = len(self.dependencies), list(dependencies)
+    def add_join(self, relation: int, sets: Iterable[Iterable[int]]) -> Record:
+        """The record with one more join dependency: the relation is the join of its parts that have these sets of columns."""
+        masks = [mask_of(one) for one in items("the sets of a join dependency", sets)]
+        return self._of(engine.add_join(self.file, relation, bytes(masks)), self._names, self._named)
+
+    def add_all(self, dependencies: Iterable[AnyDependency]) -> Record:
+        """The record with more dependencies of either kind, all or none."""
+        more = list(dependencies)
         record = self
         try:
             for one in more:
-                record = record.add(one.relation, one.left, one.right)
+                record = record.add_join(one.relation, one.sets) if isinstance(one, JoinDependency) else record.add(one.relation, one.left, one.right)
         except Refused as refused:
-            if refused.number == 13 and held < MOST_DEPENDENCIES:
-                are = "dependency is" if held == 1 else "dependencies are"
-                meaning = (
-                    f"{held} {are} held, and {len(more)} more would make {held + len(more)}; "
-                    f"there may be {MOST_DEPENDENCIES}, and each column on the right counts one"
-                )
-                raise Refused(13, meaning) from None
-            raise
+            raise self._too_many(refused, more) from None
         return record
+
+    def _too_many(self, refused: Refused, more: Sequence[AnyDependency]) -> Refused:
+        """A refusal of more dependencies in words that count them, unless as many as there may be are held already."""
+        joins = refused.number == 16
+        held, most = (len(self.join_dependencies), MOST_JOIN_DEPENDENCIES) if joins else (len(self.dependencies), MOST_DEPENDENCIES)
+        if refused.number not in (13, 16) or held == most:
+            return refused
+        new = sum(isinstance(one, JoinDependency) == joins for one in more)
+        kind = count(held, "join dependency" if joins else "functional dependency")
+        each = "" if joins else ", and each column on the right counts one"
+        return Refused(refused.number, f"{kind} {'is' if held == 1 else 'are'} held, and {new} more would make {held + new}; there may be {most}{each}")
 
     def put(self, place: int, query: Union[str, Query], variables: Optional[Dict[int, str]] = None) -> Record:
         """The record with a query, or the query of a rule, in a vacant place. A rule brings the names of its variables."""
@@ -384,7 +422,7 @@ class Record:
         return self._of(file, None if self._names is None else self._names.with_variables(place, None), self._named)
 
     def determined(self, relation: int, left: Iterable[int]) -> FrozenSet[int]:
-        """The columns that the left columns determine."""
+        """The columns that the left columns determine by the functional dependencies."""
         columns, _ = engine.determined(self.file, relation, mask_of(left))
         return columns_of(columns)
 
@@ -414,7 +452,7 @@ class Record:
         return query
 
     def reduce(self, source: Asked, target: int) -> Reduction:
-        """Puts the short form of the source place into the vacant target place."""
+        """Puts the short form of the source place into the vacant target place: the shortest under the functional dependencies."""
         if isinstance(source, (str, Query)):
             short = self.shorten(source)
             return Reduction(self.put(target, short.result, short.record.names.variables.get(1)), short.result, short.replaced, short.mapping)
@@ -448,7 +486,7 @@ class Record:
         return self.alone(place).reduce(place, 1 if place == 0 else 0)
 
     def compare(self, p: Asked, q: Asked) -> Comparison:
-        """Whether the query at p is contained in the one at q under the dependencies."""
+        """Whether the query at p is contained in the one at q under the dependencies of both kinds."""
         record, (first, second) = self.placed(p, q)
         try:
             verdict, words, part = engine.compare(record.file, first, second)
@@ -461,9 +499,23 @@ class Record:
         return Comparison(True, _mapping(words, query) if verdict == 1 else None, None)
 
     def equivalent(self, p: Asked, q: Asked) -> bool:
-        """Whether the two queries have the same answers on every database that obeys the dependencies."""
+        """Whether the two queries have the same answers on every database that obeys the dependencies.
+
+        Where a comparison one way is given up (17) the other may still say no.
+        """
         record, (first, second) = self.placed(p, q)
-        return record.compare(first, second).contained and record.compare(second, first).contained
+        given_up: Optional[Refused] = None
+        for one, other in ((first, second), (second, first)):
+            try:
+                if not record.compare(one, other).contained:
+                    return False
+            except Refused as refused:
+                if refused.number != 17:
+                    raise
+                given_up = given_up or (refused if one == first else Refused(17, refused.meaning.replace("the first query", "the second query")))
+        if given_up is not None:
+            raise given_up
+        return True
 
     def check(self, p: int, q: int, mapping: Mapping) -> bool:
         """Whether `mapping` is one from the query at q to the query at p as it is stored.
@@ -475,41 +527,55 @@ class Record:
         except Refused as refused:
             raise self._explained(refused, [p, q]) from None
 
-    def test(self, database: Any) -> Optional[Broken]:
-        """None if the database obeys every dependency, else the first that it breaks. See `database`.
+    def test(self, database: Any) -> Optional[AnyBroken]:
+        """None if the database obeys every dependency, else the first that it breaks, functional ones first. See `database`.
 
         A database of named tables that breaks none must have those of which a dependency speaks.
         """
         spoken: Dict[int, Set[int]] = {}
-        for one in self.dependencies:
-            spoken.setdefault(one.relation, set()).update(one.left, {one.right})
+        for one in self.all_dependencies:
+            spoken.setdefault(one.relation, set()).update(one.columns())
         held = self._data(database, None, spoken)
         found = self.broken(held)
         if found is None and isinstance(held, Database):
-            self.has_tables(held, [dependency.relation for dependency in self.dependencies], "a dependency speaks of")
+            self.has_tables(held, spoken, "a dependency speaks of")
         return found
 
-    def broken(self, database: Union[Database, Words], first: Iterable[int] = ()) -> Optional[Broken]:
+    def broken(self, database: Union[Database, Words], first: Iterable[int] = ()) -> Optional[AnyBroken]:
         """The first dependency that the rows of a database break, whatever tables it has; if there is one, one of the relations `first`."""
         words = database.words if isinstance(database, Database) else database
-        found = engine.test(self.file, words)
+        found = engine.test(self.file, words, bool(self.join_dependencies))
         if found is None:
             return None
         wanted = set(first)
-        held = [number for number, dependency in enumerate(self.dependencies) if dependency.relation in wanted]
-        if held and found[0] not in held:
-            some = Record.open(self.widths).add_all(self.dependencies[number] for number in held)
-            again = engine.test(some.file, words)
+        functional = [number for number, dependency in enumerate(self.dependencies) if dependency.relation in wanted]
+        joins = [number for number, dependency in enumerate(self.join_dependencies) if dependency.relation in wanted]
+        if functional + joins and found.dependency not in (joins if found.is_join else functional):
+            some: List[AnyDependency] = [*(self.dependencies[number] for number in functional), *(self.join_dependencies[number] for number in joins)]
+            again = engine.test(Record.open(self.widths).add_all(some).file, words, bool(joins))
             if again is not None:
-                found = held[again[0]], again[1], again[2]
-        return Broken(*found)
+                found = again._replace(dependency=(joins if again.is_join else functional)[again.dependency])
+        if not found.is_join:
+            return Broken(found.dependency, *found.rows)
+        return BrokenJoin(found.dependency, found.rows[: len(self.join_dependencies[found.dependency].sets)])
 
-    def consequence(self, broken: Broken, query: Query) -> str:
+    def dependency_of(self, broken: AnyBroken) -> AnyDependency:
+        """The dependency that a database breaks."""
+        return self.join_dependencies[broken.dependency] if isinstance(broken, BrokenJoin) else self.dependencies[broken.dependency]
+
+    def missing(self, broken: BrokenJoin, database: Database) -> str:
+        """The row that a database lacks to obey a join dependency, for a message."""
+        join = self.join_dependencies[broken.dependency]
+        return format_datum(self.names.tables[join.relation].name, join.joined([database.stands(position).values for position in broken.rows]))
+
+    def consequence(self, broken: AnyBroken, query: Query) -> str:
         """What a broken dependency, which `broken` finds for the relations of a query, means for its answers."""
-        relation = self.dependencies[broken.dependency].relation
-        if any(row.relation == relation for row in query.rows):
-            return "on such a database the long and the short form of a query may have different answers"
-        return f"the query does not ask for {self.names.tables[relation].name}, and its long and short form have the same answers here"
+        relation = self.dependency_of(broken).relation
+        if not any(row.relation == relation for row in query.rows):
+            return f"the query does not ask for {self.names.tables[relation].name}, and its long and short form have the same answers here"
+        if isinstance(broken, BrokenJoin):
+            return "the long and the short form of a query have the same answers here, but what compare says of two queries may not hold"
+        return "on such a database the long and the short form of a query may have different answers"
 
     def evaluate(self, place: Asked, database: Any, room: Optional[int] = None, tested: bool = False) -> List[Tuple[Any, ...]]:
         """The answers of the query at a place, ascending, each once. See `database`.
@@ -568,9 +634,9 @@ class Record:
             found[row.relation].update(
                 column for column, entry in enumerate(row.entries) if isinstance(entry, Constant) or entry.number not in lone
             )
-        for dependency in self.dependencies:
+        for dependency in self.all_dependencies:
             if dependency.relation in found:
-                found[dependency.relation] |= dependency.left | {dependency.right}
+                found[dependency.relation] |= dependency.columns()
         return found
 
     def columns(self, place: Asked) -> Tuple[str, ...]:
@@ -597,9 +663,11 @@ class Record:
             warnings.warn(f"the text {double!r} and the number {double} are different values, and both are here", stacklevel=4)
         found = self.broken(database, [row.relation for row in query.rows])
         if found is not None:
+            positions = found.rows if isinstance(found, BrokenJoin) else (found.first, found.second)
+            shown = [database.say(position) for position in positions]
+            shown += [f"missing: {self.missing(found, database)}"] if isinstance(found, BrokenJoin) else []
             warnings.warn(
-                f"the database breaks {format_dependency(self.dependencies[found.dependency], self.names)} "
-                f"({database.say(found.first)}; {database.say(found.second)}): {self.consequence(found, query)}",
+                f"the database breaks {format_dependency(self.dependency_of(found), self.names)} ({'; '.join(shown)}): {self.consequence(found, query)}",
                 stacklevel=4,
             )
 

@@ -175,6 +175,7 @@ _CURES = [
         (r"\.[^\S\n]*(?:#|\n|\Z)", "a line ends without one"),
         (r"\.", "a decimal has digits before and after its point"),
         (r"(?<==)>|[\u2192\u27f6]", "'->' goes between the columns of a dependency"),
+        (r"\u22c8", "a join dependency is written with the word, as in layer: join (flight, level) (level, height)"),
         (r"<-", "':-' goes between the head of a rule and its rows"),
         (r"[<>!\u2260\u2264\u2265]", "a rule has rows alone, joined by equal values, and no comparisons; a dependency has ->"),
         (r";", "',' goes between the rows of a rule, and each row of a database has its own line"),

@@ -4,8 +4,9 @@
     flight(number*, sonde, site)
     sonde(number, calibration, maker)
 
-    # further dependencies, in their order
+    # further dependencies, in their order; the last says that the table is the join of two parts of it
     sonde: number -> calibration, maker
+    sonde: join (number, calibration) (number, maker)
 
     # saved queries, by place; the other places are vacant
     0: ans(f, c) :- flight(f, s, 'Lindenberg'), sonde(s, c, m)
@@ -20,7 +21,7 @@ from __future__ import annotations
 from typing import Dict, List, NamedTuple, Sequence, Tuple
 
 from .engine import Refused
-from .model import MOST_DEPENDENCIES, Dependency, Query
+from .model import MOST_DEPENDENCIES, MOST_JOIN_DEPENDENCIES, AnyDependency, JoinDependency, Query
 from .notation import (
     Names,
     Reader,
@@ -50,18 +51,21 @@ def pack(text: str, source: str = "text") -> Tuple[Record, Names]:
     """The record that a text describes, and the names that it uses, which the record has too."""
     reader = Reader(text, source)
     tables: List[Table] = []
-    dependencies: List[Dependency] = []
+    dependencies: List[AnyDependency] = []
     queries: Dict[int, Tuple[Token, Query]] = {}
     variables: Dict[int, Dict[int, str]] = {}
     given: Dict[int, Tuple[Token, Dict[int, str]]] = {}
     values = Values()
 
-    def add(token: Token, found: List[Dependency]) -> None:
+    def add(token: Token, found: Sequence[AnyDependency]) -> None:
         dependencies.extend(found)
-        if len(dependencies) > MOST_DEPENDENCIES:
+        joins = sum(isinstance(one, JoinDependency) for one in dependencies)
+        if joins > MOST_JOIN_DEPENDENCIES:
+            raise reader.error(token, f"an archive has {MOST_JOIN_DEPENDENCIES} join dependencies at most")
+        if len(dependencies) - joins > MOST_DEPENDENCIES:
             raise reader.error(
                 token,
-                f"an archive has {MOST_DEPENDENCIES} dependencies at most, and these make {len(dependencies)}; "
+                f"an archive has {MOST_DEPENDENCIES} functional dependencies at most, and these make {len(dependencies) - joins}; "
                 f"each column on the right counts one, and so does each column beside a key",
             )
 
@@ -101,9 +105,7 @@ def pack(text: str, source: str = "text") -> Tuple[Record, Names]:
     names = Names(tuple(tables), variables, values)
     at = reader.next
     try:
-        record = Record.open(names.tables)
-        for dependency in dependencies:
-            record = record.add(dependency.relation, dependency.left, dependency.right)
+        record = Record.open(names.tables).add_all(dependencies)
         for place in sorted(queries):
             at, query = queries[place]
             record = record.put(place, query)
@@ -124,13 +126,13 @@ def unpack_parts(record: Record, names: Names) -> Parts:
     """The parts of a record's text."""
     names.fit(record.widths)
     rules = [(place, _set_rule(record, place, names, _shown(record, place, names)[0])) for place in record.filled()]
-    return Parts(names.tables, format_dependencies(record.dependencies, names), rules)
+    return Parts(names.tables, format_dependencies(record.all_dependencies, names), rules)
 
 
 def unpack(record: Record, names: Names) -> str:
     """The text of a record; pack gives the record back, to the byte."""
     names.fit(record.widths)
-    groups: List[Sequence[str]] = [[str(table) for table in names.tables], format_dependencies(record.dependencies, names), _entries(record, names)]
+    groups: List[Sequence[str]] = [[str(table) for table in names.tables], format_dependencies(record.all_dependencies, names), _entries(record, names)]
     rules: List[str] = []
     for place in record.filled():
         shown, given = _shown(record, place, names)

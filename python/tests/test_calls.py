@@ -17,7 +17,7 @@ from types import SimpleNamespace
 from unittest import mock
 
 import context
-from context import LONG, MANY, plain_answers, plain_obeys, random_data, random_query, random_record, rule
+from context import LONG, MANY, plain_answers, plain_broken, random_data, random_query, random_record, rule
 from spernevan import Broken, Constant, Query, Record, Refused, Row, Variable, engine
 
 EXAMPLE = bytes.fromhex(
@@ -201,13 +201,13 @@ class Refusals(Calls):
 
     def test_lent_buffers_stay_as_they_were(self):
         library, file = engine._library(), self.record.file
-        out = (ctypes.c_uint8 * 4420)(*[7] * 4420)
+        out = (ctypes.c_uint8 * 4445)(*[7] * 4445)
         size = ctypes.c_size_t(77)
         self.assertEqual(library.spernevan_drop(file, len(file), 5, out, len(out), ctypes.byref(size)), 11)
         self.assertEqual(library.spernevan_write(file, len(file), out, len(file) - 1, ctypes.byref(size)), 10)
-        self.assertEqual((bytes(out), size.value), (b"\7" * 4420, 77))
+        self.assertEqual((bytes(out), size.value), (b"\7" * 4445, 77))
         self.assertEqual(library.spernevan_write(file, len(file), out, len(file), ctypes.byref(size)), 0)
-        self.assertEqual((bytes(out), size.value), (file + b"\7" * (4420 - len(file)), len(file)))
+        self.assertEqual((bytes(out), size.value), (file + b"\7" * (4445 - len(file)), len(file)))
         words, answers = array("I", [0, 1, 2, 0, 3, 4]), array("I", [9] * 4)
         lent = engine._words(words)
         room = engine._words(answers)[0]
@@ -232,6 +232,8 @@ class Hostile(Calls):
             (Record.open, [258, 1]), (Record.open, "21"),
             (record.add, 256, [0], 1), (record.add, -1, [0], 1), (record.add, 0, [8], 1), (record.add, 0, [0], 257),
             (record.add, 0, 1, 1), (record.add, "R0", [0], 1), (record.add, 0, ["a"], 1), (record.add, 0, [0], None),
+            (record.add_join, 256, [[0], [1]]), (record.add_join, -1, [[0], [1]]), (record.add_join, 0, 3), (record.add_join, 0, [0, 1]),
+            (record.add_join, 0, [[0], [8]]), (record.add_join, 0, [[0], ["b"]]), (record.add_join, "R0", [[0], [1]]),
             (record.put, -1, query), (record.put, 1.0, query), (record.put, None, query), (record.put, 1, None),
             (record.put, 1, 5), (record.put, 1, Query((), (Row(0, (v(0),)),))),
             (record.put, 1, Query((), (Row(1, (v(0), v(1))),))),
@@ -248,7 +250,7 @@ class Hostile(Calls):
             (record.test, array("Q", [0, 1, 2])),
             (record.evaluate, -1, []), (record.evaluate, 0, [(0, (1, None))]), (record.evaluate, 0, [], -1),
             (record.evaluate, 0, [], 2**60), (record.evaluate, 0, [], "4"),
-            (engine.check, file, 0, 0, array("I", [0] * 191)), (engine.add, file, 0, 256, 0),
+            (engine.check, file, 0, 0, array("I", [0] * 191)), (engine.add, file, 0, 256, 0), (engine.add_join, file, 256, b"\1\2"), (engine.add_join, file, 0, "12"),
             (engine.determined, file, 0, 256), (engine.put, file, 0, "x"), (engine.read, None),
         ]:
             with self.subTest(call=call.__qualname__, arguments=repr(arguments)[:60]):
@@ -276,7 +278,7 @@ class Hostile(Calls):
             try:
                 record = Record(bytes(file))
             except Refused as refused:
-                self.assertIn(refused.number, range(1, 7))
+                self.assertIn(refused.number, [*range(1, 7), 15])
                 continue
             accepted += 1
             self.assertEqual(engine.write(record.file), bytes(file))
@@ -304,7 +306,7 @@ class Random(Calls):
         rng = random.Random(6)
         with tempfile.TemporaryDirectory() as folder:
             for number in range(10 * MANY):
-                record = random_record(rng)
+                record = random_record(rng, most_joins=4)
                 path = Path(folder, f"{number}.file")
                 record.write(path)
                 self.assertEqual(path.read_bytes(), record.file)
@@ -314,10 +316,12 @@ class Random(Calls):
         record = Record.open([8] * 8)
         for _ in range(32):
             record = record.add(7, range(8), 7)
+        for _ in range(4):
+            record = record.add_join(7, [range(8)] * 4)
         row = Row(7, tuple(v(n) for n in range(88, 96)))
         for place in range(8):
             record = record.put(place, Query(row.entries, (row,) * 12))
-        self.assertEqual(len(record.file), 4420)
+        self.assertEqual(len(record.file), 4445)
         self.assertEqual(Record(record.file), record)
         self.assertEqual(len(record.shorten(7).result.rows), 1)
 
@@ -359,10 +363,10 @@ class Random(Calls):
         rng = random.Random(8)
         broken = 0
         for _ in range(50 * MANY):
-            record = random_record(rng, 3, 2, 3, most_rows=3, most_head=3)
+            record = random_record(rng, 3, 2, 3, rng.choice([0, 2]), most_rows=3, most_head=3)
             rows = random_data(rng, record.widths, values=rng.choice([2, 3]))
-            found = plain_obeys(record, rows)
-            self.assertEqual(record.test(rows), found and Broken(*found))
+            found = plain_broken(record, rows)
+            self.assertEqual(record.test(rows), found)
             broken += found is not None
             for place, query in enumerate(record.queries):
                 if query is None:
@@ -532,7 +536,8 @@ class Memory(Calls):
         with mock.patch.object(engine, "_lent", side_effect=engine._lent) as lent:
             self.record.evaluate(0, [(0, (1, 2)), (1, (2, 3))])
             self.record.test([(0, (1, 2)), (1, (2, 3))])
-        self.assertEqual([call.args[1] for call in lent.call_args_list], [[18], [124, 0, 100, 100], [3, 12]])
+            self.record.add_join(0, [[0], [1]]).test([(0, (1, 2)), (1, (2, 3))])
+        self.assertEqual([call.args[1] for call in lent.call_args_list], [[18], [124, 0, 100, 100], [3, 12], [6, 24]])
         self.assertLess(engine._for_answers(2**31, engine.Size(12, 8), 1)[0], 2**32 - 1)
 
     def test_huge_pages(self):
@@ -608,7 +613,7 @@ class Header(unittest.TestCase):
         declared = dict(re.findall(r"uint8_t\s+spernevan_(\w+)\s*\(([^)]*)\)", text))
         self.assertEqual(sorted(declared), sorted(engine._CALLS))
         sizes = {name: int(size) for name, size in re.findall(r"#define SPERNEVAN_(\w+) (\d+)", text)}
-        ours = {"FILE": engine.LONGEST_FILE, "QUERY": engine.LONGEST_QUERY, "MAPPING": engine.MAPPING_WORDS}
+        ours = {"FILE": engine.LONGEST_FILE, "QUERY": engine.LONGEST_QUERY, "CHASED": engine.LONGEST_CHASED, "MAPPING": engine.MAPPING_WORDS}
         self.assertEqual(sizes, ours)
         kinds = {
             "uint8_t": ctypes.c_uint8,

@@ -46,16 +46,16 @@ class Changes(Command):
         self.failed("dependency:1:7: the name of a column was expected, not the end", "add", self.file, "burst:")
         each = [f"flight: {a}, {b} -> number, sonde, site, launch" for a, b in itertools.combinations(["number", "sonde", "site", "launch"], 2)]
         self.failed(
-            f"{self.file}: 13 dependencies are held, and 20 more would make 33; there may be 32, and each column on the right counts one",
+            f"{self.file}: 13 functional dependencies are held, and 20 more would make 33; there may be 32, and each column on the right counts one",
             "add",
             self.file,
             *each[:5],
         )
         self.assertEqual(len(Record.read(self.file).dependencies), 13)
         self.done("add", self.file, *each[:4], "sonde: maker -> serial, calibration")
-        self.failed(f"{self.file}: 31 dependencies are held, and 2 more would make 33", "add", self.file, "layer: height -> level, flight")
+        self.failed(f"{self.file}: 31 functional dependencies are held, and 2 more would make 33", "add", self.file, "layer: height -> level, flight")
         self.done("add", self.file, "layer: height -> level")
-        self.failed(f"{self.file}: 32 dependencies are held, which is as many as there may be", "add", self.file, "layer: height -> flight")
+        self.failed(f"{self.file}: 32 functional dependencies are held, which is as many as there may be", "add", self.file, "layer: height -> flight")
 
     def test_add_what_is_held(self):
         """A dependency that is held is said, and not added again."""

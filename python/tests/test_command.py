@@ -265,7 +265,7 @@ class Messages(Command):
             ("flight(a)\n0: ans() :- flight('Lindenberg)\n", "2:20: the quote ' that begins here does not end on this line"),
             ("flight(a)\n0: ans() :- flight(.5)\n", "2:20: '.' has no meaning here; a decimal has digits before and after its point"),
             ("flight(a)\n0: ans() :- flight(2026-02-30)\n", "2:20: there is no day 2026-02-30"),
-            ("flight(a*, b, c, d, e, f, g, h)\n" + "flight: a -> b, c\n" * 13, "14:1: an archive has 32 dependencies at most, and these make 33; each column"),
+            ("flight(a*, b, c, d, e, f, g, h)\n" + "flight: a -> b, c\n" * 13, "14:1: an archive has 32 functional dependencies at most, and these make 33; each"),
         ]:
             path = self.write("x.text", text)
             self.failed(f"{path}:{message}", "pack", path, out)

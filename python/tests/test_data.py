@@ -835,11 +835,9 @@ class Random(Data):
         pool = ["Lindenberg", 'it\'s, "so"', Decimal("12.5"), date(2026, 1, 14), 7, -1, 2**31, "007", 2_000_000_000, "a\nb"]
         seen = set()
         for number in range(20 * context.MANY):
-            plain = context.random_record(rng, 3, 2, 2, most_rows=3, most_head=3, constants=len(pool))
+            plain = context.random_record(rng, 3, 2, 2, rng.choice([0, 2]), most_rows=3, most_head=3, constants=len(pool))
             rows = context.random_data(rng, plain.widths, values=len(pool), most_rows=25)
-            named = Record.open(plain.widths)
-            for dependency in plain.dependencies:
-                named = named.add(dependency.relation, dependency.left, dependency.right)
+            named = Record.open(plain.widths).add_all(plain.all_dependencies)
             for place in plain.filled():
                 named = named.put(place, self.renamed(plain.queries[place], pool, named.names.values))
             tables = {

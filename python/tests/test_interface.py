@@ -18,7 +18,8 @@ PROGRAM = r"""
 #include <string.h>
 #include "spernevan.h"
 
-/* Opens a record of one relation of two columns, saves ans(y) :- R(x, y), R(x, 7), and evaluates it on three rows, with and without working memory. */
+/* Opens a record of one relation of two columns, saves ans(y) :- R(x, y), R(x, 7), and evaluates it on three rows, with and without working memory;
+   then says that the relation is the product of its columns, which the rows are not. */
 int main(void) {
     const uint8_t widths[] = {2};
     const uint8_t query[] = {1, 2, 1, 1, 0, 0, 0,
@@ -27,8 +28,9 @@ int main(void) {
     const uint32_t words[] = {0, 1, 7, 0, 1, 9, 0, 2, 8};
     uint8_t file[SPERNEVAN_FILE], saved[SPERNEVAN_FILE];
     uint32_t answers[3] = {5, 5, 5}, again[3] = {6, 6, 6}, lent[4][200];
-    size_t length = 0, size = 0, count = 0, counted = 0, found = 0, dependency = 9, first = 9, second = 9;
-    uint8_t obeys = 9;
+    const uint8_t sets[] = {1, 2};
+    size_t length = 0, size = 0, count = 0, counted = 0, found = 0, dependency = 9, first = 9, second = 9, third = 9, fourth = 9;
+    uint8_t verdict = 9;
     uint8_t opened = spernevan_open(widths, 1, file, sizeof file, &length);
     uint8_t put = spernevan_put(file, length, 0, query, sizeof query, saved, sizeof saved, &size);
     uint8_t done = spernevan_evaluate(saved, size, 0, words, 9, answers, 3, &count);
@@ -36,14 +38,17 @@ int main(void) {
     uint8_t more = spernevan_evaluate_lent(saved, size, 0, words, 9, again, 3, lent[0], 200, lent[1], 9, lent[2], 200, lent[3], 200, &found);
     uint8_t number = spernevan_count(saved, size, 0, words, 9, &counted);
     uint8_t most = spernevan_count_lent(saved, size, 0, words, 9, lent[0], 0, lent[1], 0, lent[2], 0, lent[3], 0, &length);
-    uint8_t tested = spernevan_test_lent(saved, size, words, 9, lent[0], 5, lent[1], 14, &obeys, &dependency, &first, &second);
+    uint8_t tested = spernevan_test_lent(saved, size, words, 9, lent[0], 5, lent[1], 14, &verdict, &dependency, &first, &second, &third, &fourth);
     printf("%d %d %d %zu %u %u %u\n", opened, put, done, count, (unsigned)answers[0], (unsigned)answers[1], (unsigned)answers[2]);
     printf("%d %zu %u %u %u\n", more, found, (unsigned)again[0], (unsigned)again[1], (unsigned)again[2]);
-    printf("%d %zu %d %zu %d %d %zu %zu %zu\n", number, counted, most, length, tested, obeys, dependency, first, second);
+    printf("%d %zu %d %zu %d %d %zu %zu %zu\n", number, counted, most, length, tested, verdict, dependency, first, second);
+    uint8_t joined = spernevan_add_join(saved, size, 0, sets, 2, file, sizeof file, &length);
+    tested = spernevan_test(file, length, words, 9, &verdict, &dependency, &first, &second, &third, &fourth);
+    printf("%d %zu %d %d %zu %zu %zu %zu %zu\n", joined, length - size, tested, verdict, dependency, first, second, third, fourth);
     return 0;
 }
 """
-SAID = "0 0 0 2 7 9 5\n0 2 7 9 6\n0 2 0 2 0 1 0 0 0\n"
+SAID = "0 0 0 2 7 9 5\n0 2 7 9 6\n0 2 0 2 0 1 0 0 0\n0 5 0 2 0 0 2 0 0\n"
 
 
 @with_engine
@@ -83,6 +88,7 @@ class ShortBuffers(unittest.TestCase):
         self.tried("write", file)
         self.tried("open", (bytes([2, 2]), 2))
         self.tried("add", (*file, 1, 1, 1))
+        self.tried("add_join", (*file, 1, bytes([1, 2]), 2))
         self.tried("put", (*file, 2, part, len(part)))
         self.tried("drop", (*file, 1))
         self.tried("reduce", (*file, 0, 2), (ctypes.byref(byte), mapping, 192))

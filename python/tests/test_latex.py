@@ -125,7 +125,7 @@ class Documents(unittest.TestCase):
     @unittest.skipIf(shutil.which("pdflatex") is None, "pdflatex is not installed")
     def test_compiles(self):
         names = Names((Table(NASTY, (NASTY + "1", NASTY + "2")), Table("x_y", tuple("abcdefgh"))))
-        record = Record.open([2, 8]).add(0, [0], 1)
+        record = Record.open([2, 8]).add(0, [0], 1).add_join(0, [[0], [1]])
         query = parse_query(
             "ans(x, y, z, 0) :- A(x, y), A(x, z), A(x, 0), A(z, 1), B(x, y, z, v5, _, _, 2, 3)",
             Names((Table("A", ("a", "b")), Table("B", tuple("abcdefgh")))),
@@ -135,7 +135,7 @@ class Documents(unittest.TestCase):
         rng = random.Random(5)
         found = [strange, *define_all(self.record, self.names)]
         for _ in range(6):
-            other = context.random_record(rng)
+            other = context.random_record(rng, most_joins=4)
             found += define_all(other, Names.default(other.widths))
         with tempfile.TemporaryDirectory() as folder:
             body = latex.archive(found)

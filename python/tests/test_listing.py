@@ -132,10 +132,18 @@ class Listings(Program):
             "place 7 rows 1 kept 1 replaced 0", "head v0", "row 0 v0 v1", "map v0=v0 v1=v1",
         )
 
+    def test_join_dependencies(self):
+        """They change nothing in a listing."""
+        repeated = part("v0", "0 v0 v1", "0 v0 v1", "0 v2 v3")
+        held = NONE + bytes([1, 0, 2, 1, 2])
+        self.assertEqual(self.listed(file(R, held, repeated)), self.listed(file(R, NONE, repeated)))
+        self.assertEqual(self.listed(file(R, A_TO_B + bytes([1, 0, 2, 3, 3]), repeated)), self.listed(file(R, A_TO_B, repeated)))
+
     def test_longest(self):
         row = "7 " + " ".join(["2147483647"] * 8)
-        data = file(bytes([8] + [8] * 8), bytes([32] + [7, 255, 7] * 32), *[part(" ".join(["v95"] * 8), *["7" + " v95" * 8] * 11, row)] * 8)
-        self.assertEqual(len(data), 4420)
+        dependencies = bytes([32] + [7, 255, 7] * 32 + [4] + [7, 4, 255, 1, 2, 128] * 4)
+        data = file(bytes([8] + [8] * 8), dependencies, *[part(" ".join(["v95"] * 8), *["7" + " v95" * 8] * 11, row)] * 8)
+        self.assertEqual(len(data), 4445)
         kept = ["kept 2 replaced 0", "head" + " v95" * 8]
         said = self.listed(data).decode().splitlines()
         self.assertEqual(len(said), 8 * 5)
@@ -173,8 +181,16 @@ class Refused(Program):
 
     def test_4(self):
         dependencies = bytes([1, 1, 1, 0]), bytes([1, 0, 0, 0]), bytes([1, 0, 4, 0]), bytes([1, 0, 1, 2]), bytes([1, 0, 128, 0])
-        lengths = b"", b"\x01", bytes([1, 0, 1]), bytes([0, 0]), bytes([1, 0, 1, 1, 0]), bytes([2, 0, 1, 1])
+        lengths = b"", b"\x01", bytes([1, 0, 1]), bytes([2, 0, 1, 1])
         self.each(4, *[file(R, one) for one in dependencies + lengths], file(R, bytes([33] + [0, 1, 1] * 33)))
+
+    def test_15(self):
+        joins = [
+            [0], [5] + [0, 2, 1, 2] * 5, [1, 1, 2, 1, 2], [1, 0, 1, 3], [1, 0, 5, 3, 3, 3, 3, 3],
+            [1, 0, 2, 0, 3], [1, 0, 2, 1, 4], [1, 0, 2, 1, 7], [1, 0, 2, 1, 1],
+        ]
+        lengths = [1], [1, 0], [1, 0, 2], [1, 0, 2, 1], [1, 0, 2, 1, 2, 0], [2, 0, 2, 1, 2], [1, 0, 2, 1, 2, 0, 2, 1, 2]
+        self.each(15, *[file(R, part + bytes(one)) for part in (NONE, A_TO_B) for one in [*joins, *lengths]])
 
     def test_5(self):
         row = "0 v0 v1"
@@ -193,7 +209,8 @@ class Refused(Program):
         both = part("v2", "0 v0 v96")
         self.each(2, file(b"", b"", b"") + b"\x00")
         self.each(3, file(b"\x01\x09", b"\x01\x01\x00\x00", WIDE))
-        self.each(4, file(R, bytes([1, 1, 1, 0]), WIDE))
+        self.each(4, file(R, bytes([1, 1, 1, 0]), WIDE), file(R, bytes([1, 1, 1, 0, 9])))
+        self.each(15, file(R, A_TO_B + b"\x00", WIDE), file(R, NONE + bytes([1, 0, 2, 1, 1]), LOOSE))
         self.each(5, file(R, NONE, both), file(R, NONE, WIDE, LOOSE), file(R, NONE, LOOSE + b"\x00"))
         self.each(6, file(R, NONE, LOOSE, WIDE), file(R, NONE, LOOSE, VACANT))
 
@@ -212,14 +229,14 @@ class Long(Program):
                 self.refused(2, EXAMPLE.ljust(length, b"\x00"))
 
     def test_just_the_limit(self):
-        self.refused(4, self.up_to_the_limit())
+        self.refused(15, self.up_to_the_limit())
         self.refused(2, self.up_to_the_limit()[:-1])
 
     def test_beyond(self):
         # were any byte after the limit read, its last part would not end with the file
         for more in 1, 100, MOST, 10 * MOST:
             with self.subTest(more=more):
-                self.refused(4, self.up_to_the_limit() + b"\x00" * more)
+                self.refused(15, self.up_to_the_limit() + b"\x00" * more)
 
     def test_a_part_beyond(self):
         # the file would be one by its directory, but only its first 65,536 bytes are taken
@@ -227,7 +244,7 @@ class Long(Program):
         self.refused(2, self.up_to_the_limit(beyond=11))
 
     def test_input_that_does_not_end(self):
-        self.assertEqual(self.listed_in_pieces([self.up_to_the_limit()], 0, close=False), b"refused 4\n")
+        self.assertEqual(self.listed_in_pieces([self.up_to_the_limit()], 0, close=False), b"refused 15\n")
 
 
 class Pieces(Program):
@@ -248,7 +265,7 @@ class Pieces(Program):
     def test_long(self):
         data = Long.up_to_the_limit(self)
         pieces = [data[i : i + 4099] for i in range(0, MOST, 4099)]
-        self.assertEqual(self.listed_in_pieces(pieces, 0.002), b"refused 4\n")
+        self.assertEqual(self.listed_in_pieces(pieces, 0.002), b"refused 15\n")
         self.assertEqual(self.listed_in_pieces(pieces[:-1] + [pieces[-1][:-1]], 0.002), b"refused 2\n")
 
 

@@ -4,7 +4,7 @@ import random
 import unittest
 
 import context
-from spernevan import Constant, Dependency, Query, Row, Variable
+from spernevan import Constant, Dependency, JoinDependency, Query, Row, Variable
 from spernevan.model import columns_of, decode_query, encode_query, mask_of, whole
 
 HUGE = 10**5000
@@ -59,6 +59,12 @@ class Model(unittest.TestCase):
         self.assertEqual(Dependency(0, [1, 1], 0), Dependency(0, (1,), 0))
         for bad in ((256, [0], 0), (0, [8], 0), (0, [0], 256), (0, 0, 0)):
             self.assertRaises(ValueError, Dependency, *bad)
+        self.assertEqual(JoinDependency(0, [[1, 1], (0,)]), JoinDependency(0, ({1}, {0})))
+        self.assertNotEqual(JoinDependency(0, [[1], [0]]), JoinDependency(0, [[0], [1]]))
+        for bad in ((256, [[0], [1]]), (0, [[8], [1]]), (0, [0, 1]), (0, None), (0, "ab")):
+            self.assertRaises(ValueError, JoinDependency, *bad)
+        self.assertEqual((Dependency(0, [1, 2], 5).columns(), JoinDependency(0, [[0, 1], [1, 3]]).columns()), ({1, 2, 5}, {0, 1, 3}))
+        self.assertEqual(JoinDependency(0, [[0, 1], [1, 2]]).joined(["abc", "xbz"]), ("a", "b", "z"))
 
     def test_bytes_of_a_query(self):
         rng = random.Random(1)

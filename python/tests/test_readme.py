@@ -28,12 +28,12 @@ class Readme(unittest.TestCase):
     def test_commands(self):
         """Each command line between backquotes that is followed by its output; of `list`, the beginning of it."""
         shown = re.findall(r"`\./spernevan ([^`]+)`[^`\n]*:\n\n((?:    .*\n)+)", README)
-        self.assertEqual([line.split()[0] for line, _ in shown], ["list", "compare", "evaluate", "evaluate", "define", "define"])
+        self.assertEqual([line.split()[0] for line, _ in shown], ["list", "compare", "evaluate", "evaluate", "compare", "test", "define", "define"])
         for line, wanted in shown:
             command = shlex.split(line)
             out = io.StringIO()
             with contextlib.redirect_stdout(out):
-                self.assertEqual(main(command), int(command[0] == "compare"))
+                self.assertEqual(main(command), int(command[0] in ("compare", "test")))
             printed = textwrap.indent(out.getvalue(), "    ")
             self.assertTrue(printed.startswith(wanted) if command[0] == "list" else printed == wanted, line)
 

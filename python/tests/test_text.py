@@ -12,6 +12,7 @@ flight(number, sonde)
 burst(flight, height)
 
 flight: number -> sonde     # a flight has one sonde
+burst: join (flight) (height, flight)
 burst: flight, height -> height
 2: ans(f, h) :- flight(f, s), burst(f, h)
 0: ans(_) :- never
@@ -24,6 +25,7 @@ class Text(unittest.TestCase):
         record, names = pack(SMALL)
         self.assertEqual(record.widths, (2, 2))
         self.assertEqual([(d.relation, d.left, d.right) for d in record.dependencies], [(0, {0}, 1), (1, {0, 1}, 1)])
+        self.assertEqual([(d.relation, d.sets) for d in record.join_dependencies], [(1, ({0}, {0, 1}))])
         self.assertEqual([place for place in range(8) if record.queries[place]], [0, 2])
         self.assertEqual(record.queries[0], Query.never(1))
         self.assertEqual(names.tables[1], Table("burst", ("flight", "height")))
@@ -31,7 +33,7 @@ class Text(unittest.TestCase):
         self.assertEqual(
             unpack(record, names),
             "flight(number, sonde)\nburst(flight, height)\n\n"
-            "flight: number -> sonde\nburst: flight, height -> height\n\n"
+            "flight: number -> sonde\nburst: flight, height -> height\nburst: join (flight) (flight, height)\n\n"
             "0: ans(_) :- never\n2: ans(f, h) :- flight(f, s), burst(f, h)\n",
         )
         self.assertEqual(unpack(record, Names.default(record.widths)).splitlines()[-1],
@@ -40,7 +42,7 @@ class Text(unittest.TestCase):
     def test_round_trip_to_the_byte(self):
         rng = random.Random(9)
         for _ in range(12 * context.MANY):
-            record = context.random_record(rng, constants=rng.choice([0, 3]))
+            record = context.random_record(rng, most_joins=rng.choice([0, 4]), constants=rng.choice([0, 3]))
             plain = Names.default(record.widths)
             again, _ = pack(unpack(record, plain))
             self.assertEqual(again.file, record.file)
@@ -96,6 +98,19 @@ class Text(unittest.TestCase):
             (table + "flight: number sonde -> number", "2:16: a comma is missing before sonde"),
             (table + "flight: number -> sonde,", "2:25: the name of a column was expected, not the end"),
             (table + "flight: 'number' -> sonde", "2:9: the name of a column was expected, not the text 'number'"),
+            (table + "flight: join number, sonde", "2:14: a set of columns between parentheses was expected, not 'number'"),
+            (table + "flight: join", "2:13: a set of columns between parentheses was expected, not the end"),
+            (table + "flight: join (number, sonde)", "2:9: a join has 2 to 4 sets of columns, each between parentheses"),
+            (table + "flight: join" + " (number, sonde)" * 5, "2:78: a join has 4 sets of columns at most"),
+            (table + "flight: join () (number, sonde)", "2:15: a set of a join has at least one column"),
+            (table + "flight: join (number), (sonde)", "2:22: no comma goes between the sets of a join"),
+            (table + "flight: join (number) (number)", "2:9: the sets of a join have every column of flight(number, sonde) among them; sonde is in none"),
+            (table + "flight: join (number sonde) (sonde)", "2:22: a comma is missing before sonde"),
+            (table + "flight: join (number) (height)", "2:24: flight(number, sonde) has no column height"),
+            (table + "flight: join (number) (sonde) -> sonde", "2:31: the end of the line was expected, not '->'"),
+            (table + "flight: \u22c8 (number) (sonde)", "2:9: '\u22c8' has no meaning here; a join dependency is written with the word"),
+            (table + "flight: join (number) (sonde)\n" * 5, "6:1: an archive has 4 join dependencies at most"),
+            (table + "burst: join (a) (b)", "2:1: there is no table burst; there is flight"),
             (table + "7 = 'x'", "2:1: a code must be from 2000000000"),
             (table + "burst: number -> sonde", "2:1: there is no table burst; there is flight"),
             ("burst: a -> b\n" + table, "1:1: there is no table burst; the lines of the tables come first"),
@@ -111,7 +126,7 @@ class Text(unittest.TestCase):
             (table + "flight: number \u2192 sonde", "2:16: '\u2192' has no meaning here; '->' goes between the columns of a dependency"),
             ("flight(number TEXT, sonde)", "1:15: a comma is missing before TEXT; a column has a name and no type"),
             (table + "0: flight(x, y)", "2:4: a rule begins with ans, not flight"),
-            (table + "flight: number -> sonde\n" * 33, "34:1: an archive has 32 dependencies at most, and these make 33; "),
+            (table + "flight: number -> sonde\n" * 33, "34:1: an archive has 32 functional dependencies at most, and these make 33; "),
             (table + "\t\u00b5\u00a7", "2:3: '\u00a7' has no meaning here"),
             (table + "0: f, s\n", "2:1: these are names for the variables of place 0, whose rule, 0: ans(.., is missing below"),
             (table + "0: f\n0: s\n", "3:1: the variables of place 0 have their names on line 2"),

@@ -9,8 +9,8 @@ import sys
 
 from context import engine
 
-CALLS = "read write open add put drop reduce compare check determined test evaluate chase".split()
-READ, WRITE, OPEN, ADD, PUT, DROP, REDUCE, COMPARE, CHECK, DETERMINED, TEST, EVALUATE, CHASE = range(13)
+CALLS = "read write open add put drop reduce compare check determined test evaluate chase add_join".split()
+READ, WRITE, OPEN, ADD, PUT, DROP, REDUCE, COMPARE, CHECK, DETERMINED, TEST, EVALUATE, CHASE, ADD_JOIN = range(14)
 
 # What a lent byte, word or number holds before a call.
 BYTE, WORD, SIZE = 0xA5, 0xA5A5A5A5, 0xA5A5A5
@@ -115,6 +115,21 @@ def parts_of(file):
     return [file[offset : offset + length] for offset, length in pairs]
 
 
+def file_of(parts):
+    """The file of some parts."""
+    at, pairs = 2 + 4 * len(parts), b""
+    for part in parts:
+        pairs += at.to_bytes(2, "little") + len(part).to_bytes(2, "little")
+        at += len(part)
+    return len(parts).to_bytes(2, "little") + pairs + b"".join(parts)
+
+
+def without_joins(file):
+    """A file without its join dependencies, which stand in part 1 after the functional ones."""
+    widths, dependencies, *places = parts_of(file)
+    return file_of([widths, dependencies[: 1 + 3 * dependencies[0]], *places])
+
+
 def part_at(file, place):
     """The query part of a place, None where it is vacant."""
     parts = parts_of(file)[2:]
@@ -155,7 +170,8 @@ def compared(file, p, q):
 
 
 def chased(file, p):
-    """The chased query of a filled place, as a comparison with never gives it: no query but one that chases to never is contained in never."""
+    """The chased query of a filled place, with the dependencies of the file, as a comparison with never gives it: no query but one that chases to never is
+    contained in never."""
     arity = part_at(file, p)[0]
     place = other_place(p, p)
     copy = file_with(file, place, bytes([arity, 0]))
@@ -167,6 +183,28 @@ def is_mapping(file, p, q, mapping):
     """Whether words are a mapping from the query of place q to the query of place p."""
     verdict = ctypes.c_uint8(BYTE)
     return call("check", file, p, q, words_of(mapping), ctypes.byref(verdict)) == 0 and verdict.value == 1
+
+
+def maps(widths, source, target, mapping):
+    """Whether words are a mapping from one query part to another, which may have more rows than a place has room for."""
+    (head, rows), (due, there) = rows_of(widths, source), rows_of(widths, target)
+    if not rows or not there:
+        return False
+    seen = set()
+
+    def image(entries):
+        found = b""
+        for at in range(0, len(entries), 5):
+            entry = entries[at : at + 5]
+            if entry[0]:
+                variable = entry[1]
+                seen.add(variable)
+                entry = bytes([mapping[2 * variable]]) + mapping[2 * variable + 1].to_bytes(4, "little")
+            found += entry
+        return found
+
+    onto = image(head) == due and {row[:1] + image(row[1:]) for row in rows} <= set(there)
+    return onto and all(mapping[2 * v : 2 * v + 2] == [0, 0] for v in range(len(mapping) // 2) if v not in seen)
 
 
 def reduced(file, source, target):
@@ -182,7 +220,7 @@ def reduced(file, source, target):
 
 def result_right(file, source, target, result, mapping, rows, query):
     """Whether a reduction's file and mapping are as they may be: the rows are different rows of the chased query, as many as told, under its head."""
-    if left("drop", result, target) != (0, file, True) or chased(file, source) != query:
+    if left("drop", result, target) != (0, file, True) or chased(without_joins(file), source) != query:
         return False
     widths = parts_of(file)[0][1:]
     head, kept = rows_of(widths, part_at(result, target))
@@ -237,8 +275,7 @@ def compare(line, file):
         return False
     if said != 1:
         return told != 0 or mapping == NO_MAPPING
-    place = other_place(p, q)
-    return is_mapping(file_with(file, place, chased(file, p)), place, q, mapping)
+    return maps(parts_of(file)[0][1:], part_at(file, q), chased(file, p), mapping)
 
 
 def check(line, file):
@@ -260,16 +297,16 @@ def determined(line, file):
 
 def test(line, file):
     words, told = line.words(), line.number()
-    due = told, [BYTE, SIZE, SIZE, SIZE] if told else [line.number() for _ in range(4)]
+    due = told, [BYTE, *[SIZE] * 5] if told else [line.number() for _ in range(6)]
     line.end()
-    return all(tested(name, file, words, memory) == due for name, memory in with_memory("test", [len(words) // 2, len(words) * 3 // 2]))
+    return all(tested(name, file, words, memory) == due for name, memory in with_memory("test", [len(words), 4 * len(words)]))
 
 
 def tested(name, file, words, memory):
     """A test: its number, and what it says."""
-    obeys, places = ctypes.c_uint8(BYTE), [ctypes.c_size_t(SIZE) for _ in range(3)]
-    number = call(name, file, words_of(words), *memory, ctypes.byref(obeys), *map(ctypes.byref, places))
-    return number, [obeys.value, *(place.value for place in places)]
+    verdict, places = ctypes.c_uint8(BYTE), [ctypes.c_size_t(SIZE) for _ in range(5)]
+    number = call(name, file, words_of(words), *memory, ctypes.byref(verdict), *map(ctypes.byref, places))
+    return number, [verdict.value, *(place.value for place in places)]
 
 
 def evaluate(line, file):
@@ -303,14 +340,15 @@ def with_memory(name, enough, least=0):
 
 
 def chase(line, file):
-    """The chase is no call of its own: its count is that of a reduction, its query what a comparison with never gives."""
+    """The chase with the functional dependencies is no call of its own: its count is that of a reduction, its query what a comparison with never gives
+    where no join dependency is held."""
     p, told = line.number(), line.number()
     count, query = (None, b"") if told else (line.number(), line.bytes())
     line.end()
     place = other_place(p, p)
     vacant = left("drop", file, place)
     number, _, counted, _, _ = reduced(file if vacant[0] == PLACE_VACANT else vacant[1], p, place)
-    return number == told and (told != 0 or (counted == count and chased(file, p) == query))
+    return number == told and (told != 0 or (counted == count and chased(without_joins(file), p) == query))
 
 
 def agrees(line):
@@ -322,9 +360,10 @@ def agrees(line):
     if not file and number not in (READ, OPEN):
         # No file stands for the blank record. The program `examples` makes the calls on it.
         return number, line.numbers[-1] == BAD_RECORD
-    if number in (ADD, PUT, DROP):
-        given = {ADD: lambda: [line.number() for _ in range(3)], PUT: lambda: [line.number(), line.bytes()], DROP: lambda: [line.number()]}
-        return number, leaves_file(CALLS[number], line, file, *given[number]())
+    if number in (ADD, PUT, DROP, ADD_JOIN):
+        with_bytes = [line.number, line.bytes]
+        given = {ADD: [line.number] * 3, PUT: with_bytes, DROP: [line.number], ADD_JOIN: with_bytes}
+        return number, leaves_file(CALLS[number], line, file, *[take() for take in given[number]])
     if number == OPEN:
         return number, leaves_file("open", line, file)
     judges = {READ: read, WRITE: write, REDUCE: reduce, COMPARE: compare, CHECK: check, DETERMINED: determined, TEST: test, EVALUATE: evaluate, CHASE: chase}

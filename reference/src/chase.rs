@@ -1,5 +1,6 @@
 //! The chase, in the order of SPECIFICATION, The chase.
 
+use crate::joins::first_choice;
 use crate::mapping::{identity, Mapping};
 use crate::record::*;
 use crate::record::Entry::{Constant, Variable};
@@ -50,6 +51,7 @@ fn survivor(x: Entry, y: Entry, head: &[Entry]) -> Option<(Entry, Entry)> {
     }
 }
 
+/// The chase with functional dependencies.
 pub fn chase(dependencies: &[Dependency], source: &Query) -> Chased {
     let mut query = source.clone();
     let mut count = 0;
@@ -67,4 +69,39 @@ pub fn chase(dependencies: &[Dependency], source: &Query) -> Chased {
         count += 1;
     }
     Chased { query, count, became }
+}
+
+/// Rows that repeat an earlier one go.
+pub fn without_repeats(rows: &[Row]) -> Vec<Row> {
+    let mut kept: Vec<Row> = vec![];
+    for row in rows {
+        if !kept.contains(row) {
+            kept.push(row.clone());
+        }
+    }
+    kept
+}
+
+/// The first row that some join dependency asks for and that is not there.
+fn missing_row(joins: &[JoinDependency], rows: &[Row]) -> Option<Row> {
+    let all: Vec<(u8, &[Entry])> = rows.iter().map(|r| (r.relation, &r.entries[..])).collect();
+    joins.iter().find_map(|j| Some(Row { relation: j.relation, entries: first_choice(j, &all)?.yielded }))
+}
+
+/// The chase with dependencies of both kinds, refused where it would add a row to as many as are allowed. After a clash the query
+/// is never, of which no row is missing.
+pub fn chase_with_joins(dependencies: &[Dependency], joins: &[JoinDependency], source: &Query) -> Result<Query, Refusal> {
+    let mut query = chase(dependencies, source).query;
+    if joins.is_empty() {
+        return Ok(query);
+    }
+    loop {
+        query.rows = without_repeats(&query.rows);
+        let Some(row) = missing_row(joins, &query.rows) else { return Ok(query) };
+        if query.rows.len() == MAX_CHASED_ROWS {
+            return Err(OVERFLOW);
+        }
+        query.rows.push(row);
+        query = chase(dependencies, &query).query;
+    }
 }

@@ -1,6 +1,6 @@
 //! Comparing two places, and checking a mapping between them.
 
-use crate::chase::chase;
+use crate::chase::chase_with_joins;
 use crate::mapping::{find, is_mapping, Mapping};
 use crate::record::*;
 
@@ -24,7 +24,7 @@ fn two(record: &Record, p: u8, q: u8) -> Result<[&Query; 2], Refusal> {
 /// Is p contained in q?
 pub fn compare(record: &Record, p: u8, q: u8) -> Result<Verdict, Refusal> {
     let [of_p, of_q] = two(record, p, q)?;
-    let chased = chase(&record.dependencies, of_p).query;
+    let chased = chase_with_joins(&record.dependencies, &record.joins, of_p)?;
     Ok(if chased.is_never() {
         Verdict::ContainedAsNever
     } else {

@@ -36,14 +36,28 @@ fn read_widths(part: &[u8]) -> Result<Vec<u8>, Refusal> {
     }
 }
 
-fn read_dependencies(widths: &[u8], part: &[u8]) -> Result<Vec<Dependency>, Refusal> {
+/// The functional dependencies and the bytes past them.
+fn read_dependencies<'a>(widths: &[u8], part: &'a [u8]) -> Result<(Vec<Dependency>, &'a [u8]), Refusal> {
     let Some((&n, rest)) = part.split_first() else { return Err(DEPENDENCIES) };
-    if n as usize > MAX_DEPENDENCIES || rest.len() != 3 * n as usize {
+    let length = 3 * n as usize;
+    if n as usize > MAX_DEPENDENCIES || rest.len() < length {
         return Err(DEPENDENCIES);
     }
+    let (these, past) = rest.split_at(length);
     let all: Vec<Dependency> =
-        rest.chunks(3).map(|d| Dependency { relation: d[0], left: d[1], right: d[2] }).collect();
-    if all.iter().all(|d| d.is_sound(widths)) { Ok(all) } else { Err(DEPENDENCIES) }
+        these.chunks(3).map(|d| Dependency { relation: d[0], left: d[1], right: d[2] }).collect();
+    if all.iter().all(|d| d.is_sound(widths)) { Ok((all, past)) } else { Err(DEPENDENCIES) }
+}
+
+/// The join dependencies: the bytes past the functional ones. Without bytes there are none.
+fn read_joins(widths: &[u8], past: &[u8]) -> Result<Vec<JoinDependency>, Refusal> {
+    if past.is_empty() {
+        return Ok(vec![]);
+    }
+    let mut cursor = Cursor(past);
+    let Some(all) = cursor.joins() else { return Err(JOIN) };
+    let sound = cursor.0.is_empty() && (1..=MAX_JOINS).contains(&all.len()) && all.iter().all(|j| j.is_sound(widths));
+    if sound { Ok(all) } else { Err(JOIN) }
 }
 
 /// Takes bytes from the front of a part.
@@ -54,6 +68,17 @@ impl<'a> Cursor<'a> {
         let (&b, rest) = self.0.split_first()?;
         self.0 = rest;
         Some(b)
+    }
+
+    /// A count, then as many join dependencies.
+    fn joins(&mut self) -> Option<Vec<JoinDependency>> {
+        (0..self.byte()?).map(|_| self.join()).collect()
+    }
+
+    fn join(&mut self) -> Option<JoinDependency> {
+        let relation = self.byte()?;
+        let sets = (0..self.byte()?).map(|_| self.byte()).collect::<Option<Vec<u8>>>()?;
+        Some(JoinDependency { relation, sets })
     }
 
     fn entry(&mut self) -> Option<Entry> {
@@ -107,7 +132,9 @@ pub fn read(file: &[u8]) -> Result<Record, Refusal> {
     let parts = parts(file)?;
     let mut record = Record::default();
     record.widths = read_widths(parts[0])?;
-    record.dependencies = read_dependencies(&record.widths, parts[1])?;
+    let (dependencies, past) = read_dependencies(&record.widths, parts[1])?;
+    record.dependencies = dependencies;
+    record.joins = read_joins(&record.widths, past)?;
     for (k, part) in parts.iter().enumerate().skip(2) {
         if **part == [255] {
             if k == parts.len() - 1 {
@@ -144,6 +171,19 @@ pub fn query_bytes(query: &Query) -> Vec<u8> {
     out
 }
 
+/// Join dependencies as they follow the functional ones: none are no bytes.
+pub fn joins_bytes(joins: &[JoinDependency]) -> Vec<u8> {
+    if joins.is_empty() {
+        return vec![];
+    }
+    let mut out = vec![joins.len() as u8];
+    for j in joins {
+        out.extend([j.relation, j.sets.len() as u8]);
+        out.extend(&j.sets);
+    }
+    out
+}
+
 /// The parts of a record's file, in order.
 pub fn record_parts(record: &Record) -> Vec<Vec<u8>> {
     let mut widths = vec![record.widths.len() as u8];
@@ -152,6 +192,7 @@ pub fn record_parts(record: &Record) -> Vec<Vec<u8>> {
     for d in &record.dependencies {
         dependencies.extend([d.relation, d.left, d.right]);
     }
+    dependencies.extend(joins_bytes(&record.joins));
     let mut parts = vec![widths, dependencies];
     let used = record.places.iter().rposition(|p| p.is_some()).map_or(0, |k| k + 1);
     for place in &record.places[..used] {

@@ -1,6 +1,6 @@
 //! Seeded records, queries and files: sound ones of many shapes, and damaged files.
 
-use crate::file::{bytes, join, query_bytes, record_parts};
+use crate::file::{bytes, join, joins_bytes, query_bytes, record_parts};
 use crate::random::Random;
 use crate::record::*;
 use crate::record::Entry::{Constant, Variable};
@@ -36,6 +36,35 @@ pub fn dependencies(r: &mut Random, widths: &[u8], n: usize, left_most: usize) -
     for _ in 0..n {
         let d = if !all.is_empty() && r.percent(5) { *r.pick(&all) } else { dependency(r, widths, left_most) };
         all.push(d);
+    }
+    all
+}
+
+/// A join dependency of a relation of this width. Each column is in one set at least; sets share none, some or a key.
+pub fn join_of(r: &mut Random, relation: u8, width: u8) -> JoinDependency {
+    let w = width as usize;
+    let mut sets = vec![0u8; *r.pick(&[2, 2, 2, 3, 3, 4])];
+    let key = if r.percent(50) { 1 << r.below(w) } else { 0 };
+    let shared = *r.pick(&[0, 0, 0, 20, 50]);
+    for c in 0..w {
+        let at = r.below(sets.len());
+        sets[at] |= 1 << c;
+        sets.iter_mut().for_each(|set| *set |= (r.percent(shared) as u8) << c);
+    }
+    for set in &mut sets {
+        *set |= if *set == 0 && key == 0 { 1 << r.below(w) } else { key };
+    }
+    JoinDependency { relation, sets }
+}
+
+/// Join dependencies, several of one relation among them, and repeats.
+pub fn joins(r: &mut Random, widths: &[u8], n: usize) -> Vec<JoinDependency> {
+    let mut all: Vec<JoinDependency> = vec![];
+    let one = r.below(widths.len());
+    for _ in 0..n {
+        let relation = if r.percent(50) { one } else { r.below(widths.len()) };
+        let j = if !all.is_empty() && r.percent(8) { r.pick(&all).clone() } else { join_of(r, relation as u8, widths[relation]) };
+        all.push(j);
     }
     all
 }
@@ -307,8 +336,149 @@ fn fill(r: &mut Random, record: &mut Record, most: usize, mut make: impl FnMut(&
     }
 }
 
+/// A relation that a join dependency makes a product, with key columns or without, and rows of it whose chase comes close to
+/// 24 rows or passes them.
+fn product(r: &mut Random) -> (Vec<u8>, JoinDependency, Query) {
+    // How many values each part of the columns has.
+    let sizes: &[usize] = *r.pick(&[
+        &[4, 5][..], &[7, 3], &[2, 11], &[4, 6], &[6, 4], &[3, 8], &[12, 2], &[1, 12], &[5, 5], &[3, 9], &[2, 2, 5], &[2, 2, 6], &[4, 3, 2], &[3, 3, 3],
+        &[2, 2, 2, 2], &[2, 3, 2, 2], &[1, 2, 3, 4], &[3, 2], &[2, 2],
+    ]);
+    // The part that each column belongs to. A key column is in every set.
+    let mut parts: Vec<Option<usize>> = (0..sizes.len()).map(Some).collect();
+    if r.percent(30) {
+        parts.push(Some(r.below(sizes.len())));
+    }
+    if r.percent(40) {
+        parts.push(None);
+    }
+    r.shuffle(&mut parts);
+    let in_set = |c: usize, k: usize| parts[c].is_none() || parts[c] == Some(k);
+    let set = |k: usize| (0..parts.len()).filter(|&c| in_set(c, k)).map(|c| 1u8 << c).sum();
+    let mut sets: Vec<u8> = (0..sizes.len()).map(set).collect();
+    let keys = *r.pick(&[1, 1, 2]);
+    let constant_chance = *r.pick(&[0, 0, 10, 30]);
+    let mut entries: Vec<Vec<Entry>> = vec![];
+    for part in &parts {
+        let first = entries.iter().map(|e| e.len()).sum::<usize>();
+        let entry = |t: usize| if r.percent(constant_chance) { Constant(t as u32) } else { Variable((first + t) as u8) };
+        entries.push((0..part.map_or(keys, |k| sizes[k])).map(entry).collect());
+    }
+    // The first rows have every value of every part, further ones any.
+    let due = *sizes.iter().max().expect("parts");
+    let count = if r.percent(40) { due } else { r.between(due, MAX_ROWS) };
+    let mut rows = vec![];
+    for t in 0..count {
+        let values: Vec<usize> = sizes.iter().map(|&n| if t < due { t % n } else { r.below(n) }).collect();
+        let key = r.below(keys);
+        let row = parts.iter().zip(&entries).map(|(part, of_column)| of_column[part.map_or(key, |k| values[k])]);
+        rows.push(Row { relation: 0, entries: row.collect() });
+    }
+    // Rows of another relation, and repeats, count too.
+    for _ in 0..r.below(MAX_ROWS - rows.len() + 1).min(4) {
+        let other = Row { relation: 1, entries: vec![Variable(r.between(80, 83) as u8)] };
+        let again = r.pick(&rows).clone();
+        rows.push(if r.percent(60) { other } else { again });
+    }
+    r.shuffle(&mut rows);
+    r.shuffle(&mut sets);
+    let head = head(r, &rows, 4, 3);
+    (vec![parts.len() as u8, 1], JoinDependency { relation: 0, sets }, renumber(r, &Query::new(head, rows)))
+}
+
+/// Rows under few keys, a join dependency over the keys, and functional dependencies between its sets: an added row makes
+/// entries equal, or they clash.
+fn keyed(r: &mut Random) -> (Vec<u8>, Vec<Dependency>, JoinDependency, Vec<Query>) {
+    let w = r.between(3, 5);
+    let mut sets = vec![1u8; r.between(2, 3)];
+    for c in 1..w {
+        let k = if c <= sets.len() { c - 1 } else { r.below(sets.len()) };
+        sets[k] |= 1 << c;
+    }
+    let mut deps = vec![];
+    for _ in 0..r.between(1, 2) {
+        let left = *r.pick(&sets);
+        deps.push(Dependency { relation: 0, left, right: r.below(w) as u8 });
+    }
+    let mut queries = vec![];
+    for _ in 0..r.between(1, 3) {
+        let (keys, variables, constant_chance) = (r.between(1, 2), r.between(3, 20), *r.pick(&[0, 10, 40]));
+        let row = |r: &mut Random| {
+            let mut entries = vec![Variable(r.below(keys) as u8)];
+            for _ in 1..w {
+                let entry = if r.percent(constant_chance) { Constant(r.below(3) as u32) } else { Variable((8 + r.below(variables)) as u8) };
+                entries.push(entry);
+            }
+            Row { relation: 0, entries }
+        };
+        let rows: Vec<Row> = (0..r.between(2, 5)).map(|_| row(r)).collect();
+        let head = head(r, &rows, 3, 3);
+        queries.push(rearranged(r, &Query::new(head, rows)));
+    }
+    r.shuffle(&mut sets);
+    (vec![w as u8], deps, JoinDependency { relation: 0, sets }, queries)
+}
+
+/// A sound record with join dependencies and queries that the chase with them makes grow.
+pub fn record_with_joins(r: &mut Random) -> Record {
+    let mut out = Record::default();
+    match r.below(4) {
+        0 | 1 => {
+            let (w, j, q) = product(r);
+            out.widths = w;
+            out.joins = vec![j];
+            if r.percent(25) {
+                out.dependencies = dependencies(r, &out.widths, 1, 3);
+            }
+            out.places[r.below(8)] = Some(q);
+        }
+        2 => {
+            let (w, d, j, queries) = keyed(r);
+            out.widths = w;
+            out.dependencies = d;
+            out.joins = vec![j];
+            for (p, q) in queries.into_iter().enumerate() {
+                out.places[p] = Some(q);
+            }
+        }
+        _ => {
+            // Several of few relations.
+            out.widths = widths(r, (1, 2), (2, 4));
+            let n = r.between(2, 4);
+            out.joins = joins(r, &out.widths, n);
+            let n = r.below(3);
+            out.dependencies = dependencies(r, &out.widths, n, 3);
+            let w = out.widths.clone();
+            let p = Profile { rows: (1, 6), variables: r.between(2, 9), constant_chance: 12, constants: 2, head: 3 };
+            out.places[0] = Some(query(r, &w, &p));
+            fill(r, &mut out, 4, |r| query(r, &w, &p));
+        }
+    }
+    if out.joins.len() < MAX_JOINS && r.percent(30) {
+        let n = r.between(1, MAX_JOINS - out.joins.len());
+        let more = joins(r, &out.widths, n);
+        out.joins.extend(more);
+        r.shuffle(&mut out.joins);
+    }
+    assert!(out.is_sound());
+    out
+}
+
 /// A sound record of one of many shapes.
 pub fn record(r: &mut Random) -> Record {
+    if r.percent(20) {
+        return record_with_joins(r);
+    }
+    let mut out = functional_record(r);
+    if r.percent(15) {
+        let n = r.between(1, MAX_JOINS);
+        out.joins = joins(r, &out.widths, n);
+    }
+    out
+}
+
+/// A sound record without join dependencies.
+fn functional_record(r: &mut Random) -> Record {
     let mut out = Record::default();
     match r.below(13) {
         0 => {
@@ -576,6 +746,43 @@ fn damage_query(r: &mut Random, record: &Record, query: &Query, part: &mut Vec<u
     }
 }
 
+/// Bytes past the functional dependencies that are wrong, or just right.
+fn damaged_tail(r: &mut Random, record: &Record) -> Vec<u8> {
+    let n = r.between(1, MAX_JOINS);
+    let mut all = if record.joins.is_empty() || r.percent(30) { joins(r, &record.widths, n) } else { record.joins.clone() };
+    let at = r.below(all.len());
+    let w = record.widths[all[at].relation as usize];
+    let whole = ((1u16 << w) - 1) as u8;
+    let k = r.below(all[at].sets.len());
+    match r.below(9) {
+        0 => all[at].relation = *r.pick(&[record.widths.len() as u8, 8, 255, 0]),
+        1 => all[at].sets[k] = 0,
+        2 => all[at].sets[k] |= *r.pick(&[(1u16 << w) as u8, 128]),
+        3 => {
+            // A column that is in no set.
+            let c = r.below(w as usize);
+            all[at].sets.iter_mut().for_each(|set| *set &= !(1 << c));
+        }
+        4 => all[at].sets = vec![whole; *r.pick(&[0, 1, 1, 2, 4, 5])],
+        5 => while all.len() < 5 {
+            let again = r.pick(&all).clone();
+            all.push(again);
+        },
+        6 => return vec![0],
+        _ => {}
+    }
+    let mut out = joins_bytes(&all);
+    match r.below(12) {
+        0 => out.push(*r.pick(&[0, 1, 2, 255])),
+        1 => { out.pop(); }
+        2 => { let cut = r.below(out.len() + 1); out.truncate(cut); }
+        3 => out[0] = *r.pick(&[0, 1, 4, 5, 255, out[0] + 1, out[0] - 1]),
+        4 => out[2] = *r.pick(&[0, 1, 2, 3, 4, 5, 255]),
+        _ => {}
+    }
+    out
+}
+
 /// A file that is damaged, or just inside a limit.
 pub fn damaged(r: &mut Random) -> Vec<u8> {
     let record = record(r);
@@ -587,7 +794,7 @@ pub fn damaged(r: &mut Random) -> Vec<u8> {
         let new = *r.pick(&[old.wrapping_add(1), old.wrapping_sub(1), 0, 65_535, old ^ 256, old.rotate_left(8)]);
         file[at..at + 2].copy_from_slice(&new.to_le_bytes());
     };
-    match r.below(19) {
+    match r.below(23) {
         0 => {
             for _ in 0..r.between(1, 3) {
                 let at = r.below(file.len());
@@ -698,6 +905,18 @@ pub fn damaged(r: &mut Random) -> Vec<u8> {
             }
             file = join(&parts);
         }
+        15..=18 => {
+            // Another tail of part 1, and now and then a fault in the functional dependencies or another part.
+            let mut functional = record.clone();
+            functional.joins.clear();
+            let mut fresh = record_parts(&functional);
+            if r.percent(35) {
+                let k = if r.percent(60) { 1 } else { r.below(fresh.len()) };
+                damage_part(r, &functional, &mut fresh, k);
+            }
+            fresh[1].extend(damaged_tail(r, &record));
+            file = join(&fresh);
+        }
         _ => {
             // One to three broken parts: the first in file order decides.
             for _ in 0..*r.pick(&[1, 1, 2, 3]) {
@@ -750,7 +969,7 @@ mod tests {
             }
             assert_eq!(judge(&file, list(&file).as_bytes()), Ok(()));
         }
-        for n in 1..=6 {
+        for n in [1, 2, 3, 4, 5, 6, 15] {
             assert!(refusals[&n] > 20, "{refusals:?}");
         }
         assert!(damaged_but_sound > 20);

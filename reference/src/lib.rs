@@ -1,10 +1,11 @@
 //! A second implementation of docs/SPECIFICATION.md, to run the engine against.
 //! Layers, each using only those above it:
-//! record, file, chase, mapping, reduction, comparison, closure, database, listing.
+//! record, file, joins, chase, mapping, reduction, comparison, closure, database, listing.
 //! Then what tests another engine: judge, random, generate, vectors.
 
 pub mod record;
 pub mod file;
+pub mod joins;
 pub mod chase;
 pub mod mapping;
 pub mod reduction;

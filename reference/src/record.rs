@@ -3,9 +3,12 @@
 pub const MAX_RELATIONS: usize = 8;
 pub const MAX_COLUMNS: usize = 8;
 pub const MAX_DEPENDENCIES: usize = 32;
+pub const MAX_JOINS: usize = 4;
 pub const PLACES: usize = 8;
 pub const MAX_HEAD: usize = 8;
 pub const MAX_ROWS: usize = 12;
+/// Rows of a query in the chase with join dependencies.
+pub const MAX_CHASED_ROWS: usize = 24;
 pub const VARIABLES: usize = 96;
 pub const MAX_CONSTANT: u32 = 2_147_483_647;
 
@@ -25,6 +28,9 @@ pub const VACANT: Refusal = 11;
 pub const FILLED: Refusal = 12;
 pub const FULL: Refusal = 13;
 pub const BROKEN: Refusal = 14;
+pub const JOIN: Refusal = 15;
+pub const FULL_OF_JOINS: Refusal = 16;
+pub const OVERFLOW: Refusal = 17;
 
 #[derive(Clone, Copy, PartialEq, Eq, PartialOrd, Ord, Hash, Debug)]
 pub enum Entry {
@@ -108,10 +114,10 @@ impl Query {
     }
 }
 
+/// A functional dependency.
 #[derive(Clone, Copy, PartialEq, Eq, Debug)]
 pub struct Dependency {
     pub relation: u8,
-    /// Bit c is column c.
     pub left: u8,
     pub right: u8,
 }
@@ -121,16 +127,36 @@ impl Dependency {
         set_is_sound(widths, self.relation, self.left) && self.right < widths[self.relation as usize]
     }
 
-    pub fn left_columns(&self) -> impl Iterator<Item = usize> + '_ {
-        (0..8).filter(|c| self.left >> c & 1 == 1)
+    pub fn left_columns(&self) -> impl Iterator<Item = usize> {
+        columns(self.left)
     }
 }
 
+/// A join dependency: the relation is the join of its projections to the sets.
+#[derive(Clone, PartialEq, Eq, Debug)]
+pub struct JoinDependency {
+    pub relation: u8,
+    pub sets: Vec<u8>,
+}
+
+impl JoinDependency {
+    pub fn is_sound(&self, widths: &[u8]) -> bool {
+        (2..=4).contains(&self.sets.len())
+            && self.sets.iter().all(|&set| set_is_sound(widths, self.relation, set))
+            && self.sets.iter().fold(0, |all, set| all | set).count_ones() == widths[self.relation as usize] as u32
+    }
+}
+
+/// The columns of a set, ascending: bit c is column c.
+pub fn columns(set: u8) -> impl Iterator<Item = usize> {
+    (0..8).filter(move |c| set >> c & 1 == 1)
+}
+
 /// A held relation and a nonempty set of its columns.
-pub fn set_is_sound(widths: &[u8], relation: u8, left: u8) -> bool {
+pub fn set_is_sound(widths: &[u8], relation: u8, set: u8) -> bool {
     match widths.get(relation as usize) {
         None => false,
-        Some(&w) => left != 0 && (left as u32) >> w == 0,
+        Some(&w) => set != 0 && (set as u32) >> w == 0,
     }
 }
 
@@ -143,6 +169,7 @@ pub fn widths_are_sound(widths: &[u8]) -> bool {
 pub struct Record {
     pub widths: Vec<u8>,
     pub dependencies: Vec<Dependency>,
+    pub joins: Vec<JoinDependency>,
     pub places: [Option<Query>; PLACES],
 }
 
@@ -152,6 +179,8 @@ impl Record {
         widths_are_sound(&self.widths)
             && self.dependencies.len() <= MAX_DEPENDENCIES
             && self.dependencies.iter().all(|d| d.is_sound(&self.widths))
+            && self.joins.len() <= MAX_JOINS
+            && self.joins.iter().all(|j| j.is_sound(&self.widths))
             && self.places.iter().flatten().all(|q| q.fault(&self.widths).is_none())
     }
 
@@ -188,6 +217,19 @@ impl Record {
         }
         let mut after = self.clone();
         after.dependencies.push(dependency);
+        Ok(after)
+    }
+
+    pub fn add_join(&self, join: &JoinDependency) -> Result<Record, Refusal> {
+        self.sound()?;
+        if !join.is_sound(&self.widths) {
+            return Err(JOIN);
+        }
+        if self.joins.len() == MAX_JOINS {
+            return Err(FULL_OF_JOINS);
+        }
+        let mut after = self.clone();
+        after.joins.push(join.clone());
         Ok(after)
     }
 

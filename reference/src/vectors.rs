@@ -1,9 +1,9 @@
 //! Vectors: one line a call, numbers only, inputs then the right answer. README.md has the format.
 
-use crate::chase::chase;
+use crate::chase::{chase, chase_with_joins};
 use crate::closure::determined;
 use crate::comparison::{check, compare, Verdict};
-use crate::database::{answers_within, evaluate, facts, first_broken, test, words, Fact};
+use crate::database::{answers_within, evaluate, facts, first_broken, first_broken_join, test, words, Fact, Tested};
 use crate::file::{bytes, query_bytes, read, write};
 use crate::generate;
 use crate::mapping::{find, Mapping};
@@ -58,8 +58,8 @@ impl Line {
     }
 }
 
-pub const CALLS: [&str; 13] = [
-    "read", "write", "open", "add", "put", "drop", "reduce", "compare", "check", "determined", "test", "evaluate", "chase",
+pub const CALLS: [&str; 14] = [
+    "read", "write", "open", "add", "put", "drop", "reduce", "compare", "check", "determined", "test", "evaluate", "chase", "add_join",
 ];
 
 /// A record of moderate size, now and then a large or the blank one.
@@ -94,10 +94,20 @@ fn filled_record(r: &mut Random) -> Record {
     }
 }
 
-/// A record in which two places hold queries that have to do with each other.
-fn related_record(r: &mut Random) -> (Record, u8, u8) {
+/// Up to 12 rows of the query that the chase with both kinds of dependencies gives.
+fn some_chased(r: &mut Random, record: &Record, query: &Query) -> Query {
+    let Ok(mut chased) = chase_with_joins(&record.dependencies, &record.joins, query) else { return query.clone() };
+    if chased.rows.len() > MAX_ROWS || r.percent(50) {
+        r.shuffle(&mut chased.rows);
+        chased.rows.truncate(r.between(1, MAX_ROWS));
+    }
+    chased
+}
+
+/// A record in which two places hold queries that have to do with each other. Every other one has join dependencies.
+pub fn related_record(r: &mut Random) -> (Record, u8, u8) {
     loop {
-        let mut record = filled_record(r);
+        let mut record = if r.percent(50) { generate::record_with_joins(r) } else { filled_record(r) };
         if record == Record::default() {
             return (record, r.below(9) as u8, r.below(9) as u8);
         }
@@ -112,6 +122,11 @@ fn related_record(r: &mut Random) -> (Record, u8, u8) {
             continue;
         }
         let q = *r.pick(&free);
+        if !record.joins.is_empty() && r.percent(25) {
+            // Not contained unless it is never, so that the chased query shows.
+            record.places[q as usize] = Some(Query::never(base.head_length));
+            return (record, p, q);
+        }
         let mut other = base.clone();
         for _ in 0..r.below(4) {
             if other.is_never() {
@@ -119,8 +134,9 @@ fn related_record(r: &mut Random) -> (Record, u8, u8) {
             }
             let all = other.variables();
             let at = r.below(other.rows.len());
-            match r.below(8) {
+            match r.below(10) {
                 0 => other = chase(&record.dependencies, &other).query,
+                8 | 9 => other = some_chased(r, &record, &other),
                 1 => {
                     // Fewer rows: wider or the same.
                     other.rows.remove(at);
@@ -203,7 +219,7 @@ fn any_query(r: &mut Random, widths: &[u8]) -> Query {
 }
 
 /// Facts over few values; some obey all dependencies, some come from the rows of a query.
-fn any_facts(r: &mut Random, record: &Record, query: Option<&Query>) -> Vec<Fact> {
+pub fn any_facts(r: &mut Random, record: &Record, query: Option<&Query>) -> Vec<Fact> {
     let values: Vec<u32> = match r.below(4) {
         0 => vec![0, 1],
         1 => vec![0, 1, 2, 3],
@@ -234,12 +250,30 @@ fn any_facts(r: &mut Random, record: &Record, query: Option<&Query>) -> Vec<Fact
         let values = (0..record.widths[relation as usize]).map(|_| *r.pick(&values)).collect();
         add(&mut all, Fact { relation, values });
     }
-    if !all.is_empty() && r.percent(20) {
-        let again = r.pick(&all).clone();
-        all.push(again);
+    if !record.joins.is_empty() && r.percent(60) {
+        let first = if r.percent(70) { record.joins.len() } else { r.below(record.joins.len() + 1) };
+        close(&record.joins[..first], &mut all);
+        if !all.is_empty() && r.percent(40) {
+            let gone = r.pick(&all).clone();
+            all.retain(|f| *f != gone);
+        }
+    }
+    for _ in 0..*r.pick(&[0, 0, 0, 1, 3]) {
+        if !all.is_empty() {
+            let again = r.pick(&all).clone();
+            all.push(again);
+        }
     }
     r.shuffle(&mut all);
     all
+}
+
+/// Adds the rows that join dependencies ask for, until there are none or there are many rows.
+fn close(joins: &[JoinDependency], facts: &mut Vec<Fact>) {
+    while facts.len() < 50 {
+        let Some((k, choice)) = first_broken_join(joins, facts) else { return };
+        facts.push(Fact { relation: joins[k].relation, values: choice.yielded });
+    }
 }
 
 fn any_words(r: &mut Random, record: &Record, query: Option<&Query>) -> Vec<u32> {
@@ -255,6 +289,30 @@ fn any_words(r: &mut Random, record: &Record, query: Option<&Query>) -> Vec<u32>
         }
     }
     words
+}
+
+/// A join dependency that may break the rules.
+fn any_join(r: &mut Random, widths: &[u8]) -> JoinDependency {
+    if widths.is_empty() {
+        return JoinDependency { relation: 0, sets: vec![1, 1] };
+    }
+    let mut join = generate::joins(r, widths, 1).remove(0);
+    let w = widths[join.relation as usize];
+    let k = r.below(join.sets.len());
+    match r.below(12) {
+        0 => join.relation = *r.pick(&[widths.len() as u8, 8, 255]),
+        1 => join.sets[k] = 0,
+        2 => join.sets[k] = r.below(256) as u8,
+        3 => join.sets = vec![((1u16 << w) - 1) as u8; *r.pick(&[0, 1, 2, 4, 5, 9])],
+        4 => {
+            // A column that is in no set.
+            let c = r.below(w as usize);
+            join.sets.iter_mut().for_each(|set| *set &= !(1 << c));
+        }
+        5 => { join.sets.pop(); }
+        _ => {}
+    }
+    join
 }
 
 fn any_mapping(r: &mut Random, s: &Query, t: &Query) -> Mapping {
@@ -291,7 +349,7 @@ fn line(r: &mut Random, call: usize) -> Line {
         1 => {
             let record = record(r);
             let length = bytes(&record).len();
-            let room = *r.pick(&[length, length - 1, length + 1, 0, 4420, 5000]);
+            let room = *r.pick(&[length, length - 1, length + 1, 0, 4445, 5000]);
             out.record(&record);
             out.number(room);
             out.answer(write(&record, &mut vec![0; room]), |out, n| out.number(n));
@@ -402,14 +460,20 @@ fn line(r: &mut Random, call: usize) -> Line {
             });
         }
         10 => {
-            let record = record(r);
+            let record = if r.percent(50) { generate::record_with_joins(r) } else { record(r) };
             let query = record.places.iter().flatten().next().cloned();
             let words = any_words(r, &record, query.as_ref());
             out.record(&record);
             out.list(&words);
-            out.answer(test(&record, &words), |out, broken| match broken {
-                None => out.0.extend([1, 0, 0, 0]),
-                Some((k, i, j)) => out.0.extend([0, k as u64, i as u64, j as u64]),
+            out.answer(test(&record, &words), |out, tested| {
+                let (verdict, dependency, rows) = match tested {
+                    Tested::Obeys => (1u8, 0, vec![]),
+                    Tested::Breaks(k, i, j) => (0, k, vec![i, j]),
+                    Tested::BreaksJoin(k, rows) => (2, k, rows),
+                };
+                out.number(verdict);
+                out.number(dependency);
+                (0..4).for_each(|n| out.number(rows.get(n).copied().unwrap_or(0)));
             });
         }
         11 => loop {
@@ -436,7 +500,7 @@ fn line(r: &mut Random, call: usize) -> Line {
             });
             break;
         },
-        _ => {
+        12 => {
             let record = filled_record(r);
             let p = place(r, &record, true);
             out.record(&record);
@@ -446,6 +510,20 @@ fn line(r: &mut Random, call: usize) -> Line {
                 out.number(chased.count);
                 out.query(&chased.query);
             });
+        }
+        _ => {
+            let mut record = record(r);
+            let join = any_join(r, &record.widths);
+            if !record.widths.is_empty() && r.percent(25) {
+                while record.joins.len() < MAX_JOINS {
+                    let more = generate::joins(r, &record.widths, 1);
+                    record.joins.extend(more);
+                }
+            }
+            out.record(&record);
+            out.number(join.relation);
+            out.list(&join.sets);
+            out.answer(record.add_join(&join), |out, after| out.record(&after));
         }
     }
     out
@@ -481,22 +559,22 @@ mod tests {
     fn lines_read_as_the_readme_says() {
         let mut seen: BTreeMap<(u64, u64), usize> = BTreeMap::new();
         let mut verdicts: BTreeMap<(u64, u64), usize> = BTreeMap::new();
-        for k in 0..13 * 250 {
+        for k in 0..14 * 250 {
             let text = vector(5, k);
             assert_eq!(text, vector(5, k));
             let numbers: Vec<u64> = text.trim_end().split(' ').map(|n| n.parse().unwrap()).collect();
             let mut line = Reader(numbers.into_iter());
             let call = line.number();
-            assert_eq!(call, k % 13);
+            assert_eq!(call, k % 14);
             line.list();
             // Inputs after the first list: n a number, l a list.
-            for kind in ["", "n", "", "nnn", "nl", "n", "nn", "nn", "nnl", "nn", "l", "nln", "n"][call as usize].chars() {
+            for kind in ["", "n", "", "nnn", "nl", "n", "nn", "nn", "nnl", "nn", "l", "nln", "n", "nl"][call as usize].chars() {
                 if kind == 'n' { line.number(); } else { line.list(); }
             }
             let refusal = line.number();
             *seen.entry((call, refusal)).or_default() += 1;
             if refusal == 0 {
-                for (at, kind) in ["", "n", "l", "l", "l", "l", "nnl", "nl", "n", "nn", "nnnn", "nl", "nl"][call as usize].chars().enumerate() {
+                for (at, kind) in ["", "n", "l", "l", "l", "l", "nnl", "nl", "n", "nn", "nnnnnn", "nl", "nl", "l"][call as usize].chars().enumerate() {
                     if kind == 'l' {
                         line.list();
                     } else {
@@ -509,15 +587,16 @@ mod tests {
             }
             assert_eq!(line.0.next(), None);
         }
-        let due: [&[u64]; 13] = [
-            &[0, 1, 2, 3, 4, 5, 6], &[0, 10, 14], &[0, 3], &[0, 4, 13, 14], &[0, 5, 6, 7, 12, 14], &[0, 7, 11, 14],
-            &[0, 7, 11, 12, 14], &[0, 7, 8, 11, 14], &[0, 7, 8, 11, 14], &[0, 4, 14], &[0, 9, 14], &[0, 7, 9, 10, 11, 14], &[0, 7, 11, 14],
+        let due: [&[u64]; 14] = [
+            &[0, 1, 2, 3, 4, 5, 6, 15], &[0, 10, 14], &[0, 3], &[0, 4, 13, 14], &[0, 5, 6, 7, 12, 14], &[0, 7, 11, 14],
+            &[0, 7, 11, 12, 14], &[0, 7, 8, 11, 14, 17], &[0, 7, 8, 11, 14], &[0, 4, 14], &[0, 9, 14], &[0, 7, 9, 10, 11, 14], &[0, 7, 11, 14],
+            &[0, 14, 15, 16],
         ];
         for (call, refusals) in due.iter().enumerate() {
             let got: Vec<u64> = seen.keys().filter(|k| k.0 == call as u64).map(|k| k.1).collect();
             assert_eq!(got, *refusals, "{} {seen:?}", CALLS[call]);
         }
-        for verdict in [(7, 0), (7, 1), (7, 2), (8, 0), (8, 1), (10, 0), (10, 1)] {
+        for verdict in [(7, 0), (7, 1), (7, 2), (8, 0), (8, 1), (10, 0), (10, 1), (10, 2)] {
             assert!(verdicts.get(&verdict).copied().unwrap_or(0) > 10, "{verdicts:?}");
         }
     }

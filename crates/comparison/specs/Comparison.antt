@@ -30,7 +30,7 @@ use Rattle.minimization.specs.Checking.{mapsTo}
 abbrev pub outcomeAt : Record → ℕ → Outcome
 outcomeAt r place = joinChase (schemaOf r) (dependenciesOf r) (joinsOf r) 24 (queryAt r place)
 
--- The query in which a chase ends, any where it ends in none
+-- The query in which a chase ends. An overflow ends in none, and refusal 17 comes before this one is looked at
 abbrev pub queryIn : Outcome → theory.Query
 queryIn (chased q) = q
 queryIn overflow = theory.never 0

@@ -1,4 +1,4 @@
-// The chase of a tableau with functional and join dependencies (SPECIFICATION, The chase): rounds of the functional chase, after which repeated rows go and
+// The chase of a tableau with functional and join dependencies (SPECIFICATION, The chase with join dependencies): rounds of the functional chase, after which repeated rows go and
 // the first row that a join dependency asks for is added, until none is asked for or there is no room.
 use join_step::next_row;
 use join_step::with_row;

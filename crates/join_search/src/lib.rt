@@ -1,4 +1,4 @@
-// The search for the row that a join dependency asks for (SPECIFICATION, The chase): over rows as codes of entries, 8 to a row, of which size are in use.
+// The search for the row that a join dependency asks for (SPECIFICATION, The chase with join dependencies): over rows as codes of entries, 8 to a row, of which size are in use.
 // What is chosen so far is one code for each column, or `FREE` where no set has the column yet. A column that a row's relation does not have
 // stands in no set.
 use query::JoinDependency;

@@ -1,4 +1,4 @@
-// What a round of the chase with join dependencies does to a tableau after the functional chase (SPECIFICATION, The chase): repeated rows go, and the
+// What a round of the chase with join dependencies does to a tableau after the functional chase (SPECIFICATION, The chase with join dependencies): repeated rows go, and the
 // first row that a join dependency asks for and that is not there is added at the end.
 use entries::code::code;
 use entries::code::decode;
@@ -60,7 +60,8 @@ fn cells_of(row: [u32; 8]) -> [Cell; 8]
 // The first row that a choice of rows yields and that is not there, of the first join dependency in held order that has one.
 pub fn next_row(t: Tableau, joins: [JoinDependency; 4], joined: usize) -> NextRow
     requires { ⌜ Joinable t joins joined ⌝ }
-    ensures { λ r. ⌜ ((schema : List ℕ) → ((i : ℕ) → getD schema i 0 ≤ 8) → goodTableau schema t ≡ true → goodJoins schema joined joins ≡ true → IsNext schema t joins joined r) ⌝ }
+    ensures { λ r. ⌜ ((schema : List ℕ) → ((i : ℕ) → getD schema i 0 ≤ 8) → goodTableau schema t ≡ true → goodJoins schema joined joins ≡ true
+        → IsNext schema t joins joined r) ⌝ }
 {
     let cells = t.cells;
     let codes = codes_of(cells);

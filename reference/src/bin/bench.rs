@@ -73,7 +73,7 @@ mod engine {
         ) -> u8;
         fn spernevan_test(
             file: *const u8, n: usize, words: *const u32, length: usize,
-            obeys: *mut u8, dependency: *mut usize, first: *mut usize, second: *mut usize,
+            verdict: *mut u8, dependency: *mut usize, first: *mut usize, second: *mut usize, third: *mut usize, fourth: *mut usize,
         ) -> u8;
         fn spernevan_evaluate(
             file: *const u8, n: usize, place: usize, words: *const u32, length: usize,
@@ -82,8 +82,8 @@ mod engine {
     }
 
     pub fn call(call: u64, x: &Input) {
-        let (mut out, mut mapping, mut answers) = ([0u8; 4420], [0u32; 192], vec![0u32; x.room]);
-        let (mut byte, mut a, mut b, mut c) = (0u8, 0usize, 0usize, 0usize);
+        let (mut out, mut mapping, mut answers) = ([0u8; 4445], [0u32; 192], vec![0u32; x.room]);
+        let (mut byte, mut a, mut rows) = (0u8, 0usize, [0usize; 4]);
         let (f, n) = (x.file.as_ptr(), x.file.len());
         let (w, m) = (x.words.as_ptr(), x.words.len());
         // Each pointer is that of a live buffer with its length beside it, and none overlaps another.
@@ -92,12 +92,15 @@ mod engine {
                 0 => spernevan_read(f, n),
                 6 => spernevan_reduce(f, n, x.p, x.q, out.as_mut_ptr(), out.len(), &mut a, &mut byte, mapping.as_mut_ptr(), mapping.len()),
                 7 => spernevan_compare(f, n, x.p, x.q, &mut byte, mapping.as_mut_ptr(), mapping.len(), out.as_mut_ptr(), out.len(), &mut a),
-                10 => spernevan_test(f, n, w, m, &mut byte, &mut a, &mut b, &mut c),
+                10 => {
+                    let [first, second, third, fourth] = &mut rows;
+                    spernevan_test(f, n, w, m, &mut byte, &mut a, first, second, third, fourth)
+                }
                 _ => spernevan_evaluate(f, n, x.p, w, m, answers.as_mut_ptr(), answers.len(), &mut a),
             }
         };
         assert_eq!(refusal, 0);
-        black_box((out, mapping, answers, byte, a, b, c));
+        black_box((out, mapping, answers, byte, a, rows));
     }
 }
 

@@ -40,6 +40,10 @@ Inv-loop joined joins codes relations size k₀ k =
 abbrev μ-loop : tie.MeasureT-loop
 μ-loop joined joins codes relations size k₀ k = joined - k
 
+-- The tableau has room for 24 rows
+cells-long : (s : tie.Start Inv-loop μ-loop) → length (s .args .t .cells) ≡ 192
+cells-long s = search (mapped-length, needs)
+
 codes-of-requires : tie.Need-codes-of-requires Inv-loop μ-loop
 codes-of-requires c κs = search needs
 
@@ -68,9 +72,10 @@ slice-aggregate-first-missing-2 c = search needs
 first-missing-requires : tie.Need-first-missing-requires Inv-loop μ-loop
 first-missing-requires c κs =
     let l = c .before .before .before .before .loop in
-    let p = c .before .before .before .before .before .before .before .before .before .pre in (
+    let s = c .before .before .before .before .before .before .before .before .before in
+    let p = s .pre in (
       record { codes-long = l .inv .1; relations-long = l .inv .2; size-fits = p .size-fits },
-      count-at (c .before .before .before .before .before .before .before .before .before .args .t2) (c .before .before .before .before .before .before .before .before .before .args .joined) (p .counts-fit) (l .k) (c .before .before .before .loop-test .taken) (omega (arith, l .inv .0, p .joined-fits)),
+      count-at (s .args .t2) (s .args .joined) (p .counts-fit) (l .k) (c .before .before .before .loop-test .taken) (omega (arith, l .inv .0, p .joined-fits)),
     )
 
 cells-of-requires : tie.Need-cells-of-requires Inv-loop μ-loop
@@ -78,16 +83,18 @@ cells-of-requires c κs = search needs
 
 returns : tie.Need-returns Inv-loop μ-loop
 returns c =
-    let s = c .before .before .before .before .before .before .before .before .before .before .before .before .before in
+    let m = c .before .before .before in
+    let i = m .before .before .before .before in
+    let l = i .before .loop in
+    let f = i .before .before .before .before in
+    let s = f .before .before in
     let a = s .args in
-    let l = c .before .before .before .before .before .before .before .before .loop in
-    let k = l .k in
-    let low = c .before .before .before .before .before .before .before .loop-test .taken in
-    let four = four-sets (a .t2) (argument-shaped 4 (a .t2) _ (s .good .1 .0)) k (omega (arith, l .inv .0, s .pre .joined-fits, low)) in
-    let cells : length (a .t .cells) ≡ 192 = search (mapped-length, needs) in
+    let low = i .loop-test .taken in
+    let enough : a .joined ≤ length (a .t2) = omega (arith, l .inv .0, s .pre .joined-fits) in
+    let four = four-sets (a .t2) (argument-shaped 4 (a .t2) _ (s .good .1 .0)) (l .k) (omega (arith, enough, low)) in
     λ schema narrow good good-joins.
-    next-one (a .t) (a .t2) (a .joined) _ (c .before .before .before .before .before .before .before .before .before .before .before .codes-of .ensures) (l .inv .2) cells (omega (arith, l .inv .0, s .pre .joined-fits)) pastJoin schema narrow
-    good good-joins k (c .before .before .before .before .before .before .before .loop-test .taken) (l .inv .4) four _ (c .before .before .before .first-missing .ensures) (c .before .before .if1 .taken) _ (c .cells-of .ensures)
+    next-one (a .t) (a .t2) (a .joined) _ (f .codes-of .ensures) (l .inv .2) (cells-long s) enough pastJoin schema narrow good good-joins (l .k) low
+    (l .inv .4) four _ (m .first-missing .ensures) (c .before .before .if1 .taken) _ (c .cells-of .ensures)
 
 add-k : tie.Need-add-k Inv-loop μ-loop
 add-k c = search needs
@@ -111,13 +118,14 @@ loop-again c =
 
 returns-2 : tie.Need-returns-2 Inv-loop μ-loop
 returns-2 c =
-    let s = c .before .before .before .before .before .before in
-    let a = s .args in
     let l = c .before .loop in
-    let cells : length (a .t .cells) ≡ 192 = search (mapped-length, needs) in
+    let f = c .before .before .before .before in
+    let s = f .before .before in
+    let a = s .args in
+    let enough : a .joined ≤ length (a .t2) = omega (arith, l .inv .0, s .pre .joined-fits) in
     λ schema narrow good good-joins.
-    next-nothing (a .t) (a .t2) (a .joined) _ (c .before .before .before .before .codes-of .ensures) (l .inv .2) cells (omega (arith, l .inv .0, s .pre .joined-fits)) pastJoin schema narrow
-    good good-joins (λ e less. l .inv .4 e (omega (arith, c .loop-test .left))) _ refl
+    next-nothing (a .t) (a .t2) (a .joined) _ (f .codes-of .ensures) (l .inv .2) (cells-long s) enough pastJoin schema narrow good good-joins
+    (λ e less. l .inv .4 e (omega (arith, c .loop-test .left))) _ refl
 
 pub next-row-spec : {M : Type 1} → statement M
 next-row-spec =
