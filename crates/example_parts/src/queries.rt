@@ -2,6 +2,7 @@
 use query::Cell;
 use query::Dependency;
 use query::Entry;
+use query::JoinDependency;
 use query::Query;
 use record::Record;
 
@@ -45,6 +46,16 @@ pub fn dependent(r: Record) -> Record {
         relation: 0,
         left: 1,
         right: 1,
+    });
+    added.record
+}
+
+// The record in which relation 0 is the join of its columns 0 and 1.
+pub fn joined(r: Record) -> Record {
+    let added = r.add_join(JoinDependency {
+        relation: 0,
+        count: 2,
+        sets: [1, 2, 0, 0],
     });
     added.record
 }

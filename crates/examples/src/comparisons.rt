@@ -10,6 +10,7 @@ use example_parts::queries::put;
 use example_parts::show;
 use query::Cell;
 use query::Entry;
+use query::Query;
 use record::Record;
 
 // Writes a comparison.
@@ -71,6 +72,61 @@ fn filled(r: Record) -> Record {
     put(e, 5, pair(1, zero, 1, three, zero))
 }
 
+// That many rows R(v0, v1), R(v2, v3) and so on, at most 5, with an empty head.
+fn rows(size: u8) -> Query {
+    let mut q = entries::no_query();
+    q.size = size;
+    for i in 0..5u8 {
+        if i < size {
+            let at = 8 * i as usize;
+            q.cells[at] = Cell {
+                entry: Entry::Variable(2 * i),
+            };
+            q.cells[at + 1] = Cell {
+                entry: Entry::Variable(2 * i + 1),
+            };
+        }
+    }
+    q
+}
+
+// The same with head v0, v.
+fn shown(size: u8, v: u8) -> Query {
+    let mut q = rows(size);
+    q.arity = 2;
+    q.head[0] = Cell {
+        entry: Entry::Variable(0),
+    };
+    q.head[1] = Cell {
+        entry: Entry::Variable(v),
+    };
+    q
+}
+
+// R(v0, v1), R(v2, v3) with head v0, v3 at 0, R(v0, v1) with head v0, v1 at 1; 4 such rows at 2, 5 at 3, never at 4, with an empty head.
+fn crossed(r: Record) -> Record {
+    let a = put(r, 0, shown(2, 3));
+    let b = put(a, 1, shown(1, 1));
+    let c = put(b, 2, rows(4));
+    let d = put(c, 3, rows(5));
+    put(d, 4, rows(0))
+}
+
+// The comparison of two places.
+fn compare_two(r: Record, p: u8, q: u8) {
+    show::places(b"compare ", p, q);
+    comparison(comparison::compare(r, p as usize, q as usize));
+}
+
+// Each pair in which the join dependency tells: a row that it asks for, 16 rows from 4, and a 25th row.
+fn compare_joined(r: Record) {
+    compare_two(r, 0, 1);
+    compare_two(r, 1, 0);
+    compare_two(r, 2, 4);
+    compare_two(r, 3, 4);
+    compare_two(r, 4, 3);
+}
+
 // The comparison of place p with each of the places 0 to 8.
 fn compare_with(r: Record, p: u8) {
     for q in 0..9u8 {
@@ -113,4 +169,7 @@ pub fn all() {
     check_with(r, 2, zero, zero, zero);
     compare_all(queries::dependent(r));
     compare_with(queries::spoilt(r), 8);
+    let pairs = crossed(opened.record);
+    compare_joined(pairs);
+    compare_joined(queries::joined(pairs));
 }

@@ -1,5 +1,5 @@
 // A database tested, a place evaluated on it, and a record written, with the refusals and their order.
-// A line is the call and the answer: the refusal's number; of a test obeys, or the broken dependency with its two rows; of an evaluation how many answers
+// A line is the call and the answer: the refusal's number; of a test obeys, or the broken dependency with its rows; of an evaluation how many answers
 // there are and the first two words of the buffer, which hold 9 before; of writing the file's length. Relation 0 is R with columns a, b.
 use example_parts::queries;
 use example_parts::queries::pair;
@@ -26,6 +26,18 @@ fn test(r: Record, words: &[u32]) {
             io::print_decimal(1, i as u64);
             io::write_all(1, b" ");
             io::print_decimal(1, j as u64);
+        }
+        Conformance::BrokenJoin(k, a, b, c, d) => {
+            io::write_all(1, b" breaks join ");
+            io::print_decimal(1, k as u64);
+            io::write_all(1, b" in rows ");
+            io::print_decimal(1, a as u64);
+            io::write_all(1, b" ");
+            io::print_decimal(1, b as u64);
+            io::write_all(1, b" ");
+            io::print_decimal(1, c as u64);
+            io::write_all(1, b" ");
+            io::print_decimal(1, d as u64);
         }
         Conformance::Refused(n) => {
             show::number(b" ", n);
@@ -98,6 +110,13 @@ pub fn all() {
     test(r, &broken);
     test(r, &cut);
     test(queries::spoilt(r), &cut);
+    let cross = queries::joined(empty);
+    let missing = [0, 1, 5, 0, 3, 6];
+    write(cross);
+    test(cross, &good);
+    test(cross, &missing);
+    test(queries::joined(r), &missing);
+    test(queries::joined(r), &broken);
     evaluate(r, 0, &good, true);
     evaluate(r, 0, &good, false);
     evaluate(r, 0, &cut, false);
