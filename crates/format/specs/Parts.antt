@@ -36,7 +36,7 @@ dependency schema =
       get = λ bytes. gotIf (leb 3 (length bytes) && goodDependency schema (dependencyAt bytes)) (dependencyAt bytes) (drop 3 bytes);
     }
 
--- Part 1: the count of functional dependencies, then 3 bytes each
+-- Part 1 begins with the count of functional dependencies, then 3 bytes each
 unfoldable pub dependencies : List ℕ → Format (ℕ × List Dependency)
 dependencies schema = sequence (byte (λ n. leb n 32)) (λ n. padded 32 noDependency blankDependency n (dependency schema))
 

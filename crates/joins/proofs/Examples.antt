@@ -23,7 +23,7 @@ use Rattle.joins.specs.JoinChase.{before, picks, chosenEntry, yields, fi
 use Rattle.joins.specs.JoinChase.{withoutRepeats, Outcome, chased, overflow, joinOn, settle, joinChaseFor, joinChase, containedIn}
 use Rattle.joins.specs.JoinChase.{joinContained}
 use Rattle.joins.specs.Examples.{Example, chasesTo, grows, compares, Meaning, sameOutcome, hasRows, isAnswer, overBoth, holds, examples}
-use Rattle.joins.specs.Examples.{ExamplesMean, YieldsFirst, FirstChoice, NoChoice, OverflowDecides, FitsNot}
+use Rattle.joins.specs.Examples.{ExamplesMean, YieldsFirst, ChoiceFound, NoChoice, OverflowDecides, FitsNot}
 use Rattle.joins.proofs.Fitting.{joinFits-exact}
 use Rattle.joins.proofs.Containment.{chase-computed, contained-computed, not-contained-computed}
 
@@ -42,7 +42,7 @@ pub yields-first : YieldsFirst
 unfolding yields chosenEntry member numbersWhere
 yields-first = refl
 
-pub first-choice : FirstChoice
+pub first-choice : ChoiceFound
 unfolding firstMissing firstPassing before picks missing consistent fitsChoice every agree sameEntry yields chosenEntry member numbersWhere standsIn
     sameRow sameLists
 first-choice = refl

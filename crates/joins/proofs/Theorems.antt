@@ -135,7 +135,7 @@ examples-mean = examples-meaning
 pub the-first-set-counts : examples.YieldsFirst
 the-first-set-counts = yields-first
 
-pub the-first-choice : examples.FirstChoice
+pub the-first-choice : examples.ChoiceFound
 the-first-choice = first-choice
 
 pub no-missing-choice : examples.NoChoice

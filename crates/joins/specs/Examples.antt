@@ -79,6 +79,10 @@ R·b·a = record { relation = 0; sets = (1 ∷ []) ∷ (0 ∷ []) ∷ [] }
 abbrev S·ab·ac : JoinDependency
 S·ab·ac = record { relation = 1; sets = (0 ∷ 1 ∷ []) ∷ (0 ∷ 2 ∷ []) ∷ [] }
 
+-- S is the join of its columns a, b and b, c
+abbrev S·ab·bc : JoinDependency
+S·ab·bc = record { relation = 1; sets = (0 ∷ 1 ∷ []) ∷ (1 ∷ 2 ∷ []) ∷ [] }
+
 -- S is the join of its three pairs of columns
 abbrev S·ab·bc·ca : JoinDependency
 S·ab·bc·ca = record { relation = 1; sets = (0 ∷ 1 ∷ []) ∷ (1 ∷ 2 ∷ []) ∷ (2 ∷ 0 ∷ []) ∷ [] }
@@ -116,13 +120,17 @@ order =
     ∷ chasesTo [] (R·a·b ∷ []) 24 (query [] (R (v 0) (v 1) ∷ R (v 2) (v 3) ∷ [])) (ends (R (v 0) (v 1) ∷ R (v 2) (v 3) ∷ R (v 0) (v 3) ∷ R (v 2) (v 1) ∷ []))
     -- so the order of the sets counts
     ∷ chasesTo [] (R·b·a ∷ []) 24 (query [] (R (v 0) (v 1) ∷ R (v 2) (v 3) ∷ [])) (ends (R (v 0) (v 1) ∷ R (v 2) (v 3) ∷ R (v 2) (v 1) ∷ R (v 0) (v 3) ∷ []))
-    -- join dependencies in held order, from the first on after each row
+    -- join dependencies in held order
     ∷ chasesTo [] (R·a·b ∷ S·ab·ac ∷ []) 24 (query [] (S (v 4) (v 5) (v 6) ∷ S (v 4) (v 7) (v 8) ∷ R (v 0) (v 1) ∷ R (v 2) (v 3) ∷ []))
     (ends (S (v 4) (v 5) (v 6) ∷ S (v 4) (v 7) (v 8) ∷ R (v 0) (v 1) ∷ R (v 2) (v 3) ∷ R (v 0) (v 3) ∷ R (v 2) (v 1)
     ∷ S (v 4) (v 5) (v 8) ∷ S (v 4) (v 7) (v 6) ∷ []))
     ∷ chasesTo [] (S·ab·ac ∷ R·a·b ∷ []) 24 (query [] (S (v 4) (v 5) (v 6) ∷ S (v 4) (v 7) (v 8) ∷ R (v 0) (v 1) ∷ R (v 2) (v 3) ∷ []))
     (ends (S (v 4) (v 5) (v 6) ∷ S (v 4) (v 7) (v 8) ∷ R (v 0) (v 1) ∷ R (v 2) (v 3) ∷ S (v 4) (v 5) (v 8) ∷ S (v 4) (v 7) (v 6)
     ∷ R (v 0) (v 3) ∷ R (v 2) (v 1) ∷ []))
+    -- and from the first on after each row, not from the one that asked for it
+    ∷ chasesTo [] (S·ab·ac ∷ S·ab·bc ∷ []) 24 (query [] (S (v 0) (v 0) (v 0) ∷ S (v 1) (v 0) (v 1) ∷ S (v 0) (v 1) (v 2) ∷ []))
+    (ends (S (v 0) (v 0) (v 0) ∷ S (v 1) (v 0) (v 1) ∷ S (v 0) (v 1) (v 2) ∷ S (v 0) (v 0) (v 2) ∷ S (v 0) (v 1) (v 0) ∷ S (v 0) (v 0) (v 1)
+    ∷ S (v 0) (v 1) (v 1) ∷ S (v 1) (v 0) (v 0) ∷ S (v 1) (v 0) (v 2) ∷ []))
     -- functional steps first: with a row added before them there would be a third
     ∷ chasesTo (S·a→b ∷ []) (S·ab·ac ∷ []) 2 (query [] (S (v 0) (v 1) (v 2) ∷ S (v 0) (v 3) (v 4) ∷ []))
     (ends (S (v 0) (v 1) (v 2) ∷ S (v 0) (v 1) (v 4) ∷ []))
@@ -153,8 +161,8 @@ limits =
     -- 24 rows are reached, and a 25th is one too many
     ∷ grows [] (R·a·b ∷ []) 24 (query [] (R (v 0) (v 10) ∷ R (v 1) (v 11) ∷ R (v 2) (v 12) ∷ R (v 3) (v 13) ∷ R (v 3) (v 14) ∷ R (v 3) (v 15) ∷ [])) 24
     ∷ chasesTo [] (R·a·b ∷ []) 24 (query [] (R (v 0) (v 10) ∷ R (v 1) (v 11) ∷ R (v 2) (v 12) ∷ R (v 3) (v 13) ∷ R (v 4) (v 14) ∷ [])) overflow
-    -- also where a clash would come later: R, held first, asks for a fifth row; held last it comes too late
-    ∷ chasesTo (S·ab→c ∷ []) (R·a·b ∷ S·ab·ac ∷ []) 4 (query [] (R (v 0) (v 1) ∷ R (v 2) (v 3) ∷ S (v 0) (v 1) (k 3) ∷ S (v 0) (v 2) (k 4) ∷ [])) overflow
+    -- also where a clash would come later: R, held first, asks for a sixth row; held last it comes too late
+    ∷ chasesTo (S·ab→c ∷ []) (R·a·b ∷ S·ab·ac ∷ []) 5 (query [] (R (v 0) (v 1) ∷ R (v 2) (v 3) ∷ S (v 0) (v 1) (k 3) ∷ S (v 0) (v 2) (k 4) ∷ [])) overflow
     ∷ chasesTo (S·ab→c ∷ []) (S·ab·ac ∷ R·a·b ∷ []) 5 (query [] (R (v 0) (v 1) ∷ R (v 2) (v 3) ∷ S (v 0) (v 1) (k 3) ∷ S (v 0) (v 2) (k 4) ∷ [])) (ends [])
     ∷ []
 
@@ -209,8 +217,8 @@ abbrev pub YieldsFirst : Type 0
 YieldsFirst = yields schema S·ab·ac ((0 ∷ 1 ∷ [], S (k 1) (k 2) (k 3)) ∷ (0 ∷ 2 ∷ [], S (k 4) (k 5) (k 6)) ∷ []) ≡ S (k 1) (k 2) (k 6)
 
 -- A database with its first missing choice: the first row for a with the second for b
-abbrev pub FirstChoice : Type 0
-FirstChoice =
+abbrev pub ChoiceFound : Type 0
+ChoiceFound =
     firstMissing schema (R (k 1) (k 2) ∷ B (k 1) (k 2) ∷ R (k 3) (k 4) ∷ []) R·a·b ≡ some ((0 ∷ [], R (k 1) (k 2)) ∷ (1 ∷ [], R (k 3) (k 4)) ∷ [])
 
 -- and one that obeys

@@ -66,7 +66,7 @@ dependenciesFull = 13
 abbrev pub badRecord : ℕ
 badRecord = 14
 
--- A join dependency breaks the record's rule
+-- A join dependency breaks the record's rule, or what follows the functional ones in a file is not 1 to 4 of them and no more
 abbrev pub badJoin : ℕ
 badJoin = 15
 

@@ -1,5 +1,5 @@
--- Testing a database: the first dependency in held order that it breaks, with its first pair of rows. The search is the chase's own, over
--- dependencies and rows that carry their positions.
+-- Testing a database against functional dependencies: the first in held order that it breaks, with its first pair of rows. The search is the chase's own,
+-- over dependencies and rows that carry their positions. Join dependencies come after them, in `join_testing/specs/Unmet`.
 use mathlib.Core.Bool.{Bool}
 use mathlib.Core.List.{List, [], _∷_}
 use mathlib.Core.Option.{Option}
