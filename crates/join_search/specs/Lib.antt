@@ -1,2 +1,2 @@
--- What the chase of a stored query asks and promises is in `internal/Outcome`: the public calls that use it promise the theory's chase.
+-- What the search for a missing row asks and answers.
 pub mod internal
