@@ -1,2 +1,2 @@
--- What contracts cite: there is nothing that a promise of a public call cites.
+-- What the search for a missing row asks and answers.
 pub mod internal

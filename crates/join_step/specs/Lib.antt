@@ -1,2 +1,2 @@
--- What contracts cite.
+-- What the steps of a round ask and promise.
 pub mod internal
