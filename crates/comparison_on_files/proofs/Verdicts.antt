@@ -1,38 +1,27 @@
 -- What comparing leaves. Assumes nothing.
-use mathlib.Core.Path.{_≡_, refl, sym, ap, subst, _∙_}
-use mathlib.Core.Bool.{true}
+use mathlib.Core.Path.{_≡_, refl, sym, subst}
+use mathlib.Core.Bool.{Bool, true, false, cond, _&&_}
 use mathlib.Core.List.{List, []}
-use mathlib.Core.Option as option
 use Prim.Native.Nat.{ℕ, _≤_, _<_}
 use native.Mathlib.Omega.{arith}
+use lib.Dec.{eqb, leb, ltb}
 use lib.ListN.{length}
 use borrow.Author.Tests.{le-leb, lt-leb}
-use Rattle.refusals.specs.Refusals.{_>>=_, bufferTooShort, gives, refused, Reply}
-use Rattle.refusals.proofs.Refusals.{reply-gives}
-use Rattle.record.specs.Calls.{queryAt}
+use Rattle.refusals.specs.Refusals.{_>>=_, bufferTooShort, tooManyRows, gives, refused, Reply}
 use Rattle.query.specs.declared.Cell.{Cell}
-use Rattle.query.specs.declared.Query.{Query}
 use Rattle.record.specs.declared.Record.{Record}
-use Rattle.record.specs.View.{schemaOf, dependenciesOf}
-use Rattle.query.specs.Rule.{headSafe, placeWith}
-use Rattle.record.proofs.Kept.{filled-place}
+use Rattle.record.specs.View.{schemaOf}
+use Rattle.query.specs.View.{asQuery}
 use Rattle.lists.specs.Over.{over}
-use Rattle.format.specs.Parts.{query}
-use Rattle.format.specs.File.{putPlace, readFile}
+use Rattle.format.specs.Parts.{queryFor}
+use Rattle.format.specs.File.{readFile}
 use Rattle.lists.proofs.Over.{over-nil}
 use Rattle.comparison.specs.declared.Comparison.{Comparison}
 use Rattle.comparison.specs.declared.Verdict.the-variants as verdict
-use Rattle.comparison.specs.Comparison.{pairRefusal, notContained, verdictReply, Compared}
-use Rattle.comparison.proofs.Verdicts.{queries}
-use Rattle.chase.proofs.Callers.{chases-safe}
-use Rattle.theory.specs.Query as theory
-use Rattle.theory.specs.Query.{rowEntries, variablesOf}
-use Rattle.theory.specs.Query.{subset}
-use Rattle.theory.proofs.Chase.{chase-chases}
-use Rattle.theory.proofs.Lists.{subset-true, subset-of}
+use Rattle.comparison.specs.Comparison.{notContained, Compared}
 use Rattle.mapping_words.specs.Images.{mappingWords}
-use Rattle.comparison_on_files.specs.Queries.{verdictFits, comparisonFits, ComparisonGiven, ComparisonShape, Comparing, CompareGives}
-use Rattle.comparison_on_files.specs.internal.Steps.{SoundComparison}
+use Rattle.comparison_on_files.specs.Queries.{withPart, comparisonFits, ComparisonGiven, ComparisonShape, Comparing, CompareGives}
+use Rattle.comparison_on_files.specs.internal.Steps.{verdictFits}
 
 -- ---- what a comparison leaves
 
@@ -78,43 +67,34 @@ module _ (images : List Cell) (said : ℕ) (mapping part : List ℕ) (size : ℕ
       → ComparisonGiven (verdictFits (length mapping) (length part) (code, [])) images said mapping part size 0 code mapping′ part 0
   contained-stored code mapping′ h m = verdict-stored code [] mapping′ part 0 h (omega arith) m (sym (over-nil part 0)) refl
 
--- The part of a place that holds a query is the query's bytes
-pub query-part : (schema : List ℕ) (q : Query) → putPlace schema (placeWith q) ≡ query schema .put q
-unfolding putPlace
-query-part schema q = refl
+-- ---- a comparison, by its verdict
+
+-- where there is room for a mapping or not, and for the bytes or not
+fits-when : (enough : Bool) (room number : ℕ) (bytes : List ℕ)
+    → (cond enough (gives number) (refused bufferTooShort) >>= λ n. withPart room (n, cond (eqb n notContained) bytes []))
+    ≡ cond (enough && leb (length (cond (eqb number notContained) bytes [])) room) (gives (number, cond (eqb number notContained) bytes []))
+    (refused bufferTooShort)
+unfolding _>>=_
+fits-when true room number bytes = refl
+fits-when false room number bytes = refl
 
 module _ (words room : ℕ) (schema : List ℕ) (c : Comparison) where
-  pub comparison-apart : c .verdict ≡ verdict.Apart → comparisonFits words room schema c ≡ verdictFits words room (0, query schema .put (c .query))
-  unfolding _>>=_
-  comparison-apart e = rw e
+  pub comparison-apart : c .verdict ≡ verdict.Apart
+      → comparisonFits words room schema c ≡ verdictFits words room (0, queryFor 24 schema .put (asQuery (c .query)))
+  comparison-apart e = rw e (fits-when (leb 192 words) room 0 (queryFor 24 schema .put (asQuery (c .query))))
 
   pub comparison-contained : c .verdict ≡ verdict.Contained → comparisonFits words room schema c ≡ verdictFits words room (1, [])
-  unfolding _>>=_
-  comparison-contained e = rw e
+  comparison-contained e = rw e (fits-when (leb 192 words) room 1 (queryFor 24 schema .put (asQuery (c .query))))
 
   pub comparison-never : c .verdict ≡ verdict.Never → comparisonFits words room schema c ≡ verdictFits words room (2, [])
-  unfolding _>>=_
-  comparison-never e = rw e
+  comparison-never e = rw e (fits-when (leb 192 words) room 2 (queryFor 24 schema .put (asQuery (c .query))))
 
-  pub comparison-refused : (n : ℕ) → c .verdict ≡ verdict.Refused n → comparisonFits words room schema c ≡ refused n
+  pub comparison-refused : (n : ℕ) → c .verdict ≡ verdict.Refused n
+      → comparisonFits words room schema c ≡ refused (cond (eqb n tooManyRows && ltb words 192) bufferTooShort n)
   unfolding _>>=_
   comparison-refused n e = rw e
 
 -- ---- the exported call
-
--- A comparison that gives a query holds one that is good with a safe head
-pub compared-sound : (r : Record) (p q : ℕ) (c : Comparison) → Compared r p q c → SoundComparison (schemaOf r) c
-unfolding headSafe
-compared-sound r p q c is apart =
-    let accepted : pairRefusal r p q ≡ option.none = reply-gives (pairRefusal r p q) _ notContained (sym (is .verdict) ∙ ap verdictReply apart) .0 in
-    let view = queryAt r p in
-    let chased = is .chased apart in
-    let safe : headSafe (schemaOf r) (c .query) ≡ true =
-    subst (λ (x : theory.Query). subset (variablesOf (x .head)) (variablesOf (rowEntries (x .rows))) ≡ true) (sym (chased .0))
-    (subset-of _ _
-    (chases-safe (chase-chases (dependenciesOf r) view) (subset-true (variablesOf (view .head)) (variablesOf (rowEntries (view .rows)))
-    (queries r p q accepted .safe-p)))) in
-    filled-place (schemaOf r) (c .query) (chased .1) safe
 
 module _ (file : List ℕ) (p q said : ℕ) (mapping part : List ℕ) (size : ℕ) where
   pub compare-done : (r : Record) → readFile file ≡ gives r → (c : Comparison) → Compared r p q c → ComparisonShape c

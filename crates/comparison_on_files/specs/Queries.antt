@@ -4,22 +4,21 @@ use mathlib.Core.Logic.{_↔_}
 use mathlib.Core.Bool.{Bool, true, false, cond, _&&_}
 use mathlib.Core.List.{List, [], _∷_}
 use Prim.Native.Nat.{ℕ}
-use lib.Dec.{eqb, leb}
+use lib.Dec.{eqb, leb, ltb}
 use lib.ListN.{length}
-use Rattle.refusals.specs.Refusals.{_>>=_, bufferTooShort, gives, refused, Reply, reply}
+use Rattle.refusals.specs.Refusals.{_>>=_, bufferTooShort, tooManyRows, gives, refused, Reply, reply}
 use Rattle.record.specs.Calls.{queryAt}
 use Rattle.query.specs.declared.Cell.{Cell}
 use Rattle.record.specs.declared.Record.{Record}
 use Rattle.record.specs.View.{schemaOf}
 use Rattle.lists.specs.Over.{over}
 use Rattle.format.specs.Format.{Reading, none, got}
-use Rattle.format.specs.Parts.{query}
+use Rattle.format.specs.Parts.{queryFor}
 use Rattle.format.specs.File.{readFile}
-use Rattle.query.specs.View.{entriesOf, imagesOf}
-use Rattle.query.specs.Rule.{shapedQuery}
+use Rattle.query.specs.View.{entriesOf, asQuery, imagesOf}
+use Rattle.query.specs.Rule.{shapedTableau}
 use Rattle.mapping_words.specs.Images.{mappingWords, imagesIn}
 use Rattle.comparison.specs.declared.Comparison.{Comparison}
-use Rattle.comparison.specs.declared.Verdict.{Verdict}
 use Rattle.comparison.specs.Comparison.{notContained, verdictReply, pairRefusal, Compared}
 use Rattle.theory.specs.Query as theory
 use Rattle.theory.specs.Answer as answer
@@ -28,17 +27,21 @@ use Rattle.lent_numbers.specs.Lent.{returned, leaves}
 
 -- ---- comparing
 
--- A verdict's number with the bytes of the query, which is given only where it is not contained
-abbrev pub verdictBytes : Verdict → List ℕ → Reply (ℕ × List ℕ)
-verdictBytes verdict bytes = verdictReply verdict >>= λ number. gives (number, cond (eqb number notContained) bytes [])
+-- A verdict's number, or the refusal, for a mapping buffer of so many words. Refused: bufferTooShort, there is no room for a mapping; it comes before
+-- tooManyRows and after every other refusal
+abbrev pub withMapping : ℕ → Reply ℕ → Reply ℕ
+withMapping words (gives number) = cond (leb 192 words) (gives number) (refused bufferTooShort)
+withMapping words (refused n) = refused (cond (eqb n tooManyRows && ltb words 192) bufferTooShort n)
 
--- A verdict for buffers with so much room. Refused: bufferTooShort, there is no room for a mapping or for the query's bytes
-abbrev pub verdictFits : ℕ → ℕ → ℕ × List ℕ → Reply (ℕ × List ℕ)
-verdictFits words room found = cond (leb 192 words && leb (length (found .1)) room) (gives found) (refused bufferTooShort)
+-- A verdict's number with bytes, for a buffer with so much room. Refused: bufferTooShort, there is no room for the bytes
+abbrev pub withPart : ℕ → ℕ × List ℕ → Reply (ℕ × List ℕ)
+withPart room found = cond (leb (length (found .1)) room) (gives found) (refused bufferTooShort)
 
--- The verdict and bytes of a comparison, for buffers with so much room
+-- The verdict of a comparison with the bytes of its query, which is given only where it is not contained, for buffers with so much room
 abbrev pub comparisonFits : ℕ → ℕ → List ℕ → Comparison → Reply (ℕ × List ℕ)
-comparisonFits words room schema c = verdictBytes (c .verdict) (query schema .put (c .query)) >>= verdictFits words room
+comparisonFits words room schema c =
+    withMapping words (verdictReply (c .verdict)) >>=
+    λ number. withPart room (number, cond (eqb number notContained) (queryFor 24 schema .put (asQuery (c .query))) [])
 
 -- What a comparison returns and leaves: the verdict, the mapping's words, the bytes of the query with their length
 abbrev pub ComparisonGiven : Reply (ℕ × List ℕ) → List Cell → ℕ → List ℕ → List ℕ → ℕ → ℕ → ℕ → List ℕ → List ℕ → ℕ → Type 0
@@ -49,7 +52,7 @@ ComparisonGiven result images said mapping part size number saidAfter mappingAft
 
 -- The arrays of a comparison are as long as their types say, as those of a reduction
 abbrev pub ComparisonShape : Comparison → Type 0
-ComparisonShape c = (shapedQuery (c .query) ≡ true) × (length (c .images) ≡ 96)
+ComparisonShape c = (shapedTableau (c .query) ≡ true) × (length (c .images) ≡ 96)
 
 -- A comparison of two places of the record of a file: a refusal of the file, or what comparing promises. Which mapping is free
 abbrev pub Comparing : Reply Record → ℕ → ℕ → Reply (ℕ × List ℕ) → List Cell → ℕ → ℕ → Type 0

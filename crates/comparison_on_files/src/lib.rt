@@ -2,26 +2,27 @@
 use comparison::Checked;
 use comparison::Comparison;
 use comparison::Verdict;
-use encoder::place_length;
-use encoder::put_place;
+use encoder::put_query;
+use encoder::query_length;
 use mapping_words::put_mapping;
 use mapping_words::read_mapping;
 use query::Cell;
-use query::Place;
-use query::Query;
+use query::Tableau;
 use record::Record;
 use record::Status;
 ghost use mathlib.Core.Path.{_≡_};
-ghost use mathlib.Core.Bool.{true};
+ghost use mathlib.Core.Bool.{true, cond, _&&_};
 ghost use mathlib.Core.List.{[]};
+ghost use lib.Dec.{eqb, ltb};
 ghost use lib.ListN.{length, take};
-ghost use Rattle.query.specs.Rule.{goodRelations, goodPlace, placeWith};
-ghost use Rattle.format.specs.Parts.{query};
-ghost use Rattle.refusals.specs.Refusals.{reply};
+ghost use Rattle.query.specs.View.{asQuery};
+ghost use Rattle.query.specs.Rule.{goodRelations, goodTableau};
+ghost use Rattle.format.specs.Parts.{queryFor};
+ghost use Rattle.refusals.specs.Refusals.{reply, bufferTooShort, tooManyRows};
 ghost use Rattle.comparison.specs.Comparison.{pairRefusal};
 ghost use Rattle.lent_numbers.specs.Lent.{returned, leaves};
-ghost use Rattle.comparison_on_files.specs.Queries.{verdictFits, comparisonFits, ComparisonGiven, CompareGives, wordsMap, checkedIn, bit};
-ghost use Rattle.comparison_on_files.specs.internal.Steps.{SoundComparison};
+ghost use Rattle.comparison_on_files.specs.Queries.{comparisonFits, ComparisonGiven, CompareGives, wordsMap, checkedIn, bit};
+ghost use Rattle.comparison_on_files.specs.internal.Steps.{SoundComparison, verdictFits};
 
 // ---- comparing
 
@@ -48,7 +49,7 @@ fn store_contained(
 
 // Stores the verdict that the first query is not contained, with its chased query.
 fn store_apart(
-    chased: Query,
+    chased: Tableau,
     images: [Cell; 96],
     count: u8,
     widths: [u8; 8],
@@ -58,27 +59,35 @@ fn store_apart(
     size: &mut usize,
 ) -> u8
     requires { ⌜ goodRelations count widths ≡ true ⌝ }
-    requires { ⌜ goodPlace (take count widths) (placeWith chased) ≡ true ⌝ }
-    ensures { λ r. ⌜ ComparisonGiven (verdictFits (length (now (mapping .entry))) (length (now (part .entry))) (0, query (take count widths) .put chased)) images
-        (now (verdict .entry)) (now (mapping .entry)) (now (part .entry)) (now (size .entry)) r (now (verdict .exit)) (now (mapping .exit)) (now (part .exit))
+    requires { ⌜ goodTableau (take count widths) chased ≡ true ⌝ }
+    ensures { λ r. ⌜ ComparisonGiven (verdictFits (length (now (mapping .entry))) (length (now (part .entry)))
+        (0, queryFor 24 (take count widths) .put (asQuery chased))) images (now (verdict .entry)) (now (mapping .entry)) (now (part .entry)) (now (size .entry)) r (now (verdict .exit)) (now (mapping .exit)) (now (part .exit))
         (now (size .exit)) ⌝ }
 {
     if mapping.len() < 192 {
         return refusals::BUFFER_TOO_SHORT;
     }
-    let place = Place {
-        filled: true,
-        query: chased,
-    };
-    let n = place_length(place, count, widths);
+    let n = query_length(chased, count, widths);
     if part.len() < n {
         return refusals::BUFFER_TOO_SHORT;
     }
-    put_place(part, 0, place, count, widths);
+    put_query(part, 0, chased, count, widths);
     put_mapping(images, mapping);
     *verdict = comparison::NOT_CONTAINED;
     *size = n;
     0
+}
+
+// The number with which a comparison is refused, for a mapping buffer of so many words: too many rows come after no room for a mapping.
+fn refusal_for(n: u8, words: usize) -> u8
+    ensures { λ r. ⌜ r ≡ cond (eqb n tooManyRows && ltb words 192) bufferTooShort n ⌝ }
+{
+    if n == refusals::TOO_MANY_ROWS {
+        if words < 192 {
+            return refusals::BUFFER_TOO_SHORT;
+        }
+    }
+    n
 }
 
 // Stores a comparison, unless it is refused: the verdict, the mapping, and the chased query.
@@ -120,7 +129,7 @@ pub fn store_comparison(
             part,
             size,
         ),
-        Verdict::Refused(n) => n,
+        Verdict::Refused(n) => refusal_for(n, mapping.len()),
     }
 }
 

@@ -1,55 +1,60 @@
 -- The file that an accepted call leaves is read as the record after the call. Assumes nothing.
 use mathlib.Core.Path.{_≡_, refl, sym, ap, subst, _∙_}
 use mathlib.Core.Bool.{Bool, true, false, cond, not, _&&_}
-use mathlib.Core.List.{List, [], _∷_, _++_}
+use mathlib.Core.List.{List, [], _∷_, _++_, append-nil}
 use mathlib.Core.Option.{Option, none, some}
 use Prim.Native.Nat.{ℕ, _+_, _-_}
 use native.Mathlib.Omega.{arith}
 use lib.Dec.{eqb, leb, ltb}
 use lib.ListN.{length, take, drop, replicate, length-append, length-replicate, length-set}
 use lib.Seq.{take-at}
-use borrow.Author.Tests.{leb-true}
+use borrow.Author.Tests.{leb-true, eq-eqb, not-false}
 use Rattle.query.specs.declared.Cell.{Cell}
 use Rattle.query.specs.declared.Query.{Query}
 use Rattle.query.specs.declared.Dependency.{Dependency}
+use Rattle.query.specs.declared.JoinDependency.{JoinDependency}
 use Rattle.query.specs.declared.Place.{Place}
 use Rattle.record.specs.declared.Record.{Record}
 use Rattle.record.specs.View.{schemaOf}
-use Rattle.query.specs.View.{queryOf}
+use Rattle.query.specs.View.{queryOf, asQuery}
 use Rattle.lists.specs.Tests.{between, every}
-use Rattle.query.specs.Rule.{goodDependency, goodQuery, headSafe, goodPlace, noPlace, shapedQuery, placeWith}
+use Rattle.query.specs.Rule.{goodDependency, goodJoin, goodQuery, headSafe, noPlace, shapedQuery, shapedJoin, placeWith}
 use Rattle.record.specs.Rule.{goodRecord, blankRecord, emptyRecord}
-use Rattle.refusals.specs.Refusals.{_>>=_, badQuery, bufferTooShort, firstHolding, gives, refused, reply, Reply}
+use Rattle.refusals.specs.Refusals.{_>>=_, badQuery, bufferTooShort, tooManyRows, firstHolding, gives, refused, reply, Reply}
 use Rattle.record.specs.Calls.{queryAt, concluded, brokenRecord, unknownPlace, vacant, filled}
 use Rattle.record.specs.Calls.{withPlace, withDependency, openRecord, addDependency, putQuery}
-use Rattle.record.specs.Calls.{dropQuery}
-use Rattle.refusals.proofs.Refusals.{refused-gives}
-use Rattle.lists.proofs.Tests.{and-left, and-right, and-both, every-set}
+use Rattle.record.specs.Calls.{withJoin, addJoinConditions, addJoin, dropQuery}
+use Rattle.refusals.proofs.Refusals.{none-holds, refused-gives}
+use Rattle.lists.proofs.Tests.{and-left, and-right, every-set}
 use Rattle.record.proofs.Good.{good-record}
-use Rattle.record.proofs.Meaning.{open-keeps, add-keeps, put-keeps, drop-keeps}
+use Rattle.record.proofs.Meaning.{open-keeps, add-keeps, add-join-keeps, put-keeps, drop-keeps}
 use Rattle.lists.specs.Over.{over}
+use Rattle.lists.proofs.Over.{length-pad}
+use Rattle.query.proofs.Good.{good-join}
 use Rattle.format.specs.Bytes.{Bytes}
-use Rattle.format.specs.Parts.{query}
+use Rattle.format.specs.Format.{got}
+use Rattle.format.specs.Parts.{queryFor, query}
 use Rattle.format.specs.File.{complete, isVacant, safeQuery, readPlace, readFile, fileOf, shaped}
 use Rattle.format.proofs.Directory.{cond-ok}
 use Rattle.format.proofs.Parts.{Narrow, query-lawful}
-use Rattle.format.proofs.Places.{read-filled}
 use Rattle.format.proofs.Results.{bind-ok, complete-get}
-use Rattle.format.proofs.Rules.{good-narrow, good-query}
+use Rattle.format.proofs.Rules.{good-narrow, query-good, good-query}
 use Rattle.format.proofs.RoundTrip.{sound-record, file-written-back, record-read-back}
 use Rattle.comparison.specs.declared.Comparison.{Comparison}
 use Rattle.comparison.specs.declared.Verdict.{Verdict}
 use Rattle.comparison.specs.declared.Verdict.the-variants as verdict
-use Rattle.comparison.specs.Comparison.{chasedAt, verdictReply, verdictOn, Compared}
+use Rattle.comparison.specs.Comparison.{outcomeAt, chasedAt, verdictReply, verdictOn, verdictOf, Compared}
+use Rattle.comparison.proofs.Pairs.{compare-over, compare-ends}
+use Rattle.joins.specs.JoinChase as join
 use Rattle.minimization.specs.Search as search
 use Rattle.reduction.specs.declared.Reduced.{Reduced}
-use Rattle.lent_numbers.specs.Lent.{fitted, Wrote}
-use Rattle.record_on_files.specs.Records.{resultOf, fileFitted, putPart}
+use Rattle.lent_numbers.specs.Lent.{returned, fitted, Wrote}
+use Rattle.record_on_files.specs.Records.{resultOf, fileFitted, joinWith, putPart}
 use Rattle.reduction_on_files.specs.Shortening.{ReductionGiven, Reducing}
 use Rattle.comparison_on_files.specs.Queries.{comparisonFits, ComparisonGiven, ComparisonShape, Comparing}
-use Rattle.files_left.specs.Legible.{FileLeft, WriteLeft, OpenLeft, AddLeft, PutLeft, DropLeft, ReduceLeft, CompareLeft}
+use Rattle.files_left.specs.Legible.{FileLeft, WriteLeft, OpenLeft, AddLeft, AddJoinLeft, PutLeft, DropLeft, ReduceLeft, CompareLeft}
 use Rattle.lent_numbers.proofs.Lent.{goes-on}
-use Rattle.comparison_on_files.proofs.Verdicts.{query-part, comparison-apart, comparison-contained, comparison-never, compared-sound}
+use Rattle.comparison_on_files.proofs.Verdicts.{comparison-apart, comparison-contained, comparison-never, comparison-refused}
 
 -- ---- records that are written whole
 
@@ -95,9 +100,9 @@ read-whole : (file : List ℕ) → Bytes file → (r : Record) → readFile file
 read-whole file hb r e = let k = file-written-back file r hb e in (k .0, k .1)
 
 -- A record's arrays, one by one
-shaped-from : (r : Record) → length (r .widths) ≡ 8 → length (r .dependencies) ≡ 32 → length (r .places) ≡ 8
-    → every (λ p. shapedQuery (p .query)) (r .places) ≡ true → shaped r ≡ true
-shaped-from r w d p q = rw (w, d, p, q)
+shaped-from : (r : Record) → length (r .widths) ≡ 8 → length (r .dependencies) ≡ 32 → length (r .joins) ≡ 4 → every shapedJoin (r .joins) ≡ true
+    → length (r .places) ≡ 8 → every (λ p. shapedQuery (p .query)) (r .places) ≡ true → shaped r ≡ true
+shaped-from r w d j s p q = rw (w, d, j, s, p, q)
 
 -- no test but one can refuse, and it did not
 unrefused : (fit : Bool) → cond {A = Option ℕ} (not fit) (some 3) none ≡ none → fit ≡ true
@@ -114,23 +119,32 @@ open-shaped widths e =
     let most = leb-true (length widths) 8 (and-right (leb 1 (length widths)) (leb (length widths) 8)
     (and-left few (every (between 1 8) widths) (unrefused fit clear))) in
     let long : length (widths ++ replicate (8 - length widths) 0) ≡ 8 = rw (length-append, length-replicate) (omega arith) in
-    shaped-from (emptyRecord (length widths) (widths ++ replicate (8 - length widths) 0)) long refl refl refl)
+    shaped-from (emptyRecord (length widths) (widths ++ replicate (8 - length widths) 0)) long refl refl refl refl refl)
 
 module _ (r : Record) (w : Whole r) where
   queries : every (λ p. shapedQuery (p .query)) (r .places) ≡ true
   queries =
-      and-right (eqb (length (r .widths)) 8 && eqb (length (r .dependencies)) 32 && eqb (length (r .places)) 8)
+      and-right
+      (eqb (length (r .widths)) 8 && eqb (length (r .dependencies)) 32 && eqb (length (r .joins)) 4 && every shapedJoin (r .joins)
+      && eqb (length (r .places)) 8)
       (every (λ p. shapedQuery (p .query)) (r .places)) (w .1)
 
   dependency-shaped : (d : Dependency) → shaped (withDependency r d) ≡ true
   dependency-shaped d =
       let k = sound-record r (w .0) (w .1) in
-      shaped-from (withDependency r d) (k .widths-long) (length-set (r .dependencies) (r .held) d ∙ k .dependencies-long) (k .places-long) queries
+      shaped-from (withDependency r d) (k .widths-long) (length-set (r .dependencies) (r .held) d ∙ k .dependencies-long) (k .joins-long) (k .sets-long)
+      (k .places-long) queries
+
+  join-shaped : (j : JoinDependency) → shapedJoin j ≡ true → shaped (withJoin r j) ≡ true
+  join-shaped j s =
+      let k = sound-record r (w .0) (w .1) in
+      shaped-from (withJoin r j) (k .widths-long) (k .dependencies-long) (length-set (r .joins) (r .joined) j ∙ k .joins-long)
+      (every-set shapedJoin (r .joins) (r .joined) j (k .sets-long) s) (k .places-long) queries
 
   place-shaped : (place : ℕ) (p : Place) → shapedQuery (p .query) ≡ true → shaped (withPlace r place p) ≡ true
   place-shaped place p s =
       let k = sound-record r (w .0) (w .1) in
-      shaped-from (withPlace r place p) (k .widths-long) (k .dependencies-long) (length-set (r .places) place p ∙ k .places-long)
+      shaped-from (withPlace r place p) (k .widths-long) (k .dependencies-long) (k .joins-long) (k .sets-long) (length-set (r .places) place p ∙ k .places-long)
       (every-set (λ p. shapedQuery (p .query)) (r .places) place p queries s)
 
   add-shaped : (d : Dependency) → addDependency r d .0 ≡ gives tt → shaped (addDependency r d .1) ≡ true
@@ -138,6 +152,20 @@ module _ (r : Record) (w : Whole r) where
   add-shaped d e =
       concluded-shaped (firstHolding (brokenRecord r ∷ (not (goodDependency (schemaOf r) d), 4) ∷ (eqb (r .held) 32, 13) ∷ [])) r (withDependency r d) e
       (λ _. dependency-shaped d)
+
+  -- one that is added has at most 4 sets
+  add-join-shaped : (relation : ℕ) (sets : List ℕ) → addJoin r (joinWith relation sets) .0 ≡ gives tt
+      → shaped (addJoin r (joinWith relation sets) .1) ≡ true
+  unfolding addJoin
+  add-join-shaped relation sets e =
+      let j : JoinDependency = joinWith relation sets in
+      let fit : Bool = goodJoin (schemaOf r) j in
+      let full : (Bool × ℕ) = (eqb (r .joined) 4, 16) in
+      concluded-shaped (firstHolding (addJoinConditions r j)) r (withJoin r j) e
+      (λ clear.
+      let a = none-holds (not (goodRecord r)) 14 ((not fit, 15) ∷ full ∷ []) clear in
+      let b = none-holds (not fit) 15 (full ∷ []) (a .1) in
+      join-shaped j (eq-eqb (length (j .sets)) 4 (length-pad 4 0 sets (good-join (schemaOf r) j (not-false fit (b .0)) .most))))
 
   put-shaped : (place : ℕ) (q : Query) → shapedQuery q ≡ true → putQuery r place q .0 ≡ gives tt → shaped (putQuery r place q .1) ≡ true
   unfolding putQuery
@@ -170,8 +198,8 @@ module _ (r : Record) (w : Whole r) where
           let (q, g, s) = bind-ok (complete badQuery (query schema .get part)) (safeQuery schema) p e in
           let (safe, s₁) = cond-ok (headSafe schema q) (gives (placeWith q)) 6 p s in
           let same : placeWith q ≡ p = cc in
-          let (good, put) = complete-get badQuery (query schema) (query-lawful schema narrow) part q hb g in
-          subst (λ (x : Place). shapedQuery (x .query) ≡ true) same (good-query schema q good .0)
+          let (good, put) = complete-get badQuery (query schema) (query-lawful 12 schema narrow) part q hb g in
+          subst (λ (x : Place). shapedQuery (x .query) ≡ true) same (good-query 12 schema q good .0)
 
   put-whole : (place : ℕ) (part : List ℕ) → Bytes part → (after : Record) → putPart place part r ≡ gives after → Whole after
   put-whole place part hb after e =
@@ -201,6 +229,13 @@ add-left file hb relation left right =
     let d : Dependency = record { relation = relation; left = left; right = right } in
     after-read file hb (λ r. resultOf (addDependency r d))
     (λ r after w e. outcome-whole (addDependency r d) after e (λ a. (add-keeps r d (sound-record r (w .0) (w .1) .dependencies-long) a, add-shaped r w d a)))
+
+pub add-join-left : AddJoinLeft
+add-join-left file hb relation sets =
+    let j : JoinDependency = joinWith relation sets in
+    after-read file hb (λ r. resultOf (addJoin r j))
+    (λ r after w e.
+    outcome-whole (addJoin r j) after e (λ a. (add-join-keeps r j (sound-record r (w .0) (w .1) .joins-long) a, add-join-shaped r w relation sets a)))
 
 pub put-left : PutLeft
 put-left file hb place part hp = after-read file hb (putPart place part) (λ r after w e. put-whole r w place part hp after e)
@@ -242,19 +277,36 @@ compare-left file hb p q r e clear said mapping part size mappingAfter partAfter
         (sym (k .1), rw (k .3, k .4) (take-at bytes (drop (0 + length bytes) part) (length bytes) refl))
     given-back n bytes images false k = let z : _≡_ {A = ℕ} 0 10 = k .0 in absurd (omega arith)
 
+    found : ℕ
+    found = verdictOn (chasedAt r p .rows) (search.mappable (queryAt r q) (chasedAt r p))
+
+    -- one that is refused returns no 0: by how the chase ends
+    not-refused : (n : ℕ) → _≡_ {A = Reply ℕ} (refused n) (verdictOf r p q) → (o : join.Outcome) → outcomeAt r p ≡ o → (late : Bool)
+        → _≡_ {A = ℕ} 0 (cond (eqb n tooManyRows && late) bufferTooShort n) → ⊥
+    not-refused n says join.overflow ends late e =
+        let over : _≡_ {A = Reply ℕ} (refused n) (refused 17) = says ∙ ap (λ (x : Option ℕ). reply x found) (compare-over r p q clear ends) in
+        let number : n ≡ 17 = ap returned over in
+        zero-not late (subst (λ (k : ℕ). _≡_ {A = ℕ} 0 (cond (eqb k tooManyRows && late) bufferTooShort k)) number e)
+      where
+        zero-not : (late : Bool) → _≡_ {A = ℕ} 0 (cond (eqb 17 tooManyRows && late) bufferTooShort 17) → ⊥
+        zero-not true z = omega arith
+        zero-not false z = omega arith
+    not-refused n says (join.chased C) ends late e =
+        refused-gives (says ∙ ap (λ (x : Option ℕ). reply x found) (compare-ends r p q clear C ends))
+
     go : (c : Comparison) → Compared r p q c → ComparisonShape c → (images : List Cell)
         → Given (comparisonFits (length mapping) (length part) (schemaOf r) c) images
         → (v : Verdict) → c .verdict ≡ v
-        → (chased : Query) × (readPlace (schemaOf r) true (take sizeAfter partAfter) ≡ gives (placeWith chased)) × (queryOf (schemaOf r) chased ≡ chasedAt r p)
+        → (chased : Query) × (queryFor 24 (schemaOf r) .get (take sizeAfter partAfter) ≡ got chased []) × (queryOf (schemaOf r) chased ≡ chasedAt r p)
     go c is shape images k verdict.Apart a =
-        let bytes = query (schemaOf r) .put (c .query) in
+        let chased : Query = asQuery (c .query) in
+        let bytes = queryFor 24 (schemaOf r) .put chased in
         let same = given-back 0 bytes images (leb 192 (length mapping) && leb (length bytes) (length part))
         (subst (λ (x : Reply (ℕ × List ℕ)). Given x images) (comparison-apart (length mapping) (length part) (schemaOf r) c a) k) .1 in
-        let good = read-whole file hb r e .0 in (
-          c .query,
-          ap (readPlace (schemaOf r) true) (same ∙ sym (query-part (schemaOf r) (c .query)))
-              ∙ read-filled (schemaOf r) (good-narrow (r .relations) (r .widths) (good-record r good .relations)) true (placeWith (c .query))
-              (and-both (goodPlace (schemaOf r) (placeWith (c .query))) (shapedQuery (c .query)) (compared-sound r p q c is a) (shape .0)) refl,
+        let narrow = good-narrow (r .relations) (r .widths) (good-record r (read-whole file hb r e .0) .relations) in (
+          chased,
+          ap (queryFor 24 (schemaOf r) .get) (same ∙ sym (append-nil bytes))
+              ∙ query-lawful 24 (schemaOf r) narrow .get-put chased [] (query-good 24 (schemaOf r) chased (shape .0) (is .chased a .1)),
           is .chased a .0,
         )
     go c is shape images k verdict.Contained a =
@@ -264,5 +316,6 @@ compare-left file hb p q r e clear said mapping part size mappingAfter partAfter
         let z = given-back 2 [] images (leb 192 (length mapping) && leb 0 (length part))
         (subst (λ (x : Reply (ℕ × List ℕ)). Given x images) (comparison-never (length mapping) (length part) (schemaOf r) c a) k) .0 in absurd (omega arith)
     go c is shape images k (verdict.Refused n) a =
-        let found : ℕ = verdictOn (chasedAt r p .rows) (search.mappable (queryAt r q) (chasedAt r p)) in
-        absurd (refused-gives (sym (ap verdictReply a) ∙ is .verdict ∙ ap (λ (x : Option ℕ). reply x found) clear))
+        absurd
+        (not-refused n (sym (ap verdictReply a) ∙ is .verdict) (outcomeAt r p) refl (ltb (length mapping) 192)
+        (subst (λ (x : Reply (ℕ × List ℕ)). Given x images) (comparison-refused (length mapping) (length part) (schemaOf r) c n a) k .0))

@@ -2,8 +2,7 @@
 -- Each statement is proved in `proofs/Legible`.
 -- `Bytes` holds of every file and query part that a call can be given: bytes are below 256.
 use mathlib.Core.Path.{_≡_}
-use mathlib.Core.Bool.{true}
-use mathlib.Core.List.{List}
+use mathlib.Core.List.{List, []}
 use mathlib.Core.Option.{none}
 use Prim.Native.Nat.{ℕ}
 use lib.ListN.{length, take}
@@ -11,16 +10,17 @@ use Rattle.query.specs.declared.Query.{Query}
 use Rattle.record.specs.declared.Record.{Record}
 use Rattle.record.specs.View.{schemaOf}
 use Rattle.query.specs.View.{queryOf}
-use Rattle.record.specs.Calls.{openRecord, addDependency, dropQuery}
+use Rattle.record.specs.Calls.{openRecord, addDependency, addJoin, dropQuery}
 use Rattle.format.specs.Bytes.{Bytes}
 use Rattle.refusals.specs.Refusals.{Reply, gives, _>>=_}
-use Rattle.query.specs.Rule.{placeWith}
-use Rattle.format.specs.File.{readPlace, readFile}
+use Rattle.format.specs.Format.{got}
+use Rattle.format.specs.Parts.{queryFor}
+use Rattle.format.specs.File.{readFile}
 use Rattle.comparison.specs.Comparison.{chasedAt, pairRefusal}
 use Rattle.reduction.specs.declared.Reduced.{Reduced}
 use Rattle.reduction.specs.Reduced.{reductionRefusal, IsReduced}
 use Rattle.lent_numbers.specs.Lent.{Wrote}
-use Rattle.record_on_files.specs.Records.{resultOf, copied, opened, added, putPart, putIn, dropped}
+use Rattle.record_on_files.specs.Records.{resultOf, copied, opened, added, joinWith, addedJoin, putPart, putIn, dropped}
 use Rattle.reduction_on_files.specs.Shortening.{ReduceGives}
 use Rattle.comparison_on_files.specs.Queries.{CompareGives}
 
@@ -38,11 +38,17 @@ WriteLeft = (file : List ℕ) → Bytes file → FileLeft (readFile file) (copie
 abbrev pub OpenLeft : Type 0
 OpenLeft = (widths : List ℕ) → FileLeft (resultOf (openRecord widths)) (opened widths)
 
--- A file with a dependency added
+-- A file with a functional dependency added
 abbrev pub AddLeft : Type 0
 AddLeft =
     (file : List ℕ) → Bytes file → (relation left right : ℕ)
     → FileLeft (readFile file >>= λ r. resultOf (addDependency r (record { relation = relation; left = left; right = right }))) (added file relation left right)
+
+-- With a join dependency added
+abbrev pub AddJoinLeft : Type 0
+AddJoinLeft =
+    (file : List ℕ) → Bytes file → (relation : ℕ) (sets : List ℕ)
+    → FileLeft (readFile file >>= λ r. resultOf (addJoin r (joinWith relation sets))) (addedJoin file relation sets)
 
 -- With a query put into a place
 abbrev pub PutLeft : Type 0
@@ -61,10 +67,11 @@ ReduceLeft =
     → ReduceGives file source target out size count mapping 0 outAfter sizeAfter countAfter mappingAfter
     → (o : Reduced) × IsReduced r source target o × (readFile (take sizeAfter outAfter) ≡ gives (o .«record»))
 
--- Comparing, once the places are not refused, where it said 0: the query part that it left is read as a query that stands for the first query, chased
+-- Comparing, once the places are not refused, where it said 0: the query part that it left is read as a query of at most 24 rows that stands for the first
+-- query, chased
 abbrev pub CompareLeft : Type 0
 CompareLeft =
     (file : List ℕ) → Bytes file → (p q : ℕ) (r : Record) → readFile file ≡ gives r → pairRefusal r p q ≡ none
     → (said : ℕ) (mapping part : List ℕ) (size : ℕ) (mappingAfter partAfter : List ℕ) (sizeAfter : ℕ)
     → CompareGives file p q said mapping part size 0 0 mappingAfter partAfter sizeAfter
-    → (chased : Query) × (readPlace (schemaOf r) true (take sizeAfter partAfter) ≡ gives (placeWith chased)) × (queryOf (schemaOf r) chased ≡ chasedAt r p)
+    → (chased : Query) × (queryFor 24 (schemaOf r) .get (take sizeAfter partAfter) ≡ got chased []) × (queryOf (schemaOf r) chased ≡ chasedAt r p)

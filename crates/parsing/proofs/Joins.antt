@@ -28,7 +28,7 @@ and-false true = refl
 and-false false = refl
 
 -- More than 4 sets are too many
-many-sets : (schema : List ℕ) (j : JoinDependency) → 4 < j .count → goodJoin schema j ≡ false
+pub many-sets : (schema : List ℕ) (j : JoinDependency) → 4 < j .count → goodJoin schema j ≡ false
 many-sets schema j h = go (goodJoin schema j) refl
   where
     go : (t : Bool) → goodJoin schema j ≡ t → t ≡ false

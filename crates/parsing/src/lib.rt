@@ -390,7 +390,7 @@ fn no_join() -> JoinRead
 }
 
 // At most 4 sets from a position on, and 0 for each that is not in use.
-fn read_sets(part: &[u8], at: usize, n: usize) -> [u8; 4]
+pub fn read_sets(part: &[u8], at: usize, n: usize) -> [u8; 4]
     requires { ⌜ (n ≤ 4) × (at + n ≤ length (now part)) ⌝ }
     ensures { λ r. ⌜ r ≡ pad 4 0 (take n (drop at (now (part .entry)))) ⌝ }
 {

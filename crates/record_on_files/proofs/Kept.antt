@@ -5,18 +5,21 @@ use mathlib.Core.List.{List}
 use Prim.Native.Nat.{ℕ, _≤_, _<_}
 use lib.ListN.{length}
 use borrow.Author.Tests.{lt-ltb, le-ltb}
-use Rattle.refusals.specs.Refusals.{_>>=_, gives, noSuchPlace, refused, Reply}
+use Rattle.refusals.specs.Refusals.{_>>=_, badJoin, gives, noSuchPlace, refused, Reply}
 use Rattle.refusals.proofs.Refusals.{refused-gives}
 use Rattle.query.specs.declared.Query.{Query}
 use Rattle.query.specs.declared.Dependency.{Dependency}
+use Rattle.query.specs.declared.JoinDependency.{JoinDependency}
 use Rattle.query.specs.declared.Place.{Place}
 use Rattle.record.specs.declared.Record.{Record}
 use Rattle.record.specs.declared.Outcome.{Outcome}
 use Rattle.record.specs.View.{schemaOf}
 use Rattle.record.specs.Rule.{goodRecord}
-use Rattle.record.specs.Calls.{statusReply, outcomeReply, openRecord, addDependency, putQuery, dropQuery}
+use Rattle.record.specs.Calls.{statusReply, outcomeReply, openRecord, addDependency, addJoin, putQuery, dropQuery}
 use Rattle.record.specs.Meaning.{LeavesGood}
-use Rattle.record.proofs.Meaning.{open-keeps, add-keeps, put-keeps, drop-keeps}
+use Rattle.record.proofs.Meaning.{open-keeps, add-keeps, add-join-keeps, put-keeps, drop-keeps}
+use Rattle.record.proofs.Outcomes.{join-unfit}
+use Rattle.parsing.proofs.Joins.{many-sets}
 use Rattle.format.specs.File.{readPlace}
 use Rattle.record_on_files.specs.Records.{resultOf, putPart}
 use Rattle.record_on_files.specs.internal.Steps.{GoodIfDone}
@@ -39,6 +42,13 @@ open-sound widths o e = says-sound o (openRecord widths) e (open-keeps widths)
 module _ (r : Record) (good : goodRecord r ≡ true) where
   pub add-sound : (d : Dependency) (o : Outcome) → length (r .dependencies) ≡ 32 → outcomeReply o ≡ addDependency r d → GoodIfDone o
   add-sound d o long e = says-sound o (addDependency r d) e (add-keeps r d long)
+
+  pub join-sound : (j : JoinDependency) (o : Outcome) → length (r .joins) ≡ 4 → outcomeReply o ≡ addJoin r j → GoodIfDone o
+  join-sound j o long e = says-sound o (addJoin r j) e (add-join-keeps r j long)
+
+  -- More than 4 sets are refused
+  pub join-many : (j : JoinDependency) → 4 < j .count → (refused badJoin, r) ≡ addJoin r j
+  join-many j h = join-unfit r j good (many-sets (schemaOf r) j h)
 
   pub drop-sound : (place : ℕ) (o : Outcome) → outcomeReply o ≡ dropQuery r place → GoodIfDone o
   drop-sound place o e = says-sound o (dropQuery r place) e (drop-keeps r place)

@@ -4,10 +4,13 @@ use mathlib.Core.Bool.{true, cond}
 use mathlib.Core.List.{List}
 use Prim.Native.Nat.{ℕ}
 use lib.Dec.{ltb}
+use lib.ListN.{length}
 use Rattle.refusals.specs.Refusals.{_>>=_, gives, noSuchPlace, refused, Reply}
+use Rattle.lists.specs.Over.{pad}
+use Rattle.query.specs.declared.JoinDependency.{JoinDependency}
 use Rattle.record.specs.declared.Record.{Record}
 use Rattle.record.specs.View.{schemaOf}
-use Rattle.record.specs.Calls.{openRecord, addDependency, putQuery, dropQuery, determinedColumns}
+use Rattle.record.specs.Calls.{openRecord, addDependency, addJoin, putQuery, dropQuery, determinedColumns}
 use Rattle.format.specs.File.{readPlace, readFile, fileOf}
 use Rattle.lent_numbers.specs.Lent.{fitted}
 
@@ -27,10 +30,18 @@ copied file room = readFile file >>= λ _. fitted room file
 abbrev pub opened : List ℕ → ℕ → Reply (List ℕ)
 opened widths room = fileFitted room (resultOf (openRecord widths))
 
--- The file with a dependency added
+-- The file with a functional dependency added
 abbrev pub added : List ℕ → ℕ → ℕ → ℕ → ℕ → Reply (List ℕ)
 added file relation left right room =
     fileFitted room (readFile file >>= λ r. resultOf (addDependency r (record { relation = relation; left = left; right = right })))
+
+-- The join dependency on these sets: as many as there are, which is no good one unless they are 2 to 4
+abbrev pub joinWith : ℕ → List ℕ → JoinDependency
+joinWith relation sets = record { relation = relation; count = length sets; sets = pad 4 0 sets }
+
+-- The file with a join dependency added
+abbrev pub addedJoin : List ℕ → ℕ → List ℕ → ℕ → Reply (List ℕ)
+addedJoin file relation sets room = fileFitted room (readFile file >>= λ r. resultOf (addJoin r (joinWith relation sets)))
 
 -- A record with the query of a query part put into a place. Refused: noSuchPlace; the query part's badQuery or unsafeHead, where 255 alone is no query;
 -- placeFilled

@@ -4,6 +4,7 @@ use lent_numbers::leave_columns;
 use lent_numbers::leave_length;
 use lent_numbers::number_of;
 use query::Dependency;
+use query::JoinDependency;
 use record::Outcome;
 use record::Record;
 use record::Status;
@@ -13,10 +14,10 @@ ghost use mathlib.Core.Path.{_≡_};
 ghost use mathlib.Core.Bool.{true};
 ghost use lib.ListN.{length};
 ghost use Rattle.record.specs.Rule.{goodRecord};
-ghost use Rattle.record.specs.Calls.{outcomeReply};
+ghost use Rattle.record.specs.Calls.{outcomeReply, addJoin};
 ghost use Rattle.format.specs.File.{fileOf, readFile};
 ghost use Rattle.lent_numbers.specs.Lent.{fitted, returned, leaves, Wrote};
-ghost use Rattle.record_on_files.specs.Records.{resultOf, fileFitted, putPart, copied, opened, added, putIn, dropped, determinedIn};
+ghost use Rattle.record_on_files.specs.Records.{resultOf, fileFitted, joinWith, putPart, copied, opened, added, addedJoin, putIn, dropped, determinedIn};
 ghost use Rattle.record_on_files.specs.internal.Steps.{GoodIfDone};
 
 // ---- what is stored
@@ -63,6 +64,24 @@ pub fn put_part(given: Record, place: usize, part: &[u8]) -> Outcome
     }
 }
 
+// Adds the join dependency on some sets after those held: more than 4 sets make no good one.
+pub fn add_sets(given: Record, relation: u8, sets: &[u8]) -> Outcome
+    requires { ⌜ goodRecord given ≡ true ⌝ }
+    ensures { λ o. ⌜ (outcomeReply o ≡ addJoin given (joinWith relation (now (sets .entry)))) × GoodIfDone o ⌝ }
+{
+    let count = sets.len();
+    if 4 < count {
+        return refused(refusals::BAD_JOIN, given);
+    }
+    let padded = parsing::read_sets(sets, 0, count);
+    let j = JoinDependency {
+        relation,
+        count: count as u8,
+        sets: padded,
+    };
+    given.add_join(j)
+}
+
 // ---- files
 
 // Whether the bytes are a file.
@@ -92,7 +111,7 @@ pub fn open_file(widths: &[u8], out: &mut [u8], size: &mut usize) -> u8
     store_outcome(Record::open(widths), out, size)
 }
 
-// Adds a dependency after those held.
+// Adds a functional dependency after those held.
 pub fn add_in_file(
     file: &[u8],
     relation: u8,
@@ -115,6 +134,28 @@ pub fn add_in_file(
                 right,
             };
             store_outcome(given.add_dependency(d), out, size)
+        }
+        Status::Refused(n) => n,
+    }
+}
+
+// Adds a join dependency, a byte for each set, after those held.
+pub fn add_join_in_file(
+    file: &[u8],
+    relation: u8,
+    sets: &[u8],
+    out: &mut [u8],
+    size: &mut usize,
+) -> u8
+    ensures { λ r. ⌜ Wrote (addedJoin (now (file .entry)) relation (now (sets .entry)) (length (now (out .entry)))) (now (out .entry)) (now (size .entry)) r
+        (now (out .exit)) (now (size .exit)) ⌝ }
+{
+    let outcome = file::read(file);
+    let answer = outcome.answer;
+    match answer {
+        Status::Done => {
+            let given = outcome.record;
+            store_outcome(add_sets(given, relation, sets), out, size)
         }
         Status::Refused(n) => n,
     }

@@ -66,6 +66,8 @@ module _ (r : Record) (place : ℕ) (low : place < 8) where
           relations = g .relations;
           held = g .held;
           dependencies = g .dependencies;
+          joined = g .joined;
+          joins = g .joins;
           places =
               every-set (goodPlace (schemaOf r)) (replicate 8 noPlace) place (getD (r .places) place noPlace)
               (every-replicate (goodPlace (schemaOf r)) 8 noPlace (empty-place (schemaOf r)))
@@ -88,9 +90,26 @@ module _ (r : Record) (place : ℕ) (low : place < 8) where
 -- What the code makes is that record
 pub alone-made : (r : Record) (place : ℕ) (v p : Place) → v ≡ noPlace → p ≡ getD (r .places) place noPlace
     → _≡_ {A = Record}
-    (record { relations = r .relations; widths = r .widths; held = r .held; dependencies = r .dependencies; places = set (replicate 8 v) place p })
+    (record {
+      relations = r .relations;
+      widths = r .widths;
+      held = r .held;
+      dependencies = r .dependencies;
+      joined = r .joined;
+      joins = r .joins;
+      places = set (replicate 8 v) place p;
+    })
     (aloneIn r place)
 alone-made r place v p e f =
     ap
-    (λ (ps : List Place). record { relations = r .relations; widths = r .widths; held = r .held; dependencies = r .dependencies; places = ps })
+    (λ (ps : List Place).
+    record {
+      relations = r .relations;
+      widths = r .widths;
+      held = r .held;
+      dependencies = r .dependencies;
+      joined = r .joined;
+      joins = r .joins;
+      places = ps;
+    })
     (ap (λ (x : Place). set (replicate 8 x) place p) e ∙ ap (λ (x : Place). set (replicate 8 noPlace) place x) f)

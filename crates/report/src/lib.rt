@@ -19,6 +19,7 @@ fn alone(given: Record, place: usize) -> Record
 {
     let widths = given.widths;
     let dependencies = given.dependencies;
+    let joins = given.joins;
     let places = given.places;
     let kept = places[place];
     let vacant = record::calls::no_place();
@@ -29,6 +30,8 @@ fn alone(given: Record, place: usize) -> Record
         widths: widths,
         held: given.held,
         dependencies: dependencies,
+        joined: given.joined,
+        joins: joins,
         places: after,
     }
 }

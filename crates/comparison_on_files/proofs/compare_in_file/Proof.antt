@@ -3,7 +3,7 @@ use Rattle.record.proofs.Good.{good-record}
 use Rattle.format.specs.File.{readFile}
 use Rattle.record_on_files.proofs.Files.{read-good}
 use Rattle.format.proofs.Results.{outcome-done, outcome-refused}
-use Rattle.comparison_on_files.proofs.Verdicts.{compared-sound, compare-done, compare-refused}
+use Rattle.comparison_on_files.proofs.Verdicts.{compare-done, compare-refused}
 use Rattle.comparison_on_files.proofs.Shapes.{comparison-shaped}
 use borrow.Author.Needs.{needs}
 use Rattle.comparison_on_files.proofs.compare_in_file.Statement.{statement}
@@ -27,8 +27,7 @@ store-comparison-requires c κs =
     (λ i. c .before .before .before .before .before .before .before .before .before .before .before .before .shared-slice-known .given i .fits)
     (c .before .before .before .before .before .before .before .enum-told .given .1) in (
       good-record r good .relations,
-      compared-sound r (a .p) (a .q) (c .before .before .before .before .compare .result)
-          (c .before .before .before .before .compare .ensures),
+      λ apart. c .before .before .before .before .compare .ensures .chased apart .1,
     )
 
 enum-known-answer : tie.Need-enum-known-answer

@@ -1,5 +1,7 @@
 -- `store_comparison` stores what the verdict asks for. Assumes nothing.
+use mathlib.Core.Path.{sym, ap, _∙_}
 use lib.ListN.{length, take}
+use Rattle.refusals.specs.Refusals.{refused}
 use Rattle.comparison_on_files.proofs.Verdicts.{comparison-same, comparison-none, comparison-apart, comparison-contained}
 use Rattle.comparison_on_files.proofs.Verdicts.{comparison-never, comparison-refused}
 use borrow.Author.Needs.{needs}
@@ -73,11 +75,15 @@ returns-3 c =
     (c .before .before .before .before .before .before .before .before .before .enum-told3 .given .1)) _ _ _ _ _
     (c .before .before .before .before .store-contained2 .ensures)
 
+refusal-for-requires : tie.Need-refusal-for-requires
+refusal-for-requires c κs = search needs
+
 returns-4 : tie.Need-returns-4
 returns-4 c =
-    let a = c .before .before .before .before .before .before .args in
+    let a = c .before .before .before .before .before .before .before .args in
     comparison-none (a .compared .images) (a .verdict .now) (a .mapping .now) (a .part .now) (a .size .now)
-    (comparison-refused (length (a .mapping .now)) (length (a .part .now)) (take (a .count) (a .widths)) (a .compared) _ (c .before .found .given .1))
+    (comparison-refused (length (a .mapping .now)) (length (a .part .now)) (take (a .count) (a .widths)) (a .compared) _ (c .before .before .found .given .1)
+    ∙ ap refused (sym (c .refusal-for .ensures)))
 
 pub store-comparison-spec : {M : Type 1} → statement M
 store-comparison-spec =
@@ -90,6 +96,7 @@ store-comparison-spec =
     enum-told-3
     store-contained-requires-2
     enum-known-found
+    refusal-for-requires
     same-length
     same-length-2
     returns

@@ -35,7 +35,7 @@ array-set-from-after c = search needs
 
 returns : tie.Need-returns
 returns c =
-    let first = c .before .before .before .before .before in
+    let first = c .before .before .before .before .before .before in
     alone-made (first .args .given) (first .args .place) (c .no-place .result) (getD (first .args .given .places) (first .args .place) pastPlace)
     (c .no-place .ensures) (read first)
 

@@ -22,6 +22,8 @@ aloneIn r place =
       widths = r .widths;
       held = r .held;
       dependencies = r .dependencies;
+      joined = r .joined;
+      joins = r .joins;
       places = set (replicate 8 noPlace) place (getD (r .places) place noPlace);
     }
 
