@@ -27,11 +27,11 @@ use Rattle.joins.proofs.Choices.{firstMissing-found, firstMissing-nothi
 use Rattle.joins.proofs.Choices.{yields-length, yields-relation, yields-fits, yields-column, yields-beyond}
 
 -- A row as it is read
-abbrev readRow : (ℕ → ℕ) → Row Entry → Row ℕ
+abbrev pub readRow : (ℕ → ℕ) → Row Entry → Row ℕ
 readRow assign = mapRow (valueOf itself assign)
 
 -- A column of it
-read-column : (assign : ℕ → ℕ) (r : Row Entry) (c : ℕ) → column 0 (readRow assign r) c ≡ valueOf itself assign (column (constant 0) r c)
+pub read-column : (assign : ℕ → ℕ) (r : Row Entry) (c : ℕ) → column 0 (readRow assign r) c ≡ valueOf itself assign (column (constant 0) r c)
 read-column assign r c = List·getD-map (valueOf itself assign) (r .values) c (constant 0)
 
 -- ---- 1. what a choice yields
@@ -62,7 +62,7 @@ KeepsApart assign rows =
 module _ (widths : List ℕ) (j : JoinDependency) (fits : JoinFits widths j) (rows : List (Row Entry))
     (fit : (r : Row Entry) → r ∈ rows → FitsSchema widths r) (assign : ℕ → ℕ) (apart : KeepsApart assign rows) where
   -- A chosen row is of the relation and, read, agrees on its set with a row of numbers
-  abbrev Reads : Row ℕ → List ℕ → Row Entry → Type 0
+  abbrev pub Reads : Row ℕ → List ℕ → Row Entry → Type 0
   Reads r set s = (s .relation ≡ j .relation) × ((c : ℕ) → c ∈ set → valueOf itself assign (column (constant 0) s c) ≡ column 0 r c)
 
   -- What the choice has in a column of one of its sets is read as what the row has
@@ -73,7 +73,7 @@ module _ (widths : List ℕ) (j : JoinDependency) (fits : JoinFits widths j) (ro
       ap (valueOf itself assign) (found .3) ∙ all (found .0) (found .1) .1 c (found .2)
 
   -- so the choice goes together
-  reads-consistent : (r : Row ℕ) (choice : Choice) → ChoiceOf (j .sets) rows choice → ((p : List ℕ × Row Entry) → p ∈ choice → Reads r (p .0) (p .1))
+  pub reads-consistent : (r : Row ℕ) (choice : Choice) → ChoiceOf (j .sets) rows choice → ((p : List ℕ × Row Entry) → p ∈ choice → Reads r (p .0) (p .1))
       → consistent widths j choice ≡ true
   reads-consistent r choice of all = true-consistent widths j choice (λ p at. (
     all p at .0,
@@ -91,7 +91,7 @@ module _ (widths : List ℕ) (j : JoinDependency) (fits : JoinFits widths j) (ro
   ))
 
   -- and yields the row
-  reads-row : (r : Row ℕ) (choice : Choice) → FitsSchema widths r → r .relation ≡ j .relation → ChoiceOf (j .sets) rows choice
+  pub reads-row : (r : Row ℕ) (choice : Choice) → FitsSchema widths r → r .relation ≡ j .relation → ChoiceOf (j .sets) rows choice
       → ((p : List ℕ × Row Entry) → p ∈ choice → Reads r (p .0) (p .1)) → readRow assign (yields widths j choice) ≡ r
   reads-row r choice wide relation of all =
       let y = yields widths j choice in
@@ -129,7 +129,7 @@ module _ (widths : List ℕ) (j : JoinDependency) (fits : JoinFits widths j) (ro
 -- ---- 3. databases
 
 -- Rows of constants, read back
-constants-read : (D : Database) → map (readRow itself) (map (mapRow constant) D) ≡ D
+pub constants-read : (D : Database) → map (readRow itself) (map (mapRow constant) D) ≡ D
 constants-read D = map-map (readRow itself) (mapRow constant) D ∙ go D
   where
     go : (E : Database) → map (λ r. readRow itself (mapRow constant r)) E ≡ E
@@ -143,14 +143,14 @@ constant-column D r at c =
     (column 0 (from .0) c, ap (λ t. column (constant 0) t c) (sym (from .2)) ∙ List·getD-map constant (from .0 .values) c 0)
 
 -- Such columns are kept apart
-constants-apart : (D : Database) → KeepsApart itself (map (mapRow constant) D)
+pub constants-apart : (D : Database) → KeepsApart itself (map (mapRow constant) D)
 constants-apart D r s at at' c same =
     let m = constant-column D r at c in
     let n = constant-column D s at' c in
     m .1 ∙ ap constant (sym (ap (valueOf itself itself) (m .1)) ∙ same ∙ ap (valueOf itself itself) (n .1)) ∙ sym (n .1)
 
 module _ (widths : List ℕ) (j : JoinDependency) (fits : JoinFits widths j) (D : Database) (sound : Sound widths D) where
-  rows-fit : (r : Row Entry) → r ∈ map (mapRow constant) D → FitsSchema widths r
+  pub rows-fit : (r : Row Entry) → r ∈ map (mapRow constant) D → FitsSchema widths r
   rows-fit r at =
       let from = Memᴰ·of-map (mapRow constant) D at in
       let wide = sound (from .0) (from .1) in
@@ -169,7 +169,7 @@ module _ (widths : List ℕ) (j : JoinDependency) (fits : JoinFits widths j) (D 
       (λ nothing. known (chosenEntry choice c) 0 (nothing .1))
       (chosen-entry choice c)
 
-  yields-back : (choice : Choice) → ChoiceOf (j .sets) (map (mapRow constant) D) choice
+  pub yields-back : (choice : Choice) → ChoiceOf (j .sets) (map (mapRow constant) D) choice
       → mapRow constant (readRow itself (yields widths j choice)) ≡ yields widths j choice
   unfolding yields
   yields-back choice of =

@@ -54,30 +54,47 @@ pub fn leave_columns(found: Columns, columns: &mut u8, count: &mut u8) -> u8
 // Leaves what a test says. Gives 0, or the number of the refusal.
 pub fn leave_test(
     found: Conformance,
-    obeys: &mut u8,
+    verdict: &mut u8,
     dependency: &mut usize,
     first: &mut usize,
     second: &mut usize,
+    third: &mut usize,
+    fourth: &mut usize,
 ) -> u8
     ensures { λ r. ⌜ r ≡ returned (testResult found) ⌝ }
-    ensures { λ _. ⌜ now (obeys .exit) ≡ leaves (testResult found) (λ t. t .obeys) (now (obeys .entry)) ⌝ }
+    ensures { λ _. ⌜ now (verdict .exit) ≡ leaves (testResult found) (λ t. t .verdict) (now (verdict .entry)) ⌝ }
     ensures { λ _. ⌜ now (dependency .exit) ≡ leaves (testResult found) (λ t. t .dependency) (now (dependency .entry)) ⌝ }
     ensures { λ _. ⌜ now (first .exit) ≡ leaves (testResult found) (λ t. t .first) (now (first .entry)) ⌝ }
     ensures { λ _. ⌜ now (second .exit) ≡ leaves (testResult found) (λ t. t .second) (now (second .entry)) ⌝ }
+    ensures { λ _. ⌜ now (third .exit) ≡ leaves (testResult found) (λ t. t .third) (now (third .entry)) ⌝ }
+    ensures { λ _. ⌜ now (fourth .exit) ≡ leaves (testResult found) (λ t. t .fourth) (now (fourth .entry)) ⌝ }
 {
     match found {
         Conformance::Obeys => {
-            *obeys = 1;
+            *verdict = 1;
             *dependency = 0;
             *first = 0;
             *second = 0;
+            *third = 0;
+            *fourth = 0;
             0
         }
         Conformance::Broken(k, i, j) => {
-            *obeys = 0;
+            *verdict = 0;
             *dependency = k;
             *first = i;
             *second = j;
+            *third = 0;
+            *fourth = 0;
+            0
+        }
+        Conformance::BrokenJoin(k, a, b, c, d) => {
+            *verdict = 2;
+            *dependency = k;
+            *first = a;
+            *second = b;
+            *third = c;
+            *fourth = d;
             0
         }
         Conformance::Refused(n) => n,

@@ -10,10 +10,12 @@ use Rattle.replies.specs.declared.Conformance.the-variants as said
 use Rattle.replies.specs.declared.Answered.{Answered}
 use Rattle.replies.specs.declared.Answered.the-variants as answered
 
--- A test: no violation, or the position of a dependency with those of a pair of rows that break it, or refused with a number
+-- A test: no violation, or the position of a functional dependency with those of a pair of rows that break it, or the position of a join dependency with
+-- those of a choice of rows that break it, or refused with a number
 abbrev pub testReply : Conformance → Reply Violation
 testReply said.Obeys = gives violation.Absent
 testReply (said.Broken k i j) = gives (violation.At k i j)
+testReply (said.BrokenJoin k a b c d) = gives (violation.Joined k a b c d)
 testReply (said.Refused n) = refused n
 
 -- An evaluation: the count of the answers, or refused with a number

@@ -5,11 +5,13 @@ ghost use mathlib.Core.Path.{_≡_};
 ghost use Rattle.refusals.specs.Refusals.{gives};
 ghost use Rattle.replies.specs.Replies.{testReply, countReply, searchReply};
 
-// What a test says: the database obeys the dependencies; or the position of the first that it breaks, with the positions of its first pair of rows;
-// or the number of the refusal.
+// What a test says: the database obeys the dependencies; or the position of the first functional one that it breaks, with the positions of its first pair of
+// rows; or, where it breaks none of these, the position of the first join dependency that it breaks, with the positions of the rows of its first choice, 0
+// where there is no set; or the number of the refusal.
 pub enum Conformance {
     Obeys,
     Broken(usize, usize, usize),
+    BrokenJoin(usize, usize, usize, usize, usize),
     Refused(u8),
 }
 
@@ -25,6 +27,7 @@ pub fn conformance_of(found: Violation) -> Conformance
 {
     match found {
         Violation::At(k, i, j) => Conformance::Broken(k, i, j),
+        Violation::Joined(k, a, b, c, d) => Conformance::BrokenJoin(k, a, b, c, d),
         Violation::Absent => Conformance::Obeys,
     }
 }

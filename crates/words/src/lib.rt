@@ -95,9 +95,11 @@ pub enum RowPair {
     Absent,
 }
 
-// A dependency that is broken, by its position, and the positions of its pair of rows.
+// A dependency that is broken: a functional one by its position, and the positions of its pair of rows; or a join dependency by its position, and the
+// positions of the rows chosen for its sets, 0 where there is no set.
 pub enum Violation {
     At(usize, usize, usize),
+    Joined(usize, usize, usize, usize, usize),
     Absent,
 }
 

@@ -22,26 +22,29 @@ enum-known-found c = search needs
 enum-known-found-2 : tie.Need-enum-known-found-2
 enum-known-found-2 c = search needs
 
+enum-known-found-3 : tie.Need-enum-known-found-3
+enum-known-found-3 c = search needs
+
 returns : tie.Need-returns
 returns c =
     let p = goes-on (ap testReply (c .enum-told .given .1)) next in
-    (done-number p, (done-leaves p (λ t. t .obeys) _, (done-leaves p (λ t. t .dependency) _, (done-leaves p (λ t. t .first) _, done-leaves p (λ t. t .second) _))))
+    (done-number p, (done-leaves p (λ t. t .verdict) _, (done-leaves p (λ t. t .dependency) _, (done-leaves p (λ t. t .first) _, (done-leaves p (λ t. t .second) _, (done-leaves p (λ t. t .third) _, done-leaves p (λ t. t .fourth) _))))))
 
 returns-2 : tie.Need-returns-2
 returns-2 c =
     let p = goes-on (ap testReply (c .before .found .given .1)) next in
-    (done-number p, (done-leaves p (λ t. t .obeys) _, (done-leaves p (λ t. t .dependency) _, (done-leaves p (λ t. t .first) _, done-leaves p (λ t. t .second) _))))
+    (done-number p, (done-leaves p (λ t. t .verdict) _, (done-leaves p (λ t. t .dependency) _, (done-leaves p (λ t. t .first) _, (done-leaves p (λ t. t .second) _, (done-leaves p (λ t. t .third) _, done-leaves p (λ t. t .fourth) _))))))
 
 returns-3 : tie.Need-returns-3
 returns-3 c =
-    let p = still-refused (ap testReply (c .before .found2 .given .1)) next in (
-      refused-number p,
-      (
-        refused-leaves p (λ t. t .obeys) _,
-        (refused-leaves p (λ t. t .dependency) _, (refused-leaves p (λ t. t .first) _, refused-leaves p (λ t. t .second) _)),
-      ),
-    )
+    let p = goes-on (ap testReply (c .before .found2 .given .1)) next in
+    (done-number p, (done-leaves p (λ t. t .verdict) _, (done-leaves p (λ t. t .dependency) _, (done-leaves p (λ t. t .first) _, (done-leaves p (λ t. t .second) _, (done-leaves p (λ t. t .third) _, done-leaves p (λ t. t .fourth) _))))))
+
+returns-4 : tie.Need-returns-4
+returns-4 c =
+    let p = still-refused (ap testReply (c .before .found3 .given .1)) next in
+    (refused-number p, (refused-leaves p (λ t. t .verdict) _, (refused-leaves p (λ t. t .dependency) _, (refused-leaves p (λ t. t .first) _, (refused-leaves p (λ t. t .second) _, (refused-leaves p (λ t. t .third) _, refused-leaves p (λ t. t .fourth) _))))))
 
 pub leave-test-spec : {M : Type 1} → statement M
 leave-test-spec =
-    tie.close (tie.spec enum-told enum-known-found enum-known-found-2 returns returns-2 returns-3)
+    tie.close (tie.spec enum-told enum-known-found enum-known-found-2 enum-known-found-3 returns returns-2 returns-3 returns-4)

@@ -1,0 +1,10 @@
+-- The laws that the proofs of this crate share.
+pub mod Choosing
+pub mod Starting
+pub mod Bits
+pub mod Having
+pub mod Reaching
+pub mod Searching
+pub mod Finding
+-- What the answer of a test means.
+pub mod Means

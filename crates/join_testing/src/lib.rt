@@ -1,0 +1,292 @@
+// The first of some join dependencies that rows do not obey, with its first choice of rows. The search goes through the sets of a join dependency in order,
+// and for each through the rows that agree with those chosen before where sets overlap; at the end it looks for the row that is yielded. Rows are found by
+// tables in lent slices, hash chains: table 0 has all rows, by the columns of all sets, and table k + 1 the rows for set k, by the columns that sets before it
+// have; of rows with the same values in the set only the first. Without room for tables, or where a word's place is beyond 32 bits, the search goes through
+// the words: slower, and never wrong.
+// `heads` has a word for each bucket of each of 5 tables, and `nodes` six for each word of the database: a link to the row before, and one for each table.
+use query::JoinDependency;
+use words::Violation;
+ghost use mathlib.Core.Path.{_≡_};
+ghost use mathlib.Core.Bool.{true, false};
+ghost use mathlib.Core.List.{List};
+ghost use Prim.Native.Nat.{ℕ, suc, _+_, _*_, _/_, _%_, _^_, _≤_, _<_};
+ghost use lib.ListN.{length, getD};
+ghost use Rattle.query.specs.View.{joinOf, heldJoins};
+ghost use Rattle.query.specs.Rule.{noJoin};
+ghost use Rattle.words.specs.Words.{spellsRows, databaseOf};
+ghost use Rattle.join_testing.specs.Unmet.{firstChoice, firstUnmetFrom, unmetOf};
+ghost use Rattle.join_testing.specs.internal.Starts.{startOf, rowCount, BeginsAt, Has, Known};
+ghost use Rattle.join_testing.specs.internal.Tables.{Room, Tabled, Reaches, FirstWith};
+ghost use Rattle.join_testing.specs.internal.Search.{filledTo, Searchable, Indexed, Searched, choiceOf};
+
+// The relation whose rows are in the tables, its width, and the number of buckets; 0 where there are no tables.
+struct Index {
+    relation: u32,
+    width: usize,
+    buckets: usize,
+}
+
+// Whether a choice of rows is found, and the words at which its rows begin.
+struct Found {
+    some: bool,
+    at: [usize; 4],
+}
+
+// Whether the row at `at` is of the relation and has the given values in the columns of a set.
+fn has(words: &[u32], schema: &[u8], x: Index, at: usize, columns: u8, values: [u32; 8]) -> bool
+    requires { ⌜ (spellsRows (now schema) (now words) ≡ true) × Known (now schema) x ⌝ }
+    requires { ⌜ ((p : ℕ) × BeginsAt (now schema) (now words) at p) ⌝ }
+    ensures { λ r. ⌜ ((p : ℕ) → BeginsAt (now (schema .entry)) (now (words .entry)) at p → r ≡ true
+        → Has (now (schema .entry)) (now (words .entry)) x columns values p) ⌝ }
+    ensures { λ r. ⌜ ((p : ℕ) → BeginsAt (now (schema .entry)) (now (words .entry)) at p → r ≡ false
+        → Has (now (schema .entry)) (now (words .entry)) x columns values p → ⊥) ⌝ }
+{
+    if words[at] != x.relation {
+        return false;
+    }
+    let mut left = columns;
+    let mut c: usize = 0;
+    while c < x.width {
+        if left % 2 == 1 {
+            if words::value(words, at, c) != values[c] {
+                return false;
+            }
+        }
+        left = left / 2;
+        c += 1;
+    }
+    true
+}
+
+// Where the rows with the given values in the columns of a set begin in table t, or the first row where there are no tables.
+fn start(
+    words: &[u32],
+    schema: &[u8],
+    x: Index,
+    t: usize,
+    columns: u8,
+    values: [u32; 8],
+    heads: &[u32],
+) -> usize
+    requires { ⌜ (spellsRows (now schema) (now words) ≡ true) × Known (now schema) x × (t < 5) ⌝ }
+    requires { ⌜ (0 < x .buckets → 5 * x .buckets ≤ length (now heads)) ⌝ }
+    ensures { λ r. ⌜ ((set : ℕ) (nodes : List ℕ) → Tabled (now (schema .entry)) (now (words .entry)) x t columns set (now (heads .entry)) nodes
+        → Reaches (now (schema .entry)) (now (words .entry)) x t columns set values 0 r) ⌝ }
+{
+    if x.buckets == 0 {
+        return 0;
+    }
+    let b = tables::bucket(columns as u32, values, x.width, x.buckets);
+    heads[5 * b + t] as usize
+}
+
+// Where the next such row after the one at `at` begins, or the end of the words.
+fn following(
+    words: &[u32],
+    schema: &[u8],
+    x: Index,
+    t: usize,
+    at: usize,
+    nodes: &[u32],
+) -> usize
+    requires { ⌜ (spellsRows (now schema) (now words) ≡ true) × Known (now schema) x × (t < 5) ⌝ }
+    requires { ⌜ ((p : ℕ) × BeginsAt (now schema) (now words) at p) ⌝ }
+    requires { ⌜ (0 < x .buckets → 6 * length (now words) ≤ length (now nodes)) ⌝ }
+    ensures { λ r. ⌜ ((columns set from : ℕ) (values heads : List ℕ) → columns < 256 → x .width ≤ length values
+        → Tabled (now (schema .entry)) (now (words .entry)) x t columns set heads (now (nodes .entry))
+        → (g : Reaches (now (schema .entry)) (now (words .entry)) x t columns set values from at)
+        → Reaches (now (schema .entry)) (now (words .entry)) x t columns set values (suc (g .row)) r) ⌝ }
+{
+    if x.buckets == 0 {
+        return words::next(schema, words, at);
+    }
+    nodes[6 * at + 1 + t] as usize
+}
+
+// The first row of the relation that has the given values in the columns of a set, by table 0; or the end of the words.
+fn find(
+    words: &[u32],
+    schema: &[u8],
+    x: Index,
+    columns: u8,
+    values: [u32; 8],
+    heads: &[u32],
+    nodes: &[u32],
+) -> usize
+    requires { ⌜ (spellsRows (now schema) (now words) ≡ true) × Known (now schema) x × Room (now words) x (now heads) (now nodes) ⌝ }
+    requires { ⌜ Tabled (now schema) (now words) x 0 columns 0 (now heads) (now nodes) ⌝ }
+    ensures { λ r. ⌜ FirstWith (now (schema .entry)) (now (words .entry)) x columns values r ⌝ }
+{
+    let mut at = start(words, schema, x, 0, columns, values, heads);
+    while at < words.len() {
+        if has(words, schema, x, at, columns, values) {
+            return at;
+        }
+        at = following(words, schema, x, 0, at, nodes);
+    }
+    at
+}
+
+// The values with those of the row at `at` in the columns of a set.
+fn with_row(words: &[u32], x: Index, at: usize, set: u8, values: [u32; 8]) -> [u32; 8]
+    requires { ⌜ (at + 1 + x .width ≤ length (now words)) × (x .width ≤ 8) ⌝ }
+    ensures { λ r. ⌜ ((c : ℕ) → c < x .width → set / 2 ^ c % 2 ≡ 1 → getD r c 0 ≡ getD (now (words .entry)) (at + 1 + c) 0) ⌝ }
+    ensures { λ r. ⌜ ((c : ℕ) → (set / 2 ^ c % 2 ≡ 1 → ⊥) → getD r c 0 ≡ getD values c 0) ⌝ }
+{
+    let mut row = values;
+    let mut left = set;
+    let mut c: usize = 0;
+    while c < x.width {
+        if left % 2 == 1 {
+            row[c] = words::value(words, at, c);
+        }
+        left = left / 2;
+        c += 1;
+    }
+    row
+}
+
+// The first choice of rows for the sets from set k on that goes with the values in the columns of the sets before, and yields a row that is not there.
+fn search(
+    words: &[u32],
+    schema: &[u8],
+    j: JoinDependency,
+    x: Index,
+    k: usize,
+    filled: u8,
+    values: [u32; 8],
+    heads: &[u32],
+    nodes: &[u32],
+) -> Found
+    requires { ⌜ Searchable (now schema) (now words) j × Indexed (now schema) (now words) j x (now heads) (now nodes) ⌝ }
+    requires { ⌜ (k ≤ j .count) × (filled ≡ filledTo (j .sets) k) ⌝ }
+    ensures { λ r. ⌜ Searched (now (schema .entry)) (now (words .entry)) j x k values r ⌝ }
+{
+    if k == j.count as usize {
+        let end = find(words, schema, x, filled, values, heads, nodes);
+        return Found {
+            some: end == words.len(),
+            at: [0; 4],
+        };
+    }
+    let set = j.sets[k];
+    let shared = set & filled;
+    let mut at = start(words, schema, x, k + 1, shared, values, heads);
+    while at < words.len() {
+        if has(words, schema, x, at, shared, values) {
+            let row = with_row(words, x, at, set, values);
+            let found = search(
+                words,
+                schema,
+                j,
+                x,
+                k + 1,
+                filled | set,
+                row,
+                heads,
+                nodes,
+            );
+            if found.some {
+                let mut list = found.at;
+                list[k] = at;
+                return Found {
+                    some: true,
+                    at: list,
+                };
+            }
+        }
+        at = following(words, schema, x, k + 1, at, nodes);
+    }
+    Found {
+        some: false,
+        at: [0; 4],
+    }
+}
+
+// The tables of a join dependency.
+fn build(
+    words: &[u32],
+    schema: &[u8],
+    j: JoinDependency,
+    heads: &mut [u32],
+    nodes: &mut [u32],
+) -> Index
+    requires { ⌜ Searchable (now schema) (now words) j ⌝ }
+    ensures { λ r. ⌜ Indexed (now (schema .entry)) (now (words .entry)) j r (now (heads .exit)) (now (nodes .exit)) ⌝ }
+{
+    let relation = j.relation as usize;
+    Index {
+        relation: j.relation as u32,
+        width: schema[relation] as usize,
+        buckets: 0,
+    }
+}
+
+// The position of the row that begins at `at`.
+fn position_of(words: &[u32], schema: &[u8], at: usize) -> usize
+    requires { ⌜ spellsRows (now schema) (now words) ≡ true ⌝ }
+    requires { ⌜ ((p : ℕ) × (at ≡ startOf (now schema) (now words) p) × (p ≤ rowCount (now schema) (now words))) ⌝ }
+    ensures { λ r. ⌜ at ≡ startOf (now (schema .entry)) (now (words .entry)) r ⌝ }
+{
+    let mut here: usize = 0;
+    let mut n: usize = 0;
+    while here < at {
+        here = words::next(schema, words, here);
+        n += 1;
+    }
+    n
+}
+
+// The positions of the rows that are chosen for the sets of a join dependency, 0 where there is no set.
+pub enum Choice {
+    At(usize, usize, usize, usize),
+    Absent,
+}
+
+// The first choice of rows for a join dependency that yields a row that is not there.
+fn first_choice(
+    words: &[u32],
+    schema: &[u8],
+    j: JoinDependency,
+    heads: &mut [u32],
+    nodes: &mut [u32],
+) -> Choice
+    requires { ⌜ Searchable (now schema) (now words) j ⌝ }
+    ensures { λ r. ⌜ r ≡ choiceOf (firstChoice (now (schema .entry)) (joinOf j) (databaseOf (now (schema .entry)) (now (words .entry)))) ⌝ }
+{
+    let x = build(words, schema, j, heads, nodes);
+    let found = search(words, schema, j, x, 0, 0, [0; 8], heads, nodes);
+    if !found.some {
+        return Choice::Absent;
+    }
+    let at = found.at;
+    let a = position_of(words, schema, at[0]);
+    let b = position_of(words, schema, at[1]);
+    let c = position_of(words, schema, at[2]);
+    let d = position_of(words, schema, at[3]);
+    Choice::At(a, b, c, d)
+}
+
+// The first of the held join dependencies that the rows do not obey, with its first choice of rows.
+pub fn first_unmet(
+    schema: &[u8],
+    words: &[u32],
+    joins: [JoinDependency; 4],
+    joined: usize,
+    heads: &mut [u32],
+    nodes: &mut [u32],
+) -> Violation
+    requires { ⌜ (joined ≤ 4) × ((k : ℕ) → k < joined → Searchable (now schema) (now words) (getD joins k noJoin)) ⌝ }
+    ensures { λ r. ⌜ r ≡ unmetOf (firstUnmetFrom 0 (now (schema .entry)) (heldJoins joins joined) (databaseOf (now (schema .entry)) (now (words .entry)))) ⌝ }
+{
+    let mut k: usize = 0;
+    while k < joined {
+        let j = joins[k];
+        let found = first_choice(words, schema, j, heads, nodes);
+        if let Choice::At(a, b, c, d) = found {
+            return Violation::Joined(k, a, b, c, d);
+        }
+        k += 1;
+    }
+    Violation::Absent
+}
