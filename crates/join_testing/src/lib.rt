@@ -81,14 +81,7 @@ fn start(
 }
 
 // Where the next such row after the one at `at` begins, or the end of the words.
-fn following(
-    words: &[u32],
-    schema: &[u8],
-    x: Index,
-    t: usize,
-    at: usize,
-    nodes: &[u32],
-) -> usize
+fn following(words: &[u32], schema: &[u8], x: Index, t: usize, at: usize, nodes: &[u32]) -> usize
     requires { ⌜ (spellsRows (now schema) (now words) ≡ true) × Known (now schema) x × (t < 5) ⌝ }
     requires { ⌜ ((p : ℕ) × BeginsAt (now schema) (now words) at p) ⌝ }
     requires { ⌜ (0 < x .buckets → 6 * length (now words) ≤ length (now nodes)) ⌝ }
@@ -175,17 +168,7 @@ fn search(
     while at < words.len() {
         if has(words, schema, x, at, shared, values) {
             let row = with_row(words, x, at, set, values);
-            let found = search(
-                words,
-                schema,
-                j,
-                x,
-                k + 1,
-                filled | set,
-                row,
-                heads,
-                nodes,
-            );
+            let found = search(words, schema, j, x, k + 1, filled | set, row, heads, nodes);
             if found.some {
                 let mut list = found.at;
                 list[k] = at;
