@@ -6,5 +6,6 @@ pub mod Having
 pub mod Reaching
 pub mod Searching
 pub mod Finding
+pub mod Ruled
 -- What the answer of a test means.
 pub mod Means
