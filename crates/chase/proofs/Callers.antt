@@ -1,13 +1,12 @@
--- What a caller of the chase has to show, from the rule for the record: good relations, dependencies and tableau; and what it can conclude
--- besides: a safe head stays safe. Assumes nothing.
-use mathlib.Core.Path.{_≡_, refl, sym}
+-- What a caller of the chase has to show, from the rule for the record: good relations, dependencies and tableau. Assumes nothing.
+use mathlib.Core.Path.{_≡_, refl}
 use mathlib.Core.Bool.{true, not, _&&_}
 use mathlib.Core.List.{List}
 use Prim.Native.Nat.{ℕ, _^_, _≤_, _<_}
 use native.Mathlib.Omega.{arith}
 use borrow.Author.Tests.{leb-true, ltb-true, lt-ltb}
 use lib.Dec.{eqb, leb, ltb}
-use lib.ListN.{length, take, drop, getD, replicate}
+use lib.ListN.{length, take, drop, getD}
 use lib.Seq.{getD-take}
 use Rattle.query.specs.declared.Tableau.{Tableau}
 use Rattle.query.specs.declared.Dependency.{Dependency}
@@ -18,14 +17,7 @@ use Rattle.first_step.specs.internal.Wide.{Chasable}
 use Rattle.lists.proofs.Tests.{every-weaken}
 use Rattle.lists.proofs.Positions.{every-getD-else}
 use Rattle.query.proofs.Good.{good-query}
-use Rattle.theory.specs.Query as theory
-use Rattle.theory.specs.Query.{constant, variable, rowEntries, variablesOf, _∈_}
-use Rattle.theory.specs.Database as database
-use Rattle.theory.specs.Chase.{Chases, rests, clashes, replaces}
 use Rattle.lists.proofs.Tests.{and-left, and-right}
-use Rattle.theory.proofs.Lists.{replicate-mem}
-use Rattle.theory.proofs.Entries.{constant-variable, variablesOf-mem}
-use Rattle.theory.proofs.Replacement.{replace-head-safe}
 
 -- The widths that good relations give are 1 to 8
 pub good-widths : (relations : ℕ) (widths : List ℕ) → goodRelations relations widths ≡ true → every (between 1 8) (take relations widths) ≡ true
@@ -82,16 +74,3 @@ chasable schema held dependencies t widths good good-t =
           (every-getD-else (λ x. ltb (x .right) 8) (take held dependencies) d noDependency rights refl));
       rest-blank = p .cells;
     }
-
--- ---- what follows of the result
-
--- The chase keeps each head variable in a row
-pub chases-safe : {ds : List database.Dependency} {q result : theory.Query} {count : ℕ} → Chases ds q result count
-    → ((v : ℕ) → v ∈ variablesOf (q .head) → v ∈ variablesOf (rowEntries (q .rows)))
-    → (v : ℕ) → v ∈ variablesOf (result .head) → v ∈ variablesOf (rowEntries (result .rows))
-chases-safe (rests is) safe = safe
-chases-safe {q} (clashes is) safe =
-    λ v at.
-    let n = length (q .head) in
-    absurd (constant-variable 0 v (sym (replicate-mem n (constant 0) (variable v) (variablesOf-mem v (replicate n (constant 0)) at))))
-chases-safe {q} (replaces {v = v} {e = e} is later) safe = chases-safe later (replace-head-safe v e q safe)

@@ -12,7 +12,7 @@ use Rattle.record.specs.Calls.{statusReply, outcomeReply, isFilled, queryAt}
 use Rattle.comparison.specs.declared.Comparison.{Comparison}
 use Rattle.comparison.specs.declared.Verdict.{Verdict}
 use Rattle.comparison.specs.declared.Verdict.the-variants.{Never, Contained, Apart, Refused}
-use Rattle.comparison.specs.Comparison.{pairRefusal, verdictReply, verdictOn, chasedAt, SaysContained, Compared}
+use Rattle.comparison.specs.Comparison.{comparisonRefusal, verdictReply, verdictOn, chasedAt, SaysContained, Compared}
 use Rattle.refusals.specs.Refusals.{overUnless, Reply, refused, gives, reply}
 use Rattle.refusals.proofs.Refusals.{refused-gives}
 use Rattle.query.specs.declared.Place.{Place}
@@ -53,7 +53,7 @@ says-else (Refused n) clear not = absurd (clear n refl)
 
 module _ (r : Record) (p q : ℕ) (c : Comparison) (compared : Compared r p q c) where
   -- A verdict on places that are not refused is no refusal
-  not-refused : pairRefusal r p q ≡ none → (n : ℕ) → c .verdict ≡ Refused n → ⊥
+  not-refused : comparisonRefusal r p q ≡ none → (n : ℕ) → c .verdict ≡ Refused n → ⊥
   not-refused accepted n e =
       refused-gives
       (sym (ap verdictReply e) ∙ compared .verdict

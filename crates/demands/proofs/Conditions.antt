@@ -10,17 +10,18 @@ use Rattle.lists.specs.Tests.{every}
 use Rattle.refusals.specs.Refusals.{overUnless, Condition, follows, firstHolding, Reply, refused, gives, reply, refusalIn}
 use Rattle.query.specs.declared.Cell.{Cell}
 use Rattle.query.specs.declared.Dependency.{Dependency}
+use Rattle.query.specs.declared.JoinDependency.{JoinDependency}
 use Rattle.query.specs.declared.Query.{Query}
 use Rattle.record.specs.declared.Record.{Record}
 use Rattle.record.specs.declared.Outcome.{Outcome}
 use Rattle.record.specs.declared.Columns.{Columns}
 use Rattle.record.specs.Calls.{statusReply, outcomeReply, queryAt}
-use Rattle.record.specs.Calls.{columnsReply, concluded, openRecord, addDependency, putQuery, dropQuery, determinedColumns}
+use Rattle.record.specs.Calls.{columnsReply, concluded, openRecord, addDependency, addJoin, putQuery, dropQuery, determinedColumns}
 use Rattle.comparison.specs.declared.Comparison.{Comparison}
 use Rattle.comparison.specs.declared.Verdict.{Verdict}
 use Rattle.comparison.specs.declared.Verdict.the-variants as verdict
 use Rattle.comparison.specs.declared.Checked.{Checked}
-use Rattle.comparison.specs.Comparison.{pairRefusal, verdictReply, verdictOn, chasedAt, Compared, checkReply, CheckedMapping}
+use Rattle.comparison.specs.Comparison.{pairRefusal, comparisonRefusal, verdictReply, verdictOn, chasedAt, Compared, checkReply, CheckedMapping}
 use Rattle.reduction.specs.declared.Reduced.{Reduced}
 use Rattle.reduction.specs.Reduced.{reductionRefusal, reductionConditions, IsReduced}
 use Rattle.replies.specs.declared.Conformance.{Conformance}
@@ -38,7 +39,7 @@ use Rattle.format.proofs.Stretches.{length-stretches}
 use Rattle.writer.specs.declared.Written.{Written}
 use Rattle.writer.specs.Write.{lengthReply, writingRefused, written, afterWriting}
 use Rattle.demands.specs.Demand1.{Meets, Nothing, partsAsk, readAsks, AsksInOrder}
-use Rattle.demands.specs.Demand1Calls.{OpenMeets, AddMeets, PutMeets, DropMeets, DeterminedMeets, CompareMeets, CheckMeets}
+use Rattle.demands.specs.Demand1Calls.{OpenMeets, AddMeets, AddJoinMeets, PutMeets, DropMeets, DeterminedMeets, CompareMeets, CheckMeets}
 use Rattle.demands.specs.Demand1Calls.{ReduceMeets, TestMeets, EvaluateMeets, CountMeets, ReadMeets, WriteMeets}
 
 -- ---- every call
@@ -74,6 +75,10 @@ pub add-meets : (r : Record) (d : Dependency) (o : Outcome) → outcomeReply o �
 unfolding addDependency
 add-meets r d o e = concluded-meets _ _ refl _ _ o e
 
+pub add-join-meets : (r : Record) (j : JoinDependency) (o : Outcome) → outcomeReply o ≡ addJoin r j → AddJoinMeets r j o
+unfolding addJoin
+add-join-meets r j o e = concluded-meets _ _ refl _ _ o e
+
 pub put-meets : (r : Record) (place : ℕ) (q : Query) (o : Outcome) → outcomeReply o ≡ putQuery r place q → PutMeets r place q o
 unfolding putQuery
 put-meets r place q o e = concluded-meets _ _ refl _ _ o e
@@ -101,7 +106,7 @@ refused-else v n e =
     ((λ c. refused-gives (sym e ∙ ap verdictReply c)), λ a. refused-gives (sym e ∙ ap verdictReply a))
 
 pub compare-meets : (r : Record) (p q : ℕ) (c : Comparison) → Compared r p q c → CompareMeets r p q c
-unfolding pairRefusal
+unfolding comparisonRefusal
 compare-meets r p q c compared =
     meets _ _ _ _ _ refl (ap refusalIn (compared .verdict) ∙ refusal-reply _ on)
     (λ n f.
@@ -173,7 +178,7 @@ read-asks : (file : List ℕ) → map (λ (c : Condition). c .1) (readConditions
 unfolding readConditions
 read-asks file =
     let parts = stretches (number 2 file - 2) file (drop 10 file) in
-    ap (λ (ns : List ℕ). 1 ∷ 2 ∷ 3 ∷ 4 ∷ ns)
+    ap (λ (ns : List ℕ). 1 ∷ 2 ∷ 3 ∷ 4 ∷ 15 ∷ ns)
     (parts-ask (schemaIn (partAt file 0)) parts ∙ ap partsAsk (length-stretches (number 2 file - 2) file (drop 10 file)))
 
 outcome-said : (x : Reply Record) → refusalIn (readOutcome x .0) ≡ refusalIn x

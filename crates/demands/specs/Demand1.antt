@@ -3,11 +3,11 @@
 -- otherwise it answers and leaves what is due. `Demand1Calls` says it of each call. That a call ends is part of every proved contract.
 use mathlib.Core.Path.{_≡_}
 use mathlib.Core.Bool.{true}
-use mathlib.Core.List.{List, [], _∷_, map}
+use mathlib.Core.List.{List, [], _∷_, _++_, map}
 use mathlib.Core.Option.{Option, none, some}
 use Prim.Native.Nat.{ℕ, zero, suc, _-_}
 use Rattle.refusals.specs.Refusals.{badDirectory, badOffsets, badRelations, badDependency, badQuery, unsafeHead, noSuchPlace, headsDiffer, badDatabase}
-use Rattle.refusals.specs.Refusals.{bufferTooShort, placeVacant, placeFilled, dependenciesFull, badRecord}
+use Rattle.refusals.specs.Refusals.{bufferTooShort, placeVacant, placeFilled, dependenciesFull, badRecord, badJoin, joinsFull, tooManyRows}
 use Rattle.refusals.specs.Refusals.{Condition, order, follows, firstHolding}
 use Rattle.lists.specs.Tests.{every}
 use Rattle.format.specs.Bytes.{number}
@@ -35,9 +35,13 @@ Nothing = Unit {0}
 abbrev pub openAsks : List ℕ
 openAsks = badRelations ∷ []
 
--- Adding a dependency
+-- Adding a functional dependency
 abbrev pub addAsks : List ℕ
 addAsks = badRecord ∷ badDependency ∷ dependenciesFull ∷ []
+
+-- Adding a join dependency
+abbrev pub addJoinAsks : List ℕ
+addJoinAsks = badRecord ∷ badJoin ∷ joinsFull ∷ []
 
 -- Putting a query
 abbrev pub putAsks : List ℕ
@@ -51,9 +55,13 @@ dropAsks = badRecord ∷ noSuchPlace ∷ placeVacant ∷ []
 abbrev pub determinedAsks : List ℕ
 determinedAsks = badRecord ∷ badDependency ∷ []
 
--- Comparing two places, and checking a mapping between them
+-- Checking a mapping between two places
 abbrev pub pairAsks : List ℕ
 pairAsks = badRecord ∷ noSuchPlace ∷ noSuchPlace ∷ placeVacant ∷ placeVacant ∷ headsDiffer ∷ []
+
+-- Comparing them
+abbrev pub compareAsks : List ℕ
+compareAsks = pairAsks ++ tooManyRows ∷ []
 
 -- Reducing
 abbrev pub reduceAsks : List ℕ
@@ -75,7 +83,8 @@ writeAsks = badRecord ∷ bufferTooShort ∷ []
 abbrev pub AsksInOrder : Type 0
 AsksInOrder =
     every (λ numbers. follows numbers order)
-    (openAsks ∷ addAsks ∷ putAsks ∷ dropAsks ∷ determinedAsks ∷ pairAsks ∷ reduceAsks ∷ testAsks ∷ evaluateAsks ∷ writeAsks ∷ []) ≡ true
+    (openAsks ∷ addAsks ∷ addJoinAsks ∷ putAsks ∷ dropAsks ∷ determinedAsks ∷ pairAsks ∷ compareAsks ∷ reduceAsks ∷ testAsks ∷ evaluateAsks ∷ writeAsks ∷ [])
+    ≡ true
 
 -- The faults of so many query parts: part by part in file order, within a part by number
 unfoldable pub partsAsk : ℕ → List ℕ
@@ -84,4 +93,4 @@ partsAsk (suc n) = badQuery ∷ unsafeHead ∷ partsAsk n
 
 -- Reading a file, whose order is its own: the directory's faults, then those of each part in file order
 abbrev pub readAsks : List ℕ → List ℕ
-readAsks file = badDirectory ∷ badOffsets ∷ badRelations ∷ badDependency ∷ partsAsk (number 2 file - 2)
+readAsks file = badDirectory ∷ badOffsets ∷ badRelations ∷ badDependency ∷ badJoin ∷ partsAsk (number 2 file - 2)

@@ -7,20 +7,21 @@ use lib.ListN.{length, replicate}
 use Rattle.refusals.specs.Refusals.{gives, refusalIn}
 use Rattle.query.specs.declared.Cell.{Cell}
 use Rattle.query.specs.declared.Dependency.{Dependency}
+use Rattle.query.specs.declared.JoinDependency.{JoinDependency}
 use Rattle.query.specs.declared.Query.{Query}
 use Rattle.query.specs.View.{entriesOf, maskOf}
-use Rattle.query.specs.Rule.{noCell, noQuery, noPlace, placeWith}
+use Rattle.query.specs.Rule.{noCell, noTableau, noPlace, placeWith}
 use Rattle.record.specs.declared.Record.{Record}
 use Rattle.record.specs.declared.Outcome.{Outcome}
 use Rattle.record.specs.declared.Columns.{Columns}
-use Rattle.record.specs.View.{schemaOf, dependenciesOf}
+use Rattle.record.specs.View.{schemaOf, dependenciesOf, joinsOf}
 use Rattle.record.specs.Rule.{blankRecord, emptyRecord}
 use Rattle.record.specs.Calls.{statusReply, withPlace, queryAt}
-use Rattle.record.specs.Calls.{columnsReply, withDependency, determinedAt}
-use Rattle.record.specs.Calls.{openConditions, addConditions, putConditions, dropConditions, determinedConditions}
+use Rattle.record.specs.Calls.{columnsReply, withDependency, withJoin, determinedAt}
+use Rattle.record.specs.Calls.{openConditions, addConditions, addJoinConditions, putConditions, dropConditions, determinedConditions}
 use Rattle.comparison.specs.declared.Comparison.{Comparison}
 use Rattle.comparison.specs.declared.Checked.{Checked}
-use Rattle.comparison.specs.Comparison.{pairConditions, verdictReply, Compared, checkReply}
+use Rattle.comparison.specs.Comparison.{pairConditions, comparisonConditions, verdictReply, Compared, checkReply}
 use Rattle.reduction.specs.declared.Reduced.{Reduced}
 use Rattle.reduction.specs.Reduced.{reductionConditions, IsReduced}
 use Rattle.replies.specs.declared.Conformance.{Conformance}
@@ -29,8 +30,7 @@ use Rattle.admission.specs.Conditions.{testConditions}
 use Rattle.replies.specs.Replies.{testReply, countReply}
 use Rattle.database.specs.Calls.{evaluationConditions, placeAnswers, longestBuffer}
 use Rattle.words.specs.Words.{databaseOf}
-use Rattle.words.specs.Testing.{firstBrokenFrom}
-use Rattle.words.specs.Broken.{violationOf}
+use Rattle.join_testing.specs.Unmet.{violationIn}
 use Rattle.passes.specs.Evaluated.{answerWords}
 use Rattle.lists.specs.Over.{over}
 use Rattle.format.specs.File.{readFile, fileOf}
@@ -38,7 +38,7 @@ use Rattle.format.specs.Faults.{readConditions}
 use Rattle.writer.specs.declared.Written.{Written}
 use Rattle.writer.specs.Write.{lengthReply, writeConditions}
 use Rattle.minimization.specs.Checking.{mapsTo}
-use Rattle.demands.specs.Demand1.{Meets, Nothing, openAsks, addAsks, putAsks, dropAsks, determinedAsks, pairAsks, reduceAsks}
+use Rattle.demands.specs.Demand1.{Meets, Nothing, openAsks, addAsks, addJoinAsks, putAsks, dropAsks, determinedAsks, pairAsks, compareAsks, reduceAsks}
 use Rattle.demands.specs.Demand1.{testAsks, evaluateAsks, writeAsks, readAsks}
 
 -- ---- the calls on the record alone
@@ -49,9 +49,13 @@ OpenMeets widths o =
     Meets (openConditions widths) openAsks (refusalIn (statusReply (o .answer))) (o .«record» ≡ blankRecord)
     (o .«record» ≡ emptyRecord (length widths) (widths ++ replicate (8 - length widths) 0))
 
--- Adding a dependency
+-- Adding a functional dependency
 abbrev pub AddMeets : Record → Dependency → Outcome → Type 0
 AddMeets r d o = Meets (addConditions r d) addAsks (refusalIn (statusReply (o .answer))) (o .«record» ≡ r) (o .«record» ≡ withDependency r d)
+
+-- Adding a join dependency
+abbrev pub AddJoinMeets : Record → JoinDependency → Outcome → Type 0
+AddJoinMeets r j o = Meets (addJoinConditions r j) addJoinAsks (refusalIn (statusReply (o .answer))) (o .«record» ≡ r) (o .«record» ≡ withJoin r j)
 
 -- Putting a query
 abbrev pub PutMeets : Record → ℕ → Query → Outcome → Type 0
@@ -74,7 +78,8 @@ DeterminedMeets r relation left c =
 -- Comparing two places: what is due leaves free only which mapping
 abbrev pub CompareMeets : Record → ℕ → ℕ → Comparison → Type 0
 CompareMeets r p q c =
-    Meets (pairConditions r p q) pairAsks (refusalIn (verdictReply (c .verdict))) ((c .images ≡ replicate 96 noCell) × (c .query ≡ noQuery)) (Compared r p q c)
+    Meets (comparisonConditions r p q) compareAsks (refusalIn (verdictReply (c .verdict))) ((c .images ≡ replicate 96 noCell) × (c .query ≡ noTableau))
+    (Compared r p q c)
 
 -- Checking a mapping
 abbrev pub CheckMeets : Record → ℕ → ℕ → List Cell → Checked → Type 0
@@ -93,7 +98,7 @@ ReduceMeets r source target o =
 abbrev pub TestMeets : Record → List ℕ → Conformance → Type 0
 TestMeets r words v =
     Meets (testConditions r words) testAsks (refusalIn (testReply v)) Nothing
-    (testReply v ≡ gives (violationOf (firstBrokenFrom 0 (dependenciesOf r) (databaseOf (schemaOf r) words))))
+    (testReply v ≡ gives (violationIn (schemaOf r) (dependenciesOf r) (joinsOf r) (databaseOf (schemaOf r) words)))
 
 -- Evaluating a place
 abbrev pub EvaluateMeets : Record → ℕ → List ℕ → List ℕ → List ℕ → Answered → Type 0

@@ -5,14 +5,14 @@ use mathlib.Core.List.{List}
 use mathlib.Core.Option.{none}
 use Prim.Native.Nat.{ℕ, _≤_}
 use lib.ListN.{length}
-use Rattle.query.specs.View.{queryOf}
+use Rattle.query.specs.View.{queryOf, asQuery}
 use Rattle.record.specs.declared.Record.{Record}
 use Rattle.record.specs.declared.Outcome.{Outcome}
-use Rattle.record.specs.View.{schemaOf, dependenciesOf}
+use Rattle.record.specs.View.{schemaOf, dependenciesOf, joinsOf}
 use Rattle.refusals.specs.Refusals.{gives}
 use Rattle.record.specs.Calls.{outcomeReply, queryAt}
 use Rattle.comparison.specs.declared.Comparison.{Comparison}
-use Rattle.comparison.specs.Comparison.{pairRefusal, SaysContained, base}
+use Rattle.comparison.specs.Comparison.{comparisonRefusal, SaysContained, base}
 use Rattle.words.specs.Words.{databaseOf}
 use Rattle.answers.specs.Ascending.{Ascending}
 use Rattle.passes.specs.Evaluated.{answerWords}
@@ -23,20 +23,21 @@ use Rattle.writer.specs.declared.Written.{Written}
 use Rattle.writer.specs.Write.{lengthReply}
 use Rattle.file.specs.RoundTrip.{Reads, Writes}
 use Rattle.theory.specs.Query.{_∈_}
-use Rattle.theory.specs.Database.{Legal}
 use Rattle.theory.specs.Answer.{Answer}
+use Rattle.joins.specs.Join.{LegalForBoth}
 use Rattle.theory.specs.Containment.{Contained, Counterexample, frozenRows, frozenHead}
 use Rattle.lists.specs.Over.{over}
 
 -- ---- containment
 
--- A comparison says contained exactly when on every database that obeys the held dependencies each answer of p's query is an answer of q's; otherwise the
--- query that it gives, read as a database, shows one on which this fails
+-- A comparison says contained exactly when on every database that obeys the held dependencies of both kinds each answer of p's query is an answer of q's;
+-- otherwise the query that it gives, read as a database, shows one on which this fails
 pub record Decides (r : Record) (p q : ℕ) (c : Comparison) : Type 0 where
-  pub exactly : pairRefusal r p q ≡ none → SaysContained (c .verdict) ↔ Contained (Legal (schemaOf r) (dependenciesOf r)) (queryAt r p) (queryAt r q)
-  pub shown : pairRefusal r p q ≡ none → (SaysContained (c .verdict) → ⊥)
-      → Counterexample (Legal (schemaOf r) (dependenciesOf r)) (queryAt r p) (queryAt r q)
-      (frozenRows base (queryOf (schemaOf r) (c .query))) (frozenHead base (queryOf (schemaOf r) (c .query)))
+  pub exactly : comparisonRefusal r p q ≡ none
+      → SaysContained (c .verdict) ↔ Contained (LegalForBoth (schemaOf r) (dependenciesOf r) (joinsOf r)) (queryAt r p) (queryAt r q)
+  pub shown : comparisonRefusal r p q ≡ none → (SaysContained (c .verdict) → ⊥)
+      → Counterexample (LegalForBoth (schemaOf r) (dependenciesOf r) (joinsOf r)) (queryAt r p) (queryAt r q)
+      (frozenRows base (queryOf (schemaOf r) (asQuery (c .query)))) (frozenHead base (queryOf (schemaOf r) (asQuery (c .query))))
 
 -- ---- answers
 

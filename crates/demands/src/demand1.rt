@@ -4,6 +4,7 @@ use comparison::Comparison;
 use file::Written;
 use query::Cell;
 use query::Dependency;
+use query::JoinDependency;
 use query::Query;
 use record::Columns;
 use record::Outcome;
@@ -13,7 +14,7 @@ use replies::Answered;
 use replies::Conformance;
 ghost use Rattle.admission.specs.Conditions.{testConditions, searchConditions};
 ghost use Rattle.database.specs.Calls.{UnusedIfRefused};
-ghost use Rattle.demands.specs.Demand1Calls.{OpenMeets, AddMeets, PutMeets, DropMeets, DeterminedMeets, CompareMeets, CheckMeets, ReduceMeets};
+ghost use Rattle.demands.specs.Demand1Calls.{OpenMeets, AddMeets, AddJoinMeets, PutMeets, DropMeets, DeterminedMeets, CompareMeets, CheckMeets, ReduceMeets};
 ghost use Rattle.demands.specs.Demand1Calls.{TestMeets, EvaluateMeets, CountMeets, ReadMeets, WriteMeets};
 
 // ---- the record
@@ -25,11 +26,18 @@ pub fn open(widths: &[u8]) -> Outcome
     Record::open(widths)
 }
 
-// Adds a dependency.
+// Adds a functional dependency.
 pub fn add(given: Record, d: Dependency) -> Outcome
     ensures { λ o. ⌜ AddMeets given d o ⌝ }
 {
     given.add_dependency(d)
+}
+
+// Adds a join dependency.
+pub fn add_join(given: Record, j: JoinDependency) -> Outcome
+    ensures { λ o. ⌜ AddJoinMeets given j o ⌝ }
+{
+    given.add_join(j)
 }
 
 // Puts a query into a vacant place.
