@@ -29,8 +29,8 @@ static void fail(const char *what) {
 
 #define MOST ((size_t)1 << 27)
 #define HUGE_WORDS ((size_t)1 << 20)
-#define HEADS_FOR_JOINS (word_count)
-#define NODES_FOR_JOINS (4 * word_count)
+#define HEADS_FOR_JOINS (5 * (word_count / 2 + 1))
+#define NODES_FOR_JOINS (6 * word_count)
 
 static uint32_t *words, *answers, *theirs;
 static size_t word_count;

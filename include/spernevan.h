@@ -39,7 +39,7 @@
  * be of any length, 0 too, and with less they take longer. Where a call is refused with another number than 10 it is as it was, and otherwise it may hold anything.
  * The calls without it have some of their own, for some ten thousand rows and four thousand words of answers; beyond that their time grows as the square.
  * For a database of n words lend:
- *   heads     n / 2 words, and nodes 2 n, or where join dependencies are held n and 4 n: then a test takes time in proportion to n for each dependency,
+ *   heads     n / 2 words, and nodes 2 n, or where join dependencies are held 5 (n / 2 + 1) and 6 n: then a test takes time in proportion to n for each dependency,
  *             unless values are chosen so that they collide
  *   index     2 n words for each row of the query but the first, and 112 more; no more than 4294967294 are used, and none for a database of 4294967295 words or more
  *   states    n words and 65536 more, if the query has more than two rows; else none. They are cleared, so that more than that only costs time

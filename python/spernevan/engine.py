@@ -407,7 +407,7 @@ def _for_answers(words: int, size: Size, answers: int) -> List[int]:
 
 def _for_test(words: int, joins: bool) -> List[int]:
     """The words of heads and nodes for a test, with join dependencies or without, as include/spernevan.h has them."""
-    return [words, 4 * words] if joins else [words // 2, 2 * words]
+    return [5 * (words // 2 + 1), 6 * words] if joins else [words // 2, 2 * words]
 
 
 class Break(NamedTuple):

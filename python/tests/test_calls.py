@@ -537,7 +537,7 @@ class Memory(Calls):
             self.record.evaluate(0, [(0, (1, 2)), (1, (2, 3))])
             self.record.test([(0, (1, 2)), (1, (2, 3))])
             self.record.add_join(0, [[0], [1]]).test([(0, (1, 2)), (1, (2, 3))])
-        self.assertEqual([call.args[1] for call in lent.call_args_list], [[18], [124, 0, 100, 100], [3, 12], [6, 24]])
+        self.assertEqual([call.args[1] for call in lent.call_args_list], [[18], [124, 0, 100, 100], [3, 12], [20, 36]])
         self.assertLess(engine._for_answers(2**31, engine.Size(12, 8), 1)[0], 2**32 - 1)
 
     def test_huge_pages(self):

@@ -299,7 +299,7 @@ def test(line, file):
     words, told = line.words(), line.number()
     due = told, [BYTE, *[SIZE] * 5] if told else [line.number() for _ in range(6)]
     line.end()
-    return all(tested(name, file, words, memory) == due for name, memory in with_memory("test", [len(words), 4 * len(words)]))
+    return all(tested(name, file, words, memory) == due for name, memory in with_memory("test", [5 * (len(words) // 2 + 1), 6 * len(words)]))
 
 
 def tested(name, file, words, memory):
