@@ -37,7 +37,8 @@
  *
  * Calls whose names end in _lent are lent working memory too. They answer as the calls without it do, whatever it holds before and however little there is; it may
  * be of any length, 0 too, and with less they take longer. Where a call is refused with another number than 10 it is as it was, and otherwise it may hold anything.
- * The calls without it have some of their own, for some ten thousand rows and four thousand words of answers; beyond that their time grows as the square.
+ * The calls without it have some of their own, for some ten thousand rows, or two thousand where a test reads join dependencies, and four thousand words of
+ * answers; beyond that their time grows as the square.
  * For a database of n words lend:
  *   heads     n / 2 words, and nodes 2 n, or where join dependencies are held 5 (n / 2 + 1) and 6 n: then a test takes time in proportion to n for each dependency,
  *             unless values are chosen so that they collide
