@@ -13,16 +13,20 @@ pub fn test_in_file_lent(
     words: &[u32],
     heads: &mut [u32],
     nodes: &mut [u32],
-    obeys: &mut u8,
+    verdict: &mut u8,
     dependency: &mut usize,
     first: &mut usize,
     second: &mut usize,
+    third: &mut usize,
+    fourth: &mut usize,
 ) -> u8
     ensures { λ r. ⌜ r ≡ returned (testedIn (now (file .entry)) (now (words .entry))) ⌝ }
-    ensures { λ _. ⌜ now (obeys .exit) ≡ leaves (testedIn (now (file .entry)) (now (words .entry))) (λ t. t .obeys) (now (obeys .entry)) ⌝ }
+    ensures { λ _. ⌜ now (verdict .exit) ≡ leaves (testedIn (now (file .entry)) (now (words .entry))) (λ t. t .verdict) (now (verdict .entry)) ⌝ }
     ensures { λ _. ⌜ now (dependency .exit) ≡ leaves (testedIn (now (file .entry)) (now (words .entry))) (λ t. t .dependency) (now (dependency .entry)) ⌝ }
     ensures { λ _. ⌜ now (first .exit) ≡ leaves (testedIn (now (file .entry)) (now (words .entry))) (λ t. t .first) (now (first .entry)) ⌝ }
     ensures { λ _. ⌜ now (second .exit) ≡ leaves (testedIn (now (file .entry)) (now (words .entry))) (λ t. t .second) (now (second .entry)) ⌝ }
+    ensures { λ _. ⌜ now (third .exit) ≡ leaves (testedIn (now (file .entry)) (now (words .entry))) (λ t. t .third) (now (third .entry)) ⌝ }
+    ensures { λ _. ⌜ now (fourth .exit) ≡ leaves (testedIn (now (file .entry)) (now (words .entry))) (λ t. t .fourth) (now (fourth .entry)) ⌝ }
     ensures { λ _. ⌜ UnusedInFile (now (file .entry)) (λ r. testConditions r (now (words .entry))) (now (heads .entry)) (now (heads .exit)) ⌝ }
     ensures { λ _. ⌜ UnusedInFile (now (file .entry)) (λ r. testConditions r (now (words .entry))) (now (nodes .entry)) (now (nodes .exit)) ⌝ }
 {
@@ -32,7 +36,15 @@ pub fn test_in_file_lent(
         Status::Done => {
             let given = outcome.record;
             let found = database::test_lent(given, words, heads, nodes);
-            lent_numbers::leave_test(found, obeys, dependency, first, second)
+            lent_numbers::leave_test(
+                found,
+                verdict,
+                dependency,
+                first,
+                second,
+                third,
+                fourth,
+            )
         }
         Status::Refused(n) => n,
     }
@@ -42,16 +54,20 @@ pub fn test_in_file_lent(
 pub fn test_in_file(
     file: &[u8],
     words: &[u32],
-    obeys: &mut u8,
+    verdict: &mut u8,
     dependency: &mut usize,
     first: &mut usize,
     second: &mut usize,
+    third: &mut usize,
+    fourth: &mut usize,
 ) -> u8
     ensures { λ r. ⌜ r ≡ returned (testedIn (now (file .entry)) (now (words .entry))) ⌝ }
-    ensures { λ _. ⌜ now (obeys .exit) ≡ leaves (testedIn (now (file .entry)) (now (words .entry))) (λ t. t .obeys) (now (obeys .entry)) ⌝ }
+    ensures { λ _. ⌜ now (verdict .exit) ≡ leaves (testedIn (now (file .entry)) (now (words .entry))) (λ t. t .verdict) (now (verdict .entry)) ⌝ }
     ensures { λ _. ⌜ now (dependency .exit) ≡ leaves (testedIn (now (file .entry)) (now (words .entry))) (λ t. t .dependency) (now (dependency .entry)) ⌝ }
     ensures { λ _. ⌜ now (first .exit) ≡ leaves (testedIn (now (file .entry)) (now (words .entry))) (λ t. t .first) (now (first .entry)) ⌝ }
     ensures { λ _. ⌜ now (second .exit) ≡ leaves (testedIn (now (file .entry)) (now (words .entry))) (λ t. t .second) (now (second .entry)) ⌝ }
+    ensures { λ _. ⌜ now (third .exit) ≡ leaves (testedIn (now (file .entry)) (now (words .entry))) (λ t. t .third) (now (third .entry)) ⌝ }
+    ensures { λ _. ⌜ now (fourth .exit) ≡ leaves (testedIn (now (file .entry)) (now (words .entry))) (λ t. t .fourth) (now (fourth .entry)) ⌝ }
 {
     let outcome = file::read(file);
     let answer = outcome.answer;
@@ -59,7 +75,15 @@ pub fn test_in_file(
         Status::Done => {
             let given = outcome.record;
             let found = database::test(given, words);
-            lent_numbers::leave_test(found, obeys, dependency, first, second)
+            lent_numbers::leave_test(
+                found,
+                verdict,
+                dependency,
+                first,
+                second,
+                third,
+                fourth,
+            )
         }
         Status::Refused(n) => n,
     }

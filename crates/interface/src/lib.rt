@@ -169,18 +169,31 @@ pub extern "C" fn spernevan_check(
 pub extern "C" fn spernevan_test(
     file: &[u8],
     words: &[u32],
-    obeys: &mut u8,
+    verdict: &mut u8,
     dependency: &mut usize,
     first: &mut usize,
     second: &mut usize,
+    third: &mut usize,
+    fourth: &mut usize,
 ) -> u8
     ensures { λ r. ⌜ r ≡ returned (testedIn (now (file .entry)) (now (words .entry))) ⌝ }
-    ensures { λ _. ⌜ now (obeys .exit) ≡ leaves (testedIn (now (file .entry)) (now (words .entry))) (λ t. t .obeys) (now (obeys .entry)) ⌝ }
+    ensures { λ _. ⌜ now (verdict .exit) ≡ leaves (testedIn (now (file .entry)) (now (words .entry))) (λ t. t .verdict) (now (verdict .entry)) ⌝ }
     ensures { λ _. ⌜ now (dependency .exit) ≡ leaves (testedIn (now (file .entry)) (now (words .entry))) (λ t. t .dependency) (now (dependency .entry)) ⌝ }
     ensures { λ _. ⌜ now (first .exit) ≡ leaves (testedIn (now (file .entry)) (now (words .entry))) (λ t. t .first) (now (first .entry)) ⌝ }
     ensures { λ _. ⌜ now (second .exit) ≡ leaves (testedIn (now (file .entry)) (now (words .entry))) (λ t. t .second) (now (second .entry)) ⌝ }
+    ensures { λ _. ⌜ now (third .exit) ≡ leaves (testedIn (now (file .entry)) (now (words .entry))) (λ t. t .third) (now (third .entry)) ⌝ }
+    ensures { λ _. ⌜ now (fourth .exit) ≡ leaves (testedIn (now (file .entry)) (now (words .entry))) (λ t. t .fourth) (now (fourth .entry)) ⌝ }
 {
-    database_on_files::test_in_file(file, words, obeys, dependency, first, second)
+    database_on_files::test_in_file(
+        file,
+        words,
+        verdict,
+        dependency,
+        first,
+        second,
+        third,
+        fourth,
+    )
 }
 
 // Tests a database against the dependencies, with lent working memory.
@@ -190,16 +203,20 @@ pub extern "C" fn spernevan_test_lent(
     words: &[u32],
     heads: &mut [u32],
     nodes: &mut [u32],
-    obeys: &mut u8,
+    verdict: &mut u8,
     dependency: &mut usize,
     first: &mut usize,
     second: &mut usize,
+    third: &mut usize,
+    fourth: &mut usize,
 ) -> u8
     ensures { λ r. ⌜ r ≡ returned (testedIn (now (file .entry)) (now (words .entry))) ⌝ }
-    ensures { λ _. ⌜ now (obeys .exit) ≡ leaves (testedIn (now (file .entry)) (now (words .entry))) (λ t. t .obeys) (now (obeys .entry)) ⌝ }
+    ensures { λ _. ⌜ now (verdict .exit) ≡ leaves (testedIn (now (file .entry)) (now (words .entry))) (λ t. t .verdict) (now (verdict .entry)) ⌝ }
     ensures { λ _. ⌜ now (dependency .exit) ≡ leaves (testedIn (now (file .entry)) (now (words .entry))) (λ t. t .dependency) (now (dependency .entry)) ⌝ }
     ensures { λ _. ⌜ now (first .exit) ≡ leaves (testedIn (now (file .entry)) (now (words .entry))) (λ t. t .first) (now (first .entry)) ⌝ }
     ensures { λ _. ⌜ now (second .exit) ≡ leaves (testedIn (now (file .entry)) (now (words .entry))) (λ t. t .second) (now (second .entry)) ⌝ }
+    ensures { λ _. ⌜ now (third .exit) ≡ leaves (testedIn (now (file .entry)) (now (words .entry))) (λ t. t .third) (now (third .entry)) ⌝ }
+    ensures { λ _. ⌜ now (fourth .exit) ≡ leaves (testedIn (now (file .entry)) (now (words .entry))) (λ t. t .fourth) (now (fourth .entry)) ⌝ }
     ensures { λ _. ⌜ UnusedInFile (now (file .entry)) (λ r. testConditions r (now (words .entry))) (now (heads .entry)) (now (heads .exit)) ⌝ }
     ensures { λ _. ⌜ UnusedInFile (now (file .entry)) (λ r. testConditions r (now (words .entry))) (now (nodes .entry)) (now (nodes .exit)) ⌝ }
 {
@@ -208,10 +225,12 @@ pub extern "C" fn spernevan_test_lent(
         words,
         heads,
         nodes,
-        obeys,
+        verdict,
         dependency,
         first,
         second,
+        third,
+        fourth,
     )
 }
 

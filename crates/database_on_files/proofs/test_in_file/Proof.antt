@@ -33,39 +33,20 @@ enum-known-answer c = search needs
 
 returns : tie.Need-returns
 returns c =
-    let d = c .before .before .before .before .before in
-    let t = d .before .before in
-    let o = t .before .before in
-    let a = o .before .before .before .args in
+    let a = c .before .before .before .before .before .before .before .before .before .before .before .before .before .before .args in
     let l = c .leave-test .ensures in
-    let p : testResult (d .test .result) ≡ testedIn (a .file .now) (a .words .now) =
-    ap (λ (x : Reply Violation). x >>= next) (d .test .ensures)
-    ∙ sym (read-done (a .file .now) (o .read .result) (o .read .ensures) (λ r. tested r (a .words .now) >>= next) (t .enum-told .given .1)) in (
-      l .0 ∙ ap returned p,
-      (
-        l .1 .0 ∙ leaves-same p (λ t. t .obeys) (a .obeys .now),
-        (
-          l .1 .1 .0 ∙ leaves-same p (λ t. t .dependency) (a .dependency .now),
-          (l .1 .1 .1 .0 ∙ leaves-same p (λ t. t .first) (a .first .now), l .1 .1 .1 .1 ∙ leaves-same p (λ t. t .second) (a .second .now)),
-        ),
-      ),
-    )
+    let p : testResult (c .before .before .before .before .before .before .before .test .result) ≡ testedIn (a .file .now) (a .words .now) =
+    ap (λ (x : Reply Violation). x >>= next) (c .before .before .before .before .before .before .before .test .ensures)
+    ∙ sym (read-done (a .file .now) (c .before .before .before .before .before .before .before .before .before .before .before .read .result) (c .before .before .before .before .before .before .before .before .before .before .before .read .ensures) (λ r. tested r (a .words .now) >>= next) (c .before .before .before .before .before .before .before .before .before .enum-told .given .1)) in
+    (l .0 ∙ ap returned p, (l .1 .0 ∙ leaves-same p (λ t. t .verdict) (a .verdict .now), (l .1 .1 .0 ∙ leaves-same p (λ t. t .dependency) (a .dependency .now), (l .1 .1 .1 .0 ∙ leaves-same p (λ t. t .first) (a .first .now), (l .1 .1 .1 .1 .0 ∙ leaves-same p (λ t. t .second) (a .second .now), (l .1 .1 .1 .1 .1 .0 ∙ leaves-same p (λ t. t .third) (a .third .now), l .1 .1 .1 .1 .1 .1 ∙ leaves-same p (λ t. t .fourth) (a .fourth .now)))))))
 
 returns-2 : tie.Need-returns-2
 returns-2 c =
     let o = c .before .before .before in
-    let a = o .before .before .before .args in
+    let a = c .before .before .before .before .before .before .args in
     let p : testedIn (a .file .now) (a .words .now) ≡ refused (c .before .answer .given .0 .0) =
-    read-refused (a .file .now) (o .read .result) (o .read .ensures) (λ r. tested r (a .words .now) >>= next) _ (c .before .answer .given .1) in (
-      refused-number p,
-      (
-        refused-leaves p (λ t. t .obeys) (a .obeys .now),
-        (
-          refused-leaves p (λ t. t .dependency) (a .dependency .now),
-          (refused-leaves p (λ t. t .first) (a .first .now), refused-leaves p (λ t. t .second) (a .second .now)),
-        ),
-      ),
-    )
+    read-refused (a .file .now) (o .read .result) (o .read .ensures) (λ r. tested r (a .words .now) >>= next) _ (c .before .answer .given .1) in
+    (refused-number p, (refused-leaves p (λ t. t .verdict) (a .verdict .now), (refused-leaves p (λ t. t .dependency) (a .dependency .now), (refused-leaves p (λ t. t .first) (a .first .now), (refused-leaves p (λ t. t .second) (a .second .now), (refused-leaves p (λ t. t .third) (a .third .now), refused-leaves p (λ t. t .fourth) (a .fourth .now)))))))
 
 pub test-in-file-spec : {M : Type 1} → statement M
 test-in-file-spec =

@@ -70,23 +70,12 @@ same-length-2 c = search needs
 
 returns : tie.Need-returns
 returns c =
-    let k = c .before .before .before .before .before .before .before .before .before in
+    let k = c .before .before .before .before .before .before .before .before .before .before .before in
     let p = of-record k in
     let a = start k .args in
     let l = c .leave-test .ensures in
-    let m = k .test-lent .ensures .1 in (
-      l .0 ∙ ap returned p,
-      (
-        l .1 .0 ∙ ap (λ (x : Reply TestNumbers). leaves x (λ t. t .obeys) (a .obeys .now)) p,
-        (
-          l .1 .1 .0 ∙ ap (λ (x : Reply TestNumbers). leaves x (λ t. t .dependency) (a .dependency .now)) p,
-          (
-            l .1 .1 .1 .0 ∙ ap (λ (x : Reply TestNumbers). leaves x (λ t. t .first) (a .first .now)) p,
-            (l .1 .1 .1 .1 ∙ ap (λ (x : Reply TestNumbers). leaves x (λ t. t .second) (a .second .now)) p, (unused k _ _ (m .0), unused k _ _ (m .1))),
-          ),
-        ),
-      ),
-    )
+    let m = k .test-lent .ensures .1 in
+    (l .0 ∙ ap returned p, (l .1 .0 ∙ ap (λ (x : Reply TestNumbers). leaves x (λ t. t .verdict) (a .verdict .now)) p, (l .1 .1 .0 ∙ ap (λ (x : Reply TestNumbers). leaves x (λ t. t .dependency) (a .dependency .now)) p, (l .1 .1 .1 .0 ∙ ap (λ (x : Reply TestNumbers). leaves x (λ t. t .first) (a .first .now)) p, (l .1 .1 .1 .1 .0 ∙ ap (λ (x : Reply TestNumbers). leaves x (λ t. t .second) (a .second .now)) p, (l .1 .1 .1 .1 .1 .0 ∙ ap (λ (x : Reply TestNumbers). leaves x (λ t. t .third) (a .third .now)) p, (l .1 .1 .1 .1 .1 .1 ∙ ap (λ (x : Reply TestNumbers). leaves x (λ t. t .fourth) (a .fourth .now)) p, (unused k _ _ (m .0), unused k _ _ (m .1)))))))))
 
 returns-2 : tie.Need-returns-2
 returns-2 c =
@@ -94,19 +83,8 @@ returns-2 c =
     let s = begun (c .before .before .before) in
     let p : testedIn (s .args .file .now) (s .args .words .now) ≡ refused (c .before .answer .given .0 .0) =
     read-refused (s .args .file .now) (o .result) (o .ensures) (λ r. tested r (s .args .words .now) >>= λ v. gives (testNumbers v)) _
-    (c .before .answer .given .1) in (
-      refused-number p,
-      (
-        refused-leaves p (λ t. t .obeys) (s .args .obeys .now),
-        (
-          refused-leaves p (λ t. t .dependency) (s .args .dependency .now),
-          (
-            refused-leaves p (λ t. t .first) (s .args .first .now),
-            (refused-leaves p (λ t. t .second) (s .args .second .now), (λ n r. refl, λ n r. refl)),
-          ),
-        ),
-      ),
-    )
+    (c .before .answer .given .1) in
+    (refused-number p, (refused-leaves p (λ t. t .verdict) (s .args .verdict .now), (refused-leaves p (λ t. t .dependency) (s .args .dependency .now), (refused-leaves p (λ t. t .first) (s .args .first .now), (refused-leaves p (λ t. t .second) (s .args .second .now), (refused-leaves p (λ t. t .third) (s .args .third .now), (refused-leaves p (λ t. t .fourth) (s .args .fourth .now), (λ n r. refl, λ n r. refl))))))))
 
 pub test-in-file-lent-spec : {M : Type 1} → statement M
 test-in-file-lent-spec =
