@@ -33,6 +33,29 @@ beside-then t a b =
       nodes-kept = λ n u low other. b .nodes-kept n u low other ∙ a .nodes-kept n u low other;
     }
 
+-- A row's link is beside the other tables, and the head of a bucket too
+module _ (t : ℕ) (low : t < 5) (heads nodes : List ℕ) (at next : ℕ) where
+  link-kept : (n u : ℕ) → u < 6 → (u ≡ t + 1 → ⊥) → getD (set nodes (6 * at + 1 + t) next) (6 * n + u) 0 ≡ getD nodes (6 * n + u) 0
+  link-kept n u l other = getD-set-other nodes (6 * at + 1 + t) (6 * n + u) next 0 (λ same. other (omega arith))
+
+  pub linked-beside : Beside t heads nodes heads (set nodes (6 * at + 1 + t) next)
+  linked-beside =
+      record {
+        heads-size = refl;
+        nodes-size = length-set nodes (6 * at + 1 + t) next;
+        heads-kept = λ c u l other. refl;
+        nodes-kept = link-kept;
+      }
+
+  pub entered-beside : (b : ℕ) → Beside t heads nodes (set heads (5 * b + t) at) (set nodes (6 * at + 1 + t) next)
+  entered-beside b =
+      record {
+        heads-size = length-set heads (5 * b + t) at;
+        nodes-size = length-set nodes (6 * at + 1 + t) next;
+        heads-kept = λ c u l other. getD-set-other heads (5 * b + t) (5 * c + u) at 0 (λ same. other (omega arith));
+        nodes-kept = link-kept;
+      }
+
 module _ {schema words : List ℕ} {x : Index} {t : ℕ} {heads nodes heads′ nodes′ : List ℕ} (b : Beside t heads nodes heads′ nodes′) where
   pub table-beside : (u columns set from : ℕ) → u < 5 → (u ≡ t → ⊥) → Table schema words x u columns set from heads nodes
       → Table schema words x u columns set from heads′ nodes′
@@ -162,24 +185,6 @@ module _ (schema words : List ℕ) (good : spellsRows schema words ≡ true) (x 
               subst (Leads schema words x t columns mask c p)
               (sym (getD-set-other heads (5 * b + t) (5 * c + t) (startOf schema words p) 0 (λ same. other (omega arith))))
               (leads-more c (getD heads (5 * c + t) 0) (λ o e. absurd (other (sym e ∙ sym is))) (table .head c hc))
-
-      pub linked-beside : Beside t heads nodes heads linked
-      linked-beside =
-          record {
-            heads-size = refl;
-            nodes-size = length-set nodes spot (getD heads (5 * b + t) 0);
-            heads-kept = λ c u l other. refl;
-            nodes-kept = λ n u l other. getD-set-other nodes spot (6 * n + u) (getD heads (5 * b + t) 0) 0 (λ same. other (omega arith));
-          }
-
-      pub entered-beside : Beside t heads nodes (set heads (5 * b + t) (startOf schema words p)) linked
-      entered-beside =
-          record {
-            heads-size = length-set heads (5 * b + t) (startOf schema words p);
-            nodes-size = length-set nodes spot (getD heads (5 * b + t) 0);
-            heads-kept = λ c u l other. getD-set-other heads (5 * b + t) (5 * c + u) (startOf schema words p) 0 (λ same. other (omega arith));
-            nodes-kept = λ n u l other. getD-set-other nodes spot (6 * n + u) (getD heads (5 * b + t) 0) 0 (λ same. other (omega arith));
-          }
 
   -- The values of the row at position p are it
   pub own-row : (k : Known schema x) (p : ℕ) → p < rowCount schema words → Of schema words x p → (values : List ℕ)
