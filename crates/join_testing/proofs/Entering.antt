@@ -4,7 +4,7 @@ use mathlib.Core.Path.{_≡_, refl, sym, _∙_, ap, subst}
 use mathlib.Core.Logic.{⊎-elim}
 use mathlib.Core.Bool.{true}
 use mathlib.Core.List.{List}
-use Prim.Native.Nat.{ℕ, zero, suc, _+_, _*_, _-_, _≤_, _<_}
+use Prim.Native.Nat.{ℕ, suc, _+_, _*_, _-_, _≤_, _<_}
 use native.Mathlib.Decide.{ℕ-discrete}
 use native.Mathlib.Omega.{arith}
 use lib.ListN.{length, take, drop, getD, set, length-set}
@@ -12,11 +12,10 @@ use lib.Seq.{getD-set-same, getD-set-other}
 use Rattle.lists.proofs.Tests.{below-or-past}
 use Rattle.theory.specs.Query.{Row, column}
 use Rattle.words.specs.Words.{spellsRows}
-use Rattle.tables.specs.internal.Table.{bucketOf}
 use Rattle.join_testing.specs.declared.Index.{Index}
-use Rattle.join_testing.specs.internal.Starts.{startOf, rowCount, BeginsAt, rowOf, rowWith, Of, Has, Known}
+use Rattle.join_testing.specs.internal.Starts.{startOf, rowCount, rowOf, rowWith, Of, Has, Known}
 use Rattle.join_testing.specs.internal.Tables.{bucketAt, LeftOut, Leads, Table, FirstWith, Threaded, Beside}
-use Rattle.join_testing.proofs.Starting.{start-less, start-one, start-end, start-relation, of-values}
+use Rattle.join_testing.proofs.Starting.{start-less, start-end, of-values}
 
 -- ---- 1. what is beside a table
 
@@ -136,55 +135,55 @@ module _ (schema words : List ℕ) (good : spellsRows schema words ≡ true) (x 
 
     module _ (of : Of schema words x p) (b : ℕ) (is : b ≡ bucketAt schema words x columns p) (low : b < x .buckets)
         (heads-room : 5 * x .buckets ≤ length heads) (nodes-room : 6 * length words ≤ length nodes) (tables : t < 5) (inside : startOf schema words p < length words)
-        where
-      abbrev spot : ℕ
-      spot = 6 * startOf schema words p + 1 + t
+      where
+        abbrev spot : ℕ
+        spot = 6 * startOf schema words p + 1 + t
 
-      abbrev linked : List ℕ
-      linked = set nodes spot (getD heads (5 * b + t) 0)
+        abbrev linked : List ℕ
+        linked = set nodes spot (getD heads (5 * b + t) 0)
 
-      -- The links, the row's too
-      links : (q : ℕ) → p ≤ q → q < rowCount schema words → Of schema words x q
-          → Leads schema words x t columns mask (bucketAt schema words x columns q) (suc q) (getD linked (6 * startOf schema words q + 1 + t) 0)
-      links q past high ofq =
-          ⊎-elim
-          (λ less.
-          let later = start-less schema words p q less in
-          subst (Leads schema words x t columns mask (bucketAt schema words x columns q) (suc q))
-          (sym (getD-set-other nodes spot (6 * startOf schema words q + 1 + t) (getD heads (5 * b + t) 0) 0 (λ same. omega arith))) (table .link q less high ofq))
-          (λ only.
-          let e : p ≡ q = omega arith in
-          subst (λ (n : ℕ). Leads schema words x t columns mask (bucketAt schema words x columns n) (suc n) (getD linked (6 * startOf schema words n + 1 + t) 0)) e
-          (subst (Leads schema words x t columns mask (bucketAt schema words x columns p) (suc p))
-          (sym (getD-set-same nodes spot (getD heads (5 * b + t) 0) 0 (omega arith)))
-          (subst (λ (n : ℕ). Leads schema words x t columns mask n (suc p) (getD heads (5 * b + t) 0)) is (table .head b low))))
-          (below-or-past p q)
+        -- The links, the row's too
+        links : (q : ℕ) → p ≤ q → q < rowCount schema words → Of schema words x q
+            → Leads schema words x t columns mask (bucketAt schema words x columns q) (suc q) (getD linked (6 * startOf schema words q + 1 + t) 0)
+        links q past high ofq =
+            ⊎-elim
+            (λ less.
+            let later = start-less schema words p q less in
+            subst (Leads schema words x t columns mask (bucketAt schema words x columns q) (suc q))
+            (sym (getD-set-other nodes spot (6 * startOf schema words q + 1 + t) (getD heads (5 * b + t) 0) 0 (λ same. omega arith))) (table .link q less high ofq))
+            (λ only.
+            let e : p ≡ q = omega arith in
+            subst (λ (n : ℕ). Leads schema words x t columns mask (bucketAt schema words x columns n) (suc n) (getD linked (6 * startOf schema words n + 1 + t) 0)) e
+            (subst (Leads schema words x t columns mask (bucketAt schema words x columns p) (suc p))
+            (sym (getD-set-same nodes spot (getD heads (5 * b + t) 0) 0 (omega arith)))
+            (subst (λ (n : ℕ). Leads schema words x t columns mask n (suc p) (getD heads (5 * b + t) 0)) is (table .head b low))))
+            (below-or-past p q)
 
-      -- The row is left out
-      pub table-out : LeftOut schema words x t mask p → Table schema words x t columns mask p heads linked
-      table-out out = record { head = λ c h. leads-more c (getD heads (5 * c + t) 0) (λ o e. out) (table .head c h); link = links }
+        -- The row is left out
+        pub table-out : LeftOut schema words x t mask p → Table schema words x t columns mask p heads linked
+        table-out out = record { head = λ c h. leads-more c (getD heads (5 * c + t) 0) (λ o e. out) (table .head c h); link = links }
 
-      -- The row is at the head of its bucket
-      pub table-in : Table schema words x t columns mask p (set heads (5 * b + t) (startOf schema words p)) linked
-      table-in = record { head = λ c hc. go c hc (ℕ-discrete c b); link = links }
-        where
-          go : (c : ℕ) → c < x .buckets → Dec (c ≡ b)
-              → Leads schema words x t columns mask c p (getD (set heads (5 * b + t) (startOf schema words p)) (5 * c + t) 0)
-          go c hc (yes e) =
-              record {
-                row = p;
-                place =
-                    ap (λ (n : ℕ). getD (set heads (5 * b + t) (startOf schema words p)) (5 * n + t) 0) e
-                    ∙ getD-set-same heads (5 * b + t) (startOf schema words p) 0 (omega arith);
-                after = omega arith;
-                inside = omega arith;
-                here = λ less. (of, sym is ∙ sym e);
-                passed = λ q l m. absurd (omega arith);
-              }
-          go c hc (no other) =
-              subst (Leads schema words x t columns mask c p)
-              (sym (getD-set-other heads (5 * b + t) (5 * c + t) (startOf schema words p) 0 (λ same. other (omega arith))))
-              (leads-more c (getD heads (5 * c + t) 0) (λ o e. absurd (other (sym e ∙ sym is))) (table .head c hc))
+        -- The row is at the head of its bucket
+        pub table-in : Table schema words x t columns mask p (set heads (5 * b + t) (startOf schema words p)) linked
+        table-in = record { head = λ c hc. go c hc (ℕ-discrete c b); link = links }
+          where
+            go : (c : ℕ) → c < x .buckets → Dec (c ≡ b)
+                → Leads schema words x t columns mask c p (getD (set heads (5 * b + t) (startOf schema words p)) (5 * c + t) 0)
+            go c hc (yes e) =
+                record {
+                  row = p;
+                  place =
+                      ap (λ (n : ℕ). getD (set heads (5 * b + t) (startOf schema words p)) (5 * n + t) 0) e
+                      ∙ getD-set-same heads (5 * b + t) (startOf schema words p) 0 (omega arith);
+                  after = omega arith;
+                  inside = omega arith;
+                  here = λ less. (of, sym is ∙ sym e);
+                  passed = λ q l m. absurd (omega arith);
+                }
+            go c hc (no other) =
+                subst (Leads schema words x t columns mask c p)
+                (sym (getD-set-other heads (5 * b + t) (5 * c + t) (startOf schema words p) 0 (λ same. other (omega arith))))
+                (leads-more c (getD heads (5 * c + t) 0) (λ o e. absurd (other (sym e ∙ sym is))) (table .head c hc))
 
   -- The values of the row at position p are it
   pub own-row : (k : Known schema x) (p : ℕ) → p < rowCount schema words → Of schema words x p → (values : List ℕ)

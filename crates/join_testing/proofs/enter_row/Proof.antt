@@ -1,12 +1,11 @@
 -- `enter_row` passes a row by that is of another relation, and enters any other, unless an earlier one has its values. Assumes nothing.
-use mathlib.Core.Path.{_≡_, refl, sym, ap, subst, _∙_}
-use mathlib.Core.List.{List}
-use Prim.Native.Nat.{ℕ, suc, _+_, _*_, _≤_, _<_}
+use mathlib.Core.Path.{_≡_, sym, ap, subst, _∙_}
+use Prim.Native.Nat.{ℕ, _+_, _*_, _<_}
 use native.Mathlib.Omega.{arith}
-use lib.ListN.{length, take, drop, getD, set, length-set}
+use lib.ListN.{length, take, drop, getD, set}
 use Rattle.theory.specs.Query.{Row}
 use Rattle.tables.specs.internal.Table.{bucketOf}
-use Rattle.join_testing.specs.internal.Starts.{startOf, BeginsAt, rowOf, rowWith, Of}
+use Rattle.join_testing.specs.internal.Starts.{BeginsAt, rowOf, rowWith, Of}
 use Rattle.join_testing.specs.internal.Tables.{bucketAt, Table}
 use Rattle.join_testing.proofs.Starting.{start-inside, start-relation, of-room}
 use Rattle.join_testing.proofs.Entering.{beside-same, linked-beside, entered-beside, table-other, table-out, table-in, own-row, not-first}
@@ -69,12 +68,13 @@ shared-slice-read-if1 c = inside (c .before .before .before .before .before)
 
 returns : tie.Need-returns
 returns c = let s = c .before .before .before .before .before .before .before in
-    let a = s .args in
-    (beside-same (a .t) (a .heads .now) (a .nodes .now),
-    λ p b table.
-    table-other (a .schema .now) (a .words .now) (s .pre .0 .0) (a .x) (s .pre .0 .1) (a .t) (a .columns) (a .set) p (b .1) (a .heads .now) (a .nodes .now) table
-    (λ is. c .if1 .taken (ap (λ (n : ℕ). getD (a .words .now) n 0) (b .0)
-    ∙ sym (start-relation (a .schema .now) (a .words .now) (s .pre .0 .0) p (b .1)) ∙ is)))
+    let a = s .args in (
+      beside-same (a .t) (a .heads .now) (a .nodes .now),
+      λ p b table.
+          table-other (a .schema .now) (a .words .now) (s .pre .0 .0) (a .x) (s .pre .0 .1) (a .t) (a .columns) (a .set) p (b .1) (a .heads .now) (a .nodes .now) table
+          (λ is. c .if1 .taken (ap (λ (n : ℕ). getD (a .words .now) n 0) (b .0)
+          ∙ sym (start-relation (a .schema .now) (a .words .now) (s .pre .0 .0) p (b .1)) ∙ is)),
+    )
 
 read-row-requires : tie.Need-read-row-requires
 read-row-requires c κs = let s = begun c in
@@ -126,16 +126,17 @@ returns-2 : tie.Need-returns-2
 returns-2 c = let k = c .before .before .before .before .before .before in
     let s = hashed k in
     let a = s .args in
-    let next : ℕ = getD (a .heads .now) (5 * k .bucket .result + a .t) 0 in
-    (linked-beside (a .t) (s .pre .0 .2) (a .heads .now) (a .nodes .now) (a .at) next,
-    λ p b table.
-    subst (λ (n : ℕ). Table (a .schema .now) (a .words .now) (a .x) (a .t) (a .columns) (a .set) p (a .heads .now) (set (a .nodes .now) (6 * n + 1 + a .t) next)) (sym (b .0))
-    (table-out (a .schema .now) (a .words .now) (s .pre .0 .0) (a .x) (s .pre .0 .1) (a .t) (a .columns) (a .set) p (b .1) (a .heads .now) (a .nodes .now) table
-    (of (k .before .before) p b) (k .bucket .result) (bucketed k p b) (k .bucket .ensures .1) (s .pre .1 .0 .heads-room) (s .pre .1 .0 .nodes-room) (s .pre .0 .2)
-    (start-inside (a .schema .now) (a .words .now) (s .pre .0 .0) p (b .1))
-    (not-first (a .schema .now) (a .words .now) (s .pre .0 .0) (a .x) (s .pre .0 .1) (a .t) (a .set) p (b .1) (of (k .before .before) p b)
-    (k .before .read-row .result) (own (k .before) p b) (c .before .before .before .before .before .if2 .taken) (c .before .before .find .result) (c .before .before .find .ensures)
-    (λ same. c .before .if3 .taken (same ∙ sym (b .0))))))
+    let next : ℕ = getD (a .heads .now) (5 * k .bucket .result + a .t) 0 in (
+      linked-beside (a .t) (s .pre .0 .2) (a .heads .now) (a .nodes .now) (a .at) next,
+      λ p b table.
+          subst (λ (n : ℕ). Table (a .schema .now) (a .words .now) (a .x) (a .t) (a .columns) (a .set) p (a .heads .now) (set (a .nodes .now) (6 * n + 1 + a .t) next)) (sym (b .0))
+          (table-out (a .schema .now) (a .words .now) (s .pre .0 .0) (a .x) (s .pre .0 .1) (a .t) (a .columns) (a .set) p (b .1) (a .heads .now) (a .nodes .now) table
+          (of (k .before .before) p b) (k .bucket .result) (bucketed k p b) (k .bucket .ensures .1) (s .pre .1 .0 .heads-room) (s .pre .1 .0 .nodes-room) (s .pre .0 .2)
+          (start-inside (a .schema .now) (a .words .now) (s .pre .0 .0) p (b .1))
+          (not-first (a .schema .now) (a .words .now) (s .pre .0 .0) (a .x) (s .pre .0 .1) (a .t) (a .set) p (b .1) (of (k .before .before) p b)
+          (k .before .read-row .result) (own (k .before) p b) (c .before .before .before .before .before .if2 .taken) (c .before .before .find .result) (c .before .before .find .ensures)
+          (λ same. c .before .if3 .taken (same ∙ sym (b .0))))),
+    )
 
 mul-nodes-4 : tie.Need-mul-nodes-4
 mul-nodes-4 c = omega (arith, head-room (c .before))
@@ -177,15 +178,16 @@ returns-3 : tie.Need-returns-3
 returns-3 c = let k = c .before .before in
     let s = hashed k in
     let a = s .args in
-    let next : ℕ = getD (a .heads .now) (5 * k .bucket .result + a .t) 0 in
-    (entered-beside (a .t) (s .pre .0 .2) (a .heads .now) (a .nodes .now) (a .at) next (k .bucket .result),
-    λ p b table.
-    subst
-    (λ (n : ℕ). Table (a .schema .now) (a .words .now) (a .x) (a .t) (a .columns) (a .set) p (set (a .heads .now) (5 * k .bucket .result + a .t) n)
-    (set (a .nodes .now) (6 * n + 1 + a .t) next)) (sym (b .0))
-    (table-in (a .schema .now) (a .words .now) (s .pre .0 .0) (a .x) (s .pre .0 .1) (a .t) (a .columns) (a .set) p (b .1) (a .heads .now) (a .nodes .now) table
-    (of (k .before .before) p b) (k .bucket .result) (bucketed k p b) (k .bucket .ensures .1) (s .pre .1 .0 .heads-room) (s .pre .1 .0 .nodes-room) (s .pre .0 .2)
-    (start-inside (a .schema .now) (a .words .now) (s .pre .0 .0) p (b .1))))
+    let next : ℕ = getD (a .heads .now) (5 * k .bucket .result + a .t) 0 in (
+      entered-beside (a .t) (s .pre .0 .2) (a .heads .now) (a .nodes .now) (a .at) next (k .bucket .result),
+      λ p b table.
+          subst
+          (λ (n : ℕ). Table (a .schema .now) (a .words .now) (a .x) (a .t) (a .columns) (a .set) p (set (a .heads .now) (5 * k .bucket .result + a .t) n)
+          (set (a .nodes .now) (6 * n + 1 + a .t) next)) (sym (b .0))
+          (table-in (a .schema .now) (a .words .now) (s .pre .0 .0) (a .x) (s .pre .0 .1) (a .t) (a .columns) (a .set) p (b .1) (a .heads .now) (a .nodes .now) table
+          (of (k .before .before) p b) (k .bucket .result) (bucketed k p b) (k .bucket .ensures .1) (s .pre .1 .0 .heads-room) (s .pre .1 .0 .nodes-room) (s .pre .0 .2)
+          (start-inside (a .schema .now) (a .words .now) (s .pre .0 .0) p (b .1))),
+    )
 
 pub enter-row-spec : {M : Type 1} → statement M
 enter-row-spec =

@@ -11,7 +11,6 @@ use Rattle.lists.proofs.Tests.{below-or-past}
 use Rattle.words.specs.Words.{spellsRows}
 use Rattle.join_testing.specs.internal.Starts.{startOf, rowCount}
 use Rattle.join_testing.proofs.Starting.{start-less, begins, start-next, inside-start, outside-start}
-use borrow.Author.Needs.{needs}
 use Rattle.join_testing.proofs.thread.Statement.{statement}
 use Rattle.join_testing.proofs.thread.Tie as tie
 
@@ -98,11 +97,12 @@ loop-again : tie.Need-loop-again Inv-loop μ-loop
 loop-again c = let s = c .before .before .before .before .before .before in
     let a = s .args in
     let l = c .before .before .loop in
-    let h = c .before .loop-test .taken in
-    (l .inv .0,
-    linked-next (a .schema .now) (a .words .now) (l .inv .0) (a .nodes .now) (l .nodes) (l .at) (l .inv .1) h (c .next .result)
-    (linked-after (a .schema .now) (a .words .now) (l .inv .0) (a .nodes .now) (l .nodes) (l .at) (l .inv .1) h (c .next .result) (c .next .ensures .place))
-    (omega (arith, room c)))
+    let h = c .before .loop-test .taken in (
+      l .inv .0,
+      linked-next (a .schema .now) (a .words .now) (l .inv .0) (a .nodes .now) (l .nodes) (l .at) (l .inv .1) h (c .next .result)
+          (linked-after (a .schema .now) (a .words .now) (l .inv .0) (a .nodes .now) (l .nodes) (l .at) (l .inv .1) h (c .next .result) (c .next .ensures .place))
+          (omega (arith, room c)),
+    )
 
 same-length : tie.Need-same-length Inv-loop μ-loop
 same-length c = c .before .loop .inv .1 .size
