@@ -7,6 +7,7 @@ pub mod Reaching
 pub mod Searching
 pub mod Finding
 pub mod Entering
+pub mod Filling
 pub mod Ruled
 -- What the answer of a test means.
 pub mod Means
