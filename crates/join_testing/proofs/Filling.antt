@@ -70,10 +70,11 @@ module _ (schema words : List ℕ) (good : spellsRows schema words ≡ true) (x 
 
       -- The row before begins where its link says
       pub entered-begins : BeginsAt schema words (getD nodes (6 * (at - 1)) 0) (e .row - 1)
-      entered-begins =
-          (ap (λ (n : ℕ). getD nodes (6 * (n - 1)) 0) (e .place ∙ ap (startOf schema words) (sym entered-row))
-          ∙ thread-beside (e .kept) low thread .prior (e .row - 1) (omega (arith, entered-row, e .inside)),
-          omega (arith, entered-row, e .inside))
+      entered-begins = (
+        ap (λ (n : ℕ). getD nodes (6 * (n - 1)) 0) (e .place ∙ ap (startOf schema words) (sym entered-row))
+            ∙ thread-beside (e .kept) low thread .prior (e .row - 1) (omega (arith, entered-row, e .inside)),
+        omega (arith, entered-row, e .inside),
+      )
 
       pub entered-less : getD nodes (6 * (at - 1)) 0 < at
       entered-less = omega (arith, start-less schema words (e .row - 1) (e .row) (omega (arith, entered-some)), entered-begins .0, e .place)

@@ -81,14 +81,7 @@ fn start(
 }
 
 // Where the next such row after the one at `at` begins, or the end of the words.
-fn following(
-    words: &[u32],
-    schema: &[u8],
-    x: Index,
-    t: usize,
-    at: usize,
-    nodes: &[u32],
-) -> usize
+fn following(words: &[u32], schema: &[u8], x: Index, t: usize, at: usize, nodes: &[u32]) -> usize
     requires { ⌜ (spellsRows (now schema) (now words) ≡ true) × Known (now schema) x × (t < 5) ⌝ }
     requires { ⌜ ((p : ℕ) × BeginsAt (now schema) (now words) at p) ⌝ }
     requires { ⌜ (0 < x .buckets → 6 * length (now words) ≤ length (now nodes)) ⌝ }
@@ -175,17 +168,7 @@ fn search(
     while at < words.len() {
         if has(words, schema, x, at, shared, values) {
             let row = with_row(words, x, at, set, values);
-            let found = search(
-                words,
-                schema,
-                j,
-                x,
-                k + 1,
-                filled | set,
-                row,
-                heads,
-                nodes,
-            );
+            let found = search(words, schema, j, x, k + 1, filled | set, row, heads, nodes);
             if found.some {
                 let mut list = found.at;
                 list[k] = at;
@@ -310,7 +293,8 @@ fn enter_set(
     ensures { λ _. ⌜ Threaded (now (schema .entry)) (now (words .entry)) (now (nodes .exit)) ⌝ }
     ensures { λ _. ⌜ Roomy (now (words .entry)) x (now (heads .exit)) (now (nodes .exit)) ⌝ }
     ensures { λ _. ⌜ Table (now (schema .entry)) (now (words .entry)) x (k + 1) shared set 0 (now (heads .exit)) (now (nodes .exit)) ⌝ }
-    ensures { λ _. ⌜ ((l columns mask : ℕ) → l < 4 → (l ≡ k → ⊥) → Table (now (schema .entry)) (now (words .entry)) x (l + 1) columns mask 0 (now (heads .entry)) (now (nodes .entry))
+    ensures { λ _. ⌜ ((l columns mask : ℕ) → l < 4 → (l ≡ k → ⊥)
+        → Table (now (schema .entry)) (now (words .entry)) x (l + 1) columns mask 0 (now (heads .entry)) (now (nodes .entry))
         → Table (now (schema .entry)) (now (words .entry)) x (l + 1) columns mask 0 (now (heads .exit)) (now (nodes .exit))) ⌝ }
 {
     enter(words, schema, x, 0, set, 0, heads, nodes);

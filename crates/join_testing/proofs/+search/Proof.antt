@@ -137,9 +137,10 @@ module _ (t : ℕ) where
   search-find-requires c κs = let s = c .before .before .before .before .before in
       let g = s .pre .1 .0 .0 in
       let i = s .pre .1 .0 .1 in
-      let e : s .args .filled ≡ filledTo (s .args .t3 .sets) (s .args .t3 .count) = s .pre .1 .1 .1 ∙ ap (filledTo (s .args .t3 .sets)) (c .if1 .taken) in
-      ((g .spelled, i .known, i .room),
-      subst (λ (n : ℕ). Tabled (s .args .schema .now) (s .args .words .now) (s .args .x) 0 n 0 (s .args .heads .now) (s .args .nodes .now)) (sym e) (i .whole))
+      let e : s .args .filled ≡ filledTo (s .args .t3 .sets) (s .args .t3 .count) = s .pre .1 .1 .1 ∙ ap (filledTo (s .args .t3 .sets)) (c .if1 .taken) in (
+        (g .spelled, i .known, i .room),
+        subst (λ (n : ℕ). Tabled (s .args .schema .now) (s .args .words .now) (s .args .x) 0 n 0 (s .args .heads .now) (s .args .nodes .now)) (sym e) (i .whole),
+      )
 
   search-returns : search-lts.Need-returns (claims t) (search-at t) search′.Post search-Inv-loop search-μ-loop
   search-returns c = let s = c .before .before .before .before .before .before in
@@ -177,12 +178,18 @@ module _ (t : ℕ) where
       let g = s .pre .1 .0 .0 in
       let i = s .pre .1 .0 .1 in
       let low = more s (e .if1 .left) in
-      let mask = getD (a .t3 .sets) (a .k) 0 in
-      (g, i, low, (0,
-      subst (λ (n : ℕ). Reaches (a .schema .now) (a .words .now) (a .x) (a .k + 1) n mask (a .values) 0 (c .start .result)) (shared-is s)
-      (c .start .ensures mask (a .nodes .now)
-      (subst (λ (n : ℕ). Tabled (a .schema .now) (a .words .now) (a .x) (a .k + 1) n mask (a .heads .now) (a .nodes .now)) (sym (shared-is s)) (i .levels (a .k) low))),
-      λ q qs l. absurd (omega arith)))
+      let mask = getD (a .t3 .sets) (a .k) 0 in (
+        g,
+        i,
+        low,
+        (
+          0,
+          subst (λ (n : ℕ). Reaches (a .schema .now) (a .words .now) (a .x) (a .k + 1) n mask (a .values) 0 (c .start .result)) (shared-is s)
+              (c .start .ensures mask (a .nodes .now)
+              (subst (λ (n : ℕ). Tabled (a .schema .now) (a .words .now) (a .x) (a .k + 1) n mask (a .heads .now) (a .nodes .now)) (sym (shared-is s)) (i .levels (a .k) low))),
+          λ q qs l. absurd (omega arith),
+        ),
+      )
 
   search-has-requires : search-lts.Need-has-requires (claims t) (search-at t) search′.Post search-Inv-loop search-μ-loop
   search-has-requires c κs = let l = c .before in
@@ -192,9 +199,11 @@ module _ (t : ℕ) where
   search-with-row-requires : search-lts.Need-with-row-requires (claims t) (search-at t) search′.Post search-Inv-loop search-μ-loop
   search-with-row-requires c κs = let h = c .before in
       let l = c .before .before .before in
-      let v = l .loop .inv in
-      (begins-room (schemaOf l) (wordsOf l) (v .0 .spelled) (start l .args .x) (v .1 .known) (l .loop .at) (v .3 .1 .row) (begun (h .before))
-      (word h (c .if2 .taken)), v .1 .known .narrow)
+      let v = l .loop .inv in (
+        begins-room (schemaOf l) (wordsOf l) (v .0 .spelled) (start l .args .x) (v .1 .known) (l .loop .at) (v .3 .1 .row) (begun (h .before))
+            (word h (c .if2 .taken)),
+        v .1 .known .narrow,
+      )
 
   search-add-search : search-lts.Need-add-search (claims t) (search-at t) search′.Post search-Inv-loop search-μ-loop
   search-add-search c = let l = c .before .before .before .before in
@@ -244,9 +253,12 @@ module _ (t : ℕ) where
       let n = c .before .before .before in
       let s = start l in
       let v = l .loop .inv in
-      omega (arith, n .loop-test .taken,
-      reach-less (schemaOf l) (wordsOf l) (v .0 .spelled) (s .args .x) (v .1 .known) (s .args .k + 1) (sharedAt (s .args .t3 .sets) (s .args .k))
-      (getD (s .args .t3 .sets) (s .args .k) 0) (s .args .values) (v .3 .1 .row) (l .loop .at) (c .following .result) (v .3 .1 .place) (onward c))
+      omega (
+        arith,
+        n .loop-test .taken,
+        reach-less (schemaOf l) (wordsOf l) (v .0 .spelled) (s .args .x) (v .1 .known) (s .args .k + 1) (sharedAt (s .args .t3 .sets) (s .args .k))
+            (getD (s .args .t3 .sets) (s .args .k) 0) (s .args .values) (v .3 .1 .row) (l .loop .at) (c .following .result) (v .3 .1 .place) (onward c),
+      )
 
   search-loop-again : search-lts.Need-loop-again (claims t) (search-at t) search′.Post search-Inv-loop search-μ-loop
   search-loop-again c = let h = c .before .before in

@@ -138,10 +138,11 @@ returns : tie.Need-returns Inv-loop μ-loop
 returns c = let l = c .before .loop in
     let d = cleared (c .before) in
     let s = begun d in
-    let a = s .args in
-    (beside-all (c .before),
-    entered-all (a .schema .now) (a .words .now) (s .pre .0 .0) (a .x) (a .t) (a .columns) (a .set) (d .clear .last .0) (a .nodes .now)
-    (l .heads) (l .nodes) (l .at) (l .inv) (c .loop-test .left))
+    let a = s .args in (
+      beside-all (c .before),
+      entered-all (a .schema .now) (a .words .now) (s .pre .0 .0) (a .x) (a .t) (a .columns) (a .set) (d .clear .last .0) (a .nodes .now)
+          (l .heads) (l .nodes) (l .at) (l .inv) (c .loop-test .left),
+    )
 
 pub enter-spec : {M : Type 1} → statement M
 enter-spec =

@@ -52,8 +52,8 @@ returns c = let u = c .before .before .before .before in
         (
           u .enter2 .ensures .1,
           λ l columns mask low other table.
-          table-beside (u .enter2 .ensures .0) (l + 1) columns mask 0 (omega arith) (λ same. other (omega arith))
-          (table-beside (d .enter .ensures .0) (l + 1) columns mask 0 (omega arith) (λ same. omega arith) table),
+              table-beside (u .enter2 .ensures .0) (l + 1) columns mask 0 (omega arith) (λ same. other (omega arith))
+              (table-beside (d .enter .ensures .0) (l + 1) columns mask 0 (omega arith) (λ same. omega arith) table),
         ),
       ),
     )

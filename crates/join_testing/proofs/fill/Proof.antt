@@ -30,9 +30,12 @@ loop-holds : tie.Need-loop-holds Inv-loop μ-loop
 loop-holds c = let d = c .before .before in
     let s = d .before .before .before .before .before .before in
     let a = s .args in
-    let r = s .pre .1 in
-    (levelled-none (a .schema .now) (a .words .now) (a .t3) (a .x) (a .heads .now) (d .thread .last .1 .1 .0) (d .thread .ensures .0)
-    (record { some = r .some; heads-room = r .heads-room; nodes-room = omega (arith, r .nodes-room, d .thread .ensures .1); short = r .short }), refl, refl)
+    let r = s .pre .1 in (
+      levelled-none (a .schema .now) (a .words .now) (a .t3) (a .x) (a .heads .now) (d .thread .last .1 .1 .0) (d .thread .ensures .0)
+          (record { some = r .some; heads-room = r .heads-room; nodes-room = omega (arith, r .nodes-room, d .thread .ensures .1); short = r .short }),
+      refl,
+      refl,
+    )
 
 element-copy-out-set : tie.Need-element-copy-out-set Inv-loop μ-loop
 element-copy-out-set c = let s = begun (c .before) in

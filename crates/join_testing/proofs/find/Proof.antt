@@ -54,10 +54,13 @@ following-requires c κs = let s = c .before .before .before .before .before .be
     let l = c .before .before .before in
     let i = c .before .before in
     let w = l .loop .inv in
-    let p = w .2 in
-    ((w .0, w .1, omega arith),
-    ((w .2 .1 .row, pass-begins (a .schema .now) (a .words .now) (w .0) (a .x) (w .1) (a .columns) (a .values) (l .loop .at) p (i .loop-test .taken)),
-    λ some. s .pre .0 .2 some .1))
+    let p = w .2 in (
+      (w .0, w .1, omega arith),
+      (
+        (w .2 .1 .row, pass-begins (a .schema .now) (a .words .now) (w .0) (a .x) (w .1) (a .columns) (a .values) (l .loop .at) p (i .loop-test .taken)),
+        λ some. s .pre .0 .2 some .1,
+      ),
+    )
 
 -- The way goes on
 onward : (c : tie.After-following Inv-loop μ-loop)
@@ -76,8 +79,11 @@ loop-less c = let s = c .before .before .before .before .before .before .before 
     let l = c .before .before .before .before in
     let i = c .before .before .before in
     let w = l .loop .inv in
-    omega (arith, i .loop-test .taken,
-    reach-less (a .schema .now) (a .words .now) (w .0) (a .x) (w .1) 0 (a .columns) 0 (a .values) (w .2 .1 .row) (l .loop .at) (c .following .result) (w .2 .1 .place) (onward c))
+    omega (
+      arith,
+      i .loop-test .taken,
+      reach-less (a .schema .now) (a .words .now) (w .0) (a .x) (w .1) 0 (a .columns) 0 (a .values) (w .2 .1 .row) (l .loop .at) (c .following .result) (w .2 .1 .place) (onward c),
+    )
 
 loop-again : tie.Need-loop-again Inv-loop μ-loop
 loop-again c = let s = c .before .before .before .before .before .before .before .before .before .before in

@@ -31,8 +31,11 @@ placed c n = let e : 0 + n ≡ n = omega arith in
 
 begins : (c : tie.Else1) (n : ℕ) → (p : ℕ) × (getD (c .before .before .search .result .at) n 0 ≡ startOf (c .before .before .before .before .before .before .before .before .before .before .before .before .before .before .before .before .args .schema .now) (c .before .before .before .before .before .before .before .before .before .before .before .before .before .before .before .before .args .words .now) p)
     × (p ≤ rowCount (c .before .before .before .before .before .before .before .before .before .before .before .before .before .before .before .before .args .schema .now) (c .before .before .before .before .before .before .before .before .before .before .before .before .before .before .before .before .args .words .now))
-begins c n = (getD (first c .positions) n 0, placed c n,
-    first-inside (c .before .before .before .before .before .before .before .before .before .before .before .before .before .before .before .before .pre) (c .before .before .before .before .before .before .before .before .before .build .ensures) (replicate 8 0) (c .before .before .search .result .at) (first c) n)
+begins c n = (
+  getD (first c .positions) n 0,
+  placed c n,
+  first-inside (c .before .before .before .before .before .before .before .before .before .before .before .before .before .before .before .before .pre) (c .before .before .before .before .before .before .before .before .before .build .ensures) (replicate 8 0) (c .before .before .search .result .at) (first c) n,
+)
 
 -- and its position is known
 known : (c : tie.Else1) (n r : ℕ) → getD (c .before .before .search .result .at) n 0 ≡ startOf (c .before .before .before .before .before .before .before .before .before .before .before .before .before .before .before .before .args .schema .now) (c .before .before .before .before .before .before .before .before .before .before .before .before .before .before .before .before .args .words .now) r

@@ -35,9 +35,10 @@ shared-slice-read-if1 c = inside (c .before .before .before)
 
 returns : tie.Need-returns Inv-loop μ-loop
 returns c = let s = c .before .before .before .before .before in
-    let a = s .args in
-    ((λ p b t. absurd (false≢true t)),
-    (λ p b t. other-relation (a .schema .now) (a .words .now) (s .pre .0 .0) (a .x) (s .pre .0 .1) (a .at) p b (a .columns) (a .t6) (c .if1 .taken)))
+    let a = s .args in (
+      (λ p b t. absurd (false≢true t)),
+      (λ p b t. other-relation (a .schema .now) (a .words .now) (s .pre .0 .0) (a .x) (s .pre .0 .1) (a .at) p b (a .columns) (a .t6) (c .if1 .taken)),
+    )
 
 loop-holds : tie.Need-loop-holds Inv-loop μ-loop
 loop-holds c = let s = c .before .before .before .before .before in
@@ -48,8 +49,11 @@ value-requires c κs = let s = c .before .before .before .before .before .before
     let a = s .args in
     let e = c .before .before .before .before in
     let i = c .before in
-    omega (arith, i .if2 .taken,
-    begins-room (a .schema .now) (a .words .now) (s .pre .0 .0) (a .x) (s .pre .0 .1) (a .at) (s .pre .1 .0) (s .pre .1 .1) (e .if1 .left))
+    omega (
+      arith,
+      i .if2 .taken,
+      begins-room (a .schema .now) (a .words .now) (s .pre .0 .0) (a .x) (s .pre .0 .1) (a .at) (s .pre .1 .0) (s .pre .1 .1) (e .if1 .left),
+    )
 
 mul-if4 : tie.Need-mul-if4 Inv-loop μ-loop
 mul-if4 c = search needs
@@ -65,11 +69,12 @@ returns-2 c = let s = c .before .before .before .before .before .before .before 
     let l = c .before .before .before .before .before in
     let i = c .before .before .before in
     let t = c .before .before in
-    let v = c .before in
-    ((λ p b t. absurd (false≢true t)),
-    (λ p b w. other-column (a .schema .now) (a .words .now) (s .pre .0 .0) (a .x) (s .pre .0 .1) (a .at) p b (a .columns) (a .t6) (l .loop .c)
-    (s .fits .columns .fits) (i .if2 .taken) (ap (λ (n : ℕ). n % 2) (sym (l .loop .inv .1)) ∙ t .if3 .taken)
-    (λ h. c .if4 .taken (v .value .ensures ∙ h))))
+    let v = c .before in (
+      (λ p b t. absurd (false≢true t)),
+      (λ p b w. other-column (a .schema .now) (a .words .now) (s .pre .0 .0) (a .x) (s .pre .0 .1) (a .at) p b (a .columns) (a .t6) (l .loop .c)
+          (s .fits .columns .fits) (i .if2 .taken) (ap (λ (n : ℕ). n % 2) (sym (l .loop .inv .1)) ∙ t .if3 .taken)
+          (λ h. c .if4 .taken (v .value .ensures ∙ h))),
+    )
 
 add-c : tie.Need-add-c Inv-loop μ-loop
 add-c c = search needs
@@ -81,22 +86,25 @@ loop-again : tie.Need-loop-again Inv-loop μ-loop
 loop-again c = let s = c .before .before .before .before .before .before .before .before .before in
     let a = s .args in
     let l = c .before .before .before in
-    let i = c .before in
-    (search needs, ap (λ (n : ℕ). n / 2) (l .loop .inv .1) ∙ shifted (a .columns) (l .loop .c),
-    λ d h bit. ⊎-elim (λ low. l .loop .inv .2 d low bit)
-    (λ high. let e : d ≡ l .loop .c = omega arith in
-    ⊎-elim (λ w. ap (λ (n : ℕ). getD (a .words .now) (a .at + 1 + n) 0) e ∙ sym (w .1 .ensures) ∙ w .2 .left ∙ ap (λ (n : ℕ). getD (a .t6) n 0) (sym e))
-    (λ w. absurd (w .left (ap (λ (n : ℕ). n % 2) (l .loop .inv .1) ∙ ap (λ (n : ℕ). a .columns / 2 ^ n % 2) (sym e) ∙ bit))) (c .if3 .came))
-    (below-or-past d (l .loop .c)))
+    let i = c .before in (
+      search needs,
+      ap (λ (n : ℕ). n / 2) (l .loop .inv .1) ∙ shifted (a .columns) (l .loop .c),
+      λ d h bit. ⊎-elim (λ low. l .loop .inv .2 d low bit)
+          (λ high. let e : d ≡ l .loop .c = omega arith in
+          ⊎-elim (λ w. ap (λ (n : ℕ). getD (a .words .now) (a .at + 1 + n) 0) e ∙ sym (w .1 .ensures) ∙ w .2 .left ∙ ap (λ (n : ℕ). getD (a .t6) n 0) (sym e))
+          (λ w. absurd (w .left (ap (λ (n : ℕ). n % 2) (l .loop .inv .1) ∙ ap (λ (n : ℕ). a .columns / 2 ^ n % 2) (sym e) ∙ bit))) (c .if3 .came))
+          (below-or-past d (l .loop .c)),
+    )
 
 returns-3 : tie.Need-returns-3 Inv-loop μ-loop
 returns-3 c = let s = c .before .before .before .before .before .before .before .before in
     let a = s .args in
     let l = c .before .before in
-    let e = c .before .before .before in
-    ((λ p b t. made-has (a .schema .now) (a .words .now) (s .pre .0 .0) (a .x) (s .pre .0 .1) (a .at) p b (e .if1 .left) (a .columns) (a .t6)
-    (s .fits .columns .fits) (λ d h bit. l .loop .inv .2 d (omega (arith, c .if2 .left)) bit)),
-    (λ p b t. absurd (true≢false t)))
+    let e = c .before .before .before in (
+      (λ p b t. made-has (a .schema .now) (a .words .now) (s .pre .0 .0) (a .x) (s .pre .0 .1) (a .at) p b (e .if1 .left) (a .columns) (a .t6)
+          (s .fits .columns .fits) (λ d h bit. l .loop .inv .2 d (omega (arith, c .if2 .left)) bit)),
+      (λ p b t. absurd (true≢false t)),
+    )
 
 pub has-spec : {M : Type 1} → statement M
 has-spec =

@@ -39,9 +39,10 @@ next-requires c κs = let s = c .before .before .before .before in
     let l = c .before in
     let v = l .loop .inv in
     let low : l .loop .n < v .1 = before (a .schema .now) (a .words .now) (v .1) (l .loop .n) (a .at) (l .loop .here) (v .2) (v .4) (v .5) (c .loop-test .taken) in
-    let b = begins (a .schema .now) (a .words .now) (v .0) (l .loop .n) (omega (arith, v .3)) in
-    (omega (arith, v .4, start-inside (a .schema .now) (a .words .now) (v .0) (l .loop .n) (omega (arith, v .3))),
-    subst (λ (m : ℕ). spellsRows (a .schema .now) (drop m (a .words .now)) ≡ true) (sym (v .4)) (b .from .good))
+    let b = begins (a .schema .now) (a .words .now) (v .0) (l .loop .n) (omega (arith, v .3)) in (
+      omega (arith, v .4, start-inside (a .schema .now) (a .words .now) (v .0) (l .loop .n) (omega (arith, v .3))),
+      subst (λ (m : ℕ). spellsRows (a .schema .now) (drop m (a .words .now)) ≡ true) (sym (v .4)) (b .from .good),
+    )
 
 add-n : tie.Need-add-n Inv-loop μ-loop
 add-n c = let s = c .before .before .before .before .before in
@@ -63,11 +64,15 @@ loop-again c = let s = c .before .before .before .before .before in
     let i = c .before in
     let v = l .loop .inv in
     let low : l .loop .n < v .1 = before (a .schema .now) (a .words .now) (v .1) (l .loop .n) (a .at) (l .loop .here) (v .2) (v .4) (v .5) (i .loop-test .taken) in
-    let n = start-next (a .schema .now) (a .words .now) (v .0) (l .loop .n) (omega (arith, v .3)) in
-    (v .0, v .1, v .2, v .3,
-    c .next .ensures .place ∙ ap (λ (m : ℕ). m + 1 + getD (a .schema .now) (getD (a .words .now) m 0) 0) (v .4) ∙ sym (n .place)
-    ∙ ap (startOf (a .schema .now) (a .words .now)) (sym (add-one (l .loop .n))),
-    omega arith)
+    let n = start-next (a .schema .now) (a .words .now) (v .0) (l .loop .n) (omega (arith, v .3)) in (
+      v .0,
+      v .1,
+      v .2,
+      v .3,
+      c .next .ensures .place ∙ ap (λ (m : ℕ). m + 1 + getD (a .schema .now) (getD (a .words .now) m 0) 0) (v .4) ∙ sym (n .place)
+          ∙ ap (startOf (a .schema .now) (a .words .now)) (sym (add-one (l .loop .n))),
+      omega arith,
+    )
 
 returns : tie.Need-returns Inv-loop μ-loop
 returns c = let s = c .before .before .before .before in

@@ -81,13 +81,15 @@ loop-again c = let s = c .before .before .before .before .before in
     let a = s .args in
     let l = c .before .before .before in
     let i = c .before in
-    let low : l .loop .c < 8 = omega (arith, i .if1 .taken, s .pre .1) in
-    (search needs, ap (λ (n : ℕ). n / 2) (l .loop .inv .1) ∙ shifted (a .set) (l .loop .c),
-    ⊎-elim
-    (λ w. subst (λ (r : List ℕ). PutIn (a .words .now) (a .at) (a .set) (a .values) r (l .loop .c + 1)) (sym (w .2)) (put-here (a .words .now) (a .at) (a .set) (a .values) (l .loop .row) (l .loop .c) (w .1 .result) (l .loop .inv .2) low
-    (ap (λ (n : ℕ). n % 2) (sym (l .loop .inv .1)) ∙ w .0 .taken) (w .1 .ensures)))
-    (λ w. subst (λ (r : List ℕ). PutIn (a .words .now) (a .at) (a .set) (a .values) r (l .loop .c + 1)) (sym (w .1)) (put-not (a .words .now) (a .at) (a .set) (a .values) (l .loop .row) (l .loop .c) (l .loop .inv .2)
-    (λ b. w .0 .left (ap (λ (n : ℕ). n % 2) (l .loop .inv .1) ∙ b)))) (c .if2 .came))
+    let low : l .loop .c < 8 = omega (arith, i .if1 .taken, s .pre .1) in (
+      search needs,
+      ap (λ (n : ℕ). n / 2) (l .loop .inv .1) ∙ shifted (a .set) (l .loop .c),
+      ⊎-elim
+          (λ w. subst (λ (r : List ℕ). PutIn (a .words .now) (a .at) (a .set) (a .values) r (l .loop .c + 1)) (sym (w .2)) (put-here (a .words .now) (a .at) (a .set) (a .values) (l .loop .row) (l .loop .c) (w .1 .result) (l .loop .inv .2) low
+          (ap (λ (n : ℕ). n % 2) (sym (l .loop .inv .1)) ∙ w .0 .taken) (w .1 .ensures)))
+          (λ w. subst (λ (r : List ℕ). PutIn (a .words .now) (a .at) (a .set) (a .values) r (l .loop .c + 1)) (sym (w .1)) (put-not (a .words .now) (a .at) (a .set) (a .values) (l .loop .row) (l .loop .c) (l .loop .inv .2)
+          (λ b. w .0 .left (ap (λ (n : ℕ). n % 2) (l .loop .inv .1) ∙ b)))) (c .if2 .came),
+    )
 
 returns : tie.Need-returns Inv-loop μ-loop
 returns c = let l = c .before .before in
