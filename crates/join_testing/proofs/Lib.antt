@@ -6,6 +6,8 @@ pub mod Having
 pub mod Reaching
 pub mod Searching
 pub mod Finding
+pub mod Entering
+pub mod Filling
 pub mod Ruled
 -- What the answer of a test means.
 pub mod Means

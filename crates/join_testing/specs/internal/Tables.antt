@@ -2,7 +2,7 @@
 -- 6 * at + 1 + t. Both are words at which rows begin, or the end of the words. Chains go from earlier to later rows.
 use mathlib.Core.Path.{_≡_}
 use mathlib.Core.List.{List}
-use Prim.Native.Nat.{ℕ, suc, _+_, _*_, _≤_, _<_}
+use Prim.Native.Nat.{ℕ, suc, _+_, _*_, _-_, _≤_, _<_}
 use lib.ListN.{length, take, getD}
 use Rattle.theory.specs.Database.{Agree}
 use Rattle.query.specs.View.{columnsOf}
@@ -59,3 +59,21 @@ pub record FirstWith (schema words : List ℕ) (x : Index) (columns : ℕ) (valu
   pub inside : row ≤ rowCount schema words
   pub here : row < rowCount schema words → Has schema words x columns values row
   pub before : (p : ℕ) → p < row → Has schema words x columns values p → ⊥
+
+-- Each row has, at its last word, a link to where it begins
+pub record Threaded (schema words nodes : List ℕ) : Type 0 where
+  pub prior : (p : ℕ) → p < rowCount schema words → getD nodes (6 * (startOf schema words (suc p) - 1)) 0 ≡ startOf schema words p
+
+-- Heads and nodes in which nothing but table t is changed
+pub record Beside (t : ℕ) (heads nodes heads′ nodes′ : List ℕ) : Type 0 where
+  pub heads-size : length heads′ ≡ length heads
+  pub nodes-size : length nodes′ ≡ length nodes
+  pub heads-kept : (b u : ℕ) → u < 5 → (u ≡ t → ⊥) → getD heads′ (5 * b + u) 0 ≡ getD heads (5 * b + u) 0
+  pub nodes-kept : (n u : ℕ) → u < 6 → (u ≡ t + 1 → ⊥) → getD nodes′ (6 * n + u) 0 ≡ getD nodes (6 * n + u) 0
+
+-- There are buckets, room for the tables, and every word's place is one of 32 bits
+pub record Roomy (words : List ℕ) (x : Index) (heads nodes : List ℕ) : Type 0 where
+  pub some : 0 < x .buckets
+  pub heads-room : 5 * x .buckets ≤ length heads
+  pub nodes-room : 6 * length words ≤ length nodes
+  pub short : length words < 4294967296
