@@ -36,15 +36,7 @@ pub fn test_in_file_lent(
         Status::Done => {
             let given = outcome.record;
             let found = database::test_lent(given, words, heads, nodes);
-            lent_numbers::leave_test(
-                found,
-                verdict,
-                dependency,
-                first,
-                second,
-                third,
-                fourth,
-            )
+            lent_numbers::leave_test(found, verdict, dependency, first, second, third, fourth)
         }
         Status::Refused(n) => n,
     }
@@ -75,15 +67,7 @@ pub fn test_in_file(
         Status::Done => {
             let given = outcome.record;
             let found = database::test(given, words);
-            lent_numbers::leave_test(
-                found,
-                verdict,
-                dependency,
-                first,
-                second,
-                third,
-                fourth,
-            )
+            lent_numbers::leave_test(found, verdict, dependency, first, second, third, fourth)
         }
         Status::Refused(n) => n,
     }
