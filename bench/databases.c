@@ -1,5 +1,6 @@
 // Evaluation and testing of databases. bench/databases builds and runs it:
 //   databases            beside SQLite: the same rows, the same question, in memory, loading included, at 10 thousand, 100 thousand and 1 million rows a table
+//   databases joins      of that, the tests of join dependencies alone
 //   databases growth     how times grow with the rows and the answers, from 15,625 to 4 million
 //   databases repeats    repeated rows, and rows of tables that the query does not name
 // A time is the processor's, in milliseconds, for a whole call, with the working memory mapped in it and given back: the best of 5 calls, or of 3 on more than
@@ -390,11 +391,13 @@ static void compare_join_tests(uint32_t n) {
     }
 }
 
-static void beside_sqlite(void) {
+static void beside_sqlite(int joins_only) {
     printf("| Case | rows a table | answers | engine | SQLite | SQLite, keys declared | times faster |\n|---|---|---|---|---|---|---|\n");
     for (uint32_t n = 10000; n <= 1000000; n *= 10) {
-        compare_joins(n);
-        compare_tests(n);
+        if (!joins_only) {
+            compare_joins(n);
+            compare_tests(n);
+        }
         compare_join_tests(n);
     }
 }
@@ -591,13 +594,13 @@ int main(int arguments, char **argument) {
     words = lent(MOST);
     theirs = lent(MOST);
     const char *what = arguments > 1 ? argument[1] : "";
-    if (!*what)
-        beside_sqlite();
+    if (!*what || !strcmp(what, "joins"))
+        beside_sqlite(*what != 0);
     else if (!strcmp(what, "growth"))
         growth();
     else if (!strcmp(what, "repeats"))
         repeats();
     else
-        fail("the argument is growth, repeats, or none");
+        fail("the argument is joins, growth, repeats, or none");
     return 0;
 }
