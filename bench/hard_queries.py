@@ -19,8 +19,10 @@ def part(rows, head):
     return body + b''.join(bytes([r]) + b''.join(entry(e) for e in es) for r, es in rows)
 
 
-def archive(widths, dependencies, queries):
-    parts = [bytes([len(widths)] + widths), bytes([len(dependencies)] + [b for d in dependencies for b in d])] + queries
+def archive(widths, dependencies, queries, joins=()):
+    """A file with functional dependencies (relation, left set, right column) and join dependencies (relation, sets)."""
+    tail = bytes([len(joins)] + [b for r, sets in joins for b in [r, len(sets)] + sets]) if joins else b''
+    parts = [bytes([len(widths)] + widths), bytes([len(dependencies)] + [b for d in dependencies for b in d]) + tail] + queries
     at = 2 + 4 * len(parts)
     pairs = b''
     for p in parts:

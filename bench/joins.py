@@ -10,26 +10,13 @@ than expected, or takes 10 milliseconds, makes the exit status 1.
 import ctypes
 import os
 import random
-import struct
 import sys
 import time
 
-from hard_queries import part, v
+from hard_queries import archive, part, v
 
 LIMIT = 10.0
 CONTAINED, OVERFLOW = 'contained', 'refused 17'
-
-
-def archive(widths, dependencies, joins, queries):
-    """A file with functional dependencies (relation, left set, right column) and join dependencies (relation, sets)."""
-    tail = bytes([len(joins)] + [b for r, sets in joins for b in [r, len(sets)] + sets]) if joins else b''
-    parts = [bytes([len(widths)] + widths), bytes([len(dependencies)] + [b for d in dependencies for b in d]) + tail] + queries
-    at = 2 + 4 * len(parts)
-    pairs = b''
-    for p in parts:
-        pairs += struct.pack('<HH', at, len(p))
-        at += len(p)
-    return struct.pack('<H', len(parts)) + pairs + b''.join(parts)
 
 
 def rows(*tuples):
@@ -103,7 +90,7 @@ def main():
     wrong = False
     worst = {}
     for name, expected, width, dependencies, joins, query in list(cases()) + list(random_cases()):
-        took, says = engine.compare(archive([width], dependencies, joins, [part(query, [])]))
+        took, says = engine.compare(archive([width], dependencies, [part(query, [])], joins))
         if took >= LIMIT or says not in ((CONTAINED, OVERFLOW) if expected is None else (expected,)):
             wrong = True
             says += '  <-- ' + ('slow' if took >= LIMIT else 'wrong')
