@@ -1,2 +1,3 @@
--- What the record's rule of join dependencies comes to in the theory.
+-- What the record's rule of join dependencies comes to in the theory, and its limit of rows.
 pub mod Fitting
+pub mod Limit

@@ -90,7 +90,7 @@ isAnswer-true none answer e = absurd (false≢true e)
 isAnswer-true (some a) answer e = ap some (beq-true a answer e)
 
 -- An example that holds means what it says
-holds-meaning : (x : Example) → holds x ≡ true → Meaning x
+pub holds-meaning : (x : Example) → holds x ≡ true → Meaning x
 unfolding holds
 holds-meaning (chasesTo ds js limit q outcome) e =
     let over = overBoth ds js q in

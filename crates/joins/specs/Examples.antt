@@ -68,7 +68,7 @@ abbrev ends : List (Row Entry) → Outcome
 ends rows = chased (query [] rows)
 
 -- R is the product of its columns
-abbrev R·a·b : JoinDependency
+abbrev pub R·a·b : JoinDependency
 R·a·b = record { relation = 0; sets = (0 ∷ []) ∷ (1 ∷ []) ∷ [] }
 
 -- The same with the sets in the other order
@@ -158,9 +158,6 @@ limits =
     ∷ chasesTo [] (R·a·b ∷ []) 3 (query [] (R (v 0) (v 1) ∷ R (v 2) (v 3) ∷ [])) overflow
     -- rows that are not added count for nothing
     ∷ chasesTo [] (R·a·b ∷ []) 0 (query [] (R (v 0) (v 1) ∷ B (v 2) (v 3) ∷ [])) (ends (R (v 0) (v 1) ∷ B (v 2) (v 3) ∷ []))
-    -- 24 rows are reached, and a 25th is one too many
-    ∷ grows [] (R·a·b ∷ []) 24 (query [] (R (v 0) (v 10) ∷ R (v 1) (v 11) ∷ R (v 2) (v 12) ∷ R (v 3) (v 13) ∷ R (v 3) (v 14) ∷ R (v 3) (v 15) ∷ [])) 24
-    ∷ chasesTo [] (R·a·b ∷ []) 24 (query [] (R (v 0) (v 10) ∷ R (v 1) (v 11) ∷ R (v 2) (v 12) ∷ R (v 3) (v 13) ∷ R (v 4) (v 14) ∷ [])) overflow
     -- also where a clash would come later: R, held first, asks for a sixth row; held last it comes too late
     ∷ chasesTo (S·ab→c ∷ []) (R·a·b ∷ S·ab·ac ∷ []) 5 (query [] (R (v 0) (v 1) ∷ R (v 2) (v 3) ∷ S (v 0) (v 1) (k 3) ∷ S (v 0) (v 2) (k 4) ∷ [])) overflow
     ∷ chasesTo (S·ab→c ∷ []) (S·ab·ac ∷ R·a·b ∷ []) 5 (query [] (R (v 0) (v 1) ∷ R (v 2) (v 3) ∷ S (v 0) (v 1) (k 3) ∷ S (v 0) (v 2) (k 4) ∷ [])) (ends [])
