@@ -45,7 +45,7 @@ use Rattle.comparison.specs.declared.Checked.the-variants as checked
 use Rattle.comparison.specs.Comparison.{outcomeAt, queryIn, chasedAt, pairRefusal, Compared, CheckedMapping}
 use Rattle.comparison.specs.internal.Pairs.{paired, bare}
 use Rattle.comparison.proofs.Pairs.{standing, paired-places, compare-over}
-use Rattle.comparison.proofs.Verdicts.{queries, compared-refused, compared-never, compared-contained, compared-apart}
+use Rattle.comparison.proofs.Verdicts.{queries, compared-refused, compared-never, compared-mapped, compared-apart}
 
 -- ---- the chase of the first query
 
@@ -132,9 +132,9 @@ module _ (r : Record) (p q : ℕ) (accepted : pairRefusal r p q ≡ none) (sized
             (finds (schemaOf r) (k .narrow) (k .good-q) (is .good under) (sym (k .same-arity) ∙ sym (is .same-arity under)))
 
         -- There is one
-        pub answers-contained : mapped .found ≡ true → Compared r p q (record { verdict = verdict.Contained; images = mapped .images; query = noTableau })
+        pub answers-contained : mapped .found ≡ true → Compared r p q (record { verdict = verdict.Mapped; images = mapped .images; query = noTableau })
         answers-contained e =
-            compared-contained r p q accepted fit ends-so (mapping-rows (queryAt r q) (chasedAt r p) (imagesOf (mapped .images)) (found .mapping e))
+            compared-mapped r p q accepted fit ends-so (mapping-rows (queryAt r q) (chasedAt r p) (imagesOf (mapped .images)) (found .mapping e))
             (mapped .images) (found .mapping e)
 
         -- There is none

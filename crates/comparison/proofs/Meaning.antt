@@ -86,7 +86,7 @@ check-denies r p q images c is = (says-no r p q images c is, is-no r p q images 
 -- Whether a verdict is that the queries are apart
 apart-or-not : (v : Verdict) → (v ≡ verdict.Apart) ⊎ (v ≡ verdict.Apart → ⊥)
 apart-or-not verdict.Never = inr (λ e. let z : _≡_ {A = ℕ} 0 1 = cc in omega arith)
-apart-or-not verdict.Contained = inr (λ e. let z : _≡_ {A = ℕ} 0 1 = cc in omega arith)
+apart-or-not verdict.Mapped = inr (λ e. let z : _≡_ {A = ℕ} 0 1 = cc in omega arith)
 apart-or-not verdict.Apart = inl refl
 apart-or-not (verdict.Refused n) = inr (refused-apart n)
 

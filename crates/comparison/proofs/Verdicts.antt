@@ -37,7 +37,7 @@ use Rattle.minimization.specs.Search as search
 use Rattle.minimization.proofs.Search.{mappable-exact}
 use Rattle.joins.proofs.Theorems.{join-chase-computes, join-contained-obeying, join-chased-counterexample}
 use Rattle.comparison.specs.declared.Verdict.{Verdict}
-use Rattle.comparison.specs.declared.Verdict.the-variants.{Never, Contained, Apart, Refused}
+use Rattle.comparison.specs.declared.Verdict.the-variants.{Never, Mapped, Apart, Refused}
 use Rattle.comparison.specs.Comparison.{outcomeAt, chasedAt, pairRefusal, comparisonRefusal, notContained, containedByMapping, containedAsNever}
 use Rattle.comparison.specs.Comparison.{verdictReply, verdictOn, verdictOf, base, Compared}
 use Rattle.comparison.specs.internal.Pairs.{bare}
@@ -84,34 +84,34 @@ verdict-some (x ∷ xs) mapped filled = refl
 -- What a verdict says determines it
 pub verdict-same : (v w : Verdict) → verdictReply v ≡ verdictReply w → v ≡ w
 verdict-same Never Never e = refl
-verdict-same Never Contained e = let z : _≡_ {A = ℕ} 2 1 = cc in absurd (omega arith)
+verdict-same Never Mapped e = let z : _≡_ {A = ℕ} 2 1 = cc in absurd (omega arith)
 verdict-same Never Apart e = let z : _≡_ {A = ℕ} 2 0 = cc in absurd (omega arith)
 verdict-same Never (Refused n) e = absurd (refused-gives (sym e))
-verdict-same Contained Never e = let z : _≡_ {A = ℕ} 1 2 = cc in absurd (omega arith)
-verdict-same Contained Contained e = refl
-verdict-same Contained Apart e = let z : _≡_ {A = ℕ} 1 0 = cc in absurd (omega arith)
-verdict-same Contained (Refused n) e = absurd (refused-gives (sym e))
+verdict-same Mapped Never e = let z : _≡_ {A = ℕ} 1 2 = cc in absurd (omega arith)
+verdict-same Mapped Mapped e = refl
+verdict-same Mapped Apart e = let z : _≡_ {A = ℕ} 1 0 = cc in absurd (omega arith)
+verdict-same Mapped (Refused n) e = absurd (refused-gives (sym e))
 verdict-same Apart Never e = let z : _≡_ {A = ℕ} 0 2 = cc in absurd (omega arith)
-verdict-same Apart Contained e = let z : _≡_ {A = ℕ} 0 1 = cc in absurd (omega arith)
+verdict-same Apart Mapped e = let z : _≡_ {A = ℕ} 0 1 = cc in absurd (omega arith)
 verdict-same Apart Apart e = refl
 verdict-same Apart (Refused n) e = absurd (refused-gives (sym e))
 verdict-same (Refused n) Never e = absurd (refused-gives e)
-verdict-same (Refused n) Contained e = absurd (refused-gives e)
+verdict-same (Refused n) Mapped e = absurd (refused-gives e)
 verdict-same (Refused n) Apart e = absurd (refused-gives e)
 verdict-same (Refused n) (Refused m) e = let z : n ≡ m = cc in ap Refused z
 
 -- The verdicts are different
-never-contained : Never ≡ Contained → ⊥
-never-contained e = let z : _≡_ {A = ℕ} 0 1 = cc in omega arith
+never-mapped : Never ≡ Mapped → ⊥
+never-mapped e = let z : _≡_ {A = ℕ} 0 1 = cc in omega arith
 
 never-apart : Never ≡ Apart → ⊥
 never-apart e = let z : _≡_ {A = ℕ} 0 1 = cc in omega arith
 
-contained-apart : Contained ≡ Apart → ⊥
-contained-apart e = let z : _≡_ {A = ℕ} 0 1 = cc in omega arith
+mapped-apart : Mapped ≡ Apart → ⊥
+mapped-apart e = let z : _≡_ {A = ℕ} 0 1 = cc in omega arith
 
-refused-contained : (n : ℕ) → Refused n ≡ Contained → ⊥
-refused-contained n e = let z : _≡_ {A = ℕ} 0 1 = cc in omega arith
+refused-mapped : (n : ℕ) → Refused n ≡ Mapped → ⊥
+refused-mapped n e = let z : _≡_ {A = ℕ} 0 1 = cc in omega arith
 
 pub refused-apart : (n : ℕ) → Refused n ≡ Apart → ⊥
 refused-apart n e = let z : _≡_ {A = ℕ} 0 1 = cc in omega arith
@@ -123,7 +123,7 @@ pub compared-refused : (r : Record) (p q n : ℕ) → comparisonRefusal r p q �
 compared-refused r p q n refused =
     record {
       verdict = rw refused;
-      mapping = λ e. absurd (refused-contained n e);
+      mapping = λ e. absurd (refused-mapped n e);
       no-mapping = λ e. refl;
       chased = λ e. absurd (refused-apart n e);
       no-query = λ e. refl;
@@ -154,7 +154,7 @@ module _ (r : Record) (p q : ℕ) (accepted : pairRefusal r p q ≡ none) (fit :
         verdict =
             verdict-is containedAsNever
             (ap (λ (rows : List (theory.Row theory.Entry)). verdictOn rows (search.mappable (queryAt r q) (chasedAt r p))) empty);
-        mapping = λ e. absurd (never-contained e);
+        mapping = λ e. absurd (never-mapped e);
         no-mapping = λ e. refl;
         chased = λ e. absurd (never-apart e);
         no-query = λ e. refl;
@@ -169,17 +169,17 @@ module _ (r : Record) (p q : ℕ) (accepted : pairRefusal r p q ≡ none) (fit :
         (verdict-some (chasedAt r p .rows) (search.mappable (queryAt r q) (chasedAt r p)) filled ∙ ap (λ (t : Bool). cond t containedByMapping notContained) e)
 
     -- The second query maps to it
-    pub compared-contained : (images : List Cell) → answer.IsMapping (queryAt r q) (chasedAt r p) (imagesOf images)
-        → Compared r p q (record { verdict = Contained; images = images; query = noTableau })
-    compared-contained images is =
+    pub compared-mapped : (images : List Cell) → answer.IsMapping (queryAt r q) (chasedAt r p) (imagesOf images)
+        → Compared r p q (record { verdict = Mapped; images = images; query = noTableau })
+    compared-mapped images is =
         record {
           verdict = verdict-found true (mappable-exact (queryAt r q) (chasedAt r p) .1 (imagesOf images, is));
           mapping = λ e. is;
           no-mapping = λ e. absurd (e refl);
-          chased = λ e. absurd (contained-apart e);
+          chased = λ e. absurd (mapped-apart e);
           no-query = λ e. refl;
           contained = λ e. within (inr (imagesOf images, is));
-          apart = λ e. absurd (contained-apart e);
+          apart = λ e. absurd (mapped-apart e);
         }
 
     -- It does not: the chased query, read as a database, shows it
@@ -189,7 +189,7 @@ module _ (r : Record) (p q : ℕ) (accepted : pairRefusal r p q ≡ none) (fit :
     compared-apart long t is good not =
         record {
           verdict = verdict-found false (unmappable (search.mappable (queryAt r q) (chasedAt r p)) refl);
-          mapping = λ e. absurd (contained-apart (sym e));
+          mapping = λ e. absurd (mapped-apart (sym e));
           no-mapping = λ e. refl;
           chased = λ e. (is, good);
           no-query = λ e. absurd (e refl);

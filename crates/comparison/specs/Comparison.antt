@@ -14,7 +14,7 @@ use Rattle.query.specs.Rule.{goodTableau, noCell, noTableau}
 use Rattle.refusals.specs.Refusals.{Condition, firstHolding, headsDiffer, tooManyRows, Reply, refused, gives, reply}
 use Rattle.record.specs.Calls.{brokenRecord, unknownPlace, vacant, storedAt, queryAt}
 use Rattle.comparison.specs.declared.Verdict.{Verdict}
-use Rattle.comparison.specs.declared.Verdict.the-variants.{Never, Contained, Apart, Refused}
+use Rattle.comparison.specs.declared.Verdict.the-variants.{Never, Mapped, Apart, Refused}
 use Rattle.comparison.specs.declared.Comparison.{Comparison}
 use Rattle.comparison.specs.declared.Checked.{Checked}
 use Rattle.comparison.specs.declared.Checked.the-variants as checked
@@ -76,7 +76,7 @@ containedAsNever = 2
 -- What each case of a verdict says: one of these, or refused with a number
 abbrev pub verdictReply : Verdict → Reply ℕ
 verdictReply Apart = gives notContained
-verdictReply Contained = gives containedByMapping
+verdictReply Mapped = gives containedByMapping
 verdictReply Never = gives containedAsNever
 verdictReply (Refused n) = refused n
 
@@ -96,7 +96,7 @@ base = 2147483648
 -- A verdict that says contained
 abbrev pub SaysContained : Verdict → Type 0
 SaysContained Never = Unit {0}
-SaysContained Contained = Unit {0}
+SaysContained Mapped = Unit {0}
 SaysContained Apart = ⊥
 SaysContained (Refused n) = ⊥
 
@@ -106,8 +106,8 @@ SaysContained (Refused n) = ⊥
 -- both kinds; not contained, that the chased query read as a database shows the contrary
 pub record Compared (r : Record) (p q : ℕ) (c : Comparison) : Type 0 where
   pub verdict : verdictReply (c .verdict) ≡ verdictOf r p q
-  pub mapping : c .verdict ≡ Contained → answer.IsMapping (queryAt r q) (chasedAt r p) (imagesOf (c .images))
-  pub no-mapping : (c .verdict ≡ Contained → ⊥) → c .images ≡ replicate 96 noCell
+  pub mapping : c .verdict ≡ Mapped → answer.IsMapping (queryAt r q) (chasedAt r p) (imagesOf (c .images))
+  pub no-mapping : (c .verdict ≡ Mapped → ⊥) → c .images ≡ replicate 96 noCell
   pub chased : c .verdict ≡ Apart → (queryOf (schemaOf r) (asQuery (c .query)) ≡ chasedAt r p) × (goodTableau (schemaOf r) (c .query) ≡ true)
   pub no-query : (c .verdict ≡ Apart → ⊥) → c .query ≡ noTableau
   pub contained : SaysContained (c .verdict)

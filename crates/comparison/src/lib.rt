@@ -30,7 +30,7 @@ pub const CONTAINED_AS_NEVER: u8 = 2;
 // What a comparison says: contained because the first query chases to never, contained by a mapping, not contained, or refused with a number.
 pub enum Verdict {
     Never,
-    Contained,
+    Mapped,
     Apart,
     Refused(u8),
 }
@@ -130,7 +130,7 @@ fn compare_places(given: Record, p: usize, q: usize) -> Comparison
     let images = mapped.images;
     if mapped.found {
         return Comparison {
-            verdict: Verdict::Contained,
+            verdict: Verdict::Mapped,
             images: images,
             query: no_tableau(),
         };

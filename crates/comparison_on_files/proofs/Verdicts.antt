@@ -83,7 +83,7 @@ module _ (words room : ℕ) (schema : List ℕ) (c : Comparison) where
       → comparisonFits words room schema c ≡ verdictFits words room (0, queryFor 24 schema .put (asQuery (c .query)))
   comparison-apart e = rw e (fits-when (leb 192 words) room 0 (queryFor 24 schema .put (asQuery (c .query))))
 
-  pub comparison-contained : c .verdict ≡ verdict.Contained → comparisonFits words room schema c ≡ verdictFits words room (1, [])
+  pub comparison-contained : c .verdict ≡ verdict.Mapped → comparisonFits words room schema c ≡ verdictFits words room (1, [])
   comparison-contained e = rw e (fits-when (leb 192 words) room 1 (queryFor 24 schema .put (asQuery (c .query))))
 
   pub comparison-never : c .verdict ≡ verdict.Never → comparisonFits words room schema c ≡ verdictFits words room (2, [])

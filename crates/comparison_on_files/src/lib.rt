@@ -113,7 +113,7 @@ pub fn store_comparison(
             let chased = compared.query;
             store_apart(chased, images, count, widths, verdict, mapping, part, size)
         }
-        Verdict::Contained => store_contained(
+        Verdict::Mapped => store_contained(
             comparison::CONTAINED_BY_MAPPING,
             images,
             verdict,

@@ -11,7 +11,7 @@ use Rattle.record.specs.declared.Record.{Record}
 use Rattle.record.specs.Calls.{statusReply, outcomeReply, isFilled, queryAt}
 use Rattle.comparison.specs.declared.Comparison.{Comparison}
 use Rattle.comparison.specs.declared.Verdict.{Verdict}
-use Rattle.comparison.specs.declared.Verdict.the-variants.{Never, Contained, Apart, Refused}
+use Rattle.comparison.specs.declared.Verdict.the-variants.{Never, Mapped, Apart, Refused}
 use Rattle.comparison.specs.Comparison.{comparisonRefusal, verdictReply, verdictOn, chasedAt, SaysContained, Compared}
 use Rattle.refusals.specs.Refusals.{overUnless, Reply, refused, gives, reply}
 use Rattle.refusals.proofs.Refusals.{refused-gives}
@@ -21,7 +21,7 @@ use Rattle.lists.proofs.Tests.{below-or-past}
 use Rattle.passes.specs.Evaluated.{answerWords}
 use Rattle.replies.specs.declared.Answered.{Answered}
 use Rattle.replies.specs.Replies.{countReply}
-use Rattle.database.specs.Calls.{tooLong, evaluationRefused, placeAnswers, evaluated, bufferThen}
+use Rattle.database.specs.Calls.{tooLong, evaluationRefusal, placeAnswers, evaluated, bufferThen}
 use Rattle.admission.proofs.Admitted.{none-asked}
 use Rattle.database.proofs.Meaning.{place-ascending, place-answers}
 use Rattle.minimization.specs.Search as search
@@ -40,14 +40,14 @@ use native.Mathlib.Nat.{zero-add}
 -- A verdict that is not a refusal and does not say contained is Apart
 apart-else : (v : Verdict) → ((n : ℕ) → v ≡ Refused n → ⊥) → (SaysContained v → ⊥) → v ≡ Apart
 apart-else Never clear not = absurd (not tt)
-apart-else Contained clear not = absurd (not tt)
+apart-else Mapped clear not = absurd (not tt)
 apart-else Apart clear not = refl
 apart-else (Refused n) clear not = absurd (clear n refl)
 
 -- Nor is it any other
 says-else : (v : Verdict) → ((n : ℕ) → v ≡ Refused n → ⊥) → (v ≡ Apart → ⊥) → SaysContained v
 says-else Never clear not = tt
-says-else Contained clear not = tt
+says-else Mapped clear not = tt
 says-else Apart clear not = absurd (not refl)
 says-else (Refused n) clear not = absurd (clear n refl)
 
@@ -84,7 +84,7 @@ filled-inside r place e = ⊎-elim (λ h. h) past (below-or-past place (length (
 
 pub evaluates : (r : Record) (place : ℕ) (words before after : List ℕ) (a : Answered)
     → countReply a ≡ evaluated r place words (length before) → after ≡ bufferThen r place words before → Evaluates r place words before after a
-unfolding evaluated bufferThen evaluationRefused
+unfolding evaluated bufferThen evaluationRefusal
 evaluates r place words before after a is-a is-after =
     let n = length (placeAnswers r place words) in
     let found = answerWords (placeAnswers r place words) in

@@ -27,7 +27,7 @@ use Rattle.reduction.specs.Reduced.{reductionRefusal, reductionConditions, IsRe
 use Rattle.replies.specs.declared.Conformance.{Conformance}
 use Rattle.replies.specs.declared.Answered.{Answered}
 use Rattle.replies.specs.Replies.{testReply, countReply}
-use Rattle.database.specs.Calls.{tested, evaluationRefused, evaluated, bufferThen, counted, placeAnswers}
+use Rattle.database.specs.Calls.{tested, evaluationRefusal, evaluated, bufferThen, counted, placeAnswers}
 use Rattle.passes.specs.Evaluated.{answerWords}
 use Rattle.minimization.specs.Search as search
 use Rattle.record.specs.Rule.{blankRecord}
@@ -37,7 +37,7 @@ use Rattle.format.specs.Faults.{partAt, schemaIn, placeConditions, readConditio
 use Rattle.format.proofs.Faults.{first-fault}
 use Rattle.format.proofs.Stretches.{length-stretches}
 use Rattle.writer.specs.declared.Written.{Written}
-use Rattle.writer.specs.Write.{lengthReply, writingRefused, written, afterWriting}
+use Rattle.writer.specs.Write.{lengthReply, writingRefusal, written, afterWriting}
 use Rattle.demands.specs.Demand1.{Meets, Nothing, partsAsk, readAsks, AsksInOrder}
 use Rattle.demands.specs.Demand1Calls.{OpenMeets, AddMeets, AddJoinMeets, PutMeets, DropMeets, DeterminedMeets, CompareMeets, CheckMeets}
 use Rattle.demands.specs.Demand1Calls.{ReduceMeets, TestMeets, EvaluateMeets, CountMeets, ReadMeets, WriteMeets}
@@ -101,7 +101,7 @@ determined-meets r relation left c e = reply-meets _ _ refl (columnsReply c) _ e
 -- ---- comparing, checking a mapping, reducing
 
 -- A refused verdict is no other
-refused-else : (v : Verdict) (n : ℕ) → verdictReply v ≡ refused n → ((v ≡ verdict.Contained → ⊥) × (v ≡ verdict.Apart → ⊥))
+refused-else : (v : Verdict) (n : ℕ) → verdictReply v ≡ refused n → ((v ≡ verdict.Mapped → ⊥) × (v ≡ verdict.Apart → ⊥))
 refused-else v n e =
     ((λ c. refused-gives (sym e ∙ ap verdictReply c)), λ a. refused-gives (sym e ∙ ap verdictReply a))
 
@@ -145,7 +145,7 @@ test-meets r words v e = reply-meets _ _ refl (testReply v) _ e
 
 pub evaluate-meets : (r : Record) (place : ℕ) (words before after : List ℕ) (a : Answered)
     → countReply a ≡ evaluated r place words (length before) → after ≡ bufferThen r place words before → EvaluateMeets r place words before after a
-unfolding evaluated bufferThen evaluationRefused
+unfolding evaluated bufferThen evaluationRefusal
 evaluate-meets r place words before after a is-a is-after =
     let found = answerWords (placeAnswers r place words) in
     meets _ _ _ _ _ refl (ap refusalIn is-a ∙ refusal-reply _ _)
@@ -154,14 +154,14 @@ evaluate-meets r place words before after a is-a is-after =
     (is-a ∙ ap (λ (y : Option ℕ). reply y (length (placeAnswers r place words))) f, is-after ∙ ap (λ (y : Option ℕ). overUnless y found before) f))
 
 pub count-meets : (r : Record) (place : ℕ) (words : List ℕ) (a : Answered) → countReply a ≡ counted r place words → CountMeets r place words a
-unfolding evaluated evaluationRefused
+unfolding evaluated evaluationRefusal
 count-meets r place words a e = reply-meets _ _ refl (countReply a) _ e
 
 -- ---- files
 
 pub write-meets : (r : Record) (before after : List ℕ) (w : Written) → lengthReply w ≡ written r before → after ≡ afterWriting r before
     → WriteMeets r before after w
-unfolding written afterWriting writingRefused
+unfolding written afterWriting writingRefusal
 write-meets r before after w is-w is-after =
     meets _ _ _ _ _ refl (ap refusalIn is-w ∙ refusal-reply _ _)
     (λ n f. is-after ∙ ap (λ (y : Option ℕ). overUnless y (fileOf r) before) f)

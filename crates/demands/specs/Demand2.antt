@@ -18,7 +18,7 @@ use Rattle.answers.specs.Ascending.{Ascending}
 use Rattle.passes.specs.Evaluated.{answerWords}
 use Rattle.replies.specs.declared.Answered.{Answered}
 use Rattle.replies.specs.Replies.{countReply}
-use Rattle.database.specs.Calls.{evaluationRefused, placeAnswers}
+use Rattle.database.specs.Calls.{evaluationRefusal, placeAnswers}
 use Rattle.writer.specs.declared.Written.{Written}
 use Rattle.writer.specs.Write.{lengthReply}
 use Rattle.file.specs.RoundTrip.{Reads, Writes}
@@ -43,11 +43,11 @@ pub record Decides (r : Record) (p q : ℕ) (c : Comparison) : Type 0 where
 
 -- The answers that an evaluation counts and writes are those of the place's query on the rows that the words spell, ascending, so each once
 pub record Evaluates (r : Record) (place : ℕ) (words before after : List ℕ) (a : Answered) : Type 0 where
-  pub count : evaluationRefused r place words (length before) ≡ none → countReply a ≡ gives (length (placeAnswers r place words))
-  pub written : evaluationRefused r place words (length before) ≡ none
+  pub count : evaluationRefusal r place words (length before) ≡ none → countReply a ≡ gives (length (placeAnswers r place words))
+  pub written : evaluationRefusal r place words (length before) ≡ none
       → after ≡ over before 0 (answerWords (placeAnswers r place words))
   pub ascends : Ascending (placeAnswers r place words)
-  pub exactly : evaluationRefused r place words (length before) ≡ none
+  pub exactly : evaluationRefusal r place words (length before) ≡ none
       → (t : List ℕ) → (t ∈ placeAnswers r place words) ↔ Answer (databaseOf (schemaOf r) words) (queryAt r place) t
 
 -- ---- files

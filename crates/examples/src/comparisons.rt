@@ -23,7 +23,7 @@ fn comparison(c: Comparison) {
         Verdict::Never => {
             io::write_all(1, b" contained, never");
         }
-        Verdict::Contained => {
+        Verdict::Mapped => {
             io::write_all(1, b" contained,");
             show::images(images);
         }

@@ -309,7 +309,7 @@ compare-left file hb p q r e clear said mapping part size mappingAfter partAfter
               ∙ query-lawful 24 (schemaOf r) narrow .get-put chased [] (query-good 24 (schemaOf r) chased (shape .0) (is .chased a .1)),
           is .chased a .0,
         )
-    go c is shape images k verdict.Contained a =
+    go c is shape images k verdict.Mapped a =
         let z = given-back 1 [] images (leb 192 (length mapping) && leb 0 (length part))
         (subst (λ (x : Reply (ℕ × List ℕ)). Given x images) (comparison-contained (length mapping) (length part) (schemaOf r) c a) k) .0 in absurd (omega arith)
     go c is shape images k verdict.Never a =

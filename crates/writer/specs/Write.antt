@@ -21,13 +21,13 @@ abbrev pub writeConditions : Record → ℕ → List Condition
 writeConditions r room = brokenRecord r ∷ (ltb room (length (fileOf r)), bufferTooShort) ∷ []
 
 -- The refusal of writing
-unfoldable pub writingRefused : Record → ℕ → Option ℕ
-writingRefused r room = firstHolding (writeConditions r room)
+unfoldable pub writingRefusal : Record → ℕ → Option ℕ
+writingRefusal r room = firstHolding (writeConditions r room)
 
 -- Writing a record into a buffer: the refusal, or the file's length
 unfoldable pub written : Record → List ℕ → Reply ℕ
-written r buffer = reply (writingRefused r (length buffer)) (length (fileOf r))
+written r buffer = reply (writingRefusal r (length buffer)) (length (fileOf r))
 
 -- The buffer after it
 unfoldable pub afterWriting : Record → List ℕ → List ℕ
-afterWriting r buffer = overUnless (writingRefused r (length buffer)) (fileOf r) buffer
+afterWriting r buffer = overUnless (writingRefusal r (length buffer)) (fileOf r) buffer

@@ -14,7 +14,7 @@ use Rattle.tableaux.specs.internal.Tableaux.{tableauOf}
 use Rattle.join_rule.proofs.Shapes.{joins-shaped}
 use Rattle.join_chase.specs.internal.JoinChased.{IsJoinChased}
 use Rattle.mapping.specs.internal.Mapped.{Storable, Finds}
-use Rattle.comparison.specs.declared.Verdict.the-variants.{Contained}
+use Rattle.comparison.specs.declared.Verdict.the-variants.{Mapped}
 use Rattle.comparison.specs.Comparison.{Compared}
 use Rattle.comparison.proofs.Pairs.{standing}
 use Rattle.comparison.proofs.Answers.{can-be-chased, answers-over, both-storable, answers-never, answers-contained, answers-apart}
@@ -139,7 +139,7 @@ returns-3 c =
     let after = under .before in
     let s = after .before .before .before .before .before .before .before .before in
     subst
-    (λ (t : Tableau). Compared (s .args .given) (s .args .p) (s .args .q) (record { verdict = Contained; images = found .find .result .images; query = t }))
+    (λ (t : Tableau). Compared (s .args .given) (s .args .p) (s .args .q) (record { verdict = Mapped; images = found .find .result .images; query = t }))
     (sym (c .no-tableau .ensures))
     (answers-contained (s .args .given) (s .args .p) (s .args .q) (s .pre) (sized (after .before .before .before)) (shaped after) (after .chase .result)
     (chased after) (under .if1 .left) (found .find .result) (finds found) (c .before .if3 .taken))
