@@ -14,9 +14,10 @@ use Rattle.query.specs.declared.JoinDependency.{JoinDependency}
 use Rattle.query.specs.declared.Query.{Query}
 use Rattle.record.specs.declared.Record.{Record}
 use Rattle.record.specs.declared.Outcome.{Outcome}
-use Rattle.record.specs.declared.Columns.{Columns}
+use Rattle.record_calls.specs.declared.Columns.{Columns}
 use Rattle.record.specs.Calls.{statusReply, outcomeReply, queryAt}
-use Rattle.record.specs.Calls.{columnsReply, concluded, openRecord, addDependency, addJoin, putQuery, dropQuery, determinedColumns}
+use Rattle.record.specs.Calls.{concluded, addDependency, addJoin, putQuery}
+use Rattle.record_calls.specs.Calls.{columnsReply, openRecord, dropQuery, determinedColumns, blankRecord}
 use Rattle.comparison.specs.declared.Comparison.{Comparison}
 use Rattle.comparison.specs.declared.Verdict.{Verdict}
 use Rattle.comparison.specs.declared.Verdict.the-variants as verdict
@@ -30,7 +31,6 @@ use Rattle.replies.specs.Replies.{testReply, countReply}
 use Rattle.database.specs.Calls.{tested, evaluationRefusal, evaluated, bufferThen, counted, placeAnswers}
 use Rattle.passes.specs.Evaluated.{answerWords}
 use Rattle.minimization.specs.Search as search
-use Rattle.record.specs.Rule.{blankRecord}
 use Rattle.format.specs.Bytes.{number}
 use Rattle.format.specs.File.{stretches, readFile, readOutcome, fileOf}
 use Rattle.format.specs.Faults.{partAt, schemaIn, placeConditions, readConditions}

@@ -13,12 +13,12 @@ use Rattle.query.specs.View.{entriesOf, maskOf}
 use Rattle.query.specs.Rule.{noCell, noTableau, noPlace, placeWith}
 use Rattle.record.specs.declared.Record.{Record}
 use Rattle.record.specs.declared.Outcome.{Outcome}
-use Rattle.record.specs.declared.Columns.{Columns}
+use Rattle.record_calls.specs.declared.Columns.{Columns}
 use Rattle.record.specs.View.{schemaOf, dependenciesOf, joinsOf}
-use Rattle.record.specs.Rule.{blankRecord, emptyRecord}
+use Rattle.record_calls.specs.Calls.{blankRecord, emptyRecord, columnsReply, determinedAt, openConditions, dropConditions, determinedConditions}
 use Rattle.record.specs.Calls.{statusReply, withPlace, queryAt}
-use Rattle.record.specs.Calls.{columnsReply, withDependency, withJoin, determinedAt}
-use Rattle.record.specs.Calls.{openConditions, addConditions, addJoinConditions, putConditions, dropConditions, determinedConditions}
+use Rattle.record.specs.Calls.{withDependency, withJoin}
+use Rattle.record.specs.Calls.{addConditions, addJoinConditions, putConditions}
 use Rattle.comparison.specs.declared.Comparison.{Comparison}
 use Rattle.comparison.specs.declared.Checked.{Checked}
 use Rattle.comparison.specs.Comparison.{pairConditions, comparisonConditions, verdictReply, Compared, checkReply}

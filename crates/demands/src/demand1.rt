@@ -6,9 +6,9 @@ use query::Cell;
 use query::Dependency;
 use query::JoinDependency;
 use query::Query;
-use record::Columns;
 use record::Outcome;
 use record::Record;
+use record_calls::Columns;
 use reduction::Reduced;
 use replies::Answered;
 use replies::Conformance;
@@ -23,7 +23,7 @@ ghost use Rattle.demands.specs.Demand1Calls.{TestMeets, EvaluateMeets, C
 pub fn open(widths: &[u8]) -> Outcome
     ensures { λ o. ⌜ OpenMeets (now (widths .entry)) o ⌝ }
 {
-    Record::open(widths)
+    record_calls::open(widths)
 }
 
 // Adds a functional dependency.
@@ -51,14 +51,14 @@ pub fn put(given: Record, place: usize, q: Query) -> Outcome
 pub fn drop_query(given: Record, place: usize) -> Outcome
     ensures { λ o. ⌜ DropMeets given place o ⌝ }
 {
-    given.drop_query(place)
+    record_calls::drop_query(given, place)
 }
 
 // The columns that a left set determines.
 pub fn determined(given: Record, relation: u8, left: u8) -> Columns
     ensures { λ c. ⌜ DeterminedMeets given relation left c ⌝ }
 {
-    given.determined(relation, left)
+    record_calls::determined(given, relation, left)
 }
 
 // ---- queries

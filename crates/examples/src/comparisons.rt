@@ -160,7 +160,7 @@ fn check_with(r: Record, q: u8, a: Entry, b: Entry, c: Entry) {
 pub fn all() {
     let zero = Entry::Constant(0);
     let v0 = Entry::Variable(0);
-    let opened = Record::open(&[2]);
+    let opened = record_calls::open(&[2]);
     let r = filled(opened.record);
     compare_all(r);
     check_with(r, 1, v0, v0, zero);

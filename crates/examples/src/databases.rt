@@ -92,7 +92,7 @@ fn write(r: Record) {
 }
 
 pub fn all() {
-    let opened = Record::open(&[2]);
+    let opened = record_calls::open(&[2]);
     let empty = opened.record;
     write(empty);
     let v1 = Entry::Variable(1);

@@ -84,7 +84,7 @@ fn reduce_all(r: Record) {
 }
 
 pub fn all() {
-    let opened = Record::open(&[2]);
+    let opened = record_calls::open(&[2]);
     let r = filled(opened.record);
     reduce_all(r);
     reduce_all(queries::dependent(r));

@@ -19,15 +19,17 @@ use Rattle.record.specs.View.{schemaOf}
 use Rattle.query.specs.View.{queryOf, asQuery}
 use Rattle.lists.specs.Tests.{between, every}
 use Rattle.query.specs.Rule.{goodDependency, goodJoin, goodQuery, headSafe, noPlace, shapedQuery, shapedJoin, placeWith}
-use Rattle.record.specs.Rule.{goodRecord, blankRecord, emptyRecord}
+use Rattle.record.specs.Rule.{goodRecord}
+use Rattle.record_calls.specs.Calls.{blankRecord, emptyRecord, openRecord, dropQuery}
+use Rattle.record_calls.proofs.Meaning.{open-keeps, drop-keeps}
 use Rattle.refusals.specs.Refusals.{_>>=_, badQuery, bufferTooShort, tooManyRows, firstHolding, gives, refused, reply, Reply}
 use Rattle.record.specs.Calls.{queryAt, concluded, brokenRecord, unknownPlace, vacant, filled}
-use Rattle.record.specs.Calls.{withPlace, withDependency, openRecord, addDependency, putQuery}
-use Rattle.record.specs.Calls.{withJoin, addJoinConditions, addJoin, dropQuery}
+use Rattle.record.specs.Calls.{withPlace, withDependency, addDependency, putQuery}
+use Rattle.record.specs.Calls.{withJoin, addJoinConditions, addJoin}
 use Rattle.refusals.proofs.Refusals.{none-holds, refused-gives}
 use Rattle.lists.proofs.Tests.{and-left, and-right, every-set}
 use Rattle.record.proofs.Good.{good-record}
-use Rattle.record.proofs.Meaning.{open-keeps, add-keeps, add-join-keeps, put-keeps, drop-keeps}
+use Rattle.record.proofs.Meaning.{add-keeps, add-join-keeps, put-keeps}
 use Rattle.lists.specs.Over.{over}
 use Rattle.lists.proofs.Over.{length-pad}
 use Rattle.query.proofs.Good.{good-join}

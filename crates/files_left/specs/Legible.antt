@@ -10,7 +10,8 @@ use Rattle.query.specs.declared.Query.{Query}
 use Rattle.record.specs.declared.Record.{Record}
 use Rattle.record.specs.View.{schemaOf}
 use Rattle.query.specs.View.{queryOf}
-use Rattle.record.specs.Calls.{openRecord, addDependency, addJoin, dropQuery}
+use Rattle.record.specs.Calls.{addDependency, addJoin}
+use Rattle.record_calls.specs.Calls.{openRecord, dropQuery}
 use Rattle.format.specs.Bytes.{Bytes}
 use Rattle.refusals.specs.Refusals.{Reply, gives, _>>=_}
 use Rattle.format.specs.Format.{got}

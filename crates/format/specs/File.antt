@@ -13,7 +13,7 @@ use Rattle.record.specs.View.{schemaOf}
 use Rattle.lists.specs.Tests.{between, every}
 use Rattle.lists.specs.Over.{pad}
 use Rattle.query.specs.Rule.{headSafe, shapedQuery, shapedJoin, noJoin, noPlace, placeWith}
-use Rattle.record.specs.Rule.{blankRecord}
+use Rattle.record_calls.specs.Calls.{blankRecord}
 use Rattle.refusals.specs.Refusals.{badDependency, badDirectory, badJoin, badOffsets, badQuery, badRelations, unsafeHead, Reply, refused, gives, _>>=_}
 use Rattle.format.specs.Bytes.{number, bytesOf}
 use Rattle.format.specs.Format.{Reading, none, got}

@@ -1,11 +1,12 @@
 // What a call on a file returns, and leaves in the numbers that it is lent: 0 and the parts of its answer, or the number of the refusal and the numbers as they were.
-use record::Columns;
 use record::Status;
+use record_calls::Columns;
 use replies::Answered;
 use replies::Conformance;
 use writer::Written;
 ghost use mathlib.Core.Path.{_≡_};
-ghost use Rattle.record.specs.Calls.{statusReply, columnsReply};
+ghost use Rattle.record.specs.Calls.{statusReply};
+ghost use Rattle.record_calls.specs.Calls.{columnsReply};
 ghost use Rattle.writer.specs.Write.{lengthReply};
 ghost use Rattle.replies.specs.Replies.{countReply};
 ghost use Rattle.lent_numbers.specs.Lent.{returned, leaves};

@@ -1,11 +1,11 @@
--- The calls keep the rule: a good record with another content of a place, with one dependency of either kind more, and a record just opened are good.
+-- The calls keep the rule: a good record with another content of a place and one with a dependency of either kind more are good.
 -- A place that holds a good query with a safe head is good, and so is a vacant one
 use mathlib.Core.Path.{_≡_, refl}
 use mathlib.Core.Bool.{true}
 use mathlib.Core.List.{List}
 use Prim.Native.Nat.{ℕ, _<_}
 use native.Mathlib.Omega.{arith}
-use lib.ListN.{length, take, getD}
+use lib.ListN.{length, getD}
 use lib.Seq.{getD-set-same}
 use Rattle.query.specs.declared.Query.{Query}
 use Rattle.query.specs.declared.Dependency.{Dependency}
@@ -14,11 +14,11 @@ use Rattle.query.specs.declared.Place.{Place}
 use Rattle.record.specs.declared.Record.{Record}
 use Rattle.record.specs.View.{schemaOf}
 use Rattle.lists.specs.Tests.{every}
-use Rattle.query.specs.Rule.{goodRelations, goodDependency, blankDependency, goodJoin, blankJoin, goodQuery, headSafe, blankQuery, goodPlace, noPlace}
+use Rattle.query.specs.Rule.{goodDependency, blankDependency, goodJoin, blankJoin, goodQuery, headSafe, blankQuery, goodPlace, noPlace}
 use Rattle.query.specs.Rule.{placeWith}
-use Rattle.record.specs.Rule.{goodRecord, emptyRecord}
+use Rattle.record.specs.Rule.{goodRecord}
 use Rattle.record.specs.Calls.{withPlace, withDependency, withJoin}
-use Rattle.lists.proofs.Tests.{and-both, every-set, every-replicate, used-more}
+use Rattle.lists.proofs.Tests.{and-both, every-set, used-more}
 use Rattle.record.proofs.Good.{good-record, make-record}
 
 pub filled-place : (schema : List ℕ) (q : Query) → goodQuery schema q ≡ true → headSafe schema q ≡ true
@@ -72,20 +72,6 @@ join-kept r j good fits room long =
       joined = omega arith;
       joins = used-more (r .joined) (goodJoin (schemaOf r)) blankJoin (r .joins) j (omega arith) fits (g .joins);
       places = g .places;
-    })
-
--- A record just opened
-pub opened-good : (relations : ℕ) (widths : List ℕ) → goodRelations relations widths ≡ true → goodRecord (emptyRecord relations widths) ≡ true
-unfolding every
-opened-good relations widths good =
-    make-record (emptyRecord relations widths)
-    (record {
-      relations = good;
-      held = omega arith;
-      dependencies = refl;
-      joined = omega arith;
-      joins = refl;
-      places = every-replicate (goodPlace (take relations widths)) 8 noPlace (empty-place (take relations widths));
     })
 
 -- What a place holds afterwards

@@ -1,12 +1,12 @@
--- What each call on the record alone answers: what it asks, in the order of SPECIFICATION, Refusals, and the record after it.
-use mathlib.Core.Bool.{Bool, not, _&&_}
-use mathlib.Core.List.{List, [], _∷_, _++_}
+-- What adding a dependency and putting a query answer: what they ask, in the order of SPECIFICATION, Refusals, and the record after it. And what the other calls
+-- share with them: what a call says, places, and the record with another content of one.
+use mathlib.Core.Bool.{Bool, not}
+use mathlib.Core.List.{List, [], _∷_}
 use mathlib.Core.Option.{Option, none, some}
-use Prim.Native.Nat.{ℕ, _+_, _-_}
+use Prim.Native.Nat.{ℕ, _+_}
 use lib.Dec.{eqb, ltb}
-use lib.ListN.{length, getD, set, replicate}
+use lib.ListN.{getD, set}
 use Rattle.theory.specs.Query as theory
-use Rattle.determination.specs.Determined.{determined}
 use Rattle.query.specs.declared.Query.{Query}
 use Rattle.query.specs.declared.Dependency.{Dependency}
 use Rattle.query.specs.declared.JoinDependency.{JoinDependency}
@@ -15,16 +15,13 @@ use Rattle.record.specs.declared.Record.{Record}
 use Rattle.record.specs.declared.Status.{Status}
 use Rattle.record.specs.declared.Status.the-variants as status
 use Rattle.record.specs.declared.Outcome.{Outcome}
-use Rattle.record.specs.declared.Columns.{Columns}
-use Rattle.record.specs.declared.Columns.the-variants as columns
-use Rattle.query.specs.View.{columnsOf, queryOf, maskOf}
-use Rattle.record.specs.View.{schemaOf, dependenciesOf}
-use Rattle.lists.specs.Tests.{between, every}
-use Rattle.query.specs.Rule.{goodSet, goodDependency, goodJoin, goodQuery, headSafe, noPlace, placeWith}
-use Rattle.record.specs.Rule.{goodRecord, emptyRecord, blankRecord}
-use Rattle.refusals.specs.Refusals.{badDependency, badJoin, badQuery, badRecord, badRelations, dependenciesFull, joinsFull}
+use Rattle.query.specs.View.{queryOf}
+use Rattle.record.specs.View.{schemaOf}
+use Rattle.query.specs.Rule.{goodDependency, goodJoin, goodQuery, headSafe, noPlace, placeWith}
+use Rattle.record.specs.Rule.{goodRecord}
+use Rattle.refusals.specs.Refusals.{badDependency, badJoin, badQuery, badRecord, dependenciesFull, joinsFull}
 use Rattle.refusals.specs.Refusals.{Condition, firstHolding, noSuchPlace, placeFilled, placeVacant, unsafeHead}
-use Rattle.refusals.specs.Refusals.{Reply, refused, gives, reply}
+use Rattle.refusals.specs.Refusals.{Reply, refused, gives}
 
 -- ---- replies
 
@@ -41,11 +38,6 @@ outcomeReply o = (statusReply (o .answer), o .«record»)
 abbrev pub concluded : Option ℕ → Record → Record → Reply (Unit {0}) × Record
 concluded none given after = (gives tt, after)
 concluded (some n) given after = (refused n, given)
-
--- What each case of an answer about determined columns says: their set and how many they are, or refused with a number
-abbrev pub columnsReply : Columns → Reply (ℕ × ℕ)
-columnsReply (columns.Determined mask size) = gives (mask, size)
-columnsReply (columns.Refused n) = refused n
 
 -- ---- places
 
@@ -118,16 +110,6 @@ withJoin r j =
 
 -- ---- the calls
 
--- What opening asks: 3 unless there are 1 to 8 widths, each 1 to 8
-abbrev pub openConditions : List ℕ → List Condition
-openConditions widths = (not (between 1 8 (length widths) && every (between 1 8) widths), badRelations) ∷ []
-
--- Open a record from relation widths, no dependencies, all places vacant
-unfoldable pub openRecord : List ℕ → Reply (Unit {0}) × Record
-openRecord widths =
-    concluded (firstHolding (openConditions widths)) blankRecord
-    (emptyRecord (length widths) (widths ++ replicate (8 - length widths) 0))
-
 -- What adding a functional dependency asks: 14; 4 unless it is good; 13 where 32 are held
 abbrev pub addConditions : Record → Dependency → List Condition
 addConditions r d = brokenRecord r ∷ (not (goodDependency (schemaOf r) d), badDependency) ∷ (eqb (r .held) 32, dependenciesFull) ∷ []
@@ -152,25 +134,3 @@ putConditions r place q =
 -- Put a query into a vacant place
 unfoldable pub putQuery : Record → ℕ → Query → Reply (Unit {0}) × Record
 putQuery r place q = concluded (firstHolding (putConditions r place q)) r (withPlace r place (placeWith q))
-
--- What dropping a place asks: 14; 7; 11
-abbrev pub dropConditions : Record → ℕ → List Condition
-dropConditions r place = brokenRecord r ∷ unknownPlace place ∷ vacant r place ∷ []
-
--- Drop a filled place
-unfoldable pub dropQuery : Record → ℕ → Reply (Unit {0}) × Record
-dropQuery r place = concluded (firstHolding (dropConditions r place)) r (withPlace r place noPlace)
-
--- What a question about determined columns asks: 14; 4 unless the relation is known and the set is a nonempty set of its columns
-abbrev pub determinedConditions : Record → ℕ → ℕ → List Condition
-determinedConditions r relation left = brokenRecord r ∷ (not (goodSet (schemaOf r) relation left), badDependency) ∷ []
-
--- The columns of a relation that a left set determines
-abbrev pub determinedAt : Record → ℕ → ℕ → List ℕ
-determinedAt r relation left = determined (dependenciesOf r) relation (getD (schemaOf r) relation 0) (columnsOf left)
-
--- Their set and how many they are
-unfoldable pub determinedColumns : Record → ℕ → ℕ → Reply (ℕ × ℕ)
-determinedColumns r relation left =
-    reply (firstHolding (determinedConditions r relation left))
-    (maskOf (determinedAt r relation left), length (determinedAt r relation left))

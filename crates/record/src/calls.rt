@@ -1,5 +1,5 @@
-// The calls that change or ask the record alone. One that changes it takes it by value and hands it back with the answer, unchanged where it is refused.
-use crate::Columns;
+// Adding a dependency of either kind and putting a query, as methods: each takes the record by value and hands it back with the answer, unchanged where it
+// is refused. And what the other calls share: places looked up, a record with another content of a place.
 use crate::Lookup;
 use crate::Outcome;
 use crate::Record;
@@ -12,12 +12,11 @@ ghost use mathlib.Core.Path.{_≡_};
 ghost use mathlib.Core.Option.{none, some};
 ghost use Prim.Native.Nat.{_<_};
 ghost use Rattle.query.specs.Rule.{noPlace};
-ghost use Rattle.record.specs.Rule.{blankRecord, emptyRecord};
-ghost use Rattle.record.specs.Calls.{outcomeReply, columnsReply, concluded, storedAt, withPlace, withDependency, withJoin, openRecord, addDependency, addJoin, putQuery, dropQuery, determinedColumns};
+ghost use Rattle.record.specs.Calls.{outcomeReply, concluded, storedAt, withPlace, withDependency, withJoin, addDependency, addJoin, putQuery};
 ghost use Rattle.record.specs.internal.Lookup.{placeAt, filledPlace, vacantPlace, numberOf};
 
 // A call is done.
-fn done(after: Record) -> Outcome
+pub fn done(after: Record) -> Outcome
     ensures { λ o. ⌜ outcomeReply o ≡ concluded none after after ⌝ }
 {
     Outcome {
@@ -110,47 +109,7 @@ fn with_join(given: Record, j: JoinDependency) -> Record
     next
 }
 
-// A record of the given relations, without dependencies, all places vacant.
-fn opened(relations: u8, widths: [u8; 8]) -> Record
-    ensures { λ r. ⌜ r ≡ emptyRecord relations widths ⌝ }
-{
-    let unused = query::NO_DEPENDENCY;
-    let unjoined = query::NO_JOIN_DEPENDENCY;
-    let vacant = no_place();
-    Record {
-        relations,
-        widths,
-        held: 0,
-        dependencies: [unused; 32],
-        joined: 0,
-        joins: [unjoined; 4],
-        places: [vacant; 8],
-    }
-}
-
-// The blank record, all fields 0.
-pub fn blank_record() -> Record
-    ensures { λ r. ⌜ r ≡ blankRecord ⌝ }
-{
-    opened(0, [0; 8])
-}
-
 impl Record {
-    // Open a record from relation widths.
-    pub fn open(widths: &[u8]) -> Outcome
-        ensures { λ o. ⌜ outcomeReply o ≡ openRecord (now (widths .entry)) ⌝ }
-    {
-        if 8 < widths.len() {
-            return refused(refusals::BAD_RELATIONS, blank_record());
-        }
-        let relations = widths.len() as u8;
-        let padded = limits::padded_widths(widths);
-        if !limits::relations_good(relations, padded) {
-            return refused(refusals::BAD_RELATIONS, blank_record());
-        }
-        done(opened(relations, padded))
-    }
-
     // The index of a place to be read or dropped, or 7, or 11.
     pub fn filled_place(self, place: usize) -> Lookup
         ensures { λ r. ⌜ r ≡ filledPlace self place ⌝ }
@@ -177,20 +136,6 @@ impl Record {
         } else {
             Lookup::At(place)
         }
-    }
-
-    // Drop a filled place.
-    pub fn drop_query(self, place: usize) -> Outcome
-        ensures { λ o. ⌜ outcomeReply o ≡ dropQuery self place ⌝ }
-    {
-        if !self.is_good() {
-            return refused(refusals::BAD_RECORD, self);
-        }
-        let found = self.filled_place(place);
-        let Lookup::At(at) = found else {
-            return refused(number(found), self);
-        };
-        done(with_place(self, at, no_place()))
     }
 
     // Put a query into a vacant place.
@@ -259,23 +204,5 @@ impl Record {
             return refused(refusals::JOINS_FULL, self);
         }
         done(with_join(self, j))
-    }
-
-    // The columns of a relation that a set of its columns determines.
-    pub fn determined(self, relation: u8, left: u8) -> Columns
-        ensures { λ c. ⌜ columnsReply c ≡ determinedColumns self relation left ⌝ }
-    {
-        let relations = self.relations;
-        let widths = self.widths;
-        let held = self.held;
-        let dependencies = self.dependencies;
-        if !self.is_good() {
-            return Columns::Refused(refusals::BAD_RECORD);
-        }
-        if !limits::set_good(relations, widths, relation, left) {
-            return Columns::Refused(refusals::BAD_DEPENDENCY);
-        }
-        let mask = closure::closed_columns(held as usize, dependencies, relation, left);
-        Columns::Determined(mask, u8::count_ones(mask) as u8)
     }
 }

@@ -1,6 +1,6 @@
-// The record of relations, dependencies and saved queries: its types, its rule, and the calls that change or ask it alone.
+// The record of relations, dependencies and saved queries: its types, its rule, and the calls that add a dependency and put a query.
 pub mod rule; // rule.rt: whether a record is as SPECIFICATION, The record, describes
-pub mod calls; // calls.rt: open, add a dependency of either kind, put and drop a query, determined columns
+pub mod calls; // calls.rt: add a dependency of either kind, put a query, look up a place
 
 use query::Dependency;
 use query::JoinDependency;
@@ -33,11 +33,5 @@ pub struct Outcome {
 // Where a place is looked up: its index, or the number of the refusal.
 pub enum Lookup {
     At(usize),
-    Refused(u8),
-}
-
-// What a question about determined columns answers: their set, bit c for column c, with their number; or the number of the refusal.
-pub enum Columns {
-    Determined(u8, u8),
     Refused(u8),
 }

@@ -8,10 +8,10 @@ use query::Dependency;
 use query::Entry;
 use query::JoinDependency;
 use query::Query;
-use record::Columns;
 use record::Outcome;
 use record::Record;
 use record::Status;
+use record_calls::Columns;
 
 // Writes an answer, and hands on the record.
 fn answer(outcome: Outcome) -> Record {
@@ -47,7 +47,7 @@ fn open_counts() {
     let widths = [1u8; 9];
     for n in 0..10usize {
         show::case(b"open, widths ", n as u8);
-        answer(Record::open(&widths[..n]));
+        answer(record_calls::open(&widths[..n]));
     }
 }
 
@@ -55,7 +55,7 @@ fn open_counts() {
 fn open_widths() {
     for w in 0..10u8 {
         show::case(b"open, width ", w);
-        answer(Record::open(&[2, w]));
+        answer(record_calls::open(&[2, w]));
     }
 }
 
@@ -158,7 +158,7 @@ fn puts(r: Record, place: usize) {
 fn drops(r: Record) {
     for place in 0..10usize {
         show::case(b"drop ", place as u8);
-        answer(r.drop_query(place));
+        answer(record_calls::drop_query(r, place));
     }
 }
 
@@ -285,14 +285,14 @@ fn joined(r: Record) -> Record {
 fn determined(r: Record, relation: u8) {
     for left in 0..9u8 {
         show::case(b"determined by ", left);
-        columns(r.determined(relation, left));
+        columns(record_calls::determined(r, relation, left));
     }
 }
 
 pub fn all() {
     open_counts();
     open_widths();
-    let opened = Record::open(&[2, 3]);
+    let opened = record_calls::open(&[2, 3]);
     let r = opened.record;
     puts(r, 0);
     puts(r, 8);

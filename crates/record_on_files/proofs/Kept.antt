@@ -15,9 +15,11 @@ use Rattle.record.specs.declared.Record.{Record}
 use Rattle.record.specs.declared.Outcome.{Outcome}
 use Rattle.record.specs.View.{schemaOf}
 use Rattle.record.specs.Rule.{goodRecord}
-use Rattle.record.specs.Calls.{statusReply, outcomeReply, openRecord, addDependency, addJoin, putQuery, dropQuery}
+use Rattle.record.specs.Calls.{statusReply, outcomeReply, addDependency, addJoin, putQuery}
+use Rattle.record_calls.specs.Calls.{openRecord, dropQuery}
+use Rattle.record_calls.proofs.Meaning.{open-keeps, drop-keeps}
 use Rattle.record.specs.Meaning.{LeavesGood}
-use Rattle.record.proofs.Meaning.{open-keeps, add-keeps, add-join-keeps, put-keeps, drop-keeps}
+use Rattle.record.proofs.Meaning.{add-keeps, add-join-keeps, put-keeps}
 use Rattle.record.proofs.Outcomes.{join-unfit}
 use Rattle.parsing.proofs.Joins.{many-sets}
 use Rattle.format.specs.File.{readPlace}

@@ -10,7 +10,8 @@ use Rattle.lists.specs.Over.{pad}
 use Rattle.query.specs.declared.JoinDependency.{JoinDependency}
 use Rattle.record.specs.declared.Record.{Record}
 use Rattle.record.specs.View.{schemaOf}
-use Rattle.record.specs.Calls.{openRecord, addDependency, addJoin, putQuery, dropQuery, determinedColumns}
+use Rattle.record.specs.Calls.{addDependency, addJoin, putQuery}
+use Rattle.record_calls.specs.Calls.{openRecord, dropQuery, determinedColumns}
 use Rattle.format.specs.File.{readPlace, readFile, fileOf}
 use Rattle.lent_numbers.specs.Lent.{fitted}
 

@@ -108,7 +108,7 @@ pub fn open_file(widths: &[u8], out: &mut [u8], size: &mut usize) -> u8
     ensures { λ r. ⌜ Wrote (opened (now (widths .entry)) (length (now (out .entry)))) (now (out .entry)) (now (size .entry)) r (now (out .exit)) (now
         (size .exit)) ⌝ }
 {
-    store_outcome(Record::open(widths), out, size)
+    store_outcome(record_calls::open(widths), out, size)
 }
 
 // Adds a functional dependency after those held.
@@ -187,7 +187,7 @@ pub fn drop_in_file(file: &[u8], place: usize, out: &mut [u8], size: &mut usize)
     match answer {
         Status::Done => {
             let given = outcome.record;
-            store_outcome(given.drop_query(place), out, size)
+            store_outcome(record_calls::drop_query(given, place), out, size)
         }
         Status::Refused(n) => n,
     }
@@ -210,7 +210,11 @@ pub fn determined_in_file(
     match answer {
         Status::Done => {
             let given = outcome.record;
-            leave_columns(given.determined(relation, left), columns, count)
+            leave_columns(
+                record_calls::determined(given, relation, left),
+                columns,
+                count,
+            )
         }
         Status::Refused(n) => n,
     }

@@ -1,7 +1,7 @@
 -- `leave_columns` leaves the parts of each case. Assumes nothing.
 use mathlib.Core.Path.{ap}
 use borrow.Author.Needs.{needs}
-use Rattle.record.specs.Calls.{columnsReply}
+use Rattle.record_calls.specs.Calls.{columnsReply}
 use Rattle.lent_numbers.proofs.Lent.{done-number, done-leaves, refused-number, refused-leaves}
 use Rattle.lent_numbers.proofs.leave_columns.Statement.{statement}
 use Rattle.lent_numbers.proofs.leave_columns.Tie as tie

@@ -7,7 +7,7 @@ use Rattle.query.specs.declared.Place.{Place}
 use Rattle.record.specs.declared.Record.{Record}
 use Rattle.record.specs.declared.Outcome.{Outcome}
 use Rattle.record.specs.declared.Status.the-variants.{Done, Refused}
-use Rattle.record.specs.Rule.{blankRecord}
+use Rattle.record_calls.specs.Calls.{blankRecord}
 use Rattle.refusals.specs.Refusals.{Reply, gives, refused}
 use Rattle.format.specs.File.{recordWith}
 

@@ -1,6 +1,6 @@
 -- `spernevan_determined` gives the columns and their number, once the file is read. Assumes nothing.
 use mathlib.Core.Path.{_≡_, sym, ap, _∙_}
-use Rattle.record.specs.Calls.{columnsReply, determinedColumns}
+use Rattle.record_calls.specs.Calls.{columnsReply, determinedColumns}
 use Rattle.record_on_files.specs.Records.{determinedIn}
 use Rattle.refusals.specs.Refusals.{refused}
 use Rattle.record_on_files.proofs.Files.{read-done, read-refused}

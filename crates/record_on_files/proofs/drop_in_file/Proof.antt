@@ -1,7 +1,7 @@
 -- `spernevan_drop` gives the file without the place, once the file is read. Assumes nothing.
 use mathlib.Core.Path.{sym, ap, _∙_}
 use lib.ListN.{length}
-use Rattle.record.specs.Calls.{dropQuery}
+use Rattle.record_calls.specs.Calls.{dropQuery}
 use Rattle.format.specs.File.{fileOf}
 use Rattle.lent_numbers.specs.Lent.{fitted}
 use Rattle.record_on_files.specs.Records.{resultOf, fileFitted}

@@ -1,4 +1,4 @@
--- `record::Record::open` meets its contract, by `Outcomes`: padded widths are good exactly when the widths given are.
+-- `record_calls::open` meets its contract, by `Outcomes`: padded widths are good exactly when the widths given are.
 -- Assumes nothing.
 use mathlib.Core.Path.{sym, ap, _∙_}
 use mathlib.Core.Option.{some}
@@ -6,13 +6,13 @@ use lib.ListN.{length}
 use denote.Ref.{now}
 use borrow.Author.Tests.{not-true, not-false}
 use borrow.Author.Needs.{needs}
 use Rattle.record.specs.declared.Record.{Record}
 use Rattle.query.specs.Rule.{goodRelations}
-use Rattle.record.specs.Rule.{emptyRecord}
+use Rattle.record_calls.specs.Calls.{emptyRecord}
 use Rattle.record.specs.Calls.{concluded}
-use Rattle.record.proofs.Outcomes.{open-many, open-unfit, open-done}
-use Rattle.record.proofs.Record.open.Statement.{statement}
-use Rattle.record.proofs.Record.open.Tie as tie
+use Rattle.record_calls.proofs.Outcomes.{open-many, open-unfit, open-done}
+use Rattle.record_calls.proofs.open.Statement.{statement}
+use Rattle.record_calls.proofs.open.Tie as tie
 
 blank-record-requires : tie.Need-blank-record-requires
 blank-record-requires c κs = search needs

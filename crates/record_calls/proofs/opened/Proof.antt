@@ -1,13 +1,13 @@
--- `record::calls::opened` meets its contract, by that of `no_place`.
+-- `record_calls::opened` meets its contract, by that of `no_place`.
 -- Assumes nothing.
 use mathlib.Core.Path.{ap}
 use lib.ListN.{replicate}
 use borrow.Author.Needs.{needs}
 use Rattle.query.specs.declared.Place.{Place}
 use Rattle.record.specs.declared.Record.{Record}
 use Rattle.query.specs.Rule.{noDependency, noJoin}
-use Rattle.record.proofs.calls.opened.Statement.{statement}
-use Rattle.record.proofs.calls.opened.Tie as tie
+use Rattle.record_calls.proofs.opened.Statement.{statement}
+use Rattle.record_calls.proofs.opened.Tie as tie
 
 no-place-requires : tie.Need-no-place-requires
 no-place-requires c κs = search needs

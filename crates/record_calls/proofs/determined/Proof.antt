@@ -1,4 +1,4 @@
--- `record::Record::determined` meets its contract, by `Outcomes`: the closed mask is that of the determined columns, and its ones are their number.
+-- `record_calls::determined` meets its contract, by `Outcomes`: the closed mask is that of the determined columns, and its ones are their number.
 -- Assumes nothing.
 use mathlib.Core.Path.{_≡_, sym, _∙_}
 use mathlib.Core.Bool.{true}
@@ -8,31 +8,31 @@ use lib.Dec.{lit<}
 use lib.ListN.{length}
 use borrow.Author.Tests.{not-true, not-false}
 use borrow.Author.Needs.{needs}
 use Rattle.record.specs.Rule.{goodRecord}
 use Rattle.lists.proofs.Loops.{mapped-length}
 use Rattle.record.proofs.Good.{good-record}
-use Rattle.record.proofs.Outcomes.{rights-narrow, determined-broken, determined-unfit, determined-done}
-use Rattle.record.proofs.Record.determined.Statement.{statement}
-use Rattle.record.proofs.Record.determined.Tie as tie
+use Rattle.record_calls.proofs.Outcomes.{rights-narrow, determined-broken, determined-unfit, determined-done}
+use Rattle.record_calls.proofs.determined.Statement.{statement}
+use Rattle.record_calls.proofs.determined.Tie as tie
 
 is-good-requires : tie.Need-is-good-requires
 is-good-requires c κs = search needs
 
 -- what the tests passed so far tell
-good : (c : tie.Else1) → goodRecord (c .before .before .before .before .args .self) ≡ true
+good : (c : tie.Else1) → goodRecord (c .before .before .before .before .args .given) ≡ true
 good c = sym (c .before .is-good .ensures) ∙ not-false _ (c .if1 .left)
 
 returns : tie.Need-returns
 returns c =
-    determined-broken (c .before .before .before .before .args .self) (c .before .before .before .before .args .relation)
+    determined-broken (c .before .before .before .before .args .given) (c .before .before .before .before .args .relation)
     (c .before .before .before .before .args .left) (sym (c .before .is-good .ensures) ∙ not-true _ (c .if1 .taken))
 
 set-good-requires : tie.Need-set-good-requires
-set-good-requires c κs = good-record (c .before .before .before .before .args .self) (good c) .relations
+set-good-requires c κs = good-record (c .before .before .before .before .args .given) (good c) .relations
 
 returns-2 : tie.Need-returns-2
 returns-2 c =
-    determined-unfit (c .before .before .before .before .before .before .args .self) (c .before .before .before .before .before .before .args .relation)
+    determined-unfit (c .before .before .before .before .before .before .args .given) (c .before .before .before .before .before .before .args .relation)
     (c .before .before .before .before .before .before .args .left) (good (c .before .before)) (sym (c .before .set-good .ensures) ∙ not-true _ (c .if2 .taken))
 
 cast-closed-columns : tie.Need-cast-closed-columns
@@ -40,9 +40,9 @@ cast-closed-columns c = search needs
 
 closed-columns-requires : tie.Need-closed-columns-requires
 closed-columns-requires c κs = (
-  good-record (c .before .before .before .before .before .before .args .self) (good (c .before .before)) .held,
+  good-record (c .before .before .before .before .before .before .args .given) (good (c .before .before)) .held,
   rights-narrow
-      (c .before .before .before .before .before .before .args .self) (good (c .before .before)),
+      (c .before .before .before .before .before .before .args .given) (good (c .before .before)),
 )
 
 cast-t13 : tie.Need-cast-t13
@@ -50,9 +50,9 @@ cast-t13 c = record { fits = lt-of-le-of-lt (ones-le 8 _ (search needs)) (lit< t
 
 returns-3 : tie.Need-returns-3
 returns-3 c =
-    let self = c .before .before .before .before .before .before .before .args .self in
-    let long : length (self .dependencies) ≡ 32 = search (mapped-length, needs) in
-    determined-done (c .before .before .before .before .before .before .before .args .self)
+    let given = c .before .before .before .before .before .before .before .args .given in
+    let long : length (given .dependencies) ≡ 32 = search (mapped-length, needs) in
+    determined-done (c .before .before .before .before .before .before .before .args .given)
     (c .before .before .before .before .before .before .before .args .relation) (c .before .before .before .before .before .before .before .args .left)
     (good (c .before .before .before)) (sym (c .before .before .set-good .ensures) ∙ not-false _ (c .before .if2 .left)) long
     (c .closed-columns .result) (c .closed-columns .ensures)
