@@ -67,7 +67,7 @@ functional-good r good =
     let g = good-record r good in
     and-both (leb (r .held) 32) _ (le-leb (r .held) 32 (g .held)) (g .dependencies)
 
-joins-good : (r : Record) → goodRecord r ≡ true → goodJoins (schemaOf r) (r .joined) (r .joins) ≡ true
+pub joins-good : (r : Record) → goodRecord r ≡ true → goodJoins (schemaOf r) (r .joined) (r .joins) ≡ true
 unfolding goodJoins
 joins-good r good =
     let g = good-record r good in

@@ -12,6 +12,7 @@ use Rattle.theory.specs.Chase.{chase}
 use Rattle.theory.specs.Database.{JoinDependency}
 use Rattle.joins.specs.JoinChase.{chased, joinChase}
 use Rattle.joins.proofs.Theorems.{join-chase-computes, without-joins}
+use Rattle.join_rule.proofs.Fitting.{good-joins-fit}
 use Rattle.query.specs.declared.Cell.{Cell}
 use Rattle.query.specs.declared.Query.{Query}
 use Rattle.query.specs.declared.Tableau.{Tableau}
@@ -25,8 +26,9 @@ use Rattle.comparison.specs.declared.Verdict.the-variants as verdict
 use Rattle.comparison.specs.declared.Checked.{Checked}
 use Rattle.comparison.specs.declared.Checked.the-variants.{Yes, No, Refused}
 use Rattle.comparison.specs.Comparison.{pairRefusal, comparisonRefusal, notContained, verdictReply, verdictOf, CheckedMapping}
-use Rattle.comparison.specs.Meaning.{CheckMeans, CheckDenies, ComparedOnce, FunctionalAlone}
+use Rattle.comparison.specs.Meaning.{CheckMeans, CheckDenies, ComparedOnce, FunctionalAlone, OutcomeMeans}
 use Rattle.comparison.proofs.Pairs.{compare-stands}
+use Rattle.comparison.proofs.Answers.{joins-good}
 use Rattle.comparison.proofs.Checks.{checked-refused, checked-decided}
 use Rattle.comparison.proofs.Verdicts.{queries, verdict-same, refused-apart}
 
@@ -122,3 +124,10 @@ functional-alone r p none-held =
     ap (λ (js : List JoinDependency). joinChase (schemaOf r) ds js 24 q) nothing
     ∙ join-chase-computes (schemaOf r) ds [] 24 q (chased (chase ds q .query)) (λ j held. absurd (List·Memᴰ·not-nil held)) .0
     (without-joins (schemaOf r) ds 24 q (chased (chase ds q .query)) .1 refl)
+
+-- ---- the chase
+
+pub outcome-means : OutcomeMeans
+outcome-means r p outcome good shaped =
+    join-chase-computes (schemaOf r) (dependenciesOf r) (joinsOf r) 24 (queryAt r p) outcome
+    (good-joins-fit (schemaOf r) (r .joined) (r .joins) shaped (joins-good r good))

@@ -7,12 +7,14 @@ use mathlib.Core.Option.{none}
 use Prim.Native.Nat.{ℕ}
 use Rattle.theory.specs.Answer.{IsMapping}
 use Rattle.theory.specs.Chase.{chase}
-use Rattle.joins.specs.JoinChase.{chased}
+use Rattle.lists.specs.Tests.{every}
+use Rattle.joins.specs.JoinChase.{Outcome, chased, JoinChases}
 use Rattle.query.specs.declared.Cell.{Cell}
 use Rattle.query.specs.View.{imagesOf}
-use Rattle.query.specs.Rule.{shapedTableau}
+use Rattle.query.specs.Rule.{shapedJoin, shapedTableau}
 use Rattle.record.specs.declared.Record.{Record}
-use Rattle.record.specs.View.{dependenciesOf}
+use Rattle.record.specs.View.{schemaOf, dependenciesOf, joinsOf}
+use Rattle.record.specs.Rule.{goodRecord}
 use Rattle.record.specs.Calls.{queryAt}
 use Rattle.comparison.specs.declared.Comparison.{Comparison}
 use Rattle.comparison.specs.declared.Checked.{Checked}
@@ -41,3 +43,10 @@ ComparedOnce =
 -- With no join dependency held the chase is that with the functional dependencies, repeated rows and all, and has room
 abbrev pub FunctionalAlone : Type 0
 FunctionalAlone = (r : Record) (p : ℕ) → r .joined ≡ 0 → outcomeAt r p ≡ chased (chase (dependenciesOf r) (queryAt r p) .query)
+
+-- The outcome that a comparison speaks of is that of the chase with both kinds as it is defined, with the limit of 24 rows; a record's join dependencies have
+-- room for 4 sets each
+abbrev pub OutcomeMeans : Type 0
+OutcomeMeans =
+    (r : Record) (p : ℕ) (outcome : Outcome) → goodRecord r ≡ true → every shapedJoin (r .joins) ≡ true
+    → JoinChases (schemaOf r) (dependenciesOf r) (joinsOf r) 24 (queryAt r p) outcome ↔ (outcomeAt r p ≡ outcome)

@@ -1,11 +1,13 @@
--- Demand 1: what every public call meets, whatever it is given. A call asks conditions, which its own specs define, and the table below has their numbers. It is
--- refused exactly when one of them holds, with the number of the first, and then hands back the record it was given and leaves every buffer as it was;
--- otherwise it answers and leaves what is due. `Demand1Calls` says it of each call. That a call ends is part of every proved contract.
+-- Demand 1: what every public call meets, whatever it is given. A call asks conditions, which its own specs define, and the table below has their numbers, in
+-- the order of the refusals. It is refused exactly when one of them holds, with the number of the first, and then hands back the record it was given and
+-- leaves every buffer as it was; otherwise it answers and leaves what is due. `Demand1Calls` says it of each call. That a call ends is part of every proved
+-- contract.
 use mathlib.Core.Path.{_≡_}
 use mathlib.Core.Bool.{true}
-use mathlib.Core.List.{List, [], _∷_, _++_, map}
+use mathlib.Core.List.{List, [], _∷_, _++_, map, flatten}
 use mathlib.Core.Option.{Option, none, some}
-use Prim.Native.Nat.{ℕ, zero, suc, _-_}
+use Prim.Native.Nat.{ℕ, _-_}
+use lib.ListN.{replicate}
 use Rattle.refusals.specs.Refusals.{badDirectory, badOffsets, badRelations, badDependency, badQuery, unsafeHead, noSuchPlace, headsDiffer, badDatabase}
 use Rattle.refusals.specs.Refusals.{bufferTooShort, placeVacant, placeFilled, dependenciesFull, badRecord, badJoin, joinsFull, tooManyRows}
 use Rattle.refusals.specs.Refusals.{Condition, order, follows, firstHolding}
@@ -14,10 +16,13 @@ use Rattle.format.specs.Bytes.{number}
 
 -- ---- what is said of every call
 
--- A call that asks these conditions, and says that it is refused with a number or not
-pub record Meets (conditions : List Condition) (numbers : List ℕ) (said : Option ℕ) (Unchanged Due : Type 0) : Type 0 where
+-- A call that asks these conditions, and says that it is refused with a number or not. Every call asks in one stretch but reading, which asks in one for the
+-- directory of a file and one for each part
+pub record Meets (conditions : List Condition) (stretches : List (List ℕ)) (said : Option ℕ) (Unchanged Due : Type 0) : Type 0 where
   -- Its conditions are those of the table, none more and none missing
-  pub asks : map (λ c. c .1) conditions ≡ numbers
+  pub asks : map (λ c. c .1) conditions ≡ flatten stretches
+  -- In each stretch they stand in the order of the refusals
+  pub ordered : every (λ numbers. follows numbers order) stretches ≡ true
   -- It is refused exactly when one holds, with the number of the first that does
   pub first : said ≡ firstHolding conditions
   -- Refused, it hands back the record given, leaves the buffers as they were, and its other fields hold 0
@@ -26,8 +31,8 @@ pub record Meets (conditions : List Condition) (numbers : List ℕ) (said : Opti
   pub due : said ≡ none → Due
 
 -- There is nothing that a refusal could change: no record and no buffer comes back
-abbrev pub Nothing : Type 0
-Nothing = Unit {0}
+abbrev pub NothingToKeep : Type 0
+NothingToKeep = Unit {0}
 
 -- ---- what each call asks, by the numbers of the refusals
 
@@ -79,18 +84,7 @@ evaluateAsks = badRecord ∷ noSuchPlace ∷ placeVacant ∷ badDatabase ∷ buf
 abbrev pub writeAsks : List ℕ
 writeAsks = badRecord ∷ bufferTooShort ∷ []
 
--- Each call asks in the order of the refusals
-abbrev pub AsksInOrder : Type 0
-AsksInOrder =
-    every (λ numbers. follows numbers order)
-    (openAsks ∷ addAsks ∷ addJoinAsks ∷ putAsks ∷ dropAsks ∷ determinedAsks ∷ pairAsks ∷ compareAsks ∷ reduceAsks ∷ testAsks ∷ evaluateAsks ∷ writeAsks ∷ [])
-    ≡ true
-
--- The faults of so many query parts: part by part in file order, within a part by number
-unfoldable pub partsAsk : ℕ → List ℕ
-partsAsk zero = []
-partsAsk (suc n) = badQuery ∷ unsafeHead ∷ partsAsk n
-
--- Reading a file, whose order is its own: the directory's faults, then those of each part in file order
-abbrev pub readAsks : List ℕ → List ℕ
-readAsks file = badDirectory ∷ badOffsets ∷ badRelations ∷ badDependency ∷ badJoin ∷ partsAsk (number 2 file - 2)
+-- Reading a file: the directory's faults, then those of each part in file order
+abbrev pub readAsks : List ℕ → List (List ℕ)
+readAsks file =
+    (badDirectory ∷ badOffsets ∷ []) ∷ (badRelations ∷ []) ∷ (badDependency ∷ badJoin ∷ []) ∷ replicate (number 2 file - 2) (badQuery ∷ unsafeHead ∷ [])

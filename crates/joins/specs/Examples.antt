@@ -51,7 +51,7 @@ unfoldable pub isAnswer : Option Bool → Bool → Bool
 isAnswer none b = false
 isAnswer (some a) b = Bool·beq a b
 
--- Whether dependencies of both kinds and the rows of a query are over the relations of the examples
+-- Whether dependencies of both kinds and the rows of a query are over the relations of the examples; of two queries that are compared, the first is asked
 unfoldable pub overBoth : List Dependency → List JoinDependency → Query → Bool
 overBoth ds js q = overSchema ds q && every (joinFits schema) js
 
@@ -213,7 +213,7 @@ ExamplesMean = (x : Example) → x ∈ examples → Meaning x
 abbrev pub YieldsFirst : Type 0
 YieldsFirst = yields schema S·ab·ac ((0 ∷ 1 ∷ [], S (k 1) (k 2) (k 3)) ∷ (0 ∷ 2 ∷ [], S (k 4) (k 5) (k 6)) ∷ []) ≡ S (k 1) (k 2) (k 6)
 
--- A database with its first missing choice: the first row for a with the second for b
+-- A database with its first missing choice: the first row of R for a with the second row of R for b
 abbrev pub ChoiceFound : Type 0
 ChoiceFound =
     firstMissing schema (R (k 1) (k 2) ∷ B (k 1) (k 2) ∷ R (k 3) (k 4) ∷ []) R·a·b ≡ some ((0 ∷ [], R (k 1) (k 2)) ∷ (1 ∷ [], R (k 3) (k 4)) ∷ [])

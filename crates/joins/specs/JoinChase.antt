@@ -41,7 +41,8 @@ choices sets rows = picks (candidates sets rows)
 
 -- ---- the row that a choice yields
 
--- What a choice has in column c: the entry of the row that is chosen for the first set with the column
+-- What a choice has in column c: the entry of the row that is chosen for the first set with the column; constant 0 where no set has it, which the record's
+-- rule does not let happen
 unfoldable pub chosenEntry : Choice → ℕ → Entry
 chosenEntry [] c = constant 0
 chosenEntry (p ∷ ps) c = cond (member c (p .0)) (column (constant 0) (p .1) c) (chosenEntry ps c)

@@ -38,7 +38,7 @@ pub record Reordered (T U : Query) : Type 0 where
   pub back : (r : Row Entry) → r ∈ U .rows → r ∈ T .rows
   pub size : length (U .rows) ≡ length (T .rows)
 
--- p and q have the same answers on every legal database: t is an answer of the one exactly when it is one of the other.
+-- p and q have the same answers on every database that is legal for the functional dependencies: t is an answer of the one exactly when it is one of the other.
 -- `∥ ∥₁` asks only that there is an assignment, not which
 abbrev pub Equivalent : List ℕ → List Dependency → Query → Query → Type 0
 Equivalent widths ds p q = (D : Database) → Legal widths ds D → (t : List ℕ) → ∥ Answer D p t ∥₁ ↔ ∥ Answer D q t ∥₁

@@ -49,7 +49,7 @@ brokenRecord r = (not (goodRecord r), badRecord)
 abbrev pub unknownPlace : ℕ → Condition
 unknownPlace place = (not (ltb place 8), noSuchPlace)
 
--- Whether a place is filled
+-- Whether a place is filled; one above 7 counts as vacant
 abbrev pub isFilled : Record → ℕ → Bool
 isFilled r place = getD (r .places) place noPlace .filled
 

@@ -27,7 +27,8 @@ DropKeeps = (r : Record) (place : ℕ) → LeavesGood (dropQuery r place)
 abbrev pub BlankBroken : Type 0
 BlankBroken = goodRecord blankRecord ≡ false
 
--- The columns answered are those of the relation that the left set determines in every legal database, and their number is right
+-- The columns answered are those of the relation that the left set determines in every database that is legal for the
+-- functional dependencies, and their number is right
 abbrev pub DeterminedMeans : Type 0
 DeterminedMeans =
     (r : Record) (relation left mask n : ℕ) → determinedColumns r relation left ≡ gives (mask, n)

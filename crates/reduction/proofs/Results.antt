@@ -52,7 +52,7 @@ use Rattle.reduction.specs.declared.Shortened.{Shortened}
 use Rattle.reduction.specs.declared.Reduced.{Reduced}
 use Rattle.mapping.specs.internal.Mapped.{IsMapped}
 use Rattle.core.specs.internal.CoreOf.{IsCoreOf}
-use Rattle.reduction.specs.Reduced.{reducedReply, refusal, reductionRefusal, ReducesTo, IsReduced, ShortFormStored}
+use Rattle.reduction.specs.Reduced.{reducedReply, refusedReduction, reductionRefusal, ReducesTo, IsReduced, ShortFormStored}
 use Rattle.reduction.specs.internal.Steps.{Shortenable, IsShortened, Reducible}
 
 -- ---- 1. the shortened query
@@ -185,11 +185,11 @@ module _ (r : Record) (source target : ℕ) (able : Reducible r source target) (
 -- ---- 3. the refusals in their order
 
 -- A refused call
-refused-with : (r : Record) (source target n : ℕ) (o : Reduced) → reductionRefusal r source target ≡ some n → reducedReply o ≡ refusal r n
+refused-with : (r : Record) (source target n : ℕ) (o : Reduced) → reductionRefusal r source target ≡ some n → reducedReply o ≡ refusedReduction r n
     → IsReduced r source target o
 refused-with r source target n o refuses is =
     record {
-      refused = λ m e. let same : n ≡ m = cc in is ∙ ap (refusal r) same;
+      refused = λ m e. let same : n ≡ m = cc in is ∙ ap (refusedReduction r) same;
       accepted = λ e. absurd (never e);
     }
   where
@@ -197,7 +197,7 @@ refused-with r source target n o refuses is =
     never e = let z : _≡_ {A = ℕ} 0 1 = cc in omega arith
 
 module _ (r : Record) (source target : ℕ) (o : Reduced) where
-  pub reduce-broken : goodRecord r ≡ false → reducedReply o ≡ refusal r 14 → IsReduced r source target o
+  pub reduce-broken : goodRecord r ≡ false → reducedReply o ≡ refusedReduction r 14 → IsReduced r source target o
   unfolding reductionRefusal firstHolding
   reduce-broken e = refused-with r source target 14 o (rw e)
 
@@ -208,7 +208,7 @@ module _ (r : Record) (source target : ℕ) (o : Reduced) where
     high-target h false e = rw (good, e)
 
     -- A place above 7 has the same number whichever of the two it is
-    pub reduce-high : (n : ℕ) → placeAt target ≡ lookup.Refused n → reducedReply o ≡ refusal r n → IsReduced r source target o
+    pub reduce-high : (n : ℕ) → placeAt target ≡ lookup.Refused n → reducedReply o ≡ refusedReduction r n → IsReduced r source target o
     reduce-high n e =
         let f = place-refused target n e in
         refused-with r source target n o (high-target (f .0) (ltb source 8) refl ∙ ap some (sym (f .1)))
@@ -224,12 +224,12 @@ module _ (r : Record) (source target : ℕ) (o : Reduced) where
       source-refuses n true false e f given = rw (good, e, f, lt-ltb target 8 low) (rw (e, f) at given)
       source-refuses n false f e is given = rw (good, e) (rw e at given)
 
-      pub reduce-source : (n : ℕ) → filledPlace r source ≡ lookup.Refused n → reducedReply o ≡ refusal r n → IsReduced r source target o
+      pub reduce-source : (n : ℕ) → filledPlace r source ≡ lookup.Refused n → reducedReply o ≡ refusedReduction r n → IsReduced r source target o
       reduce-source n e =
           refused-with r source target n o
           (source-refuses n (ltb source 8) (isFilled r source) refl refl (found-refused (firstHolding (unknownPlace source ∷ vacant r source ∷ [])) source n e))
 
-      pub reduce-target : (from n : ℕ) → filledPlace r source ≡ lookup.At from → vacantPlace r target ≡ lookup.Refused n → reducedReply o ≡ refusal r n
+      pub reduce-target : (from n : ℕ) → filledPlace r source ≡ lookup.At from → vacantPlace r target ≡ lookup.Refused n → reducedReply o ≡ refusedReduction r n
           → IsReduced r source target o
       unfolding reductionRefusal firstHolding
       reduce-target from n at e =

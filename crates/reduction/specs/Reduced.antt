@@ -34,8 +34,8 @@ abbrev pub reducedReply : Reduced → Reply (Unit {0}) × Record × ℕ × List 
 reducedReply o = (statusReply (o .answer), o .«record», o .count, o .images)
 
 -- The same of a refused one: the number, the record as it was, and 0 in every other field
-abbrev pub refusal : Record → ℕ → Reply (Unit {0}) × Record × ℕ × List Cell
-refusal r n = (refused n, r, 0, replicate 96 noCell)
+abbrev pub refusedReduction : Record → ℕ → Reply (Unit {0}) × Record × ℕ × List Cell
+refusedReduction r n = (refused n, r, 0, replicate 96 noCell)
 
 -- What an accepted reduction of S, under the schema and the dependencies ds, gives: T is the result, `images` the mapping and `count` the count
 pub record ReducesTo (schema : List ℕ) (ds : List database.Dependency) (S T : theory.Query) (count : ℕ) (images : ℕ → theory.Entry) : Type 0 where
@@ -66,5 +66,5 @@ pub record ShortFormStored (r : Record) (source target : ℕ) (o : Reduced) : Ty
 
 -- What reducing promises: a refusal, or all of demand 3
 pub record IsReduced (r : Record) (source target : ℕ) (o : Reduced) : Type 0 where
-  pub refused : (n : ℕ) → reductionRefusal r source target ≡ some n → reducedReply o ≡ refusal r n
+  pub refused : (n : ℕ) → reductionRefusal r source target ≡ some n → reducedReply o ≡ refusedReduction r n
   pub accepted : reductionRefusal r source target ≡ none → ShortFormStored r source target o

@@ -18,7 +18,7 @@ ghost use Prim.Native.Nat.{ℕ};
 ghost use Rattle.lists.specs.Tests.{every, between};
 ghost use Rattle.query.specs.Rule.{goodQuery, headSafe};
 ghost use Rattle.query.specs.View.{heldOf};
-ghost use Rattle.reduction.specs.Reduced.{reducedReply, refusal, IsReduced, ShortFormStored};
+ghost use Rattle.reduction.specs.Reduced.{reducedReply, refusedReduction, IsReduced, ShortFormStored};
 ghost use Rattle.reduction.specs.internal.Steps.{Shortenable, IsShortened, Reducible};
 
 // What a reduction gives: its answer, the record after it, the number of replacements, and the mapping from the source query to the result.
@@ -39,7 +39,7 @@ struct Shortened {
 
 // A reduction is refused with a number.
 fn refused(number: u8, given: Record) -> Reduced
-    ensures { λ o. ⌜ reducedReply o ≡ refusal given number ⌝ }
+    ensures { λ o. ⌜ reducedReply o ≡ refusedReduction given number ⌝ }
 {
     let blank = query::NO_CELL;
     Reduced {

@@ -1,4 +1,4 @@
--- What it is that numbers stand in the order of the refusals. Each statement is proved in `proofs/Order`.
+-- Numbers that stand in an order, and numbers that do not: two facts that tell `follows` from its likes. Each is proved in `proofs/Order`.
 use mathlib.Core.Path.{_≡_}
 use mathlib.Core.Bool.{true, false}
 use mathlib.Core.List.{List, [], _∷_}

@@ -24,6 +24,10 @@ badRelations = 3
 abbrev pub badDependency : ℕ
 badDependency = 4
 
+-- A join dependency breaks the record's rule, or what follows the functional ones in a file is not 1 to 4 of them and no more
+abbrev pub badJoin : ℕ
+badJoin = 15
+
 -- A query breaks the record's rule, its part of a file has another length, or the last part of a file is a vacant place
 abbrev pub badQuery : ℕ
 badQuery = 5
@@ -65,10 +69,6 @@ dependenciesFull = 13
 -- The record breaks its rule
 abbrev pub badRecord : ℕ
 badRecord = 14
-
--- A join dependency breaks the record's rule, or what follows the functional ones in a file is not 1 to 4 of them and no more
-abbrev pub badJoin : ℕ
-badJoin = 15
 
 -- As many join dependencies are held as there is room for
 abbrev pub joinsFull : ℕ

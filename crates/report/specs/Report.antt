@@ -15,7 +15,7 @@ use Rattle.lists.specs.Numbers.{numbersWhere}
 use Rattle.text.specs.Text.{placeText, refusedText}
 use Rattle.theory.specs.Query as theory
 
--- The lines of a place: its number, its query, a reduction of it under the record's dependencies, the count and the mapping
+-- The lines of a place: its number, its query, a reduction of it under the record's functional dependencies, the count and the mapping
 pub record Lines (r : Record) (place : ℕ) (lines : List ℕ) : Type 0 where
   pub result : theory.Query
   pub count : ℕ

@@ -1,4 +1,4 @@
--- Containment of queries over a class of databases, for demand 2 that of the legal ones, and a query read as a database.
+-- Containment of queries over a class of databases, and a query read as a database. The class of demand 2 is `LegalForBoth` of `joins`.
 use mathlib.Core.Logic.{_≢_, _↔_}
 use mathlib.Core.List.{List, [], map}
 use Prim.Native.Nat.{ℕ, _+_, _<_}

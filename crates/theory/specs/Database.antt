@@ -39,7 +39,8 @@ Obeys ds D = (d : Dependency) → d ∈ ds → ObeysOne d D
 abbrev pub Sound : List ℕ → Database → Type 0
 Sound widths D = (r : Row ℕ) → r ∈ D → FitsSchema widths r
 
--- A legal database for a schema and dependencies: its rows fit the schema, and it obeys the dependencies
+-- A legal database for a schema and functional dependencies: its rows fit the schema, and it obeys the dependencies. For both kinds see `LegalForBoth` of
+-- `joins`
 pub record Legal (widths : List ℕ) (ds : List Dependency) (D : Database) : Type 0 where
   pub sound : Sound widths D
   pub obeys : Obeys ds D

@@ -8,7 +8,7 @@ use Rattle.record.specs.Rule.{goodRecord}
 use Rattle.record.specs.declared.Lookup.the-variants as lookup
 use Rattle.record.specs.internal.Lookup.{numberOf, filledPlace, vacantPlace}
 use Rattle.record.proofs.Refusals.{place-at}
-use Rattle.reduction.specs.Reduced.{refusal}
+use Rattle.reduction.specs.Reduced.{refusedReduction}
 use Rattle.reduction.proofs.Results.{reduce-broken, reduce-high, reduce-source, reduce-target, reduce-done, able}
 use Rattle.reduction.proofs.reduce.Statement.{statement}
 use Rattle.reduction.proofs.reduce.Tie as tie
@@ -65,7 +65,7 @@ returns-2 c =
     let told = c .before .before .enum-told2 .given in
     let number : c .before .number .result ≡ told .0 .0 = c .before .number .ensures ∙ ap numberOf (told .1) in
     reduce-high (a .given) (a .source) (a .target) (c .refused2 .result) (good else1) (told .0 .0)
-    (sym (c .before .before .before .before .place-at .ensures) ∙ told .1) (c .refused2 .ensures ∙ ap (refusal (a .given)) number)
+    (sym (c .before .before .before .before .place-at .ensures) ∙ told .1) (c .refused2 .ensures ∙ ap (refusedReduction (a .given)) number)
 
 filled-place-requires : tie.Need-filled-place-requires
 filled-place-requires c κs = search needs
@@ -90,7 +90,7 @@ returns-3 c =
     let told = c .before .before .enum-told3 .given in
     let number : c .before .number2 .result ≡ told .0 .0 = c .before .number2 .ensures ∙ ap numberOf (told .1) in
     reduce-source (a .given) (a .source) (a .target) (c .refused3 .result) (good else1) (low told-target) (told .0 .0)
-    (sym (c .before .before .before .before .filled-place .ensures) ∙ told .1) (c .refused3 .ensures ∙ ap (refusal (a .given)) number)
+    (sym (c .before .before .before .before .filled-place .ensures) ∙ told .1) (c .refused3 .ensures ∙ ap (refusedReduction (a .given)) number)
 
 vacant-place-requires : tie.Need-vacant-place-requires
 vacant-place-requires c κs = search needs
@@ -117,7 +117,7 @@ returns-4 c =
     let number : c .before .number3 .result ≡ told .0 .0 = c .before .number3 .ensures ∙ ap numberOf (told .1) in
     reduce-target (a .given) (a .source) (a .target) (c .refused4 .result) (good else1) (low told-target) (found .found .given .0 .0) (told .0 .0)
     (at-source found)
-    (sym (c .before .before .before .before .vacant-place .ensures) ∙ told .1) (c .refused4 .ensures ∙ ap (refusal (a .given)) number)
+    (sym (c .before .before .before .before .vacant-place .ensures) ∙ told .1) (c .refused4 .ensures ∙ ap (refusedReduction (a .given)) number)
 
 store-reduced-requires : tie.Need-store-reduced-requires
 store-reduced-requires c κs =
