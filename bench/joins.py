@@ -85,7 +85,8 @@ def random_functional_cases():
             for _ in range(rng.randint(1, lacking)):
                 left &= ~2 ** rng.randrange(width)
             dependencies.append((0, left or 1, rng.randrange(width)))
-        yield '4000 random records, 32 functional dependencies', None, width, dependencies, list(random_joins(rng, width)), random_rows(rng, width, rng.randint(2, 6), 12)
+        joins = list(random_joins(rng, width))
+        yield '4000 random records, 32 functional dependencies', None, width, dependencies, joins, random_rows(rng, width, rng.randint(2, 6), 12)
 
 
 class Engine:

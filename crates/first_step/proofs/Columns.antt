@@ -108,7 +108,8 @@ module _ (relations : List ℕ) (cells : List Cell) (d : Dependency) (i j : ℕ)
           rw (eq-eqb _ _ first, eq-eqb _ _ second, same)
           (bool-cases (agree (columnsOf (d .left)) (rowIn relations cells i) (rowIn relations cells j)) (λ e. rw e) (λ e. rw e))
 
-      pub breaks-differ : sameEntry (column (constant 0) (rowIn relations cells i) (d .right)) (column (constant 0) (rowIn relations cells j) (d .right)) ≡ false
+      pub breaks-differ : sameEntry (column (constant 0) (rowIn relations cells i) (d .right)) (column (constant 0) (rowIn relations cells j) (d .right))
+          ≡ false
           → agree (columnsOf (d .left)) (rowAt 0 cells i) (rowAt 0 cells j) ≡ breaks (dependencyOf d) (rowIn relations cells i) (rowIn relations cells j)
       unfolding breaks
       breaks-differ differ =

@@ -73,7 +73,7 @@ fn agree(marks: &[u64], left: u8, i: usize, j: usize) -> bool
     true
 }
 
-// Whether the rows at i and j, of which the first is of its relation, break a dependency: so is the second, they agree on every left column and differ on the right.
+// Whether the rows at i and j break a dependency, of whose relation the first is: so is the second, they agree on every left column and differ on the right.
 fn breaks(marks: &[u64], relations: &[u8], d: Dependency, i: usize, j: usize) -> bool
     requires { ⌜ Laid (now marks) (now relations) d i j ⌝ }
     ensures { λ r. ⌜ ((cells : List Cell) → Marked cells (now (marks .entry))

@@ -173,7 +173,10 @@ entry-at-requires :
     Inv-search
     μ-search
 entry-at-requires c κs =
-    let start = c .before .before .before .before .before .before .before .before .before .before .before .before .before .before .before .before .before .before .before in
+    let start =
+    c .before .before .before .before .before .before .before .before .before .before .before .before .before .before .before .before .before
+    .before .before
+    in
     let d = c .before .before .before .before .before .before .before .before .before .before .before .before .before .loop .d in
     let i = c .before .before .before .before .before .before .before .before .before .loop2 .i in
     let fits : getD (start .args .t2) d noDependency .right < 8 = start .pre .right-fits d (search needs) in
@@ -199,7 +202,10 @@ entry-at-requires-2 :
     Inv-search
     μ-search
 entry-at-requires-2 c κs =
-    let start = c .before .before .before .before .before .before .before .before .before .before .before .before .before .before .before .before .before .before .before .before in
+    let start =
+    c .before .before .before .before .before .before .before .before .before .before .before .before .before .before .before .before .before
+    .before .before .before
+    in
     let d = c .before .before .before .before .before .before .before .before .before .before .before .before .before .before .loop .d in
     let j = c .before .before .before .before .before .before .loop3 .j in
     let fits : getD (start .args .t2) d noDependency .right < 8 = start .pre .right-fits d (search needs) in
@@ -216,7 +222,10 @@ loop3-less c = search needs
 loop3-again :
     tie.Need-loop3-again Inv-loop3 μ-loop3 Inv-loop2 μ-loop2 Inv-loop μ-loop Inv-search μ-search
 loop3-again c =
-    let a = c .before .before .before .before .before .before .before .before .before .before .before .before .before .before .before .before .before .before .before .args in
+    let a =
+    c .before .before .before .before .before .before .before .before .before .before .before .before .before .before .before .before .before
+    .before .before .args
+    in
     let d = c .before .before .before .before .before .before .before .before .before .before .before .before .before .loop .d in
     let i = c .before .before .before .before .before .before .before .before .before .loop2 .i in
     let l = c .before .before .before .before .before .loop3 in (
@@ -224,7 +233,10 @@ loop3-again c =
       search needs,
       l .inv .2
           ∙ pair-next (rowsOnly (a .t .size) (a .t .relations) (a .t .cells)) (a .t2) (a .held) d i (l .j) (search needs)
-          (sym (c .before .breaks .ensures (a .t .cells) (c .before .before .before .before .before .before .before .before .before .before .before .before .before .before .before .marks-of .ensures)) ∙ c .if2 .left),
+          (sym
+          (c .before .breaks .ensures (a .t .cells)
+          (c .before .before .before .before .before .before .before .before .before .before .before .before .before .before .before .marks-of .ensures))
+          ∙ c .if2 .left),
     )
 
 add-i : tie.Need-add-i Inv-loop3 μ-loop3 Inv-loop2 μ-loop2 Inv-loop μ-loop Inv-search μ-search
@@ -264,14 +276,20 @@ loop-again c =
 
 returns : tie.Need-returns Inv-loop3 μ-loop3 Inv-loop2 μ-loop2 Inv-loop μ-loop Inv-search μ-search
 returns c =
-    let start = c .before .before .before .before .before .before .before .before .before .before .before .before .before .before .before .before .before .before .before .before .before in
+    let start =
+    c .before .before .before .before .before .before .before .before .before .before .before .before .before .before .before .before .before
+    .before .before .before .before
+    in
     let a = start .args in
     let d = c .before .before .before .before .before .before .before .before .before .before .before .before .before .before .before .loop .d in
     let i = c .before .before .before .before .before .before .before .before .before .before .before .loop2 .i in
     let l = c .before .before .before .before .before .before .before .loop3 in
     let fits : getD (a .t2) d noDependency .right < 8 = start .pre .right-fits d (search needs) in (
       pair-found (rowsOnly (a .t .size) (a .t .relations) (a .t .cells)) (a .t2) (a .held) d i (l .j) _ _ (search needs) fits
-          (sym (c .before .before .if2 .taken) ∙ c .before .before .before .breaks .ensures (a .t .cells) (c .before .before .before .before .before .before .before .before .before .before .before .before .before .before .before .before .before .marks-of .ensures))
+          (sym (c .before .before .if2 .taken)
+          ∙ c .before .before .before .breaks .ensures (a .t .cells)
+          (c .before .before .before .before .before .before .before .before .before .before .before .before .before .before .before .before .before
+          .marks-of .ensures))
           (c .before .entry-at .ensures) (c .entry-at2 .ensures) (l .inv .2)
           ∙ ap (firstDiffering (heldOf (a .t2) (a .held))) (rows-only (asQuery (a .t)) 0 (a .t .size)),
       λ good. and-both _ _ (good-read _ _ _ (c .before .entry-at .ensures) good) (good-read _ _ _ (c .entry-at2 .ensures) good),
@@ -282,7 +300,8 @@ returns-2 :
 returns-2 c =
     let a = c .before .before .before .before .before .before .before .args in
     let l = c .before .loop in (
-      nothing-found (rowsOnly (a .t .size) (a .t .relations) (a .t .cells)) (a .t2) (a .held) (l .inv .1 ∙ dependency-last (rowsOnly (a .t .size) (a .t .relations) (a .t .cells)) (a .t2) (a .held) (l .d) (search needs))
+      nothing-found (rowsOnly (a .t .size) (a .t .relations) (a .t .cells)) (a .t2) (a .held)
+          (l .inv .1 ∙ dependency-last (rowsOnly (a .t .size) (a .t .relations) (a .t .cells)) (a .t2) (a .held) (l .d) (search needs))
           ∙ ap (firstDiffering (heldOf (a .t2) (a .held))) (rows-only (asQuery (a .t)) 0 (a .t .size)),
       λ good. refl,
     )
