@@ -1,13 +1,14 @@
 #!/usr/bin/env python3
-"""Times comparisons whose chase with join dependencies is long, through the C interface.
+"""Times comparisons whose chase is long, with join dependencies and with many functional ones, through the C interface.
 
 usage: bench/joins.py [LIBRARY]    (default: python/spernevan/libspernevan.so, which python/build makes)
 
-Each case has join dependencies of one relation and a query, which is compared with itself: what takes time is its chase, up
-to 24 rows or to the refusal 17. Reading the file is included. A time is the best of 5 calls. A case that answers otherwise
-than expected, or takes 10 milliseconds, makes the exit status 1.
+Each case has dependencies of one relation and a query, which is compared with itself: what takes time is its chase, up to 24
+rows or to the refusal 17. Reading the file is included. A time is the processor's, the best of 5 calls. A case that answers
+otherwise than expected, or takes 10 milliseconds, makes the exit status 1.
 """
 import ctypes
+import itertools
 import os
 import random
 import sys
@@ -42,24 +43,50 @@ def cases():
     yield '8 columns', CONTAINED, 8, [], wide, rows(*[tuple(i if c % 2 else i // 2 for c in range(8)) for i in range(12)])
     late = [(0, [3, 5, 9, 3])] * 4
     yield 'a functional dependency after each row', CONTAINED, 4, [(0, 7, 3), (0, 11, 2)], late, rows(*[(i // 4, i % 4, i, i) for i in range(12)])
+    # column c is determined by those before it: 12 rows that share their first entry become one
+    chain = [(0, 127, 7)] * 25 + [(0, 2 ** c - 1, c) for c in range(7, 0, -1)]
+    yield '77 replacements, 32 functional dependencies', CONTAINED, 8, chain, [], rows(*[(0,) + (i,) * 7 for i in range(12)])
+
+
+def random_joins(rng, width):
+    everything = 2 ** width - 1
+    for _ in range(4):
+        sets = [rng.randint(1, everything) for _ in range(rng.choice((2, 3, 4, 4)))]
+        missing = everything
+        for s in sets:
+            missing &= ~s
+        sets[rng.randrange(len(sets))] |= missing
+        yield 0, sets
+
+
+def random_rows(rng, width, values, count):
+    return rows(*[tuple(rng.randrange(values) for _ in range(width)) for _ in range(count)])
 
 
 def random_cases():
     rng = random.Random(3)
     for k in range(1000):
         width = rng.randint(2, 8)
-        everything = 2 ** width - 1
-        joins = []
-        for _ in range(4):
-            sets = [rng.randint(1, everything) for _ in range(rng.choice((2, 3, 4, 4)))]
-            missing = everything
-            for s in sets:
-                missing &= ~s
-            sets[rng.randrange(len(sets))] |= missing
-            joins.append((0, sets))
-        dependencies = [(0, rng.randint(1, everything), rng.randrange(width)) for _ in range(rng.choice((0, 0, 2, 8)))]
+        joins = list(random_joins(rng, width))
+        dependencies = [(0, rng.randint(1, 2 ** width - 1), rng.randrange(width)) for _ in range(rng.choice((0, 0, 2, 8)))]
         values = rng.randint(2, 6)
-        yield 'random %d' % k, None, width, dependencies, joins, rows(*[tuple(rng.randrange(values) for _ in range(width)) for _ in range(rng.randint(2, 12))])
+        yield '1000 random records', None, width, dependencies, joins, random_rows(rng, width, values, rng.randint(2, 12))
+
+
+def random_functional_cases():
+    """32 functional dependencies, most of them with wide left sets, which leave more rows apart."""
+    rng = random.Random(5)
+    for k in range(4000):
+        width = rng.randint(3, 8)
+        lacking = rng.randint(1, 2)
+        dependencies = []
+        for _ in range(32):
+            left = 2 ** width - 1
+            for _ in range(rng.randint(1, lacking)):
+                left &= ~2 ** rng.randrange(width)
+            dependencies.append((0, left or 1, rng.randrange(width)))
+        joins = list(random_joins(rng, width))
+        yield '4000 random records, 32 functional dependencies', None, width, dependencies, joins, random_rows(rng, width, rng.randint(2, 6), 12)
 
 
 class Engine:
@@ -75,10 +102,10 @@ class Engine:
         n = ctypes.c_size_t
         best = None
         for _ in range(5):
-            start = time.perf_counter()
+            start = time.process_time()
             refusal = self.library.spernevan_compare(data, n(len(data)), n(0), n(0), ctypes.byref(self.verdict), self.mapping, n(192), self.room, n(1026),
                                                      ctypes.byref(self.length))
-            took = 1000 * (time.perf_counter() - start)
+            took = 1000 * (time.process_time() - start)
             best = took if best is None else min(best, took)
         return best, 'refused %d' % refusal if refusal else ('not contained', 'contained', 'contained')[self.verdict.value]
 
@@ -89,18 +116,18 @@ def main():
     engine = Engine(sys.argv[1] if len(sys.argv) > 1 else default)
     wrong = False
     worst = {}
-    for name, expected, width, dependencies, joins, query in list(cases()) + list(random_cases()):
+    for name, expected, width, dependencies, joins, query in itertools.chain(cases(), random_cases(), random_functional_cases()):
         took, says = engine.compare(archive([width], dependencies, [part(query, [])], joins))
         if took >= LIMIT or says not in ((CONTAINED, OVERFLOW) if expected is None else (expected,)):
             wrong = True
             says += '  <-- ' + ('slow' if took >= LIMIT else 'wrong')
             print('%7.2f ms  %-56s %s' % (took, name, says))
         elif expected is None:
-            worst[says] = max(worst.get(says, (0.0, '')), (took, name))
+            worst[name, says] = max(worst.get((name, says), 0.0), took)
         else:
             print('%7.2f ms  %-56s %s' % (took, name, says))
-    for says in sorted(worst):
-        print('%7.2f ms  %-56s %s' % (worst[says][0], 'worst of 1000 random records', says))
+    for name, says in sorted(worst):
+        print('%7.2f ms  %-56s %s' % (worst[name, says], 'worst of ' + name, says))
     sys.exit(1 if wrong else 0)
 
 

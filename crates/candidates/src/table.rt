@@ -66,7 +66,7 @@ fn together(
 }
 
 // Whether row d of the target is the same as an earlier one.
-fn repeats(target: &[u32], offered: [u8; 24], d: usize) -> bool
+pub fn repeats(target: &[u32], offered: [u8; 24], d: usize) -> bool
     requires { ⌜ (length (now target) ≡ 200) × (d < 24) ⌝ }
     ensures { λ b. ⌜ Tells b (Repeats (now (target .entry)) offered d) ⌝ }
 {

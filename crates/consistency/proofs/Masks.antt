@@ -25,6 +25,12 @@ or-digit a b i = ap (λ (n : ℕ). n % 2) (or-shr a b i) ∙ or-low (a / 2 ^ i) 
 pub bit-and : (a b i : ℕ) → Bit a i → Bit b i → Bit (bitAnd a b) i
 bit-and a b i p q = omega (arith, and-digit a b i)
 
+pub bit-and-left : (a b i : ℕ) → Bit (bitAnd a b) i → Bit a i
+bit-and-left a b i p = omega (arith, and-digit a b i)
+
+pub bit-and-right : (a b i : ℕ) → Bit (bitAnd a b) i → Bit b i
+bit-and-right a b i p = omega (arith, and-digit a b i)
+
 pub bit-or-left : (a b i : ℕ) → Bit a i → Bit (bitOr a b) i
 bit-or-left a b i p = omega (arith, or-digit a b i)
 

@@ -1,27 +1,39 @@
 -- The search for a broken pair as three nested loops over a stored query see it: what the whole search finds is what the part still to be searched
 -- finds, at each dependency, row and second row. The laws for any lists are the theory's (`Step`). Assumes nothing.
-use mathlib.Core.Path.{_≡_, sym}
+use mathlib.Core.Path.{_≡_, refl, sym, _∙_}
+use mathlib.Core.Logic.{⊎-elim}
 use mathlib.Core.Bool.{true, false}
 use mathlib.Core.List.{List, [], _∷_, map}
 use mathlib.Core.Option.{Option, none, some}
-use Prim.Native.Nat.{ℕ, suc, _+_, _*_, _-_, _≤_, _<_}
+use Prim.Native.Nat.{ℕ, zero, suc, _+_, _*_, _-_, _≤_, _<_}
 use native.Mathlib.Nat.{sub-zero}
 use native.Mathlib.Numerals.{add-one}
 use native.Mathlib.Omega.{arith}
 use lib.ListN.{length, take, drop, getD}
 use Rattle.query.specs.declared.Entry as stored-entry
 use Rattle.query.specs.declared.Dependency as stored-dependency
+use Rattle.query.specs.declared.Cell.{Cell}
 use Rattle.query.specs.declared.Query.{Query}
 use Rattle.query.specs.View.{entryOf, dependencyOf}
 use Rattle.query.specs.Rule.{noCell, noDependency}
 use Rattle.first_step.specs.internal.Wide.{wideRow, wideRows, firstDiffering}
 use Rattle.lists.proofs.Positions.{left-cons, left-none}
-use Rattle.first_step.proofs.Columns.{wide-column}
+use Rattle.lists.proofs.Tests.{below-or-past}
+use Rattle.first_step.proofs.Columns.{wide-column, breaks-other-first}
 use Rattle.theory.specs.Query.{Entry, Row}
 use Rattle.theory.specs.Database.{Dependency}
 use Rattle.theory.specs.Chase.{firstBroken, breaks}
 use Rattle.theory.proofs.Step.{brokenFor, brokenWith, firstBroken-nil, firstBroken-cons, brokenFor-nil, brokenFor-cons, brokenWith-nil}
 use Rattle.theory.proofs.Step.{brokenWith-true, brokenWith-false}
+
+-- Rows as a query: the head plays no part in the search
+abbrev pub rowsOnly : ℕ → List ℕ → List Cell → Query
+rowsOnly size relations cells = record { arity = 0; size = size; head = []; relations = relations; cells = cells }
+
+pub rows-only : (q : Query) (i n : ℕ) → wideRows (rowsOnly (q .size) (q .relations) (q .cells)) i n ≡ wideRows q i n
+unfolding wideRows
+rows-only q i zero = refl
+rows-only q i (suc n) = rw (rows-only q (suc i) n)
 
 module _ (q : Query) where
   -- The rows that are left of n after the first i
@@ -82,6 +94,21 @@ module _ (q : Query) (dependencies : List stored-dependency.Dependency) (held : 
 
   pub pair-last : (d i j : ℕ) → q .size ≤ j → brokenFromPair d i j ≡ brokenFromRow d (i + 1)
   pair-last d i j h = rw (rows-none q (q .size) j h) (brokenWith-nil _ _ _ _ _)
+
+  -- No pair is broken whose first row is of another relation
+  pairs-skip : (d i : ℕ) → (getD (q .relations) i 0 ≡ dependencyAt d .relation → ⊥) → (n j : ℕ) → q .size ≤ j + n
+      → brokenFromPair d i j ≡ brokenFromRow d (i + 1)
+  pairs-skip d i other zero j end = pair-last d i j (omega arith)
+  pairs-skip d i other (suc n) j end =
+      ⊎-elim
+      (λ (h : j < q .size).
+      pair-next d i j h (breaks-other-first (q .relations) (q .cells) (getD dependencies d noDependency) i j other)
+      ∙ pairs-skip d i other n (j + 1) (omega arith))
+      (λ h. pair-last d i j h)
+      (below-or-past j (q .size))
+
+  pub row-skip : (d i : ℕ) → i < q .size → (getD (q .relations) i 0 ≡ dependencyAt d .relation → ⊥) → brokenFromRow d i ≡ brokenFromRow d (i + 1)
+  row-skip d i h other = row-next d i h ∙ pairs-skip d i other (q .size) (i + 1) (omega arith)
 
   -- Where the search ends with nothing
   pub nothing-found : brokenFrom 0 ≡ none → none ≡ firstDiffering (dependenciesLeft 0) rowsAll

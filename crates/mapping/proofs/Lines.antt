@@ -1,5 +1,5 @@
 -- The entries of a query in one line are those of the theory's query, with constant 0 in the columns that are not in use:
---   1. blank elements, 2. one query, 3. rows of two queries, 4. a mapping of the theory is one by positions.
+--   1. blank elements, 2. one query, 3. rows of two queries, 4. a mapping of the theory, to the target or to some of its rows, is one by positions.
 -- The lengths of arrays are the types', so the laws ask them.
 use mathlib.Core.Path.{_≡_, sym, _∙_, ap, subst}
 use mathlib.Core.Bool.{Bool, true, false, cond}
@@ -264,24 +264,52 @@ module _ (most : ℕ) (schema : List ℕ) (narrow : Narrow schema) (source targe
   abbrev pub WideOf : (ℕ → theory.Entry) → Type 0
   WideOf f = Wide (8 * most) (entryAt 12 source) (entryAt most target) (source .relations) (target .relations) (source .size) (target .size) f
 
+  -- The target's head with other rows
+  abbrev pub targetWith : List (theory.Row theory.Entry) → theory.Query
+  targetWith rows = record { head = queryOf schema target .head; rows = rows }
+
+  -- Row r goes to row d of the target
+  abbrev RowTo : (ℕ → theory.Entry) → ℕ → ℕ → Type 0
+  RowTo f r d =
+      (d < target .size) × (getD (source .relations) r 0 ≡ getD (target .relations) d 0)
+      × ((i : ℕ) → i < 8 → valueOf constant f (entryAt 12 source (8 * r + i)) ≡ entryAt most target (8 * d + i))
+
+  -- A mapping to rows that stand in the target, at positions with a property, takes each row to one of these, and the head to the head
+  pub part-wide : (f : ℕ → theory.Entry) (rows : List (theory.Row theory.Entry)) (z : theory.Row theory.Entry) (P : ℕ → Type 0)
+      → ((row : theory.Row theory.Entry) → row ∈ rows → (d : ℕ) × (d < target .size) × P d × (getD (queryOf schema target .rows) d z ≡ row))
+      → IsMapping (queryOf schema source) (targetWith rows) f
+      → ((i : ℕ) → i < 8 → valueOf constant f (entryAt 12 source (96 + i)) ≡ entryAt most target (8 * most + i))
+      × ((r : ℕ) → r < source .size → (d : ℕ) × RowTo f r d × P d)
+  part-wide f rows z P there m = (
+    (λ i l.
+        ap (valueOf constant f) (sym (head-entry 12 schema source good sizes narrow i l))
+        ∙ sym (List·getD-map (valueOf constant f) (queryOf schema source .head) i (constant 0))
+        ∙ ap (λ (es : List theory.Entry). getD es i (constant 0)) (m .carries .to-head) ∙ head-entry most schema target good' sizes' narrow i l),
+    (λ r h.
+        let at : sourceRow r ∈ queryOf schema source .rows =
+        Memᴰ·cast (sym (row-stored 12 schema source good sizes narrow r z h))
+        (getD-in (queryOf schema source .rows) r z (rw (count-rows 12 schema source good sizes narrow) h))
+        in
+        let w = there (mapRow (valueOf constant f) (sourceRow r)) (m .carries .to-rows (sourceRow r) at) in
+        let same : mapRow (valueOf constant f) (sourceRow r) ≡ targetRow (w .0) =
+        sym (w .3) ∙ row-stored most schema target good' sizes' narrow (w .0) z (w .1) in
+        (w .0, (w .1, ap (λ (row : theory.Row theory.Entry). row .relation) same, row-places f r (w .0) h (w .1) same), w .2)),
+  )
+
   pub mapping-wide : (f : ℕ → theory.Entry) → IsMapping (queryOf schema source) (queryOf schema target) f → WideOf f
   mapping-wide f m =
+      let z : theory.Row theory.Entry = sourceRow 0 in
+      let part =
+      part-wide f (queryOf schema target .rows) z (λ d. Unit {0})
+      (λ row at.
+      let w = in-getD (queryOf schema target .rows) z at in
+      (w .0, rw (count-rows most schema target good' sizes' narrow) at (w .1), tt, w .2))
+      m
+      in
       record {
         some-row = some (decLt 0 (source .size));
-        rows = λ r h.
-            let z : theory.Row theory.Entry = sourceRow 0 in
-            let at : sourceRow r ∈ queryOf schema source .rows =
-            Memᴰ·cast (sym (row-stored 12 schema source good sizes narrow r z h))
-            (getD-in (queryOf schema source .rows) r z (rw (count-rows 12 schema source good sizes narrow) h))
-            in
-            let w = in-getD (queryOf schema target .rows) z (m .carries .to-rows (sourceRow r) at) in
-            let k : w .0 < target .size = rw (count-rows most schema target good' sizes' narrow) at (w .1) in
-            let same : mapRow (valueOf constant f) (sourceRow r) ≡ targetRow (w .0) = sym (w .2) ∙ row-stored most schema target good' sizes' narrow (w .0) z k in
-            (w .0, k, ap (λ (row : theory.Row theory.Entry). row .relation) same, row-places f r (w .0) h k same);
-        head = λ i l.
-            ap (valueOf constant f) (sym (head-entry 12 schema source good sizes narrow i l))
-            ∙ sym (List·getD-map (valueOf constant f) (queryOf schema source .head) i (constant 0))
-            ∙ ap (λ (es : List theory.Entry). getD es i (constant 0)) (m .carries .to-head) ∙ head-entry most schema target good' sizes' narrow i l;
+        rows = λ r h. let x = part .1 r h in (x .0, x .1 .0, x .1 .1, x .1 .2);
+        head = part .0;
         elsewhere = λ v none. m .elsewhere v (variable-placed 12 schema source good sizes narrow v none);
       }
     where
@@ -290,8 +318,11 @@ module _ (most : ℕ) (schema : List ℕ) (narrow : Narrow schema) (source targe
       some (no h) =
           absurd (m .carries .not-never (length-none (queryOf schema source .rows) (count-rows 12 schema source good sizes narrow ∙ omega arith)))
 
-  pub wide-mapping : (f : ℕ → theory.Entry) → source .arity ≡ target .arity → WideOf f → IsMapping (queryOf schema source) (queryOf schema target) f
-  wide-mapping f arity w =
+  -- A mapping by positions that takes each row to a row of the target that is one of some rows is a mapping to these
+  pub wide-part : (f : ℕ → theory.Entry) (rows : List (theory.Row theory.Entry)) (z : theory.Row theory.Entry) → source .arity ≡ target .arity → WideOf f
+      → ((r : ℕ) → r < source .size → (d : ℕ) × RowTo f r d × (getD (queryOf schema target .rows) d z ∈ rows))
+      → IsMapping (queryOf schema source) (targetWith rows) f
+  wide-part f rows z arity w lands =
       record {
         carries =
             record {
@@ -315,19 +346,24 @@ module _ (most : ℕ) (schema : List ℕ) (narrow : Narrow schema) (source targe
                   ∙ ap (valueOf constant f) (head-entry 12 schema source good sizes narrow i l8) ∙ w .head i l8
                   ∙ sym (head-entry most schema target good' sizes' narrow i l8));
               to-rows = λ row at.
-                  let z : theory.Row theory.Entry = sourceRow 0 in
                   let u = in-getD (queryOf schema source .rows) z at in
                   let h : u .0 < source .size = rw (count-rows 12 schema source good sizes narrow) at (u .1) in
                   let here : row ≡ sourceRow (u .0) = sym (u .2) ∙ row-stored 12 schema source good sizes narrow (u .0) z h in
-                  let x = w .rows (u .0) h in
-                  let there : targetRow (x .0) ∈ queryOf schema target .rows =
-                  Memᴰ·cast (sym (row-stored most schema target good' sizes' narrow (x .0) z (x .1)))
-                  (getD-in (queryOf schema target .rows) (x .0) z (rw (count-rows most schema target good' sizes' narrow) (x .1)))
-                  in
-                  Memᴰ·cast (ap (mapRow (valueOf constant f)) here ∙ places-row f (u .0) (x .0) h (x .1) (x .2) (x .3)) there;
+                  let x = lands (u .0) h in
+                  Memᴰ·cast
+                  (ap (mapRow (valueOf constant f)) here ∙ places-row f (u .0) (x .0) h (x .1 .0) (x .1 .1) (x .1 .2)
+                  ∙ sym (row-stored most schema target good' sizes' narrow (x .0) z (x .1 .0))) (x .2);
             };
         elsewhere = λ v out. w .elsewhere v (λ k h is. out (placed-variable 12 schema source good sizes narrow v k h is));
       }
+
+  pub wide-mapping : (f : ℕ → theory.Entry) → source .arity ≡ target .arity → WideOf f → IsMapping (queryOf schema source) (queryOf schema target) f
+  wide-mapping f arity w =
+      let z : theory.Row theory.Entry = sourceRow 0 in
+      wide-part f (queryOf schema target .rows) z arity w
+      (λ r h.
+      let x = w .rows r h in
+      (x .0, (x .1, x .2, x .3), getD-in (queryOf schema target .rows) (x .0) z (rw (count-rows most schema target good' sizes' narrow) (x .1))))
 
   -- A mapping has heads of one length
   pub mapping-arity : (f : ℕ → theory.Entry) → IsMapping (queryOf schema source) (queryOf schema target) f → source .arity ≡ target .arity

@@ -2,13 +2,13 @@
 -- a target's those from `top` on (192 where the search finds it), blanks included.
 -- Here: 1. what a mapping is by positions, 2. where rows and candidates are, 3. a solution of the search is a mapping, 4. a mapping is a solution.
 -- Assumes nothing.
-use mathlib.Core.Path.{_≡_, refl, sym, _∙_, ap, subst}
+use mathlib.Core.Path.{_≡_, refl, sym, _∙_, ap, subst, subst₂}
 use mathlib.Core.Bool.{Bool, cond}
 use mathlib.Core.Logic.{_⊎_, inl, inr, ⊎-elim}
 use mathlib.Core.List.{List}
-use Prim.Native.Nat.{ℕ, _+_, _*_, _≤_, _<_}
+use Prim.Native.Nat.{ℕ, _+_, _*_, _/_, _%_, _≤_, _<_}
 use native.Mathlib.Nat.{le-trans}
-use native.Mathlib.Decide.{decLt}
+use native.Mathlib.Decide.{decLt, ℕ-discrete}
 use native.Mathlib.Omega.{arith}
 use borrow.Author.Tests.{eq-eqb, ne-eqb}
 use lib.ListN.{getD, length, List·getD-eq-default}
@@ -23,6 +23,7 @@ use Rattle.query.proofs.Codes.{code-same, code-fixed}
 use Rattle.consistency.specs.internal.Solution.{Solution}
 use Rattle.candidates.specs.internal.Candidates.{rowStart, imageStart, candidatesOf, Repeats, Together, Possible, IsDomain, IsTable}
 use Rattle.mapping.specs.internal.Lines.{entryIn, Assigned}
+use Rattle.lists.proofs.Positions.{below-some}
 use Rattle.candidates.proofs.Masks.{has-below}
 use Rattle.candidates.proofs.Candidates.{few-candidates}
 use Rattle.candidates.proofs.Repeats.{first-like}
@@ -135,12 +136,15 @@ module _ (source target : ℕ → Entry) (from to named offered : List ℕ) (siz
               (lands-together r q (omega arith) (omega arith));
         }
 
-  -- A mapping lands on a choice: of the rows that are the same as the image of a row, the first
-  pub wide-solution : (f : ℕ → Entry) → Wide 192 source target named offered size count f → (choice : ℕ → ℕ) × Solution (size + 1) domain table choice
-  wide-solution f wide = (choice, lands-solution f choice lands)
+  -- Images of rows that repeat no earlier ones, each with a property, and the head's are a solution
+  pub picked-solution : (P : ℕ → Type 0) (f : ℕ → Entry) → ((i : ℕ) → i < 8 → valueOf constant f (source (96 + i)) ≡ target (192 + i))
+      → ((r : ℕ) → r < size → (d : ℕ) × (d < count) × (getD named r 0 ≡ getD offered d 0)
+      × ((i : ℕ) → i < 8 → valueOf constant f (source (8 * r + i)) ≡ target (8 * d + i)) × (Repeats to offered d → ⊥) × P d)
+      → (choice : ℕ → ℕ) × Solution (size + 1) domain table choice × ((r : ℕ) → r < size → P (choice r))
+  picked-solution P f head rows = (choice, lands-solution f choice lands, λ r h. picked r h .4)
     where
       pick : (r : ℕ) → Dec (r < size) → ℕ
-      pick r (yes h) = first-like to offered (wide .rows r h .0) .at
+      pick r (yes h) = rows r h .0
       pick r (no h) = 0
 
       choice : ℕ → ℕ
@@ -149,22 +153,13 @@ module _ (source target : ℕ → Entry) (from to named offered : List ℕ) (siz
       body : (r d : ℕ) → Type 0
       body r d =
           (d < count) × (getD named r 0 ≡ getD offered d 0) × ((i : ℕ) → i < 8 → valueOf constant f (source (8 * r + i)) ≡ target (8 * d + i))
-          × (Repeats to offered d → ⊥)
+          × (Repeats to offered d → ⊥) × P d
 
       picked : (r : ℕ) → r < size → body r (choice r)
       picked r h = go (decLt r size)
         where
           go : (t : Dec (r < size)) → body r (pick r t)
-          go (yes l) =
-              let w = wide .rows r l in
-              let x = first-like to offered (w .0) in
-              let within : x .at ≤ w .0 = x .within in
-              let below : w .0 < count = w .1 in (
-                omega arith,
-                w .2 ∙ sym (x .relation),
-                (λ i k. w .3 i k ∙ sym (to-same (8 * x .at + i) (8 * w .0 + i) (omega arith) (omega arith) (x .same i k))),
-                x .fresh,
-              )
+          go (yes l) = let w = rows r l in (w .1, w .2, w .3, w .4, w .5)
           go (no l) = absurd (l h)
 
       last : choice size ≡ 0
@@ -192,12 +187,31 @@ module _ (source target : ℕ → Entry) (from to named offered : List ℕ) (siz
                 ap (λ (s : ℕ). valueOf constant f (source (s + i))) (row-start size r l) ∙ picked r l .2 i k
                 ∙ ap (λ (s : ℕ). target (s + i)) (sym (row-image size r (choice r) l)))
                 (λ same.
-                ap (λ (s : ℕ). valueOf constant f (source (s + i))) (ap (rowStart size) same ∙ head-start size) ∙ wide .head i k
+                ap (λ (s : ℕ). valueOf constant f (source (s + i))) (ap (rowStart size) same ∙ head-start size) ∙ head i k
                 ∙ ap (λ (s : ℕ). target (s + i)) (sym (ap (λ (x : ℕ). imageStart size x (choice r)) same ∙ head-image size (choice r))))
                 (row-cases size r h);
           }
 
-  -- ---- 4. a solution gives images that are a mapping
+  -- So is a mapping: of the rows that are the same as the image of a row, the first is taken
+  pub wide-solution : (f : ℕ → Entry) → Wide 192 source target named offered size count f → (choice : ℕ → ℕ) × Solution (size + 1) domain table choice
+  wide-solution f wide = let s = picked-solution (λ d. Unit {0}) f (wide .head) rows in (s .0, s .1)
+    where
+      rows : (r : ℕ) → r < size → (d : ℕ) × (d < count) × (getD named r 0 ≡ getD offered d 0)
+          × ((i : ℕ) → i < 8 → valueOf constant f (source (8 * r + i)) ≡ target (8 * d + i)) × (Repeats to offered d → ⊥) × Unit {0}
+      rows r h =
+          let w = wide .rows r h in
+          let x = first-like to offered (w .0) in
+          let within : x .at ≤ w .0 = x .within in
+          let below : w .0 < count = w .1 in (
+            x .at,
+            omega arith,
+            w .2 ∙ sym (x .relation),
+            (λ i k. w .3 i k ∙ sym (to-same (8 * x .at + i) (8 * w .0 + i) (omega arith) (omega arith) (x .same i k))),
+            x .fresh,
+            tt,
+          )
+
+  -- ---- 4. a solution gives an assignment that is a mapping
 
   module _ (choice : ℕ → ℕ) (solution : Solution (size + 1) domain table choice) where
     -- A solution's choices are possible candidates that go together
@@ -214,8 +228,28 @@ module _ (source target : ℕ → Entry) (from to named offered : List ℕ) (siz
     pub chosen-small : (r : ℕ) → r ≤ size → choice r < 24
     chosen-small r h = few-choices choice chosen-candidate r h
 
-    module _ (cells images : List Cell) (cells-are : (k : ℕ) → k < 200 → entryIn cells k ≡ target k) (long : length images ≡ 96)
-        (assigned : Assigned from cells size choice (size + 1) images) where
+    -- Row r goes to row `choice r`, of the same relation and no repeat
+    pub chosen-row : (r : ℕ) → r < size → (choice r < count) × (getD named r 0 ≡ getD offered (choice r) 0)
+    chosen-row r h = (
+      subst (λ (t : Bool). choice r < cond t 1 count) (ne-eqb r size (λ e. let z : r ≡ size = e in omega arith)) (chosen-candidate r (omega arith)),
+      chosen-possible r (omega arith) .relation h,
+    )
+
+    pub chosen-fresh : (r : ℕ) → r < size → Repeats to offered (choice r) → ⊥
+    chosen-fresh r h = chosen-possible r (omega arith) .first h
+
+    -- Variable v has the code at column i of row r
+    abbrev StandsAt : ℕ → ℕ → ℕ → Type 0
+    StandsAt v r i = getD from (rowStart size r + i) 0 ≡ 2147483648 + v
+
+    -- f takes a variable that stands in a row to an image of it, any other to constant 0
+    pub record Taken (f : ℕ → Entry) : Type 0 where
+      pub within : (v : ℕ) → v < 96
+          → (((r i : ℕ) → r < size + 1 → i < 8 → StandsAt v r i → ⊥) × (f v ≡ constant 0))
+          ⊎ ((r : ℕ) × (i : ℕ) × (r < size + 1) × (i < 8) × StandsAt v r i × (f v ≡ target (imageStart size r (choice r) + i)))
+      pub past : (v : ℕ) → 96 ≤ v → f v ≡ constant 0
+
+    module _ (f : ℕ → Entry) (taken : Taken f) where
       place : (r i : ℕ) → r ≤ size → i < 8 → rowStart size r + i < 104
       place r i h k = row-inside size r i few h k
 
@@ -231,8 +265,8 @@ module _ (source target : ℕ → Entry) (from to named offered : List ℕ) (siz
 
       -- A variable goes to its image in each row
       variable-carried : (v r i : ℕ) → r ≤ size → i < 8 → source (rowStart size r + i) ≡ variable v
-          → imagesOf images v ≡ target (imageStart size r (choice r) + i)
-      variable-carried v r i h k is = go (assigned v below)
+          → f v ≡ target (imageStart size r (choice r) + i)
+      variable-carried v r i h k is = go (taken .within v below)
         where
           below : v < 96
           below = subst Within is (from-within (rowStart size r + i) (place r i h k))
@@ -243,19 +277,17 @@ module _ (source target : ℕ → Entry) (from to named offered : List ℕ) (siz
           last : (r' : ℕ) → r' < size + 1 → r' ≤ size
           last r' l = omega arith
 
-          go : (((r' i' : ℕ) → r' < size + 1 → i' < 8 → getD from (rowStart size r' + i') 0 ≡ 2147483648 + v → ⊥) × (getD images v noCell ≡ noCell))
-              ⊎ ((r' : ℕ) × (i' : ℕ) × (r' < size + 1) × (i' < 8) × (getD from (rowStart size r' + i') 0 ≡ 2147483648 + v)
-              × (getD images v noCell ≡ getD cells (imageStart size r' (choice r') + i') noCell))
-              → imagesOf images v ≡ target (imageStart size r (choice r) + i)
+          go : (((r' i' : ℕ) → r' < size + 1 → i' < 8 → StandsAt v r' i' → ⊥) × (f v ≡ constant 0))
+              ⊎ ((r' : ℕ) × (i' : ℕ) × (r' < size + 1) × (i' < 8) × StandsAt v r' i' × (f v ≡ target (imageStart size r' (choice r') + i')))
+              → f v ≡ target (imageStart size r (choice r) + i)
           go (inl w) = absurd (w .0 r i (omega arith) k number)
           go (inr w) =
-              ap (λ (c : Cell). entryOf (c .entry)) (w .5)
-              ∙ cells-are (imageStart size (w .0) (choice (w .0)) + w .1) (image-place (w .0) (w .1) (last (w .0) (w .2)) (w .3))
+              w .5
               ∙ one-image (2147483648 + v) r i (w .0) (w .1) h k (last (w .0) (w .2)) (w .3) number (w .4) (omega arith)
 
       -- An entry goes to the entry in its place
       entry-carried : (r i : ℕ) → r ≤ size → i < 8 → (x : Entry) → source (rowStart size r + i) ≡ x
-          → valueOf constant (imagesOf images) x ≡ target (imageStart size r (choice r) + i)
+          → valueOf constant f x ≡ target (imageStart size r (choice r) + i)
       entry-carried r i h k (variable v) is = variable-carried v r i h k is
       entry-carried r i h k (constant n) is =
           let number : getD from (rowStart size r + i) 0 ≡ n = from-is (rowStart size r + i) (place r i h k) ∙ ap (freeze 2147483648) is in
@@ -266,39 +298,98 @@ module _ (source target : ℕ → Entry) (from to named offered : List ℕ) (siz
           code-same (constant n) (target (imageStart size r (choice r) + i)) below (to-within (imageStart size r (choice r) + i) (image-place r i h k))
           (sym kept ∙ to-is (imageStart size r (choice r) + i) (image-place r i h k))
 
-      carried : (r i : ℕ) → r ≤ size → i < 8 → valueOf constant (imagesOf images) (source (rowStart size r + i)) ≡ target (imageStart size r (choice r) + i)
+      carried : (r i : ℕ) → r ≤ size → i < 8 → valueOf constant f (source (rowStart size r + i)) ≡ target (imageStart size r (choice r) + i)
       carried r i h k = entry-carried r i h k (source (rowStart size r + i)) refl
 
-      unused : (v : ℕ) → ((k : ℕ) → k < 104 → source k ≡ variable v → ⊥) → imagesOf images v ≡ constant 0
+      unused : (v : ℕ) → ((k : ℕ) → k < 104 → source k ≡ variable v → ⊥) → f v ≡ constant 0
       unused v none = go (decLt v 96)
         where
-          go : Dec (v < 96) → imagesOf images v ≡ constant 0
-          go (no past) = ap (λ (c : Cell). entryOf (c .entry)) (List·getD-eq-default images noCell {n = v} (omega arith))
+          go : Dec (v < 96) → f v ≡ constant 0
+          go (no past) = taken .past v (omega arith)
           go (yes below) =
               ⊎-elim
-              (λ w. ap (λ (c : Cell). entryOf (c .entry)) (w .1))
+              (λ w. w .1)
               (λ w.
               let l : w .0 ≤ size = let z : w .0 < size + 1 = w .2 in omega arith in
               absurd
               (none (rowStart size (w .0) + w .1) (place (w .0) (w .1) l (w .3))
               (code-same (source (rowStart size (w .0) + w .1)) (variable v) (from-within (rowStart size (w .0) + w .1) (place (w .0) (w .1) l (w .3))) below
               (sym (from-is (rowStart size (w .0) + w .1) (place (w .0) (w .1) l (w .3))) ∙ w .4))))
-              (assigned v below)
+              (taken .within v below)
 
-      pub solution-wide : 0 < size → Wide 192 source target named offered size count (imagesOf images)
-      solution-wide some =
+      pub row-carried : (r : ℕ) → r < size → (i : ℕ) → i < 8 → valueOf constant f (source (8 * r + i)) ≡ target (8 * choice r + i)
+      row-carried r h i k =
+          ap (λ (s : ℕ). valueOf constant f (source (s + i))) (sym (row-start size r h)) ∙ carried r i (omega arith) k
+          ∙ ap (λ (s : ℕ). target (s + i)) (row-image size r (choice r) h)
+
+      pub taken-wide : 0 < size → Wide 192 source target named offered size count f
+      taken-wide some =
           record {
             some-row = some;
-            rows = λ r h. (
-              choice r,
-              subst (λ (t : Bool). choice r < cond t 1 count) (ne-eqb r size (λ e. let z : r ≡ size = e in omega arith)) (chosen-candidate r (omega arith)),
-              chosen-possible r (omega arith) .relation h,
-              (λ i k.
-                  ap (λ (s : ℕ). valueOf constant (imagesOf images) (source (s + i))) (sym (row-start size r h)) ∙ carried r i (omega arith) k
-                  ∙ ap (λ (s : ℕ). target (s + i)) (row-image size r (choice r) h)),
-            );
+            rows = λ r h. (choice r, chosen-row r h .0, chosen-row r h .1, row-carried r h);
             head = λ i k.
-                ap (λ (s : ℕ). valueOf constant (imagesOf images) (source (s + i))) (sym (head-start size)) ∙ carried size i (omega arith) k
+                ap (λ (s : ℕ). valueOf constant f (source (s + i))) (sym (head-start size)) ∙ carried size i (omega arith) k
                 ∙ ap (λ (s : ℕ). target (s + i)) (head-image size (choice size));
             elsewhere = unused;
           }
+
+    -- Images that are collected are such an assignment
+    pub solution-wide : (cells images : List Cell) → ((k : ℕ) → k < 200 → entryIn cells k ≡ target k) → length images ≡ 96
+        → Assigned from cells size choice (size + 1) images → 0 < size → Wide 192 source target named offered size count (imagesOf images)
+    solution-wide cells images cells-are long assigned =
+        taken-wide (imagesOf images)
+        (record {
+          within = λ v h.
+              ⊎-elim
+              (λ w. inl (w .0, ap (λ (c : Cell). entryOf (c .entry)) (w .1)))
+              (λ w.
+              let l : w .0 ≤ size = let z : w .0 < size + 1 = w .2 in omega arith in
+              inr (
+                w .0,
+                w .1,
+                w .2,
+                w .3,
+                w .4,
+                ap (λ (c : Cell). entryOf (c .entry)) (w .5)
+                    ∙ cells-are (imageStart size (w .0) (choice (w .0)) + w .1)
+                    (image-inside size (w .0) (choice (w .0)) (w .1) l (chosen-small (w .0) l) (w .3)),
+              ))
+              (assigned v h);
+          past = λ v h. ap (λ (c : Cell). entryOf (c .entry)) (List·getD-eq-default images noCell {n = v} (let z : 96 ≤ v = h in omega arith));
+        })
+
+    -- and there is one
+    pub taken-some : (f : ℕ → Entry) × Taken f
+    taken-some = (assign, record { within = λ v h. within v h (decLt v 96) (place-of v); past = λ v h. past v h (decLt v 96) (place-of v) })
+      where
+        Place : ℕ → ℕ → Type 0
+        Place v k = StandsAt v (k / 8) (k % 8)
+
+        place-of : (v : ℕ) → Dec ((k : ℕ) × (k < 8 * (size + 1)) × Place v k)
+        place-of v = below-some (Place v) (λ k. ℕ-discrete (getD from (rowStart size (k / 8) + k % 8) 0) (2147483648 + v)) (8 * (size + 1))
+
+        pick : (v : ℕ) → Dec (v < 96) → Dec ((k : ℕ) × (k < 8 * (size + 1)) × Place v k) → Entry
+        pick v (yes h) (yes w) = target (imageStart size (w .0 / 8) (choice (w .0 / 8)) + w .0 % 8)
+        pick v (yes h) (no out) = constant 0
+        pick v (no h) t = constant 0
+
+        assign : ℕ → Entry
+        assign v = pick v (decLt v 96) (place-of v)
+
+        within : (v : ℕ) → v < 96 → (t : Dec (v < 96)) (p : Dec ((k : ℕ) × (k < 8 * (size + 1)) × Place v k))
+            → (((r i : ℕ) → r < size + 1 → i < 8 → StandsAt v r i → ⊥) × (pick v t p ≡ constant 0))
+            ⊎ ((r : ℕ) × (i : ℕ) × (r < size + 1) × (i < 8) × StandsAt v r i × (pick v t p ≡ target (imageStart size r (choice r) + i)))
+        within v h (yes l) (yes w) = let k : w .0 < 8 * (size + 1) = w .1 in inr (w .0 / 8, w .0 % 8, omega arith, omega arith, w .2, refl)
+        within v h (yes l) (no out) =
+            inl (
+              (λ r i hr hi at.
+                  let row : r ≡ (8 * r + i) / 8 = omega arith in
+                  let column : i ≡ (8 * r + i) % 8 = omega arith in
+                  out (8 * r + i, omega arith, subst₂ (λ (x y : ℕ). StandsAt v x y) row column at)),
+              refl,
+            )
+        within v h (no l) p = absurd (l h)
+
+        past : (v : ℕ) → 96 ≤ v → (t : Dec (v < 96)) (p : Dec ((k : ℕ) × (k < 8 * (size + 1)) × Place v k)) → pick v t p ≡ constant 0
+        past v h (yes l) p = absurd (omega arith)
+        past v h (no l) p = refl

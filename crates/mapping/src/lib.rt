@@ -1,7 +1,7 @@
 // Mappings from a stored query: found by search to a tableau, and checked to a stored query. A query without rows has none.
 mod assign; // assign.rt: the images of the variables, from the images of the rows
 mod carry; // carry.rt: whether given images carry entries, rows and a head
-mod cells; // cells.rt: a query or a tableau in one line of cells, and their codes
+pub mod cells; // cells.rt: a query or a tableau in one line of cells, and their codes
 
 use crate::assign::assign;
 use crate::carry::all_land;

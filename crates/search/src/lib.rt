@@ -218,18 +218,33 @@ fn try_candidate(
     )
 }
 
-// A solution, where there is one; found says whether. Candidates from 24 on are passed over.
+// A solution, where there is one; found says whether. Candidates from 24 on are passed over. Of the links nothing is asked: they say which rows are looked
+// at when one loses candidates.
+pub fn solve_linked(
+    domain: &[u32; 13],
+    table: &[u32; 4056],
+    links: &[u16; 13],
+    rows: usize,
+) -> Solved
+    requires { ⌜ rows ≤ 13 ⌝ }
+    ensures found { λ o. ⌜ (o .found ≡ true → Solution rows (now (domain .entry)) (now (table .entry)) (λ r. getD (o .chosen) r 0)) ⌝ }
+    ensures none { λ o. ⌜ (o .found ≡ false → (f : ℕ → ℕ) → Solution rows (now (domain .entry)) (now (table .entry)) f → ⊥) ⌝ }
+{
+    let state = settled(links, table, rows, start(domain));
+    let last = place_row(domain, table, links, rows, state, 26 * rows + 1);
+    let chosen = last.chosen;
+    Solved {
+        found: last.found,
+        chosen,
+    }
+}
+
+// The same, with the links of the candidates.
 pub fn solve(domain: &[u32; 13], table: &[u32; 4056], rows: usize) -> Solved
     requires { ⌜ rows ≤ 13 ⌝ }
     ensures found { λ o. ⌜ (o .found ≡ true → Solution rows (now (domain .entry)) (now (table .entry)) (λ r. getD (o .chosen) r 0)) ⌝ }
     ensures none { λ o. ⌜ (o .found ≡ false → (f : ℕ → ℕ) → Solution rows (now (domain .entry)) (now (table .entry)) f → ⊥) ⌝ }
 {
     let links = all_links(domain, table, rows);
-    let state = settled(&links, table, rows, start(domain));
-    let last = place_row(domain, table, &links, rows, state, 26 * rows + 1);
-    let chosen = last.chosen;
-    Solved {
-        found: last.found,
-        chosen,
-    }
+    solve_linked(domain, table, &links, rows)
 }

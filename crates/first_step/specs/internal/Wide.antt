@@ -26,9 +26,13 @@ use Rattle.theory.specs.Chase as chasing
 abbrev pub rowAt : ℕ → List Cell → ℕ → theory.Row theory.Entry
 rowAt relation cells i = record { relation = relation; values = entriesOf (take 8 (drop (8 * i) cells)) }
 
+-- The same of its own relation, of those given
+abbrev pub rowIn : List ℕ → List Cell → ℕ → theory.Row theory.Entry
+rowIn relations cells i = rowAt (getD relations i 0) cells i
+
 -- Row i of a stored query with all its 8 cells
 abbrev pub wideRow : Query → ℕ → theory.Row theory.Entry
-wideRow q i = rowAt (getD (q .relations) i 0) (q .cells) i
+wideRow q i = rowIn (q .relations) (q .cells) i
 
 -- n rows of a stored query, from row i on
 unfoldable pub wideRows : Query → ℕ → ℕ → List (theory.Row theory.Entry)
