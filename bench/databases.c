@@ -29,7 +29,7 @@ static void fail(const char *what) {
 // ---- rows
 
 #define MOST ((size_t)1 << 27)
-#define HUGE_WORDS ((size_t)1 << 20)
+#define HUGE_WORDS ((size_t)1 << 18)
 #define HEADS_FOR_JOINS (5 * (word_count / 2 + 1))
 #define NODES_FOR_JOINS (6 * word_count)
 

@@ -48,7 +48,7 @@
  *   batch     twice the words of the answers, and 64 more: with fewer the database is searched again for each batch. A count wants as much as an evaluation
  *   scratch   as many as batch
  * Where the number of answers is not known, a buffer and a batch of memory that is mapped and not touched cost nothing; after a refusal with 10 try more.
- * For a million words and more, memory that is mapped in huge pages (madvise with MADV_HUGEPAGE) saves a tenth of the time or two.
+ * For a quarter of a million words and more, memory that is mapped in huge pages (madvise with MADV_HUGEPAGE) saves a tenth of the time or two.
  * Queries can have very many answers, or very many ways to each: an evaluation may take long, and nothing stops it but the end of its thread or process.
  * Calls that share nothing that is written may run at the same time.
  *

@@ -344,7 +344,7 @@ def _memory() -> int:
 # What is not touched of them costs nothing, and all three are less than a fifth of the memory.
 AMPLE_WORDS = min(2**27, _memory() // 64)
 # A database of as many words and more is worked on in huge pages. A smaller one touches little of what is lent, and to clear a huge page takes longer.
-HUGE_WORDS = 2**20
+HUGE_WORDS = 2**18
 # The engine uses no more words of an index.
 MOST_INDEX_WORDS = 2**32 - 2
 
