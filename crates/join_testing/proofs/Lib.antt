@@ -4,7 +4,9 @@ pub mod Starting
 pub mod Bits
 pub mod Having
 pub mod Reaching
+pub mod Sets
 pub mod Searching
+pub mod Arranging
 pub mod Finding
 pub mod Entering
 pub mod Filling

@@ -17,7 +17,7 @@ ghost use Rattle.words.specs.Words.{spellsRows, databaseOf};
 ghost use Rattle.join_testing.specs.Unmet.{firstChoice, firstUnmetFrom, unmetOf};
 ghost use Rattle.join_testing.specs.internal.Starts.{startOf, rowCount, BeginsAt, Has, Known};
 ghost use Rattle.join_testing.specs.internal.Tables.{Table, Room, Tabled, Reaches, FirstWith, Threaded, Beside, Roomy};
-ghost use Rattle.join_testing.specs.internal.Search.{filledTo, Searchable, Indexed, Searched, choiceOf};
+ghost use Rattle.join_testing.specs.internal.Search.{filledTo, Searchable, Indexed, Searched, plainly, Arranged, rowsChosen};
 
 // The relation whose rows are in the tables, its width, and the number of buckets; 0 where there are no tables.
 struct Index {
@@ -377,8 +377,93 @@ fn position_of(words: &[u32], schema: &[u8], at: usize) -> usize
     n
 }
 
+// The set from set i on that has most of the columns in a mask; the first of those that have as many. Only that it is one of them is promised.
+fn closest(j: JoinDependency, i: usize, filled: u8) -> usize
+    requires { ⌜ (i < j .count) × (j .count ≤ 4) × (length (j .sets) ≡ 4) ⌝ }
+    ensures { λ r. ⌜ (i ≤ r) × (r < j .count) ⌝ }
+{
+    let count = j.count as usize;
+    let mut best = i;
+    let mut most = u8::count_ones(j.sets[i] & filled);
+    let mut l = i + 1;
+    while l < count {
+        let here = u8::count_ones(j.sets[l] & filled);
+        if most < here {
+            best = l;
+            most = here;
+        }
+        l += 1;
+    }
+    best
+}
+
+// The sets from set `first` on in the order of the search: the next is the one that has most columns of those before it.
+fn arrange(j: JoinDependency, first: usize, filled: u8) -> JoinDependency
+    requires { ⌜ (first ≤ j .count) × (j .count ≤ 4) × (length (j .sets) ≡ 4) ⌝ }
+    ensures { λ r. ⌜ Arranged j r first ⌝ }
+{
+    let count = j.count as usize;
+    let mut arranged = j;
+    let mut known = filled;
+    let mut i = first;
+    while i < count {
+        let l = closest(arranged, i, known);
+        let mut sets = arranged.sets;
+        let next = sets[l];
+        sets[l] = sets[i];
+        sets[i] = next;
+        arranged = JoinDependency {
+            relation: j.relation,
+            count: j.count,
+            sets,
+        };
+        known = known | next;
+        i += 1;
+    }
+    arranged
+}
+
+// The first choice of rows for the sets from set k on, found set by set: whether rows for the sets after k can be chosen does not depend on the order in
+// which these are gone through, so the first row for set k is found with them arranged; then those for the sets after it. With one set left after k there
+// is nothing to arrange.
+fn choose(
+    words: &[u32],
+    schema: &[u8],
+    j: JoinDependency,
+    k: usize,
+    filled: u8,
+    values: [u32; 8],
+    heads: &mut [u32],
+    nodes: &mut [u32],
+) -> Found
+    requires { ⌜ Searchable (now schema) (now words) j × (k < j .count) × (filled ≡ filledTo (j .sets) k) ⌝ }
+    ensures { λ r. ⌜ Searched (now (schema .entry)) (now (words .entry)) j (plainly (now (schema .entry)) j) k values r ⌝ }
+{
+    let set = j.sets[k];
+    if j.count as usize <= k + 2 {
+        let x = build(words, schema, j, heads, nodes);
+        return search(words, schema, j, x, k, filled, values, heads, nodes);
+    }
+    let arranged = arrange(j, k + 1, filled | set);
+    let x = build(words, schema, arranged, heads, nodes);
+    let found = search(words, schema, arranged, x, k, filled, values, heads, nodes);
+    if !found.some {
+        return found;
+    }
+    let at = found.at;
+    let here = at[k];
+    let row = with_row(words, x, here, set, values);
+    let rest = choose(words, schema, j, k + 1, filled | set, row, heads, nodes);
+    let mut list = rest.at;
+    list[k] = here;
+    Found {
+        some: true,
+        at: list,
+    }
+}
+
 // The positions of the rows that are chosen for the sets of a join dependency, 0 where there is no set.
-pub enum Choice {
+pub enum ChosenRows {
     At(usize, usize, usize, usize),
     Absent,
 }
@@ -390,21 +475,20 @@ fn first_choice(
     j: JoinDependency,
     heads: &mut [u32],
     nodes: &mut [u32],
-) -> Choice
+) -> ChosenRows
     requires { ⌜ Searchable (now schema) (now words) j ⌝ }
-    ensures { λ r. ⌜ r ≡ choiceOf (firstChoice (now (schema .entry)) (joinOf j) (databaseOf (now (schema .entry)) (now (words .entry)))) ⌝ }
+    ensures { λ r. ⌜ r ≡ rowsChosen (firstChoice (now (schema .entry)) (joinOf j) (databaseOf (now (schema .entry)) (now (words .entry)))) ⌝ }
 {
-    let x = build(words, schema, j, heads, nodes);
-    let found = search(words, schema, j, x, 0, 0, [0; 8], heads, nodes);
+    let found = choose(words, schema, j, 0, 0, [0; 8], heads, nodes);
     if !found.some {
-        return Choice::Absent;
+        return ChosenRows::Absent;
     }
     let at = found.at;
     let a = position_of(words, schema, at[0]);
     let b = position_of(words, schema, at[1]);
     let c = position_of(words, schema, at[2]);
     let d = position_of(words, schema, at[3]);
-    Choice::At(a, b, c, d)
+    ChosenRows::At(a, b, c, d)
 }
 
 // The first of the held join dependencies that the rows do not obey, with its first choice of rows.
@@ -423,7 +507,7 @@ pub fn first_unmet(
     while k < joined {
         let j = joins[k];
         let found = first_choice(words, schema, j, heads, nodes);
-        if let Choice::At(a, b, c, d) = found {
+        if let ChosenRows::At(a, b, c, d) = found {
             return Violation::Joined(k, a, b, c, d);
         }
         k += 1;

@@ -15,8 +15,8 @@ use Rattle.joins.specs.Join.{JoinFits}
 use Rattle.join_testing.specs.Meaning.{GoWith, Earlier}
 use Rattle.join_testing.specs.declared.Index.{Index}
 use Rattle.join_testing.specs.declared.Found.{Found}
-use Rattle.join_testing.specs.declared.Choice.{Choice}
-use Rattle.join_testing.specs.declared.Choice.the-variants as choice
+use Rattle.join_testing.specs.declared.ChosenRows.{ChosenRows}
+use Rattle.join_testing.specs.declared.ChosenRows.the-variants as chosen-rows
 use Rattle.join_testing.specs.internal.Starts.{startOf, rowWith, Known}
 use Rattle.join_testing.specs.internal.Tables.{Room, Tabled}
 
@@ -73,7 +73,21 @@ pub record Searched (schema words : List ℕ) (j : JoinDependency) (x : Index) (
   pub some : found .some ≡ true → FirstFrom schema words j x k values (found .at)
   pub none : found .some ≡ false → (ps : List ℕ) → BreaksFrom schema words j x k values ps → ⊥
 
--- The positions of a choice of rows that is found
-abbrev pub choiceOf : Option (List ℕ) → Choice
-choiceOf none = choice.Absent
-choiceOf (some ps) = choice.At (getD ps 0 0) (getD ps 1 0) (getD ps 2 0) (getD ps 3 0)
+-- The relation that is tested, without tables
+abbrev pub plainly : List ℕ → JoinDependency → Index
+plainly schema j = record { relation = j .relation; width = getD schema (j .relation) 0; buckets = 0 }
+
+-- A join dependency with its sets in another order: the first stay where they are, and the others are the same
+pub record Arranged (j r : JoinDependency) (first : ℕ) : Type 0 where
+  pub relation : r .relation ≡ j .relation
+  pub count : r .count ≡ j .count
+  pub shaped : length (r .sets) ≡ 4
+  pub stay : (k : ℕ) → k < first → getD (r .sets) k 0 ≡ getD (j .sets) k 0
+  pub from : (k : ℕ) → first ≤ k → k < j .count → (l : ℕ) × (first ≤ l) × (l < j .count) × (getD (r .sets) k 0 ≡ getD (j .sets) l 0)
+  pub back : (k : ℕ) → first ≤ k → k < j .count → (l : ℕ) × (first ≤ l) × (l < j .count) × (getD (j .sets) k 0 ≡ getD (r .sets) l 0)
+  pub past : (k : ℕ) → j .count ≤ k → getD (r .sets) k 0 ≡ getD (j .sets) k 0
+
+-- The positions of the rows of a choice that is found
+abbrev pub rowsChosen : Option (List ℕ) → ChosenRows
+rowsChosen none = chosen-rows.Absent
+rowsChosen (some ps) = chosen-rows.At (getD ps 0 0) (getD ps 1 0) (getD ps 2 0) (getD ps 3 0)
