@@ -2,7 +2,7 @@
 -- same first position. 4. The first choice, from its first position and the first choice after it. Assumes nothing.
 use mathlib.Core.Path.{_≡_, refl, sym, _∙_, ap, subst}
 use mathlib.Core.Logic.{inl, ⊎-elim}
-use mathlib.Core.Bool.{Bool, true, false, true≢false}
+use mathlib.Core.Bool.{true, false, true≢false}
 use mathlib.Core.List.{List, [], _∷_, List·Memᴰ·head, List·Memᴰ·tail, List·Memᴰ·not-nil, Memᴰ·cast}
 use Prim.Native.Nat.{ℕ, zero, suc, _+_, _≤_, _<_}
 use native.Mathlib.Decide.{ℕ-discrete}
@@ -19,15 +19,14 @@ use Rattle.query.specs.View.{columnsOf, joinOf}
 use Rattle.query.specs.declared.JoinDependency.{JoinDependency}
 use Rattle.words.specs.Broken.{nthRow}
 use Rattle.words.specs.Words.{databaseOf}
-use Rattle.joins.specs.Join.{JoinFits}
 use Rattle.join_testing.specs.Meaning.{GoWith, Earlier}
-use Rattle.join_testing.specs.declared.Index.{Index}
+use Rattle.join_lookup.specs.declared.Index.{Index}
 use Rattle.join_testing.specs.declared.Found.{Found}
-use Rattle.join_testing.specs.internal.Starts.{startOf, rowCount, BeginsAt, rowWith, Has}
-use Rattle.join_testing.specs.internal.Tables.{Reaches}
-use Rattle.join_testing.specs.internal.Search.{filledTo, sharedAt, setsFrom, Searchable, Indexed, BreaksFrom, FirstFrom, Searched, plainly, Arranged}
+use Rattle.join_lookup.specs.internal.Starts.{startOf, rowCount, BeginsAt, rowWith, Has}
+use Rattle.join_tables.specs.internal.Indexed.{filledTo, sharedAt, Searchable, Indexed}
+use Rattle.join_testing.specs.internal.Search.{setsFrom, BreaksFrom, FirstFrom, Searched, plainly, Arranged}
 use Rattle.join_testing.proofs.Sets as sets
-use Rattle.join_testing.proofs.Searching.{Joins, Going, NoneBelow, breaks-some, breaks-has, breaks-down, going-some, made-joins, has-word}
+use Rattle.join_testing.proofs.Searching.{Joins, Going, NoneBelow, breaks-some, breaks-has, breaks-down, going-some, has-word}
 
 -- ---- 1. swaps
 

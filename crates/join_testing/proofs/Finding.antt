@@ -1,32 +1,30 @@
 -- From the search to the definition: the first choice for a join dependency, and the first join dependency with one. Assumes nothing.
 use mathlib.Core.Path.{_≡_, refl, sym, _∙_, ap, subst}
-use mathlib.Core.Bool.{Bool, true, false}
+use mathlib.Core.Bool.{true, false}
 use mathlib.Core.List.{List, [], _∷_, List·Memᴰ·not-nil}
 use mathlib.Core.Option.{Option, none, some, orElse, Option·map}
-use Prim.Native.Nat.{ℕ, zero, suc, _+_, _≤_, _<_}
+use Prim.Native.Nat.{ℕ, zero, suc, _+_, _≤_}
 use native.Mathlib.Numerals.{add-one}
 use native.Mathlib.Omega.{arith}
-use lib.ListN.{length, getD}
-use lib.Dec.{lit<}
+use lib.ListN.{getD}
 use Rattle.theory.specs.Query.{_∈_}
 use Rattle.theory.specs.Database.{Database, JoinDependency}
 use Rattle.theory.specs.Chase.{firstFound}
-use Rattle.query.specs.View.{columnsFrom, columnsOf, joinOf}
+use Rattle.query.specs.View.{joinOf}
 use Rattle.query.specs.declared.JoinDependency as stored
 use Rattle.query.proofs.Stored.{no-columns}
 use Rattle.words.specs.Testing.{numberedFrom}
 use Rattle.words.specs.Words.{databaseOf}
 use Rattle.words.proofs.Spelling.{rows-spelled}
-use Rattle.words.specs.declared.Violation.{Violation}
 use Rattle.words.specs.declared.Violation.the-variants as violation
-use Rattle.join_testing.specs.declared.Index.{Index}
+use Rattle.join_lookup.specs.declared.Index.{Index}
 use Rattle.join_testing.specs.declared.Found.{Found}
-use Rattle.join_testing.specs.declared.ChosenRows.{ChosenRows}
 use Rattle.join_testing.specs.declared.ChosenRows.the-variants as chosen-rows
 use Rattle.join_testing.specs.Unmet.{firstChoice, firstUnmetFrom, unmetOf}
-use Rattle.join_testing.specs.Meaning.{GoWith, BreaksJoin, FirstChoice}
-use Rattle.join_testing.specs.internal.Starts.{startOf, rowCount}
-use Rattle.join_testing.specs.internal.Search.{filledTo, Searchable, Indexed, BreaksFrom, FirstFrom, Searched, rowsChosen}
+use Rattle.join_testing.specs.Meaning.{BreaksJoin}
+use Rattle.join_lookup.specs.internal.Starts.{rowCount}
+use Rattle.join_tables.specs.internal.Indexed.{filledTo, Searchable, Indexed}
+use Rattle.join_testing.specs.internal.Search.{BreaksFrom, FirstFrom, Searched, rowsChosen}
 use Rattle.join_testing.proofs.Choosing.{Inside, goes-inside, first-found, unbroken-none}
 
 module _ {schema words : List ℕ} {j : stored.JoinDependency} {x : Index} {heads nodes : List ℕ} (g : Searchable schema words j)

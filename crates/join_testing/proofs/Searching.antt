@@ -1,34 +1,35 @@
 -- The search for a choice of rows, set by set. 1. The sets and their columns. 2. After the last set. 3. A row more for the next set. 4. The rows that are
 -- passed. Assumes nothing.
-use mathlib.Core.Path.{_≡_, refl, sym, _∙_, ap, ap₂, subst}
-use mathlib.Core.Logic.{_⊎_, inl, inr, ⊎-elim}
-use mathlib.Core.Bool.{Bool, true, false, true≢false}
-use mathlib.Core.List.{List, [], _∷_, map, Memᴰ·cast, Memᴰ·of-map}
-use Prim.Native.Nat.{ℕ, zero, suc, _+_, _*_, _/_, _%_, _^_, _≤_, _<_}
+use mathlib.Core.Path.{_≡_, refl, sym, _∙_, ap, subst}
+use mathlib.Core.Logic.{inl, inr, ⊎-elim}
+use mathlib.Core.Bool.{true, false, true≢false}
+use mathlib.Core.List.{List, [], _∷_, Memᴰ·cast}
+use Prim.Native.Nat.{ℕ, zero, suc, _+_, _≤_, _<_}
 use native.Mathlib.Numerals.{add-one}
 use native.Mathlib.Omega.{arith}
-use lib.Bits.{bitAnd, bitOr, or-lt, and-le-l}
+use lib.Bits.{bitOr, or-lt, and-le-l}
 use lib.Dec.{eqb, lit<}
 use borrow.Author.Tests.{eqb-true, eqb-false}
-use lib.ListN.{length, take, drop, getD, set, replicate, length-set, length-take}
+use lib.ListN.{length, getD, set, replicate, length-set}
 use lib.Seq.{ext-getD, length-take-le, getD-set-same, getD-set-other}
 use Rattle.lists.proofs.Positions.{getD-in, in-getD}
 use Rattle.lists.proofs.Tests.{below-or-past}
 use Rattle.theory.specs.Query.{Row, column, FitsSchema, _∈_}
 use Rattle.theory.specs.Database.{Database, Agree}
 use Rattle.theory.proofs.Lists.{mem-dec}
-use Rattle.query.specs.View.{columnsOf, joinOf}
+use Rattle.query.specs.View.{columnsOf}
 use Rattle.query.specs.declared.JoinDependency.{JoinDependency}
 use Rattle.words.specs.Words.{databaseOf}
-use Rattle.join_testing.specs.declared.Index.{Index}
+use Rattle.join_lookup.specs.declared.Index.{Index}
 use Rattle.join_testing.specs.declared.Found.{Found}
 use Rattle.join_testing.specs.Meaning.{GoWith, Earlier}
-use Rattle.join_testing.specs.internal.Starts.{startOf, rowCount, BeginsAt, rowOf, rowWith, Of, Has, Known}
-use Rattle.join_testing.specs.internal.Tables.{LeftOut, Reaches, FirstWith}
-use Rattle.join_testing.specs.internal.Search.{filledTo, sharedAt, setsFrom, Searchable, Indexed, BreaksFrom, FirstFrom, Searched}
-use Rattle.join_testing.proofs.Bits.{BitOf, column-bit, bit-column, or-bit, bit-or, and-bit, bit-and}
-use Rattle.join_testing.proofs.Starting.{inside-start, outside-start, start-end, start-relation, row-fits, with-past}
-use Rattle.join_testing.proofs.Having.{with-column, begins-column}
+use Rattle.join_lookup.specs.internal.Starts.{startOf, rowCount, BeginsAt, rowOf, rowWith, Of, Has}
+use Rattle.join_lookup.specs.internal.Tables.{Reaches, FirstWith}
+use Rattle.join_tables.specs.internal.Indexed.{filledTo, sharedAt, Searchable, Indexed}
+use Rattle.join_testing.specs.internal.Search.{setsFrom, BreaksFrom, FirstFrom, Searched}
+use Rattle.join_lookup.proofs.Bits.{BitOf, column-bit, bit-column, or-bit, bit-or, and-bit, bit-and}
+use Rattle.join_lookup.proofs.Starting.{inside-start, outside-start, start-end, start-relation, row-fits, with-past}
+use Rattle.join_lookup.proofs.Having.{with-column, begins-column}
 use Rattle.join_testing.proofs.Sets as sets
 
 -- ---- 1. the sets

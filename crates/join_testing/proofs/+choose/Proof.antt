@@ -1,18 +1,18 @@
 -- The choice from a set on, set by set: with the sets after it arranged the first row for it is found, and the call for the next set finds the others. The
 -- measure is the sets left. Assumes nothing.
 use mathlib.Core.Path.{_≡_, refl, sym, ap, subst, _∙_}
-use mathlib.Core.Bool.{true, false}
 use mathlib.Core.List.{List}
-use Prim.Native.Nat.{ℕ, suc, _+_, _-_, _≤_, _<_}
+use Prim.Native.Nat.{ℕ, suc, _+_, _-_, _<_}
 use native.Mathlib.Numerals.{add-one}
 use native.Mathlib.Omega.{arith}
 use lib.Bits.{bitOr}
 use lib.ListN.{getD}
 use borrow.Author.Needs.{needs}
 use borrow.Author.Tests.{not-true, not-false}
-use Rattle.join_testing.specs.internal.Starts.{BeginsAt}
-use Rattle.join_testing.specs.internal.Search.{filledTo, Searchable, plainly, Arranged}
-use Rattle.join_testing.proofs.Having.{begins-room}
+use Rattle.join_lookup.specs.internal.Starts.{BeginsAt}
+use Rattle.join_tables.specs.internal.Indexed.{filledTo, Searchable}
+use Rattle.join_testing.specs.internal.Search.{plainly, Arranged}
+use Rattle.join_lookup.proofs.Having.{begins-room}
 use Rattle.join_testing.proofs.Searching.{Joins, filled-next, made-joins}
 use Rattle.join_testing.proofs.Arranging.{filled-same, searched-index, plain-indexed, index-plain, arranged-searchable, arranged-none, FirstRow, first-row}
 use Rattle.join_testing.proofs.Arranging.{row-begins, row-word, chosen-first}
@@ -22,9 +22,9 @@ use Rattle.join_testing.proofs.choose.Reads as choose′
 use Rattle.join_testing.proofs.choose.Kinds as choose-kinds
 use Rattle.join_testing.proofs.+choose.Lts-choose as choose-lts
 use Rattle.join_testing.proofs.arrange.Reads as arrange-reads
-use Rattle.join_testing.proofs.build.Reads as build-reads
+use Rattle.join_tables.proofs.build.Reads as build-reads
 use Rattle.join_testing.proofs.search.Reads as search-reads
-use Rattle.join_testing.proofs.with_row.Reads as with-row-reads
+use Rattle.join_lookup.proofs.with_row.Reads as with-row-reads
 use Rattle.join_testing.proofs.+choose.{statement}
 use Rattle.join_testing.proofs.+choose.Tie.{close}
 

@@ -1,19 +1,15 @@
 -- `first_choice` turns the places of the choice that is found into positions. Assumes nothing.
-use mathlib.Core.Path.{_≡_, refl, sym, ap, subst, _∙_}
-use mathlib.Core.Bool.{true, false}
+use mathlib.Core.Path.{_≡_, refl, sym, ap, _∙_}
 use mathlib.Core.List.{List}
-use Prim.Native.Nat.{ℕ, _+_, _≤_, _<_}
+use Prim.Native.Nat.{ℕ, _+_, _≤_}
 use native.Mathlib.Omega.{arith}
-use lib.ListN.{length, getD, replicate}
+use lib.ListN.{getD, replicate}
 use borrow.Author.Tests.{not-true, not-false}
-use Rattle.query.specs.View.{joinOf}
-use Rattle.words.specs.Words.{databaseOf}
-use Rattle.join_testing.specs.Unmet.{firstChoice}
-use Rattle.join_testing.specs.declared.ChosenRows.{ChosenRows}
 use Rattle.join_testing.specs.declared.ChosenRows.the-variants as chosen-rows
-use Rattle.join_testing.specs.internal.Starts.{startOf, rowCount}
-use Rattle.join_testing.specs.internal.Search.{filledTo, FirstFrom, plainly, rowsChosen}
-use Rattle.join_testing.proofs.Starting.{start-one}
+use Rattle.join_lookup.specs.internal.Starts.{startOf, rowCount}
+use Rattle.join_tables.specs.internal.Indexed.{filledTo}
+use Rattle.join_testing.specs.internal.Search.{FirstFrom, plainly, rowsChosen}
+use Rattle.join_lookup.proofs.Starting.{start-one}
 use Rattle.join_testing.proofs.Arranging.{some-sets, plain-indexed}
 use Rattle.join_testing.proofs.Finding.{searched-none, searched-some, first-inside}
 use borrow.Author.Needs.{needs}
