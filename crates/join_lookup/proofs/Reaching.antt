@@ -12,10 +12,10 @@ use lib.Seq.{length-take-le}
 use borrow.Author.Tests.{eqb-true}
 use Rattle.lists.proofs.Tests.{below-or-past}
 use Rattle.words.specs.Words.{spellsRows}
-use Rattle.tables.specs.internal.Table.{mixed, bucketOf}
+use Rattle.tables.specs.internal.Table.{mixed}
 use Rattle.join_lookup.specs.declared.Index.{Index}
 use Rattle.join_lookup.specs.internal.Starts.{startOf, rowCount, BeginsAt, rowOf, rowWith, Of, Has, Known}
-use Rattle.join_lookup.specs.internal.Tables.{bucketAt, Leads, Table, Reaches, FirstWith}
+use Rattle.join_lookup.specs.internal.Tables.{bucketOf, bucketAt, Leads, Table, Reaches, FirstWith}
 use Rattle.join_lookup.proofs.Starting.{start-less, start-one, start-inside, inside-start, of-length}
 use Rattle.join_lookup.proofs.Bits.{BitOf, bit-column}
 
@@ -46,7 +46,7 @@ module _ (schema words : List ℕ) (good : spellsRows schema words ≡ true) (x 
   bucket-same columns values p small wide h has =
       let size : length (rowOf schema words p .values) ≡ length (take (x .width) values) =
       of-length schema words good x k p h (has .0) ∙ sym (length-take-le (x .width) values wide) in
-      ap (λ (m : ℕ). (m + m / x .buckets * 2654435761) % x .buckets)
+      ap (λ (m : ℕ). ((m * 2654435769) % 4294967296 * x .buckets) / 4294967296)
       (mixed-same 0 columns (rowOf schema words p .values) (take (x .width) values) size (λ c l bit. has .1 c (bit-column columns c small bit)))
 
   module _ (t columns set : ℕ) (values : List ℕ) where

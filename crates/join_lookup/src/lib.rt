@@ -5,10 +5,10 @@ ghost use mathlib.Core.Path.{_≡_};
 ghost use mathlib.Core.Bool.{true, false};
 ghost use mathlib.Core.List.{List};
 ghost use Prim.Native.Nat.{ℕ, suc, _+_, _*_, _/_, _%_, _^_, _≤_, _<_};
-ghost use lib.ListN.{length, getD};
+ghost use lib.ListN.{length, take, getD};
 ghost use Rattle.words.specs.Words.{spellsRows};
 ghost use Rattle.join_lookup.specs.internal.Starts.{startOf, rowCount, BeginsAt, Has, Known};
-ghost use Rattle.join_lookup.specs.internal.Tables.{Room, Tabled, Reaches, FirstWith};
+ghost use Rattle.join_lookup.specs.internal.Tables.{bucketOf, Room, Tabled, Reaches, FirstWith};
 
 // The relation whose rows are in the tables, its width, and the number of buckets; 0 where there are no tables.
 pub struct Index {
@@ -43,6 +43,25 @@ pub fn has(words: &[u32], schema: &[u8], x: Index, at: usize, columns: u8, value
     true
 }
 
+// The bucket of some values in the columns of a set: their hash, spread by a factor, in proportion to the number of buckets; without a division.
+pub fn bucket(columns: u8, values: [u32; 8], width: usize, buckets: usize) -> usize
+    requires { ⌜ (width ≤ 8) × (0 < buckets) × (buckets ≤ 4294967296) ⌝ }
+    ensures { λ r. ⌜ (r ≡ bucketOf buckets columns (take width values)) × (r < buckets) ⌝ }
+{
+    let mut h: u64 = 0;
+    let mut left = columns;
+    let mut c: usize = 0;
+    while c < width {
+        if left % 2 == 1 {
+            h = (h * 2654435769 + values[c] as u64) % 4294967296;
+        }
+        left = left / 2;
+        c += 1;
+    }
+    let spread = h * 2654435769 % 4294967296;
+    (spread * buckets as u64 / 4294967296) as usize
+}
+
 // Where the rows with the given values in the columns of a set begin in table t, or the first row where there are no tables.
 pub fn start(
     words: &[u32],
@@ -61,12 +80,19 @@ pub fn start(
     if x.buckets == 0 {
         return 0;
     }
-    let b = tables::bucket(columns as u32, values, x.width, x.buckets);
+    let b = bucket(columns, values, x.width, x.buckets);
     heads[5 * b + t] as usize
 }
 
 // Where the next such row after the one at `at` begins, or the end of the words.
-pub fn following(words: &[u32], schema: &[u8], x: Index, t: usize, at: usize, nodes: &[u32]) -> usize
+pub fn following(
+    words: &[u32],
+    schema: &[u8],
+    x: Index,
+    t: usize,
+    at: usize,
+    nodes: &[u32],
+) -> usize
     requires { ⌜ (spellsRows (now schema) (now words) ≡ true) × Known (now schema) x × (t < 5) ⌝ }
     requires { ⌜ ((p : ℕ) × BeginsAt (now schema) (now words) at p) ⌝ }
     requires { ⌜ (0 < x .buckets → 6 * length (now words) ≤ length (now nodes)) ⌝ }

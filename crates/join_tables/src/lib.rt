@@ -67,7 +67,7 @@ fn enter_row(
         return;
     }
     let values = tables::read_row(words, at, x.width);
-    let b = tables::bucket(columns as u32, values, x.width, x.buckets);
+    let b = join_lookup::bucket(columns, values, x.width, x.buckets);
     let spot = 5 * b + t;
     if t != 0 {
         if join_lookup::find(words, schema, x, set, values, heads, nodes) != at {

@@ -267,7 +267,7 @@ module _ {schema words : List ℕ} (j r : JoinDependency) (k : ℕ) (a : Arrange
 pub plain-indexed : {schema words : List ℕ} (j : JoinDependency) → Searchable schema words j → Indexed schema words j (plainly schema j) [] []
 plain-indexed {schema} j g =
     record {
-      known = record { known = g .fits .known; width = refl; narrow = g .narrow };
+      known = record { known = g .fits .known; width = refl; narrow = g .narrow; few = omega arith };
       relation = refl;
       room = λ some. absurd (omega arith);
       levels = λ k h some. absurd (omega arith);

@@ -23,7 +23,7 @@ returns c = let s = c .before .before .before .before .before in
     λ set nodes table. reach-first (a .schema .now) (a .words .now) (s .pre .0 .0) (a .x) (s .pre .0 .1) (a .t) (a .columns) set (a .values) (c .if1 .taken)
 
 bucket-requires : tie.Need-bucket-requires
-bucket-requires c κs = let s = c .before .before .before .before .before in (s .pre .0 .1 .narrow, some c)
+bucket-requires c κs = let s = c .before .before .before .before .before in (s .pre .0 .1 .narrow, some c, s .pre .0 .1 .few)
 
 mul-result : tie.Need-mul-result
 mul-result c = omega (arith, room c)

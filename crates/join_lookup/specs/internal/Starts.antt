@@ -43,8 +43,9 @@ Of schema words x p = rowOf schema words p .relation ≡ x .relation
 abbrev pub Has : List ℕ → List ℕ → Index → ℕ → List ℕ → ℕ → Type 0
 Has schema words x columns values p = Of schema words x p × Agree 0 (columnsOf columns) (rowOf schema words p) (rowWith x values)
 
--- The relation that is tested is known, of this width, and has at most 8 columns
+-- The relation that is tested is known, of this width, and has at most 8 columns; buckets can be counted in 32 bits
 pub record Known (schema : List ℕ) (x : Index) : Type 0 where
   pub known : x .relation < length schema
   pub width : x .width ≡ getD schema (x .relation) 0
   pub narrow : x .width ≤ 8
+  pub few : x .buckets ≤ 4294967296

@@ -2,13 +2,17 @@
 -- 6 * at + 1 + t. Both are words at which rows begin, or the end of the words. Chains go from earlier to later rows.
 use mathlib.Core.Path.{_≡_}
 use mathlib.Core.List.{List}
-use Prim.Native.Nat.{ℕ, suc, _+_, _*_, _≤_, _<_}
+use Prim.Native.Nat.{ℕ, suc, _+_, _*_, _≤_, _<_, _/_, _%_}
 use lib.ListN.{length, take, getD}
 use Rattle.theory.specs.Database.{Agree}
 use Rattle.query.specs.View.{columnsOf}
-use Rattle.tables.specs.internal.Table.{bucketOf}
+use Rattle.tables.specs.internal.Table.{mixed}
 use Rattle.join_lookup.specs.declared.Index.{Index}
 use Rattle.join_lookup.specs.internal.Starts.{startOf, rowCount, rowOf, Of, Has}
+
+-- The bucket of some values in a set of columns, of so many: the number made of them, times a factor, in proportion
+abbrev pub bucketOf : ℕ → ℕ → List ℕ → ℕ
+bucketOf buckets columns values = ((mixed 0 columns values * 2654435769) % 4294967296 * buckets) / 4294967296
 
 -- The bucket of the row at position p, by its values in a set of columns
 abbrev pub bucketAt : List ℕ → List ℕ → Index → ℕ → ℕ → ℕ

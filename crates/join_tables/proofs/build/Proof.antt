@@ -29,6 +29,11 @@ some : (c : tie.Joined4) → 0 < c .if4 .buckets
 some c = let there : 5 ≤ length (begun (c .before) .args .heads .now) = c .before .before .before .if1 .left in
     ⊎-elim (λ w. omega (arith, w .1, there)) (λ w. omega (arith, w .1)) (c .if4 .came)
 
+few : (c : tie.Joined4) → c .if4 .buckets ≤ 4294967296
+few c = let a = begun (c .before) .args in
+    let low = div-le-self (length (a .words .now)) (getD (a .schema .now) (a .j .relation) 0 + 1) in
+    ⊎-elim (λ w. omega (arith, w .0 .taken, w .1, short (c .before), low)) (λ w. omega (arith, w .1, short (c .before), low)) (c .if4 .came)
+
 cast-index : tie.Need-cast-index
 cast-index c = search needs
 
@@ -44,7 +49,7 @@ cast-width c = search needs
 returns : tie.Need-returns
 returns c = let g = c .before .before .before .before .before .before .before .before .pre in
     record {
-      known = record { known = g .fits .known; width = refl; narrow = g .narrow };
+      known = record { known = g .fits .known; width = refl; narrow = g .narrow; few = omega arith };
       relation = refl;
       room = λ some. absurd (omega arith);
       levels = λ k h some. absurd (omega arith);
@@ -65,7 +70,7 @@ fill-requires : tie.Need-fill-requires
 fill-requires c κs = let f = c .before .before in
     let s = begun (f .before) in
     let g = s .pre in (
-      (g, record { known = g .fits .known; width = refl; narrow = g .narrow }, refl),
+      (g, record { known = g .fits .known; width = refl; narrow = g .narrow; few = few f }, refl),
       record {
         some = some f;
         heads-room = heads-room f;

@@ -4,9 +4,8 @@ use Prim.Native.Nat.{ℕ, _+_, _*_, _<_}
 use native.Mathlib.Omega.{arith}
 use lib.ListN.{length, take, drop, getD, set}
 use Rattle.theory.specs.Query.{Row}
-use Rattle.tables.specs.internal.Table.{bucketOf}
 use Rattle.join_lookup.specs.internal.Starts.{BeginsAt, rowOf, rowWith, Of}
-use Rattle.join_lookup.specs.internal.Tables.{bucketAt, Table}
+use Rattle.join_lookup.specs.internal.Tables.{bucketOf, bucketAt, Table}
 use Rattle.join_lookup.proofs.Starting.{start-inside, start-relation, of-room}
 use Rattle.join_tables.proofs.Entering.{beside-same, linked-beside, entered-beside, table-other, table-out, table-in, own-row, not-first}
 use borrow.Author.Needs.{needs}
@@ -83,7 +82,7 @@ read-row-requires c κs = let s = begun c in
     (omega (arith, p .1 .0, of-room (a .schema .now) (a .words .now) (s .pre .0 .0) (a .x) (s .pre .0 .1) (p .0) (p .1 .1) (of c (p .0) (p .1))), s .pre .0 .1 .narrow)
 
 bucket-requires : tie.Need-bucket-requires
-bucket-requires c κs = let s = begun (c .before) in (s .pre .0 .1 .narrow, s .pre .1 .0 .some)
+bucket-requires c κs = let s = begun (c .before) in (s .pre .0 .1 .narrow, s .pre .1 .0 .some, s .pre .0 .1 .few)
 
 mul-spot : tie.Need-mul-spot
 mul-spot c = omega (arith, head-room c)
