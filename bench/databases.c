@@ -1,6 +1,7 @@
 // Evaluation and testing of databases. bench/databases builds and runs it:
 //   databases            beside SQLite: the same rows, the same question, in memory, loading included, at 10 thousand, 100 thousand and 1 million rows a table
 //   databases joins      of that, the tests of join dependencies alone
+//   databases shapes     tests of join dependencies whose sets are chains, cycles, or held in an order that leads through products
 //   databases growth     how times grow with the rows and the answers, from 15,625 to 4 million
 //   databases repeats    repeated rows, and rows of tables that the query does not name
 // A time is the processor's, in milliseconds, for a whole call, with the working memory mapped in it and given back: the best of 5 calls, or of 3 on more than
@@ -391,6 +392,48 @@ static void compare_join_tests(uint32_t n) {
     }
 }
 
+// n rows of six columns in random order: each column but the first is half the one before it. With `broken`, two more at the end that yield a row which is not
+// there wherever a and c, or the values before and after them, stand in different sets.
+static void halves(uint32_t n, int width, int broken) {
+    word_count = 0;
+    uint32_t *p = shuffled(n);
+    for (uint32_t i = 0; i < n; i++) {
+        uint32_t values[6] = {p[i]};
+        for (int c = 1; c < 6; c++) values[c] = values[c - 1] / 2;
+        row(0, width, values);
+    }
+    free(p);
+    for (uint32_t k = 0; k < 2 && broken; k++) row(0, width, (uint32_t[]){n + k, n, n + k, n, n + k, n});
+}
+
+// The join dependency of some sets alone, on rows that obey it and on rows that do not.
+static void join_shape(const char *name, int width, size_t count, const uint8_t *sets) {
+    for (int broken = 0; broken < 2; broken++) {
+        printf("| %s, %s |", name, broken ? "broken at the end" : "obeyed");
+        for (uint32_t n = 16000; n <= 1024000; n *= 8) {
+            int obeys;
+            open_record((uint8_t[]){(uint8_t)width}, 1);
+            add_join(0, count, sets);
+            halves(n, width, broken);
+            double took = engine_test(1, &obeys);
+            if (obeys == broken) fail("the test of a shape");
+            printf(" %.1f |", took);
+            fflush(stdout);
+        }
+        printf("\n");
+    }
+}
+
+// Sets in orders of which some go through products unless they are arranged.
+static void join_shapes(void) {
+    printf("| Sets | 16000 | 128000 | 1024000 |\n|---|---|---|---|\n");
+    join_shape("(ab)(bc)(cd)", 4, 3, (uint8_t[]){3, 6, 12});
+    join_shape("(ab)(cd)(bc)", 4, 3, (uint8_t[]){3, 12, 6});
+    join_shape("(cd)(ab)(bc)", 4, 3, (uint8_t[]){12, 3, 6});
+    join_shape("(ab)(cd)(ef)(bcde)", 6, 4, (uint8_t[]){3, 12, 48, 30});
+    join_shape("(ab)(bc)(ca)", 3, 3, (uint8_t[]){3, 6, 5});
+}
+
 static void beside_sqlite(int joins_only) {
     printf("| Case | rows a table | answers | engine | SQLite | SQLite, keys declared | times faster |\n|---|---|---|---|---|---|---|\n");
     for (uint32_t n = 10000; n <= 1000000; n *= 10) {
@@ -596,11 +639,13 @@ int main(int arguments, char **argument) {
     const char *what = arguments > 1 ? argument[1] : "";
     if (!*what || !strcmp(what, "joins"))
         beside_sqlite(*what != 0);
+    else if (!strcmp(what, "shapes"))
+        join_shapes();
     else if (!strcmp(what, "growth"))
         growth();
     else if (!strcmp(what, "repeats"))
         repeats();
     else
-        fail("the argument is joins, growth, repeats, or none");
+        fail("the argument is joins, shapes, growth, repeats, or none");
     return 0;
 }

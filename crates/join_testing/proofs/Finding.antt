@@ -1,32 +1,30 @@
 -- From the search to the definition: the first choice for a join dependency, and the first join dependency with one. Assumes nothing.
 use mathlib.Core.Path.{_≡_, refl, sym, _∙_, ap, subst}
-use mathlib.Core.Bool.{Bool, true, false}
+use mathlib.Core.Bool.{true, false}
 use mathlib.Core.List.{List, [], _∷_, List·Memᴰ·not-nil}
 use mathlib.Core.Option.{Option, none, some, orElse, Option·map}
-use Prim.Native.Nat.{ℕ, zero, suc, _+_, _≤_, _<_}
+use Prim.Native.Nat.{ℕ, zero, suc, _+_, _≤_}
 use native.Mathlib.Numerals.{add-one}
 use native.Mathlib.Omega.{arith}
-use lib.ListN.{length, getD}
-use lib.Dec.{lit<}
+use lib.ListN.{getD}
 use Rattle.theory.specs.Query.{_∈_}
 use Rattle.theory.specs.Database.{Database, JoinDependency}
 use Rattle.theory.specs.Chase.{firstFound}
-use Rattle.query.specs.View.{columnsFrom, columnsOf, joinOf}
+use Rattle.query.specs.View.{joinOf}
 use Rattle.query.specs.declared.JoinDependency as stored
 use Rattle.query.proofs.Stored.{no-columns}
 use Rattle.words.specs.Testing.{numberedFrom}
 use Rattle.words.specs.Words.{databaseOf}
 use Rattle.words.proofs.Spelling.{rows-spelled}
-use Rattle.words.specs.declared.Violation.{Violation}
 use Rattle.words.specs.declared.Violation.the-variants as violation
-use Rattle.join_testing.specs.declared.Index.{Index}
+use Rattle.join_lookup.specs.declared.Index.{Index}
 use Rattle.join_testing.specs.declared.Found.{Found}
-use Rattle.join_testing.specs.declared.Choice.{Choice}
-use Rattle.join_testing.specs.declared.Choice.the-variants as choice
+use Rattle.join_testing.specs.declared.ChosenRows.the-variants as chosen-rows
 use Rattle.join_testing.specs.Unmet.{firstChoice, firstUnmetFrom, unmetOf}
-use Rattle.join_testing.specs.Meaning.{GoWith, BreaksJoin, FirstChoice}
-use Rattle.join_testing.specs.internal.Starts.{startOf, rowCount}
-use Rattle.join_testing.specs.internal.Search.{filledTo, Searchable, Indexed, BreaksFrom, FirstFrom, Searched, choiceOf}
+use Rattle.join_testing.specs.Meaning.{BreaksJoin}
+use Rattle.join_lookup.specs.internal.Starts.{rowCount}
+use Rattle.join_tables.specs.internal.Indexed.{filledTo, Searchable, Indexed}
+use Rattle.join_testing.specs.internal.Search.{BreaksFrom, FirstFrom, Searched, rowsChosen}
 use Rattle.join_testing.proofs.Choosing.{Inside, goes-inside, first-found, unbroken-none}
 
 module _ {schema words : List ℕ} {j : stored.JoinDependency} {x : Index} {heads nodes : List ℕ} (g : Searchable schema words j)
@@ -74,11 +72,11 @@ module _ {schema words : List ℕ} {j : stored.JoinDependency} {x : Index} {head
 -- ---- join dependencies in held order
 
 pub unmet-found : (schema : List ℕ) (D : Database) (j : JoinDependency) (js : List JoinDependency) (k a b c d : ℕ)
-    → choice.At a b c d ≡ choiceOf (firstChoice schema j D) → unmetOf (firstUnmetFrom k schema (j ∷ js) D) ≡ violation.Joined k a b c d
+    → chosen-rows.At a b c d ≡ rowsChosen (firstChoice schema j D) → unmetOf (firstUnmetFrom k schema (j ∷ js) D) ≡ violation.Joined k a b c d
 unfolding firstUnmetFrom firstFound numberedFrom orElse
 unmet-found schema D j js k a b c d h = go (firstChoice schema j D) h
   where
-    go : (o : Option (List ℕ)) → choice.At a b c d ≡ choiceOf o
+    go : (o : Option (List ℕ)) → chosen-rows.At a b c d ≡ rowsChosen o
         → unmetOf (orElse (Option·map (λ x. ((k, j), x)) o) (firstUnmetFrom (suc k) schema js D)) ≡ violation.Joined k a b c d
     go none e = absurd (let z : _≡_ {A = ℕ} 0 1 = cc in omega arith)
     go (some ps) e =
@@ -89,11 +87,11 @@ unmet-found schema D j js k a b c d h = go (firstChoice schema j D) h
         λ i. violation.Joined k (p i) (q i) (r i) (s i)
 
 pub unmet-later : (schema : List ℕ) (D : Database) (j : JoinDependency) (js : List JoinDependency) (k : ℕ)
-    → choice.Absent ≡ choiceOf (firstChoice schema j D) → firstUnmetFrom k schema (j ∷ js) D ≡ firstUnmetFrom (k + 1) schema js D
+    → chosen-rows.Absent ≡ rowsChosen (firstChoice schema j D) → firstUnmetFrom k schema (j ∷ js) D ≡ firstUnmetFrom (k + 1) schema js D
 unfolding firstUnmetFrom firstFound numberedFrom orElse
 unmet-later schema D j js k h = go (firstChoice schema j D) h ∙ ap (λ (m : ℕ). firstUnmetFrom m schema js D) (sym (add-one k))
   where
-    go : (o : Option (List ℕ)) → choice.Absent ≡ choiceOf o
+    go : (o : Option (List ℕ)) → chosen-rows.Absent ≡ rowsChosen o
         → orElse (Option·map (λ x. ((k, j), x)) o) (firstUnmetFrom (suc k) schema js D) ≡ firstUnmetFrom (suc k) schema js D
     go none e = refl
     go (some x) e = absurd (let z : _≡_ {A = ℕ} 0 1 = cc in omega arith)

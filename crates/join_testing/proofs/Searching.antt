@@ -1,34 +1,36 @@
 -- The search for a choice of rows, set by set. 1. The sets and their columns. 2. After the last set. 3. A row more for the next set. 4. The rows that are
 -- passed. Assumes nothing.
-use mathlib.Core.Path.{_≡_, refl, sym, _∙_, ap, ap₂, subst}
-use mathlib.Core.Logic.{_⊎_, inl, inr, ⊎-elim}
-use mathlib.Core.Bool.{Bool, true, false, true≢false}
-use mathlib.Core.List.{List, [], _∷_, map, Memᴰ·cast, Memᴰ·of-map}
-use Prim.Native.Nat.{ℕ, zero, suc, _+_, _*_, _/_, _%_, _^_, _≤_, _<_}
+use mathlib.Core.Path.{_≡_, refl, sym, _∙_, ap, subst}
+use mathlib.Core.Logic.{inl, inr, ⊎-elim}
+use mathlib.Core.Bool.{true, false, true≢false}
+use mathlib.Core.List.{List, [], _∷_, Memᴰ·cast}
+use Prim.Native.Nat.{ℕ, zero, suc, _+_, _≤_, _<_}
 use native.Mathlib.Numerals.{add-one}
 use native.Mathlib.Omega.{arith}
-use lib.Bits.{bitAnd, bitOr, or-lt, and-le-l}
+use lib.Bits.{bitOr, or-lt, and-le-l}
 use lib.Dec.{eqb, lit<}
 use borrow.Author.Tests.{eqb-true, eqb-false}
-use lib.ListN.{length, take, drop, getD, set, replicate, length-set, length-map, List·getD-map, length-take, drop-of-length-le}
-use lib.Seq.{ext-getD, length-take-le, drop-cons, getD-take, getD-set-same, getD-set-other}
+use lib.ListN.{length, getD, set, replicate, length-set}
+use lib.Seq.{ext-getD, length-take-le, getD-set-same, getD-set-other}
 use Rattle.lists.proofs.Positions.{getD-in, in-getD}
 use Rattle.lists.proofs.Tests.{below-or-past}
 use Rattle.theory.specs.Query.{Row, column, FitsSchema, _∈_}
 use Rattle.theory.specs.Database.{Database, Agree}
 use Rattle.theory.proofs.Lists.{mem-dec}
-use Rattle.query.specs.View.{columnsOf, joinOf}
+use Rattle.query.specs.View.{columnsOf}
 use Rattle.query.specs.declared.JoinDependency.{JoinDependency}
 use Rattle.words.specs.Words.{databaseOf}
-use Rattle.join_testing.specs.declared.Index.{Index}
+use Rattle.join_lookup.specs.declared.Index.{Index}
 use Rattle.join_testing.specs.declared.Found.{Found}
 use Rattle.join_testing.specs.Meaning.{GoWith, Earlier}
-use Rattle.join_testing.specs.internal.Starts.{startOf, rowCount, BeginsAt, rowOf, rowWith, Of, Has, Known}
-use Rattle.join_testing.specs.internal.Tables.{LeftOut, Reaches, FirstWith}
-use Rattle.join_testing.specs.internal.Search.{filledTo, sharedAt, setsFrom, Searchable, Indexed, BreaksFrom, FirstFrom, Searched}
-use Rattle.join_testing.proofs.Bits.{BitOf, column-bit, bit-column, or-bit, bit-or, and-bit, bit-and}
-use Rattle.join_testing.proofs.Starting.{inside-start, outside-start, start-end, start-relation, row-fits, with-past}
-use Rattle.join_testing.proofs.Having.{with-column, begins-column}
+use Rattle.join_lookup.specs.internal.Starts.{startOf, rowCount, BeginsAt, rowOf, rowWith, Of, Has}
+use Rattle.join_lookup.specs.internal.Tables.{Reaches, FirstWith}
+use Rattle.join_tables.specs.internal.Indexed.{filledTo, sharedAt, Searchable, Indexed}
+use Rattle.join_testing.specs.internal.Search.{setsFrom, BreaksFrom, FirstFrom, Searched}
+use Rattle.join_lookup.proofs.Bits.{BitOf, column-bit, bit-column, or-bit, bit-or, and-bit, bit-and}
+use Rattle.join_lookup.proofs.Starting.{inside-start, outside-start, start-end, start-relation, row-fits, with-past}
+use Rattle.join_lookup.proofs.Having.{with-column, begins-column}
+use Rattle.join_testing.proofs.Sets as sets
 
 -- ---- 1. the sets
 
@@ -68,24 +70,11 @@ module _ {schema words : List ℕ} {j : JoinDependency} {x : Index} {heads nodes
   abbrev setAt : ℕ → ℕ
   setAt k = getD (j .sets) k 0
 
-  sets-size : length (joinOf j .sets) ≡ j .count
-  sets-size = length-map (take (j .count) (j .sets)) columnsOf ∙ length-take-le (j .count) (j .sets) (omega (arith, g .shaped, g .few))
-
-  set-is : (k : ℕ) → k < j .count → getD (joinOf j .sets) k [] ≡ columnsOf (setAt k)
-  set-is k h =
-      sym (getD-any-default (joinOf j .sets) k (columnsOf 0) (omega (arith, sets-size)))
-      ∙ List·getD-map columnsOf (take (j .count) (j .sets)) k 0 ∙ ap columnsOf (getD-take (j .count) (j .sets) k 0 h)
-    where
-      getD-any-default : (l : List (List ℕ)) (n : ℕ) (z : List ℕ) → n < length l → getD l n z ≡ getD l n []
-      getD-any-default [] n z low = absurd (omega arith)
-      getD-any-default (y ∷ l) zero z low = refl
-      getD-any-default (y ∷ l) (suc n) z low = getD-any-default l n z (omega arith)
-
   sets-cons : (k : ℕ) → k < j .count → setsFrom j k ≡ columnsOf (setAt k) ∷ setsFrom j (suc k)
-  sets-cons k h = drop-cons (joinOf j .sets) k [] (omega (arith, sets-size)) ∙ ap (λ (s : List ℕ). s ∷ setsFrom j (suc k)) (set-is k h)
+  sets-cons = sets.sets-cons j (g .shaped) (g .few)
 
   sets-end : setsFrom j (j .count) ≡ []
-  sets-end = drop-of-length-le (joinOf j .sets) {i = j .count} (omega (arith, sets-size))
+  sets-end = sets.sets-end j (g .shaped) (g .few)
 
   x-width : x .width ≡ getD schema (j .relation) 0
   x-width = i .known .width ∙ ap (λ (r : ℕ). getD schema r 0) (i .relation)
@@ -94,11 +83,10 @@ module _ {schema words : List ℕ} {j : JoinDependency} {x : Index} {heads nodes
   all-filled : (c : ℕ) → c < x .width → c ∈ columnsOf (filledTo (j .sets) (j .count))
   all-filled c h =
       let s = g .fits .covers c (omega (arith, x-width)) in
-      let place = in-getD (joinOf j .sets) [] (s .1) in
-      let low : place .0 < j .count = omega (arith, place .1, sets-size) in
-      let there : c ∈ columnsOf (setAt (place .0)) = subst (λ (l : List ℕ). c ∈ l) (sym (place .2) ∙ set-is (place .0) low) (s .2) in
+      let place = sets.in-sets j (g .shaped) (g .few) 0 (s .0) (s .1) in
+      let there : c ∈ columnsOf (setAt (place .0)) = subst (λ (l : List ℕ). c ∈ l) (sym (place .3)) (s .2) in
       bit-column (filledTo (j .sets) (j .count)) c (filled-small (j .sets) (g .small) (j .count))
-      (filled-has (j .sets) (j .count) (place .0) c low (column-bit (setAt (place .0)) c (g .small (place .0)) there))
+      (filled-has (j .sets) (j .count) (place .0) c (place .2) (column-bit (setAt (place .0)) c (g .small (place .0)) there))
 
   -- ---- 2. after the last set
 
@@ -193,11 +181,11 @@ module _ {schema words : List ℕ} {j : JoinDependency} {x : Index} {heads nodes
         × GoWith (setsFrom j (suc k)) D (b .row) qs
     breaks-chosen q qs b = subst (λ (l : List (List ℕ)). GoWith l D (b .row) (q ∷ qs)) (sets-cons k more) (b .chosen)
 
-    breaks-some : BreaksFrom schema words j x k values [] → ⊥
+    pub breaks-some : BreaksFrom schema words j x k values [] → ⊥
     breaks-some b = subst (λ (l : List (List ℕ)). GoWith l D (b .row) []) (sets-cons k more) (b .chosen)
 
     -- Its row has the values that are known already
-    breaks-has : (q : ℕ) (qs : List ℕ) → BreaksFrom schema words j x k values (q ∷ qs) → Has schema words x shared values q
+    pub breaks-has : (q : ℕ) (qs : List ℕ) → BreaksFrom schema words j x k values (q ∷ qs) → Has schema words x shared values q
     breaks-has q qs b =
         let s = breaks-chosen q qs b in (
           s .1 ∙ b .relation,

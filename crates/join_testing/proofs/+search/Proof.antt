@@ -9,11 +9,11 @@ use native.Mathlib.Omega.{arith}
 use lib.Bits.{bitAnd, bitOr}
 use lib.ListN.{length, getD}
 use borrow.Author.Needs.{needs}
-use Rattle.join_testing.specs.internal.Starts.{BeginsAt, Has}
-use Rattle.join_testing.specs.internal.Tables.{Tabled, Reaches, FirstWith}
-use Rattle.join_testing.specs.internal.Search.{filledTo, sharedAt, Searchable, Indexed}
-use Rattle.join_testing.proofs.Having.{begins-room}
-use Rattle.join_testing.proofs.Reaching.{reach-less}
+use Rattle.join_lookup.specs.internal.Starts.{BeginsAt, Has}
+use Rattle.join_lookup.specs.internal.Tables.{Tabled, Reaches, FirstWith}
+use Rattle.join_tables.specs.internal.Indexed.{filledTo, sharedAt, Searchable, Indexed}
+use Rattle.join_lookup.proofs.Having.{begins-room}
+use Rattle.join_lookup.proofs.Reaching.{reach-less}
 use Rattle.join_testing.proofs.Searching.{Joins, NoneBelow, Going, filled-next, shared-256, going-begins, going-other, going-nothing, going-some, going-over}
 use Rattle.join_testing.proofs.Searching.{going-next, last-set, made-joins, has-word}
 use borrow.Fn.Kinds.{In}
@@ -21,11 +21,11 @@ use borrow.Fn.PlainCycle.{Measures, is, falls, and}
 use Rattle.join_testing.proofs.search.Reads as search′
 use Rattle.join_testing.proofs.search.Kinds as search-kinds
 use Rattle.join_testing.proofs.+search.Lts-search as search-lts
-use Rattle.join_testing.proofs.find.Reads as find-reads
-use Rattle.join_testing.proofs.following.Reads as following-reads
-use Rattle.join_testing.proofs.has.Reads as has-reads
-use Rattle.join_testing.proofs.start.Reads as start-reads
-use Rattle.join_testing.proofs.with_row.Reads as with-row-reads
+use Rattle.join_lookup.proofs.find.Reads as find-reads
+use Rattle.join_lookup.proofs.following.Reads as following-reads
+use Rattle.join_lookup.proofs.has.Reads as has-reads
+use Rattle.join_lookup.proofs.start.Reads as start-reads
+use Rattle.join_lookup.proofs.with_row.Reads as with-row-reads
 use Rattle.join_testing.proofs.+search.{statement}
 use Rattle.join_testing.proofs.+search.Tie.{close}
 

@@ -13,7 +13,7 @@ use Rattle.words.specs.Words.{databaseOf}
 use Rattle.lists.proofs.Positions.{left-cons, left-none}
 use Rattle.lists.proofs.Loops.{getD-any}
 use Rattle.join_testing.specs.Unmet.{firstUnmetFrom, unmetOf}
-use Rattle.join_testing.specs.internal.Search.{Searchable}
+use Rattle.join_tables.specs.internal.Indexed.{Searchable}
 use Rattle.join_testing.proofs.Finding.{unmet-found, unmet-later, unmet-end}
 use borrow.Author.Needs.{needs}
 use Rattle.join_testing.proofs.first_unmet.Statement.{statement}

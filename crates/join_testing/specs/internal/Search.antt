@@ -3,53 +3,24 @@ use mathlib.Core.Path.{_≡_}
 use mathlib.Core.Bool.{true, false}
 use mathlib.Core.List.{List}
 use mathlib.Core.Option.{Option, none, some}
-use Prim.Native.Nat.{ℕ, zero, suc, _+_, _≤_, _<_}
-use lib.Bits.{bitAnd, bitOr}
-use lib.ListN.{length, take, drop, getD}
+use Prim.Native.Nat.{ℕ, _+_, _≤_, _<_}
+use lib.ListN.{length, drop, getD}
 use Rattle.theory.specs.Query.{Row, FitsSchema, _∈_}
 use Rattle.theory.specs.Database.{Agree}
 use Rattle.query.specs.View.{columnsOf, joinOf}
 use Rattle.query.specs.declared.JoinDependency.{JoinDependency}
-use Rattle.words.specs.Words.{spellsRows, databaseOf}
-use Rattle.joins.specs.Join.{JoinFits}
+use Rattle.words.specs.Words.{databaseOf}
 use Rattle.join_testing.specs.Meaning.{GoWith, Earlier}
-use Rattle.join_testing.specs.declared.Index.{Index}
+use Rattle.join_lookup.specs.declared.Index.{Index}
 use Rattle.join_testing.specs.declared.Found.{Found}
-use Rattle.join_testing.specs.declared.Choice.{Choice}
-use Rattle.join_testing.specs.declared.Choice.the-variants as choice
-use Rattle.join_testing.specs.internal.Starts.{startOf, rowWith, Known}
-use Rattle.join_testing.specs.internal.Tables.{Room, Tabled}
-
--- The columns of the first k sets
-unfoldable pub filledTo : List ℕ → ℕ → ℕ
-filledTo sets zero = 0
-filledTo sets (suc k) = bitOr (filledTo sets k) (getD sets k 0)
-
--- The columns of set k that sets before it have
-abbrev pub sharedAt : List ℕ → ℕ → ℕ
-sharedAt sets k = bitAnd (getD sets k 0) (filledTo sets k)
+use Rattle.join_testing.specs.declared.ChosenRows.{ChosenRows}
+use Rattle.join_testing.specs.declared.ChosenRows.the-variants as chosen-rows
+use Rattle.join_lookup.specs.internal.Starts.{startOf, rowWith}
+use Rattle.join_tables.specs.internal.Indexed.{filledTo}
 
 -- The sets from k on
 abbrev pub setsFrom : JoinDependency → ℕ → List (List ℕ)
 setsFrom j k = drop k (joinOf j .sets)
-
--- A join dependency whose choices can be searched
-pub record Searchable (schema words : List ℕ) (j : JoinDependency) : Type 0 where
-  pub spelled : spellsRows schema words ≡ true
-  pub fits : JoinFits schema (joinOf j)
-  pub shaped : length (j .sets) ≡ 4
-  pub few : j .count ≤ 4
-  pub small : (k : ℕ) → getD (j .sets) k 0 < 256
-  pub narrow : getD schema (j .relation) 0 ≤ 8
-  pub within : (k : ℕ) → k < j .count → (c : ℕ) → c ∈ columnsOf (getD (j .sets) k 0) → c < getD schema (j .relation) 0
-
--- The tables of a join dependency: one for each set, by the columns that it shares with those before, and one of all rows
-pub record Indexed (schema words : List ℕ) (j : JoinDependency) (x : Index) (heads nodes : List ℕ) : Type 0 where
-  pub known : Known schema x
-  pub relation : x .relation ≡ j .relation
-  pub room : Room words x heads nodes
-  pub levels : (k : ℕ) → k < j .count → Tabled schema words x (k + 1) (sharedAt (j .sets) k) (getD (j .sets) k 0) heads nodes
-  pub whole : Tabled schema words x 0 (filledTo (j .sets) (j .count)) 0 heads nodes
 
 -- The rows at some positions, one for each of the sets from k on, go with a row that has the known values and is not there
 pub record BreaksFrom (schema words : List ℕ) (j : JoinDependency) (x : Index) (k : ℕ) (values : List ℕ) (ps : List ℕ) : Type 0 where
@@ -73,7 +44,21 @@ pub record Searched (schema words : List ℕ) (j : JoinDependency) (x : Index) (
   pub some : found .some ≡ true → FirstFrom schema words j x k values (found .at)
   pub none : found .some ≡ false → (ps : List ℕ) → BreaksFrom schema words j x k values ps → ⊥
 
--- The positions of a choice of rows that is found
-abbrev pub choiceOf : Option (List ℕ) → Choice
-choiceOf none = choice.Absent
-choiceOf (some ps) = choice.At (getD ps 0 0) (getD ps 1 0) (getD ps 2 0) (getD ps 3 0)
+-- The relation that is tested, without tables
+abbrev pub plainly : List ℕ → JoinDependency → Index
+plainly schema j = record { relation = j .relation; width = getD schema (j .relation) 0; buckets = 0 }
+
+-- A join dependency with its sets in another order: the first stay where they are, and the others are the same
+pub record Arranged (j r : JoinDependency) (first : ℕ) : Type 0 where
+  pub relation : r .relation ≡ j .relation
+  pub count : r .count ≡ j .count
+  pub shaped : length (r .sets) ≡ 4
+  pub stay : (k : ℕ) → k < first → getD (r .sets) k 0 ≡ getD (j .sets) k 0
+  pub from : (k : ℕ) → first ≤ k → k < j .count → (l : ℕ) × (first ≤ l) × (l < j .count) × (getD (r .sets) k 0 ≡ getD (j .sets) l 0)
+  pub back : (k : ℕ) → first ≤ k → k < j .count → (l : ℕ) × (first ≤ l) × (l < j .count) × (getD (j .sets) k 0 ≡ getD (r .sets) l 0)
+  pub past : (k : ℕ) → j .count ≤ k → getD (r .sets) k 0 ≡ getD (j .sets) k 0
+
+-- The positions of the rows of a choice that is found
+abbrev pub rowsChosen : Option (List ℕ) → ChosenRows
+rowsChosen none = chosen-rows.Absent
+rowsChosen (some ps) = chosen-rows.At (getD ps 0 0) (getD ps 1 0) (getD ps 2 0) (getD ps 3 0)
