@@ -5,22 +5,11 @@ use Prim.Native.Nat.{ℕ, suc, _+_, _-_, _*_, _/_, _%_, _^_, _<_, _≤_, min, ma
 use native.Mathlib.Nat.{div-eq-of-lt, div-self, mul-div-cancel-left, zero-div, pow-suc, mul-mod-left, one-mul, mod-eq-of-lt}
 use native.Mathlib.Omega.{arith}
 use native.Mathlib.Decide.{decLt}
-use lib.Bits.{bitAnd, bitOr, and-step, or-step, and-shr, or-shr}
+use lib.Bits.{bitAnd, bitOr}
 use lib.Pow.{pow-pos, pow-lt, pow-add, shr-shr}
+use Rattle.lists.proofs.Bits.{and-digit, or-digit}
 use Rattle.consistency.specs.internal.Solution.{Bit}
 use Rattle.consistency.specs.internal.Consistent.{NoBit}
-
-and-low : (x y : ℕ) → bitAnd x y % 2 ≡ min (x % 2) (y % 2)
-and-low x y = ap (λ (n : ℕ). n % 2) (and-step x y) ∙ (omega arith)
-
-or-low : (x y : ℕ) → bitOr x y % 2 ≡ max (x % 2) (y % 2)
-or-low x y = ap (λ (n : ℕ). n % 2) (or-step x y) ∙ (omega arith)
-
-and-digit : (a b i : ℕ) → bitAnd a b / 2 ^ i % 2 ≡ min (a / 2 ^ i % 2) (b / 2 ^ i % 2)
-and-digit a b i = ap (λ (n : ℕ). n % 2) (and-shr a b i) ∙ and-low (a / 2 ^ i) (b / 2 ^ i)
-
-pub or-digit : (a b i : ℕ) → bitOr a b / 2 ^ i % 2 ≡ max (a / 2 ^ i % 2) (b / 2 ^ i % 2)
-or-digit a b i = ap (λ (n : ℕ). n % 2) (or-shr a b i) ∙ or-low (a / 2 ^ i) (b / 2 ^ i)
 
 pub bit-and : (a b i : ℕ) → Bit a i → Bit b i → Bit (bitAnd a b) i
 bit-and a b i p q = omega (arith, and-digit a b i)

@@ -2,12 +2,13 @@
 use mathlib.Core.Path.{_≡_, refl, sym, _∙_, ap}
 use mathlib.Core.Logic.{_⊎_, inl, inr, ⊎-elim}
 use mathlib.Core.Bool.{true}
-use Prim.Native.Nat.{ℕ, zero, suc, _+_, _*_, _/_, _%_, _^_, _<_, _≤_, min, max}
+use Prim.Native.Nat.{ℕ, zero, suc, _/_, _%_, _^_, _<_, min, max}
 use native.Mathlib.Nat.{mod-lt}
 use native.Mathlib.Omega.{arith}
-use lib.Bits.{bitAnd, bitOr, and-step, or-step, and-shr, or-shr}
+use lib.Bits.{bitAnd, bitOr}
 use lib.Dec.{eqb, lit<}
 use borrow.Author.Tests.{eqb-true, eq-eqb}
+use Rattle.lists.proofs.Bits.{and-digit, or-digit}
 use Rattle.theory.specs.Query.{_∈_}
 use Rattle.theory.proofs.Lists.{member-mem, mem-member}
 use Rattle.query.specs.View.{columnsOf}
@@ -23,31 +24,7 @@ column-bit mask c h at = eqb-true (mask / 2 ^ c % 2) 1 (sym (bit-shift mask c) �
 pub bit-column : (mask c : ℕ) → mask < 256 → BitOf mask c → c ∈ columnsOf mask
 bit-column mask c h is = member-mem c (columnsOf mask) (same-columns mask h .at c ∙ bit-shift mask c ∙ eq-eqb (mask / 2 ^ c % 2) 1 is)
 
--- The last digit of a union and of an intersection
-or-digit : (a b : ℕ) → bitOr a b % 2 ≡ max (a % 2) (b % 2)
-or-digit a b = go (a % 2) (b % 2) (mod-lt a (lit< tt)) (mod-lt b (lit< tt)) (or-step a b)
-  where
-    go : (x y : ℕ) → x < 2 → y < 2 → bitOr a b ≡ bitOr (a / 2) (b / 2) * 2 + max x y → bitOr a b % 2 ≡ max x y
-    go zero zero h g e = omega arith
-    go zero (suc zero) h g e = omega arith
-    go zero (suc (suc y)) h g e = absurd (omega arith)
-    go (suc zero) zero h g e = omega arith
-    go (suc zero) (suc zero) h g e = omega arith
-    go (suc zero) (suc (suc y)) h g e = absurd (omega arith)
-    go (suc (suc x)) y h g e = absurd (omega arith)
-
-and-digit : (a b : ℕ) → bitAnd a b % 2 ≡ min (a % 2) (b % 2)
-and-digit a b = go (a % 2) (b % 2) (mod-lt a (lit< tt)) (mod-lt b (lit< tt)) (and-step a b)
-  where
-    go : (x y : ℕ) → x < 2 → y < 2 → bitAnd a b ≡ bitAnd (a / 2) (b / 2) * 2 + min x y → bitAnd a b % 2 ≡ min x y
-    go zero zero h g e = omega arith
-    go zero (suc zero) h g e = omega arith
-    go zero (suc (suc y)) h g e = absurd (omega arith)
-    go (suc zero) zero h g e = omega arith
-    go (suc zero) (suc zero) h g e = omega arith
-    go (suc zero) (suc (suc y)) h g e = absurd (omega arith)
-    go (suc (suc x)) y h g e = absurd (omega arith)
-
+-- A digit of a union and of an intersection
 max-of : (x y : ℕ) → x < 2 → y < 2 → max x y ≡ 1 → (x ≡ 1) ⊎ (y ≡ 1)
 max-of zero zero h g e = absurd (omega arith)
 max-of zero (suc zero) h g e = inr refl
@@ -77,20 +54,14 @@ module _ (a b c : ℕ) where
   digit : (n : ℕ) → n % 2 < 2
   digit n = mod-lt n (lit< tt)
 
-  or-at : bitOr a b / 2 ^ c % 2 ≡ max (a / 2 ^ c % 2) (b / 2 ^ c % 2)
-  or-at = ap (λ (n : ℕ). n % 2) (or-shr a b c) ∙ or-digit (a / 2 ^ c) (b / 2 ^ c)
-
-  and-at : bitAnd a b / 2 ^ c % 2 ≡ min (a / 2 ^ c % 2) (b / 2 ^ c % 2)
-  and-at = ap (λ (n : ℕ). n % 2) (and-shr a b c) ∙ and-digit (a / 2 ^ c) (b / 2 ^ c)
-
   pub or-bit : BitOf (bitOr a b) c → BitOf a c ⊎ BitOf b c
-  or-bit is = max-of (a / 2 ^ c % 2) (b / 2 ^ c % 2) (digit (a / 2 ^ c)) (digit (b / 2 ^ c)) (sym or-at ∙ is)
+  or-bit is = max-of (a / 2 ^ c % 2) (b / 2 ^ c % 2) (digit (a / 2 ^ c)) (digit (b / 2 ^ c)) (sym (or-digit a b c) ∙ is)
 
   pub bit-or : BitOf a c ⊎ BitOf b c → BitOf (bitOr a b) c
-  bit-or w = or-at ∙ of-max (a / 2 ^ c % 2) (b / 2 ^ c % 2) (digit (a / 2 ^ c)) (digit (b / 2 ^ c)) w
+  bit-or w = or-digit a b c ∙ of-max (a / 2 ^ c % 2) (b / 2 ^ c % 2) (digit (a / 2 ^ c)) (digit (b / 2 ^ c)) w
 
   pub and-bit : BitOf (bitAnd a b) c → BitOf a c × BitOf b c
-  and-bit is = min-of (a / 2 ^ c % 2) (b / 2 ^ c % 2) (digit (a / 2 ^ c)) (digit (b / 2 ^ c)) (sym and-at ∙ is)
+  and-bit is = min-of (a / 2 ^ c % 2) (b / 2 ^ c % 2) (digit (a / 2 ^ c)) (digit (b / 2 ^ c)) (sym (and-digit a b c) ∙ is)
 
   pub bit-and : BitOf a c → BitOf b c → BitOf (bitAnd a b) c
-  bit-and p q = and-at ∙ ap (λ (n : ℕ). min n (b / 2 ^ c % 2)) p ∙ ap (λ (n : ℕ). min 1 n) q
+  bit-and p q = and-digit a b c ∙ ap (λ (n : ℕ). min n (b / 2 ^ c % 2)) p ∙ ap (λ (n : ℕ). min 1 n) q

@@ -9,10 +9,10 @@ use native.Mathlib.Nat.{one-mul, mod-eq-of-lt, le-of-suc-le-suc, not-suc-le-zero
 use native.Mathlib.Numerals.{add-one}
 use native.Mathlib.Omega.{arith}
 use lib.Pow.{pow-lt}
-use lib.Dec.{ltb, leb}
+use lib.Dec.{eqb, ltb, leb}
 use lib.ListN.{length, take, drop, getD, set, replicate, length-drop, take-append-drop}
 use lib.Seq.{take-suc-set, drop-set-lt, drop-drop}
-use borrow.Author.Tests.{leb-true, ltb-true, ltb-false}
+use borrow.Author.Tests.{eqb-true, eqb-false, leb-true, ltb-true, ltb-false}
 use Rattle.lists.specs.Tests.{every, inUse, between, sameLists}
 
 -- ---- conjunctions
@@ -203,3 +203,13 @@ pub sameLists-self : {A : Type 0} (same : A → A → Bool) → ((x : A) → sam
 unfolding sameLists
 sameLists-self same self [] = refl
 sameLists-self same self (x ∷ xs) = and-both (same x x) (sameLists same xs xs) (self x) (sameLists-self same self xs)
+
+-- ---- numbers
+
+-- Two numbers are the same or not
+pub sameOrOther : (a b : ℕ) → (a ≡ b) ⊎ (a ≡ b → ⊥)
+sameOrOther a b = go (eqb a b) refl
+  where
+    go : (c : Bool) → eqb a b ≡ c → (a ≡ b) ⊎ (a ≡ b → ⊥)
+    go true e = inl (eqb-true a b e)
+    go false e = inr (eqb-false a b e)

@@ -8,7 +8,8 @@ use native.Mathlib.Decide.{decLt}
 use lib.Bits.{bitOr}
 use Rattle.consistency.specs.internal.Solution.{Bit}
 use Rattle.consistency.specs.internal.Consistent.{NoBit}
-use Rattle.consistency.proofs.Masks.{or-digit, bit-or-right, bit-one}
+use Rattle.lists.proofs.Bits.{or-digit}
+use Rattle.consistency.proofs.Masks.{bit-or-right, bit-one}
 use Rattle.search.specs.internal.Invariant.{missing}
 
 pub missing-none : (n : ℕ) → missing 0 n ≡ n
