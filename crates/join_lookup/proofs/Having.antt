@@ -1,18 +1,17 @@
 -- Rows that have some values in the columns of a set. Assumes nothing.
-use mathlib.Core.Path.{_≡_, refl, sym, _∙_, ap, subst}
+use mathlib.Core.Path.{_≡_, sym, _∙_, ap}
 use mathlib.Core.Logic.{⊎-elim}
 use mathlib.Core.Bool.{true}
 use mathlib.Core.List.{List}
 use Prim.Native.Nat.{ℕ, _+_, _≤_, _<_}
 use native.Mathlib.Omega.{arith}
-use lib.ListN.{length, take, getD}
+use lib.ListN.{length, getD}
 use lib.Seq.{getD-take}
 use Rattle.lists.proofs.Tests.{below-or-past}
-use Rattle.theory.specs.Query.{column, _∈_}
-use Rattle.query.specs.View.{columnsOf}
+use Rattle.theory.specs.Query.{column}
 use Rattle.words.specs.Words.{spellsRows}
 use Rattle.join_lookup.specs.declared.Index.{Index}
-use Rattle.join_lookup.specs.internal.Starts.{startOf, rowCount, BeginsAt, rowOf, rowWith, Has, Known}
+use Rattle.join_lookup.specs.internal.Starts.{BeginsAt, rowOf, rowWith, Has, Known}
 use Rattle.join_lookup.proofs.Starting.{start-inside, start-relation, of-room, of-column, of-past, with-past}
 use Rattle.join_lookup.proofs.Bits.{BitOf, column-bit, bit-column}
 

@@ -2,7 +2,7 @@
 use mathlib.Core.Path.{_≡_, refl, sym, _∙_, ap, subst}
 use mathlib.Core.Bool.{Bool, true, false, cond}
 use mathlib.Core.List.{List, [], _∷_}
-use Prim.Native.Nat.{ℕ, zero, suc, _+_, _*_, _/_, _%_, _^_, _≤_, _<_}
+use Prim.Native.Nat.{ℕ, suc, _+_, _*_, _/_, _%_, _^_, _≤_, _<_}
 use mathlib.Core.Logic.{⊎-elim}
 use native.Mathlib.Nat.{div-one, div-div-eq-div-mul, pow-succ'}
 use native.Mathlib.Omega.{arith}
@@ -14,7 +14,7 @@ use Rattle.lists.proofs.Tests.{below-or-past}
 use Rattle.words.specs.Words.{spellsRows}
 use Rattle.tables.specs.internal.Table.{mixed}
 use Rattle.join_lookup.specs.declared.Index.{Index}
-use Rattle.join_lookup.specs.internal.Starts.{startOf, rowCount, BeginsAt, rowOf, rowWith, Of, Has, Known}
+use Rattle.join_lookup.specs.internal.Starts.{startOf, rowCount, BeginsAt, rowOf, Has, Known}
 use Rattle.join_lookup.specs.internal.Tables.{bucketOf, bucketAt, Leads, Table, Reaches, FirstWith}
 use Rattle.join_lookup.proofs.Starting.{start-less, start-one, start-inside, inside-start, of-length}
 use Rattle.join_lookup.proofs.Bits.{BitOf, bit-column}

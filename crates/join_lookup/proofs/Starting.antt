@@ -2,12 +2,11 @@
 use mathlib.Core.Path.{_≡_, refl, sym, _∙_, ap, subst}
 use mathlib.Core.Logic.{⊎-elim}
 use mathlib.Core.Bool.{true}
-use mathlib.Core.List.{List, [], _∷_}
-use Prim.Native.Nat.{ℕ, zero, suc, _+_, _-_, _≤_, _<_}
+use mathlib.Core.List.{List, []}
+use Prim.Native.Nat.{ℕ, zero, suc, _+_, _≤_, _<_}
 use native.Mathlib.Numerals.{add-one}
 use native.Mathlib.Omega.{arith}
 use lib.ListN.{length, take, drop, getD, length-drop, length-take, drop-of-length-le, List·getD-eq-default}
-use lib.Seq.{length-take-le}
 use Rattle.lists.proofs.Positions.{getD-in}
 use Rattle.lists.proofs.Tests.{below-or-past}
 use Rattle.theory.specs.Query.{Row, column, FitsSchema}
@@ -19,7 +18,7 @@ use Rattle.grouping.specs.internal.Walked.{RowBegins}
 use Rattle.grouping.proofs.Passing.{placed-start, placed-next, placed-row}
 use Rattle.grouping.proofs.Hashes.{span-value}
 use Rattle.join_lookup.specs.declared.Index.{Index}
-use Rattle.join_lookup.specs.internal.Starts.{endOf, startOf, rowCount, BeginsAt, rowOf, rowWith, Of, Known}
+use Rattle.join_lookup.specs.internal.Starts.{endOf, startOf, rowCount, rowOf, rowWith, Of, Known}
 
 -- ---- 1. rows in their places
 

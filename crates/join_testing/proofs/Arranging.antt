@@ -1,16 +1,14 @@
--- The sets of a join dependency in another order. 1. A swap keeps them. 2. What can be searched can be so arranged. 3. The same row is missing, and with the
--- same first position. 4. The first choice, from its first position and the first choice after it. Assumes nothing.
+-- The sets of a join dependency in another order. 1. What can be searched can be so arranged. 2. The same row is missing, and with the same first position.
+-- 3. The first choice, from its first position and the first choice after it. Assumes nothing.
 use mathlib.Core.Path.{_≡_, refl, sym, _∙_, ap, subst}
 use mathlib.Core.Logic.{inl, ⊎-elim}
 use mathlib.Core.Bool.{true, false, true≢false}
 use mathlib.Core.List.{List, [], _∷_, List·Memᴰ·head, List·Memᴰ·tail, List·Memᴰ·not-nil, Memᴰ·cast}
 use Prim.Native.Nat.{ℕ, zero, suc, _+_, _≤_, _<_}
-use native.Mathlib.Decide.{ℕ-discrete}
 use native.Mathlib.Numerals.{add-one}
 use native.Mathlib.Omega.{arith}
 use lib.Bits.{bitOr}
-use lib.ListN.{length, take, getD, set, length-set}
-use lib.Seq.{getD-set-same, getD-set-other}
+use lib.ListN.{length, take, getD, set}
 use Rattle.lists.proofs.Tests.{below-or-past}
 use Rattle.theory.specs.Query.{Row, _∈_}
 use Rattle.theory.specs.Database.{Database, Agree}
@@ -24,81 +22,12 @@ use Rattle.join_lookup.specs.declared.Index.{Index}
 use Rattle.join_testing.specs.declared.Found.{Found}
 use Rattle.join_lookup.specs.internal.Starts.{startOf, rowCount, BeginsAt, rowWith, Has}
 use Rattle.join_tables.specs.internal.Indexed.{filledTo, sharedAt, Searchable, Indexed}
-use Rattle.join_testing.specs.internal.Search.{setsFrom, BreaksFrom, FirstFrom, Searched, plainly, Arranged}
+use Rattle.join_testing.specs.internal.Search.{setsFrom, BreaksFrom, FirstFrom, Searched, plainly}
+use Rattle.join_order.specs.internal.Arranged.{Arranged}
 use Rattle.join_testing.proofs.Sets as sets
 use Rattle.join_testing.proofs.Searching.{Joins, Going, NoneBelow, breaks-some, breaks-has, breaks-down, going-some, has-word}
 
--- ---- 1. swaps
-
-pub arranged-same : (j : JoinDependency) (first : ℕ) → length (j .sets) ≡ 4 → Arranged j j first
-arranged-same j first shaped =
-    record {
-      relation = refl;
-      count = refl;
-      shaped = shaped;
-      stay = λ k h. refl;
-      from = λ k low high. (k, low, high, refl);
-      back = λ k low high. (k, low, high, refl);
-      past = λ k h. refl;
-    }
-
-module _ (xs : List ℕ) (i l : ℕ) (in-i : i < length xs) (in-l : l < length xs) where
-  abbrev swap : List ℕ
-  swap = set (set xs l (getD xs i 0)) i (getD xs l 0)
-
-  at-i : getD swap i 0 ≡ getD xs l 0
-  at-i = getD-set-same (set xs l (getD xs i 0)) i (getD xs l 0) 0 (omega (arith, length-set xs l (getD xs i 0)))
-
-  at-l : getD swap l 0 ≡ getD xs i 0
-  at-l = go (ℕ-discrete l i)
-    where
-      go : Dec (l ≡ i) → getD swap l 0 ≡ getD xs i 0
-      go (yes e) = ap (λ (n : ℕ). getD swap n 0) e ∙ at-i ∙ ap (λ (n : ℕ). getD xs n 0) e
-      go (no n) =
-          getD-set-other (set xs l (getD xs i 0)) i l (getD xs l 0) 0 (λ same. n (let e : l ≡ i = omega arith in e))
-          ∙ getD-set-same xs l (getD xs i 0) 0 in-l
-
-  at-other : (k : ℕ) → (k ≡ i → ⊥) → (k ≡ l → ⊥) → getD swap k 0 ≡ getD xs k 0
-  at-other k n m =
-      getD-set-other (set xs l (getD xs i 0)) i k (getD xs l 0) 0 (λ same. n (let e : k ≡ i = omega arith in e))
-      ∙ getD-set-other xs l k (getD xs i 0) 0 (λ same. m (let e : k ≡ l = omega arith in e))
-
-  -- Where each is after a swap, which is where it was before
-  swap-from : (first count k : ℕ) → first ≤ i → i < count → first ≤ l → l < count → first ≤ k → k < count
-      → (m : ℕ) × (first ≤ m) × (m < count) × (getD swap k 0 ≡ getD xs m 0) × (getD xs k 0 ≡ getD swap m 0)
-  swap-from first count k low-i high-i low-l high-l low high = go (ℕ-discrete k i) (ℕ-discrete k l)
-    where
-      go : Dec (k ≡ i) → Dec (k ≡ l) → (m : ℕ) × (first ≤ m) × (m < count) × (getD swap k 0 ≡ getD xs m 0) × (getD xs k 0 ≡ getD swap m 0)
-      go (yes e) d = (l, low-l, high-l, ap (λ (n : ℕ). getD swap n 0) e ∙ at-i, ap (λ (n : ℕ). getD xs n 0) e ∙ sym at-l)
-      go (no n) (yes e) = (i, low-i, high-i, ap (λ (n : ℕ). getD swap n 0) e ∙ at-l, ap (λ (n : ℕ). getD xs n 0) e ∙ sym at-i)
-      go (no n) (no m) = (k, low, high, at-other k n m, sym (at-other k n m))
-
-pub arranged-swap : (j r : JoinDependency) (first i l : ℕ) → Arranged j r first → first ≤ i → i < j .count → first ≤ l → l < j .count → j .count ≤ 4
-    → Arranged j (record { relation = j .relation; count = j .count; sets = set (set (r .sets) l (getD (r .sets) i 0)) i (getD (r .sets) l 0) }) first
-arranged-swap j r first i l a low-i high-i low-l high-l few =
-    let xs : List ℕ = r .sets in
-    let size : length xs ≡ 4 = a .shaped in
-    let in-i : i < length xs = omega arith in
-    let in-l : l < length xs = omega arith in
-    record {
-      relation = refl;
-      count = refl;
-      shaped = length-set (set xs l (getD xs i 0)) i (getD xs l 0) ∙ length-set xs l (getD xs i 0) ∙ size;
-      stay = λ k h. at-other xs i l in-i in-l k (λ e. omega arith) (λ e. omega arith) ∙ a .stay k h;
-      from =
-          λ k low high.
-          let s = swap-from xs i l in-i in-l first (j .count) k low-i high-i low-l high-l low high in
-          let f = a .from (s .0) (s .1) (s .2) in
-          (f .0, f .1, f .2, s .3 ∙ f .3);
-      back =
-          λ k low high.
-          let f = a .back k low high in
-          let s = swap-from xs i l in-i in-l first (j .count) (f .0) low-i high-i low-l high-l (f .1) (f .2) in
-          (s .0, s .1, s .2, f .3 ∙ s .4);
-      past = λ k h. at-other xs i l in-i in-l k (λ e. omega arith) (λ e. omega arith) ∙ a .past k h;
-    }
-
--- ---- 2. what can be searched
+-- ---- 1. what can be searched
 
 arranged-back : (j r : JoinDependency) (first : ℕ) → Arranged j r first → length (j .sets) ≡ 4 → Arranged r j first
 arranged-back j r first a shaped =
@@ -168,7 +97,7 @@ module _ (schema words : List ℕ) (j r : JoinDependency) (first : ℕ) (a : Arr
             omega arith;
       }
 
--- ---- 3. the same row
+-- ---- 2. the same row
 
 -- Rows go with a row exactly where there is one for each set
 goes-each : (D : Database) (r : Row ℕ) (l : List (List ℕ)) (ps : List ℕ) → GoWith l D r ps → (s : List ℕ) → s ∈ l
@@ -261,7 +190,7 @@ module _ {schema words : List ℕ} (j r : JoinDependency) (k : ℕ) (a : Arrange
             }),
       )
 
--- ---- 4. the first choice
+-- ---- 3. the first choice
 
 -- Without tables everything that a search asks of them holds
 pub plain-indexed : {schema words : List ℕ} (j : JoinDependency) → Searchable schema words j → Indexed schema words j (plainly schema j) [] []

@@ -2,11 +2,11 @@
 -- exactly where its rows break the join dependency. 3. What is found among all positions is the first, and there is only one first.
 -- Assumes nothing.
 use mathlib.Core.Path.{_≡_, refl, sym, _∙_, ap, ap₂, subst}
-use mathlib.Core.Logic.{inl, inr, ⊎-elim, _↔_}
+use mathlib.Core.Logic.{inl, inr, ⊎-elim}
 use mathlib.Core.Bool.{Bool, true, false, true≢false}
 use mathlib.Core.List.{List, [], _∷_, _++_, map, List·Memᴰ·head, List·Memᴰ·tail, List·Memᴰ·not-nil, Memᴰ·cast, Memᴰ·map, Memᴰ·of-map}
-use mathlib.Core.Option.{Option, none, some}
-use Prim.Native.Nat.{ℕ, zero, suc, _+_, _≤_, _<_}
+use mathlib.Core.Option.{none, some}
+use Prim.Native.Nat.{ℕ, zero, suc, _≤_, _<_}
 use native.Mathlib.Decide.{decLt}
 use native.Mathlib.Omega.{arith}
 use lib.ListN.{length, drop, getD, length-map, List·getD-map}
@@ -14,14 +14,13 @@ use Rattle.lists.specs.Numbers.{numbersWhere}
 use Rattle.lists.proofs.Numbers.{where-from, where-of}
 use Rattle.lists.proofs.Positions.{getD-in, in-getD}
 use Rattle.lists.proofs.Tests.{below-or-past}
-use Rattle.theory.specs.Query.{Entry, constant, Row, column, mapRow, FitsSchema, _∈_}
+use Rattle.theory.specs.Query.{Entry, constant, Row, column, mapRow, _∈_}
 use Rattle.theory.specs.Database.{Database, JoinDependency, Agree, Sound}
 use Rattle.theory.specs.Answer.{valueOf, itself}
-use Rattle.theory.specs.Chase.{firstPassing}
-use Rattle.theory.proofs.Lists.{bool-cases, option-cases, mem-cases}
+use Rattle.theory.proofs.Lists.{option-cases, mem-cases}
 use Rattle.theory.proofs.Step.{firstPassing-found, firstPassing-nothing}
 use Rattle.joins.specs.Join.{ObeysJoin, JoinFits}
-use Rattle.joins.specs.JoinChase.{picks, Choice, yields, consistent, missing, firstMissing}
+use Rattle.joins.specs.JoinChase.{picks, Choice, yields, missing, firstMissing}
 use Rattle.joins.specs.JoinTheorems.{ChoiceOf, FirstPick}
 use Rattle.joins.proofs.Choices.{before-has, before-of, consistent-true, missing-exact, yields-relation, yields-fits}
 use Rattle.joins.proofs.Choices.{firstMissing-found, firstMissing-nothing}

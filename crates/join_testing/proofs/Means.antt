@@ -1,7 +1,7 @@
 -- What the answer of a test means, in the words of `specs/Meaning`: 1. the first join dependency, 2. there is only one first, 3. the answer.
 -- Assumes nothing.
 use mathlib.Core.Path.{_≡_, refl, sym, _∙_, ap, subst}
-use mathlib.Core.Logic.{⊎-elim, _↔_}
+use mathlib.Core.Logic.{⊎-elim}
 use mathlib.Core.List.{List, [], _∷_, List·Memᴰ·head, List·Memᴰ·tail, List·Memᴰ·not-nil}
 use mathlib.Core.Option.{Option, none, some, orElse}
 use Prim.Native.Nat.{ℕ, zero, suc, _+_, _≤_, _<_}
@@ -10,19 +10,19 @@ use lib.ListN.{length, getD}
 use Rattle.lists.specs.Over.{pad}
 use Rattle.lists.proofs.Positions.{getD-in}
 use Rattle.lists.proofs.Tests.{below-or-past}
-use Rattle.theory.specs.Query.{Row, _∈_}
-use Rattle.theory.specs.Database.{Database, Dependency, JoinDependency, Obeys, Sound}
+use Rattle.theory.specs.Query.{Row}
+use Rattle.theory.specs.Database.{Database, Dependency, JoinDependency, Sound}
 use Rattle.theory.specs.Chase.{firstFound}
 use Rattle.theory.proofs.Lists.{option-cases, mem-cases}
 use Rattle.joins.specs.Join.{ObeysJoin, ObeysJoins, JoinFits, JoinsFit}
 use Rattle.words.specs.Testing.{numberedFrom, firstBrokenFrom}
-use Rattle.words.specs.Broken.{violationOf, FirstBroken}
+use Rattle.words.specs.Broken.{violationOf}
 use Rattle.words.proofs.Broken.{broken-means, obeys-means}
 use Rattle.words.specs.declared.Violation.{Violation}
 use Rattle.words.specs.declared.Violation.the-variants as violation
 use Rattle.join_testing.specs.Unmet.{firstChoice, firstUnmetFrom, joinedAt, unmetOf, orJoined, violationIn}
-use Rattle.join_testing.specs.Meaning.{GoWith, BreaksJoin, FirstChoice, nthJoin, FirstUnmet, FewSets, ObeysMeans, BrokenFirst, JoinedMeans}
-use Rattle.join_testing.proofs.Choosing.{found-first, none-breaks, one-first, first-found, unbroken-none, obeys-unbroken, unbroken-obeys}
+use Rattle.join_testing.specs.Meaning.{nthJoin, FirstUnmet, FewSets, ObeysMeans, BrokenFirst, JoinedMeans}
+use Rattle.join_testing.proofs.Choosing.{found-first, none-breaks, one-first, unbroken-none, obeys-unbroken, unbroken-obeys}
 use Rattle.join_testing.proofs.Choosing.{Inside, goes-inside}
 
 -- ---- 1. the first join dependency

@@ -3,7 +3,7 @@ use mathlib.Core.Path.{_≡_, refl, sym, _∙_, ap}
 use mathlib.Core.List.{List, [], _∷_, Memᴰ·cast}
 use Prim.Native.Nat.{ℕ, zero, suc, _+_, _-_, _≤_, _<_}
 use native.Mathlib.Omega.{arith}
-use lib.ListN.{length, take, drop, getD, length-map, length-drop, List·getD-map, drop-of-length-le}
+use lib.ListN.{length, take, getD, length-map, length-drop, List·getD-map, drop-of-length-le}
 use lib.Seq.{length-take-le, drop-cons, getD-take, getD-drop}
 use Rattle.lists.proofs.Positions.{getD-in, in-getD}
 use Rattle.theory.specs.Query.{_∈_}

@@ -7,13 +7,13 @@ use query::JoinDependency;
 use words::Violation;
 ghost use mathlib.Core.Path.{_≡_};
 ghost use Prim.Native.Nat.{ℕ, _+_, _≤_, _<_};
-ghost use lib.ListN.{length, getD};
+ghost use lib.ListN.{getD};
 ghost use Rattle.query.specs.View.{joinOf, heldJoins};
 ghost use Rattle.query.specs.Rule.{noJoin};
 ghost use Rattle.words.specs.Words.{databaseOf};
 ghost use Rattle.join_tables.specs.internal.Indexed.{filledTo, Searchable, Indexed};
 ghost use Rattle.join_testing.specs.Unmet.{firstChoice, firstUnmetFrom, unmetOf};
-ghost use Rattle.join_testing.specs.internal.Search.{Searched, plainly, Arranged, rowsChosen};
+ghost use Rattle.join_testing.specs.internal.Search.{Searched, plainly, rowsChosen};
 
 // Whether a choice of rows is found, and the words at which its rows begin.
 struct Found {
@@ -68,52 +68,6 @@ fn search(
     }
 }
 
-// The set from set i on that has most of the columns in a mask; the first of those that have as many. Only that it is one of them is promised.
-fn closest(j: JoinDependency, i: usize, filled: u8) -> usize
-    requires { ⌜ (i < j .count) × (j .count ≤ 4) × (length (j .sets) ≡ 4) ⌝ }
-    ensures { λ r. ⌜ (i ≤ r) × (r < j .count) ⌝ }
-{
-    let count = j.count as usize;
-    let mut best = i;
-    let mut most = u8::count_ones(j.sets[i] & filled);
-    let mut l = i + 1;
-    while l < count {
-        let here = u8::count_ones(j.sets[l] & filled);
-        if most < here {
-            best = l;
-            most = here;
-        }
-        l += 1;
-    }
-    best
-}
-
-// The sets from set `first` on in the order of the search: the next is the one that has most columns of those before it.
-fn arrange(j: JoinDependency, first: usize, filled: u8) -> JoinDependency
-    requires { ⌜ (first ≤ j .count) × (j .count ≤ 4) × (length (j .sets) ≡ 4) ⌝ }
-    ensures { λ r. ⌜ Arranged j r first ⌝ }
-{
-    let count = j.count as usize;
-    let mut arranged = j;
-    let mut known = filled;
-    let mut i = first;
-    while i < count {
-        let l = closest(arranged, i, known);
-        let mut sets = arranged.sets;
-        let next = sets[l];
-        sets[l] = sets[i];
-        sets[i] = next;
-        arranged = JoinDependency {
-            relation: j.relation,
-            count: j.count,
-            sets,
-        };
-        known = known | next;
-        i += 1;
-    }
-    arranged
-}
-
 // The first choice of rows for the sets from set k on, found set by set: whether rows for the sets after k can be chosen does not depend on the order in
 // which these are gone through, so the first row for set k is found with them arranged; then those for the sets after it. With one set left after k there
 // is nothing to arrange.
@@ -135,7 +89,7 @@ fn choose(
         let x = join_tables::build(words, schema, j, heads, nodes);
         return search(words, schema, j, x, k, filled, values, heads, nodes);
     }
-    let arranged = arrange(j, k + 1, filled | set);
+    let arranged = join_order::arrange(j, k + 1, filled | set);
     let x = join_tables::build(words, schema, arranged, heads, nodes);
     let found = search(words, schema, arranged, x, k, filled, values, heads, nodes);
     if !found.some {

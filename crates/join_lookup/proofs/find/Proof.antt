@@ -1,15 +1,13 @@
 -- `find` goes along table 0. Invariant: no row passed has the values. Assumes nothing.
-use mathlib.Core.Path.{_≡_, refl, sym}
-use Prim.Native.Nat.{ℕ, suc, _+_, _*_, _-_, _≤_, _<_}
+use mathlib.Core.Path.{_≡_}
+use Prim.Native.Nat.{suc, _-_}
 use mathlib.Core.Bool.{true}
-use mathlib.Core.List.{List}
 use native.Mathlib.Omega.{arith}
 use lib.ListN.{length}
 use Rattle.words.specs.Words.{spellsRows}
 use Rattle.join_lookup.specs.internal.Starts.{Known}
 use Rattle.join_lookup.specs.internal.Tables.{Reaches}
 use Rattle.join_lookup.proofs.Reaching.{Passing, pass-begins, pass-next, pass-found, pass-end, reach-less}
-use borrow.Author.Needs.{needs}
 use Rattle.join_lookup.proofs.find.Statement.{statement}
 use Rattle.join_lookup.proofs.find.Tie as tie
 

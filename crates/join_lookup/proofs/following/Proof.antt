@@ -1,14 +1,13 @@
 -- `following` is the link of a row, or where the next row begins. Assumes nothing.
 use mathlib.Core.Path.{_≡_, sym, ap, _∙_, subst}
 use mathlib.Core.Bool.{true}
-use Prim.Native.Nat.{ℕ, suc, _+_, _*_, _≤_, _<_}
+use Prim.Native.Nat.{ℕ, suc, _+_, _*_, _<_}
 use native.Mathlib.Omega.{arith}
 use lib.ListN.{length, drop, getD}
 use Rattle.words.specs.Words.{spellsRows}
 use Rattle.join_lookup.specs.internal.Starts.{startOf}
 use Rattle.join_lookup.proofs.Starting.{begins, start-inside, start-next}
 use Rattle.join_lookup.proofs.Reaching.{reach-next, reach-link, reach-inside}
-use borrow.Author.Needs.{needs}
 use Rattle.join_lookup.proofs.following.Statement.{statement}
 use Rattle.join_lookup.proofs.following.Tie as tie
 

@@ -3,15 +3,14 @@ use mathlib.Core.Path.{_≡_, refl, sym, ap, subst, _∙_}
 use mathlib.Core.Bool.{true}
 use mathlib.Core.Logic.{⊎-elim}
 use mathlib.Core.List.{List}
-use Prim.Native.Nat.{ℕ, suc, _+_, _-_, _≤_, _<_}
+use Prim.Native.Nat.{ℕ, _+_, _-_, _≤_, _<_}
 use native.Mathlib.Numerals.{add-one}
 use native.Mathlib.Omega.{arith}
-use lib.ListN.{length, drop, getD}
+use lib.ListN.{drop, getD}
 use Rattle.lists.proofs.Tests.{below-or-past}
 use Rattle.words.specs.Words.{spellsRows}
 use Rattle.join_lookup.specs.internal.Starts.{startOf, rowCount}
 use Rattle.join_lookup.proofs.Starting.{start-less, begins, start-inside, start-next}
-use borrow.Author.Needs.{needs}
 use Rattle.join_lookup.proofs.position_of.Statement.{statement}
 use Rattle.join_lookup.proofs.position_of.Tie as tie
 

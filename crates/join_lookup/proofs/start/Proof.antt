@@ -1,10 +1,9 @@
 -- `start` is the head of a bucket, or the first row. Assumes nothing.
-use mathlib.Core.Path.{_≡_, sym, ap, _∙_}
-use Prim.Native.Nat.{ℕ, _+_, _*_, _≤_, _<_}
+use mathlib.Core.Path.{_≡_}
+use Prim.Native.Nat.{_+_, _*_, _<_}
 use native.Mathlib.Omega.{arith}
-use lib.ListN.{length, getD}
+use lib.ListN.{length}
 use Rattle.join_lookup.proofs.Reaching.{reach-first, reach-head}
-use borrow.Author.Needs.{needs}
 use Rattle.join_lookup.proofs.start.Statement.{statement}
 use Rattle.join_lookup.proofs.start.Tie as tie
 

@@ -11,17 +11,18 @@ use borrow.Author.Needs.{needs}
 use borrow.Author.Tests.{not-true, not-false}
 use Rattle.join_lookup.specs.internal.Starts.{BeginsAt}
 use Rattle.join_tables.specs.internal.Indexed.{filledTo, Searchable}
-use Rattle.join_testing.specs.internal.Search.{plainly, Arranged}
+use Rattle.join_testing.specs.internal.Search.{plainly}
 use Rattle.join_lookup.proofs.Having.{begins-room}
 use Rattle.join_testing.proofs.Searching.{Joins, filled-next, made-joins}
 use Rattle.join_testing.proofs.Arranging.{filled-same, searched-index, plain-indexed, index-plain, arranged-searchable, arranged-none, FirstRow, first-row}
 use Rattle.join_testing.proofs.Arranging.{row-begins, row-word, chosen-first}
+use Rattle.join_order.specs.internal.Arranged.{Arranged}
 use borrow.Fn.Kinds.{In}
 use borrow.Fn.PlainCycle.{Measures, is, falls, and}
 use Rattle.join_testing.proofs.choose.Reads as choose′
 use Rattle.join_testing.proofs.choose.Kinds as choose-kinds
 use Rattle.join_testing.proofs.+choose.Lts-choose as choose-lts
-use Rattle.join_testing.proofs.arrange.Reads as arrange-reads
+use Rattle.join_order.proofs.arrange.Reads as arrange-reads
 use Rattle.join_tables.proofs.build.Reads as build-reads
 use Rattle.join_testing.proofs.search.Reads as search-reads
 use Rattle.join_lookup.proofs.with_row.Reads as with-row-reads
@@ -91,44 +92,67 @@ module _ (t : ℕ) where
   searchable c = let s = start c in
       arranged-searchable (schemaOf s) (wordsOf s) (s .args .t3) (c .arrange .result) (suc (s .args .k)) (arranged c) (good s)
 
-  -- The first row for set k
-  abbrev FirstAt : AfterSearch → ℕ → Type 0
-  FirstAt c p = let a = c .before .before .before .before .before .before .before .before .before .before in
-      let s = start a in
-      FirstRow (s .args .t3) (a .arrange .result) (s .args .k) (arranged a) (more s) (good s) (searchable a) (c .before .before .before .before .before .before .before .build2 .result) (c .before .before .before .before .before .before .before .build2 .ensures)
-      (s .args .values) (c .search2 .result) (c .search2 .ensures) p
+  -- The places of the code after the search
+  abbrev AfterStruct : Type 0
+  AfterStruct = choose-lts.After-struct-known (claims t) (choose-at t) choose′.Post
 
-  first : (c : Else2) → (p : ℕ) × FirstAt (c .before .before) p
-  first c = let f = c .before .before in
-      let a = c .before .before .before .before .before .before .before .before .before .before .before .before in
+  abbrev AfterBuild : Type 0
+  AfterBuild = choose-lts.After-build2 (claims t) (choose-at t) choose′.Post
+
+  abbrev searched : AfterStruct → AfterSearch
+  searched d = d .before
+
+  abbrev built : AfterStruct → AfterBuild
+  built d = d .before .before .before .before .before .before .before .before
+
+  abbrev ordered : AfterStruct → AfterArrange
+  ordered d = d .before .before .before .before .before .before .before .before .before .before .before
+
+  -- The first row for set k
+  abbrev FirstAt : AfterStruct → ℕ → Type 0
+  FirstAt d p = let a = ordered d in
       let s = start a in
-      first-row (s .args .t3) (a .arrange .result) (s .args .k) (arranged a) (more s) (good s) (searchable a) (c .before .before .before .before .before .before .before .before .before .build2 .result) (c .before .before .before .before .before .before .before .before .before .build2 .ensures)
-      (s .args .values) (f .search2 .result) (f .search2 .ensures) (not-false _ (c .if2 .left))
+      FirstRow (s .args .t3) (a .arrange .result) (s .args .k) (arranged a) (more s) (good s) (searchable a) (built d .build2 .result) (built d .build2 .ensures)
+      (s .args .values) (searched d .search2 .result) (searched d .search2 .ensures) p
+
+  first : (c : Else2) → (p : ℕ) × FirstAt (c .before) p
+  first c = let d = c .before in
+      let a = ordered d in
+      let s = start a in
+      first-row (s .args .t3) (a .arrange .result) (s .args .k) (arranged a) (more s) (good s) (searchable a) (built d .build2 .result) (built d .build2 .ensures)
+      (s .args .values) (searched d .search2 .result) (searched d .search2 .ensures) (not-false _ (c .if2 .left))
+
+  abbrev begun : Else2 → Start
+  begun c = start (ordered (c .before))
 
   abbrev place : Else2 → ℕ
-  place c = getD (c .before .before .search2 .result .at) (start (c .before .before .before .before .before .before .before .before .before .before .before .before) .args .k) 0
+  place c = getD (searched (c .before) .search2 .result .at) (begun c .args .k) 0
 
-  abbrev rowBegins : (c : Else2) → BeginsAt (schemaOf (start (c .before .before .before .before .before .before .before .before .before .before .before .before))) (wordsOf (start (c .before .before .before .before .before .before .before .before .before .before .before .before))) (place c) (first c .0)
-  rowBegins c = let f = c .before .before in
-      let a = c .before .before .before .before .before .before .before .before .before .before .before .before in
+  rowBegins : (c : Else2) → BeginsAt (schemaOf (begun c)) (wordsOf (begun c)) (place c) (first c .0)
+  rowBegins c = let d = c .before in
+      let a = ordered d in
       let s = start a in
-      row-begins (s .args .t3) (a .arrange .result) (s .args .k) (arranged a) (more s) (good s) (searchable a) (c .before .before .before .before .before .before .before .before .before .build2 .result) (c .before .before .before .before .before .before .before .before .before .build2 .ensures)
-      (s .args .values) (f .search2 .result) (f .search2 .ensures) (first c .0) (first c .1)
+      row-begins (s .args .t3) (a .arrange .result) (s .args .k) (arranged a) (more s) (good s) (searchable a) (built d .build2 .result) (built d .build2 .ensures)
+      (s .args .values) (searched d .search2 .result) (searched d .search2 .ensures) (first c .0) (first c .1)
 
-  abbrev rowWord : (c : Else2) → getD (wordsOf (start (c .before .before .before .before .before .before .before .before .before .before .before .before))) (place c) 0 ≡ start (c .before .before .before .before .before .before .before .before .before .before .before .before) .args .t3 .relation
-  rowWord c = let f = c .before .before in
-      let a = c .before .before .before .before .before .before .before .before .before .before .before .before in
+  rowWord : (c : Else2) → getD (wordsOf (begun c)) (place c) 0 ≡ begun c .args .t3 .relation
+  rowWord c = let d = c .before in
+      let a = ordered d in
       let s = start a in
-      row-word (s .args .t3) (a .arrange .result) (s .args .k) (arranged a) (more s) (good s) (searchable a) (c .before .before .before .before .before .before .before .before .before .build2 .result) (c .before .before .before .before .before .before .before .before .before .build2 .ensures)
-      (s .args .values) (f .search2 .result) (f .search2 .ensures) (first c .0) (first c .1)
+      row-word (s .args .t3) (a .arrange .result) (s .args .k) (arranged a) (more s) (good s) (searchable a) (built d .build2 .result) (built d .build2 .ensures)
+      (s .args .values) (searched d .search2 .result) (searched d .search2 .ensures) (first c .0) (first c .1)
 
   -- The values with its row
-  joined : (c : AfterRow) → Joins (schemaOf (start (c .before .before .before .before .before .before .before .before .before .before .before .before .before .before))) (wordsOf (start (c .before .before .before .before .before .before .before .before .before .before .before .before .before .before))) (plainly (schemaOf (start (c .before .before .before .before .before .before .before .before .before .before .before .before .before .before))) (start (c .before .before .before .before .before .before .before .before .before .before .before .before .before .before) .args .t3))
-      (getD (start (c .before .before .before .before .before .before .before .before .before .before .before .before .before .before) .args .t3 .sets) (start (c .before .before .before .before .before .before .before .before .before .before .before .before .before .before) .args .k) 0) (first (c .before .before) .0) (start (c .before .before .before .before .before .before .before .before .before .before .before .before .before .before) .args .values) (c .with-row .result)
-  joined c = let e = c .before .before in
-      let a = c .before .before .before .before .before .before .before .before .before .before .before .before .before .before in
+  abbrev found : AfterRow → Else2
+  found c = c .before .before
+
+  joined : (c : AfterRow) → Joins (schemaOf (begun (found c))) (wordsOf (begun (found c))) (plainly (schemaOf (begun (found c))) (begun (found c) .args .t3))
+      (getD (begun (found c) .args .t3 .sets) (begun (found c) .args .k) 0) (first (found c) .0) (begun (found c) .args .values) (c .with-row .result)
+  joined c = let e = found c in
+      let d = e .before in
+      let a = ordered d in
       let s = start a in
-      let same = index-plain (s .args .t3) (a .arrange .result) (c .before .before .before .before .before .before .before .before .before .before .before .build2 .result) (arranged a .relation) (c .before .before .before .before .before .before .before .before .before .before .before .build2 .ensures) in
+      let same = index-plain (s .args .t3) (a .arrange .result) (built d .build2 .result) (arranged a .relation) (built d .build2 .ensures) in
       made-joins (good s) (plain-indexed (s .args .t3) (good s)) (s .args .k) (more s) (s .args .values) (place e) (first e .0) (rowBegins e) (rowWord e)
       (c .with-row .result) (λ d l bit. c .with-row .ensures .0 d (omega (arith, same .width)) bit) (c .with-row .ensures .1)
 
@@ -191,11 +215,11 @@ module _ (t : ℕ) where
   choose-same-length-4 c = search needs
 
   choose-returns-2 : choose-lts.Need-returns-2 (claims t) (choose-at t) choose′.Post
-  choose-returns-2 c = let f = c .before .before in
-      let a = c .before .before .before .before .before .before .before .before .before .before .before .before in
+  choose-returns-2 c = let d = c .before in
+      let a = ordered d in
       let s = start a in
-      arranged-none (s .args .t3) (a .arrange .result) (s .args .k) (arranged a) (more s) (good s) (searchable a) (c .before .before .before .before .before .before .before .before .before .build2 .result) (c .before .before .before .before .before .before .before .before .before .build2 .ensures)
-      (s .args .values) (f .search2 .result) (f .search2 .ensures) (not-true _ (c .if2 .taken))
+      arranged-none (s .args .t3) (a .arrange .result) (s .args .k) (arranged a) (more s) (good s) (searchable a) (built d .build2 .result) (built d .build2 .ensures)
+      (s .args .values) (searched d .search2 .result) (searched d .search2 .ensures) (not-true _ (c .if2 .taken))
 
   choose-mul-here : choose-lts.Need-mul-here (claims t) (choose-at t) choose′.Post
   choose-mul-here c = search needs
@@ -206,14 +230,11 @@ module _ (t : ℕ) where
 
   choose-with-row-requires : choose-lts.Need-with-row-requires (claims t) (choose-at t) choose′.Post
   choose-with-row-requires c κs = let e = c .before in
-      let f = c .before .before .before in
-      let a = c .before .before .before .before .before .before .before .before .before .before .before .before .before in
+      let a = ordered (e .before) in
       let s = start a in
-      let x = c .before .before .before .before .before .before .before .before .before .before .build2 .result in
-      let i = c .before .before .before .before .before .before .before .before .before .before .build2 .ensures in
-      let p = first e in
-      let at = getD (f .search2 .result .at) (s .args .k) 0 in (
-        begins-room (schemaOf s) (wordsOf s) (good s .spelled) x (i .known) at (p .0) (rowBegins e) (rowWord e ∙ sym (i .relation ∙ arranged a .relation)),
+      let i = built (e .before) .build2 .ensures in (
+        begins-room (schemaOf s) (wordsOf s) (good s .spelled) (built (e .before) .build2 .result) (i .known) (place e) (first e .0) (rowBegins e)
+            (rowWord e ∙ sym (i .relation ∙ arranged a .relation)),
         i .known .narrow,
       )
 
@@ -246,13 +267,13 @@ module _ (t : ℕ) where
 
   choose-returns-3 : choose-lts.Need-returns-3 (claims t) (choose-at t) choose′.Post
   choose-returns-3 c = let w = c .before .before .before .before .before .before .before .before in
-      let e = c .before .before .before .before .before .before .before .before .before .before in
-      let f = c .before .before .before .before .before .before .before .before .before .before .before .before in
-      let a = c .before .before .before .before .before .before .before .before .before .before .before .before .before .before .before .before .before .before .before .before .before .before in
+      let e = found w in
+      let d = e .before in
+      let a = ordered d in
       let s = start a in
-      let p = first e in
-      chosen-first (s .args .t3) (a .arrange .result) (s .args .k) (arranged a) (more s) (good s) (searchable a) (c .before .before .before .before .before .before .before .before .before .before .before .before .before .before .before .before .before .before .before .build2 .result) (c .before .before .before .before .before .before .before .before .before .before .before .before .before .before .before .before .before .before .before .build2 .ensures)
-      (s .args .values) (f .search2 .result) (f .search2 .ensures) (p .0) (p .1) (w .with-row .result) (joined w) (c .before .before .before .before .before .choose .result) (c .before .before .before .before .before .choose .ensures)
+      chosen-first (s .args .t3) (a .arrange .result) (s .args .k) (arranged a) (more s) (good s) (searchable a) (built d .build2 .result) (built d .build2 .ensures)
+      (s .args .values) (searched d .search2 .result) (searched d .search2 .ensures) (first e .0) (first e .1) (w .with-row .result) (joined w) (c .before .before .before .before .before .choose .result)
+      (c .before .before .before .before .before .choose .ensures)
 
 pub +choose-spec : {M : Type 1} → statement M
 +choose-spec = close μ-choose λ t. choose-lts.spec (claims t)

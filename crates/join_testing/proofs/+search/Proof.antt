@@ -1,10 +1,10 @@
 -- The search from a set on. It recurs over the sets, and its loop goes through the rows for a set. Invariant: no positions that begin with a row passed break
 -- the join dependency. The measures are the sets left and the words left. Assumes nothing.
-use mathlib.Core.Path.{_≡_, refl, sym, ap, subst, _∙_}
+use mathlib.Core.Path.{_≡_, sym, ap, subst, _∙_}
 use mathlib.Core.Bool.{true}
 use mathlib.Core.Logic.{⊎-elim}
 use mathlib.Core.List.{List}
-use Prim.Native.Nat.{ℕ, suc, _+_, _-_, _*_, _≤_, _<_}
+use Prim.Native.Nat.{ℕ, suc, _+_, _-_, _<_}
 use native.Mathlib.Omega.{arith}
 use lib.Bits.{bitAnd, bitOr}
 use lib.ListN.{length, getD}
@@ -14,7 +14,7 @@ use Rattle.join_lookup.specs.internal.Tables.{Tabled, Reaches, FirstWith}
 use Rattle.join_tables.specs.internal.Indexed.{filledTo, sharedAt, Searchable, Indexed}
 use Rattle.join_lookup.proofs.Having.{begins-room}
 use Rattle.join_lookup.proofs.Reaching.{reach-less}
-use Rattle.join_testing.proofs.Searching.{Joins, NoneBelow, Going, filled-next, shared-256, going-begins, going-other, going-nothing, going-some, going-over}
+use Rattle.join_testing.proofs.Searching.{NoneBelow, Going, filled-next, shared-256, going-begins, going-other, going-nothing, going-some, going-over}
 use Rattle.join_testing.proofs.Searching.{going-next, last-set, made-joins, has-word}
 use borrow.Fn.Kinds.{In}
 use borrow.Fn.PlainCycle.{Measures, is, falls, and}

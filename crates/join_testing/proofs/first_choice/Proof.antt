@@ -62,25 +62,25 @@ array-read-position-of : tie.Need-array-read-position-of
 array-read-position-of c = search needs
 
 position-of-requires : tie.Need-position-of-requires
-position-of-requires c κs = (c .before .before .before .before .before .before .before .before .before .before .before .before .before .before .pre .spelled, begins (c .before) 0)
+position-of-requires c κs = let e = c .before in (start e .pre .spelled, begins e 0)
 
 array-read-position-of-2 : tie.Need-array-read-position-of-2
 array-read-position-of-2 c = search needs
 
 position-of-requires-2 : tie.Need-position-of-requires-2
-position-of-requires-2 c κs = (c .before .before .before .before .before .before .before .before .before .before .before .before .before .before .before .pre .spelled, begins (c .before .before) 1)
+position-of-requires-2 c κs = let e = c .before .before in (start e .pre .spelled, begins e 1)
 
 array-read-position-of-3 : tie.Need-array-read-position-of-3
 array-read-position-of-3 c = search needs
 
 position-of-requires-3 : tie.Need-position-of-requires-3
-position-of-requires-3 c κs = (c .before .before .before .before .before .before .before .before .before .before .before .before .before .before .before .before .pre .spelled, begins (c .before .before .before) 2)
+position-of-requires-3 c κs = let e = c .before .before .before in (start e .pre .spelled, begins e 2)
 
 array-read-position-of-4 : tie.Need-array-read-position-of-4
 array-read-position-of-4 c = search needs
 
 position-of-requires-4 : tie.Need-position-of-requires-4
-position-of-requires-4 c κs = (c .before .before .before .before .before .before .before .before .before .before .before .before .before .before .before .before .before .pre .spelled, begins (c .before .before .before .before) 3)
+position-of-requires-4 c κs = let e = c .before .before .before .before in (start e .pre .spelled, begins e 3)
 
 same-length-3 : tie.Need-same-length-3
 same-length-3 c = search needs

@@ -3,7 +3,7 @@ use mathlib.Core.Path.{_≡_}
 use mathlib.Core.Bool.{true, false}
 use mathlib.Core.List.{List}
 use mathlib.Core.Option.{Option, none, some}
-use Prim.Native.Nat.{ℕ, _+_, _≤_, _<_}
+use Prim.Native.Nat.{ℕ, _+_}
 use lib.ListN.{length, drop, getD}
 use Rattle.theory.specs.Query.{Row, FitsSchema, _∈_}
 use Rattle.theory.specs.Database.{Agree}
@@ -47,16 +47,6 @@ pub record Searched (schema words : List ℕ) (j : JoinDependency) (x : Index) (
 -- The relation that is tested, without tables
 abbrev pub plainly : List ℕ → JoinDependency → Index
 plainly schema j = record { relation = j .relation; width = getD schema (j .relation) 0; buckets = 0 }
-
--- A join dependency with its sets in another order: the first stay where they are, and the others are the same
-pub record Arranged (j r : JoinDependency) (first : ℕ) : Type 0 where
-  pub relation : r .relation ≡ j .relation
-  pub count : r .count ≡ j .count
-  pub shaped : length (r .sets) ≡ 4
-  pub stay : (k : ℕ) → k < first → getD (r .sets) k 0 ≡ getD (j .sets) k 0
-  pub from : (k : ℕ) → first ≤ k → k < j .count → (l : ℕ) × (first ≤ l) × (l < j .count) × (getD (r .sets) k 0 ≡ getD (j .sets) l 0)
-  pub back : (k : ℕ) → first ≤ k → k < j .count → (l : ℕ) × (first ≤ l) × (l < j .count) × (getD (j .sets) k 0 ≡ getD (r .sets) l 0)
-  pub past : (k : ℕ) → j .count ≤ k → getD (r .sets) k 0 ≡ getD (j .sets) k 0
 
 -- The positions of the rows of a choice that is found
 abbrev pub rowsChosen : Option (List ℕ) → ChosenRows

@@ -1,16 +1,12 @@
 -- `arrange` swaps the set that is closest to those before it into each place. Invariant: the sets are arranged so far. Assumes nothing.
 use mathlib.Core.Path.{_≡_}
-use Prim.Native.Nat.{_-_, _≤_, _<_}
+use Prim.Native.Nat.{_-_, _≤_}
 use native.Mathlib.Omega.{arith}
-use lib.ListN.{length}
-use Rattle.join_testing.specs.internal.Search.{Arranged}
-use Rattle.join_testing.proofs.Arranging.{arranged-same, arranged-swap}
+use Rattle.join_order.specs.internal.Arranged.{Arranged}
+use Rattle.join_order.proofs.Swapping.{arranged-same, arranged-swap}
 use borrow.Author.Needs.{needs}
-use Rattle.join_testing.proofs.arrange.Statement.{statement}
-use Rattle.join_testing.proofs.arrange.Tie as tie
-use Rattle.join_testing.proofs.arrange.Reads as reads
-use Rattle.join_testing.proofs.arrange.Lts as lts
-use Rattle.join_testing.proofs.closest.Reads as closest-reads
+use Rattle.join_order.proofs.arrange.Statement.{statement}
+use Rattle.join_order.proofs.arrange.Tie as tie
 
 abbrev Inv-loop : tie.InvT-loop
 Inv-loop j first filled count arranged₀ known₀ i₀ arranged known i =

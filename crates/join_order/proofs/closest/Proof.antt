@@ -4,10 +4,8 @@ use mathlib.Core.Logic.{⊎-elim}
 use Prim.Native.Nat.{_-_, _≤_, _<_}
 use lib.ListN.{length}
 use borrow.Author.Needs.{needs}
-use Rattle.join_testing.proofs.closest.Statement.{statement}
-use Rattle.join_testing.proofs.closest.Tie as tie
-use Rattle.join_testing.proofs.closest.Reads as reads
-use Rattle.join_testing.proofs.closest.Lts as lts
+use Rattle.join_order.proofs.closest.Statement.{statement}
+use Rattle.join_order.proofs.closest.Tie as tie
 
 abbrev Inv-loop : tie.InvT-loop
 Inv-loop i filled j count best₀ most₀ l₀ best most l =

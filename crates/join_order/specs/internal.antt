@@ -1,0 +1,2 @@
+-- The sets of a join dependency in another order.
+pub mod Arranged
