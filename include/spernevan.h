@@ -41,8 +41,8 @@
  * answers; beyond that their time grows as the square.
  * For a database of n words lend:
  *   heads     n / 2 words, and nodes 2 n, or where join dependencies are held 5 (n / 2 + 1) and 6 n: then a test takes time in proportion to n for each dependency,
- *             unless values are chosen so that they collide. A join dependency can take the square of n where a set shares no column with those before it, as in
- *             (a, b) (c, d) (b, c), or where sets go round in a ring and one value is very common
+ *             unless values are chosen so that they collide. A join dependency whose sets go round in a ring, as (a, b) (b, c) (c, a), can take the square of n
+ *             where one value is very common; the order in which sets are held does not matter
  *   index     2 n words for each row of the query but the first, and 112 more; no more than 4294967294 are used, and none for a database of 4294967295 words or more
  *   states    n words and 65536 more, if the query has more than two rows; else none. They are cleared, so that more than that only costs time
  *   batch     twice the words of the answers, and 64 more: with fewer the database is searched again for each batch. A count wants as much as an evaluation
