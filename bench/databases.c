@@ -406,9 +406,9 @@ static void halves(uint32_t n, int width, int broken) {
     for (uint32_t k = 0; k < 2 && broken; k++) row(0, width, (uint32_t[]){n + k, n, n + k, n, n + k, n});
 }
 
-// The join dependency of some sets alone, on rows that obey it and on rows that do not.
-static void join_shape(const char *name, int width, size_t count, const uint8_t *sets) {
-    for (int broken = 0; broken < 2; broken++) {
+// The join dependency of some sets alone, on rows that obey it and, if `breakable`, on rows that do not.
+static void join_shape(const char *name, int width, size_t count, const uint8_t *sets, int breakable) {
+    for (int broken = 0; broken <= breakable; broken++) {
         printf("| %s, %s |", name, broken ? "broken at the end" : "obeyed");
         for (uint32_t n = 16000; n <= 1024000; n *= 8) {
             int obeys;
@@ -427,11 +427,11 @@ static void join_shape(const char *name, int width, size_t count, const uint8_t 
 // Sets in orders of which some go through products unless they are arranged.
 static void join_shapes(void) {
     printf("| Sets | 16000 | 128000 | 1024000 |\n|---|---|---|---|\n");
-    join_shape("(ab)(bc)(cd)", 4, 3, (uint8_t[]){3, 6, 12});
-    join_shape("(ab)(cd)(bc)", 4, 3, (uint8_t[]){3, 12, 6});
-    join_shape("(cd)(ab)(bc)", 4, 3, (uint8_t[]){12, 3, 6});
-    join_shape("(ab)(cd)(ef)(bcde)", 6, 4, (uint8_t[]){3, 12, 48, 30});
-    join_shape("(ab)(bc)(ca)", 3, 3, (uint8_t[]){3, 6, 5});
+    join_shape("(ab)(bc)(cd)", 4, 3, (uint8_t[]){3, 6, 12}, 1);
+    join_shape("(ab)(cd)(bc)", 4, 3, (uint8_t[]){3, 12, 6}, 1);
+    join_shape("(cd)(ab)(bc)", 4, 3, (uint8_t[]){12, 3, 6}, 1);
+    join_shape("(ab)(cd)(ef)(bcde)", 6, 4, (uint8_t[]){3, 12, 48, 30}, 1);
+    join_shape("(ab)(bc)(ca)", 3, 3, (uint8_t[]){3, 6, 5}, 0);
 }
 
 static void beside_sqlite(int joins_only) {
