@@ -1,4 +1,6 @@
 // Whether a test or an evaluation of a database may go ahead: what is asked before the rows of the database are looked at.
+#![tactic(auto)]
+
 ghost use Rattle.std.specs.Prelude.{◌≡◌};
 ghost use Rattle.refusals.specs.Refusals.{first_holding, reply};
 ghost use Rattle.record.specs.Calls.{status_reply};

@@ -1,4 +1,6 @@
 // The pieces of a file, written into a lent buffer. Each function writes one over the buffer at a position: what stands before and after it stays.
+#![tactic(auto)]
+
 ghost use Rattle.std.specs.Prelude.{◌≡◌, true, ◌+◌, ◌*◌, ◌≤◌, length, take};
 ghost use mathlib.Core.List.{map, flatten};
 ghost use Rattle.lists.specs.Tests.{every};

@@ -1,3 +1,5 @@
 // What the search for a mapping is given: the candidates of each row of a source, and which candidates of two rows go together.
+#![tactic(auto)]
+
 mod agree; // agree.rt: whether images of two rows are consistent
 pub mod table; // table.rt: the candidates, and the table of those that go together

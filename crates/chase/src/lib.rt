@@ -1,4 +1,6 @@
 // The chase of a tableau with functional dependencies (SPECIFICATION, The chase): step after step until none is left, or until two constants clash.
+#![tactic(auto)]
+
 ghost use Rattle.std.specs.Prelude.{◌≡◌, true, List, ℕ};
 ghost use Rattle.query.specs.Rule.{good_tableau};
 ghost use Rattle.lists.specs.Tests.{every, between};
@@ -11,7 +13,7 @@ use replacement::{Resolution, replace, resolve};
 use tableaux::never;
 
 // A chased tableau and the number of replacements that led to it.
-#[derive(Drop)]
+#[derive(Clone, Copy)]
 pub struct Chased {
     pub query: Tableau,
     pub count: u8,

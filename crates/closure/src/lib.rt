@@ -1,4 +1,6 @@
 // The columns that a set of columns determines, on masks: the closure under the held dependencies.
+#![tactic(auto)]
+
 ghost use Rattle.std.specs.Prelude.{◌≡◌, true, map, ◌<◌, ◌≤◌, take};
 ghost use Rattle.determination.specs.Determined.{adds};
 ghost use Rattle.query.specs.View.{columns_of, dependency_of};

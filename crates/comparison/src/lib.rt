@@ -1,4 +1,5 @@
 // Comparing two places of a record, and checking a mapping between their queries.
+#![tactic(auto)]
 
 ghost use Rattle.std.specs.Prelude.{◌≡◌};
 ghost use Rattle.std.proofs.Math.Option.{none};
@@ -11,7 +12,7 @@ use record::{Lookup, Record};
 use tableaux::{from_query, no_tableau};
 
 // Two places to be read whose heads have one length, or the number of the refusal.
-#[derive(Drop)]
+#[derive(Clone, Copy)]
 pub enum Pair {
     Places(usize, usize),
     Refused(u8),
@@ -25,7 +26,7 @@ pub const CONTAINED_BY_MAPPING: u8 = 1;
 pub const CONTAINED_AS_NEVER: u8 = 2;
 
 // What a comparison says: contained because the first query chases to never, contained by a mapping, not contained, or refused with a number.
-#[derive(Drop)]
+#[derive(Clone, Copy)]
 pub enum Verdict {
     Never,
     Mapped,
@@ -34,7 +35,7 @@ pub enum Verdict {
 }
 
 // A comparison: its verdict, the mapping where it is contained by one, and the first query, chased, where it is not contained.
-#[derive(Drop)]
+#[derive(Clone, Copy)]
 pub struct Comparison {
     pub verdict: Verdict,
     pub images: [Cell; 96],
@@ -42,7 +43,7 @@ pub struct Comparison {
 }
 
 // What checking a mapping says.
-#[derive(Drop)]
+#[derive(Clone, Copy)]
 pub enum Checked {
     Yes,
     No,

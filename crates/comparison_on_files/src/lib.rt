@@ -1,4 +1,6 @@
 // Comparing and checking a mapping on files: what each call leaves in what it is lent.
+#![tactic(auto)]
+
 ghost use Rattle.std.specs.Prelude.{◌≡◌, true, cond, ◌&&◌, [], eqb, ltb, length, take};
 ghost use Rattle.query.specs.View.{as_query};
 ghost use Rattle.query.specs.Rule.{good_relations, good_tableau};

@@ -3,13 +3,15 @@
 //
 // There are at most 13 rows with at most 24 candidates each, by number. A mask has bit i for row or candidate i. Entry
 // (r * 24 + d) * 13 + q of a table is the mask of the candidates of row q that go together with candidate d of row r.
+#![tactic(auto)]
+
 ghost use Rattle.std.specs.Prelude.{◌≡◌, ◌<◌, ◌≤◌};
 ghost use Rattle.consistency.specs.internal.Consistent.{NoBit, Below, Settles, Follows};
 ghost use Rattle.consistency.specs.internal.Steps.{Marked, After, Supports};
 
 // The rows of placed have the candidate that chosen says. Row q has the candidates of current[q] left, and the placed rows of
 // culprits[q] removed the others. The rows of changed have lost candidates since other rows were last compared with them.
-#[derive(Drop)]
+#[derive(Clone, Copy)]
 pub struct State {
     pub chosen: [u8; 13],
     pub placed: u16,

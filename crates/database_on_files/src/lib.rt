@@ -1,5 +1,7 @@
 // Testing a database, evaluating a place on it and counting its answers, on files. Each returns 0, or the number of the refusal, which leaves every buffer
 // and number that it is lent as it was; working memory too, unless the number is 10.
+#![tactic(auto)]
+
 ghost use Rattle.std.specs.Prelude.{◌≡◌, length};
 ghost use Rattle.admission.specs.Conditions.{test_conditions, search_conditions};
 ghost use Rattle.lent_numbers.specs.Lent.{returned, leaves};

@@ -1,4 +1,6 @@
 // A query part, read off bytes: a vacant place, or the query that the part holds.
+#![tactic(auto)]
+
 ghost use Rattle.std.specs.Prelude.{◌≡◌, true, take};
 ghost use Rattle.query.specs.Rule.{good_relations};
 ghost use Rattle.refusals.specs.Refusals.{refused};
@@ -20,7 +22,7 @@ fn is_vacant(part: &[u8]) -> bool
 }
 
 // A place, or a refusal.
-#[derive(Drop)]
+#[derive(Clone, Copy)]
 pub struct PlaceRead {
     pub answer: Status,
     pub place: Place,

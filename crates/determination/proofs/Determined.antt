@@ -122,6 +122,7 @@ missing-more (d ∷ ds) known c = go (member d.right known) refl (member d.right
 missing-less : (ds : List Dependency) (known : List ℕ) (d : Dependency) → d ∈ ds → member d.right known ≡ false
     → missing ds (d.right ∷ known) < missing ds known
 unfolding missing
+missing-less [] known d x'' new = elim x'' [ ]
 missing-less (b ∷ ds) known d (Memᴰ.head same) new =
     go (member b.right known) (rw (← same) new) (member b.right (d.right ∷ known)) is (missing-more ds known d.right)
   where
@@ -255,12 +256,14 @@ two relation width known = zeros relation width ∷ marks relation width known �
 two-sound : (widths : List ℕ) (relation : ℕ) (known : List ℕ) → relation < length widths → Sound widths (two relation (get_or widths relation 0) known)
 unfolding two zeros marks
 two-sound widths relation known less r (Memᴰ.head e) = rw e (less, length-replicate (get_or widths relation 0) 0)
+two-sound widths relation known less r (Memᴰ.tail (Memᴰ.tail x8)) = elim x8 [ ]
 two-sound widths relation known less r (Memᴰ.tail (Memᴰ.head e)) = rw e (less, indicator-length known 0 (get_or widths relation 0))
 
 -- A row of the database is one of the two, and is of the relation
 two-rows : (relation width : ℕ) (known : List ℕ) (r : Row ℕ) → r ∈ two relation width known → (r ≡ zeros relation width) ⊎ (r ≡ marks relation width known)
 unfolding two
 two-rows relation width known r (Memᴰ.head e) = inl e
+two-rows relation width known r (Memᴰ.tail (Memᴰ.tail x8)) = elim x8 [ ]
 two-rows relation width known r (Memᴰ.tail (Memᴰ.head e)) = inr e
 
 two-relation : (relation width : ℕ) (known : List ℕ) (r : Row ℕ) → r ∈ two relation width known → r.relation ≡ relation

@@ -1,4 +1,6 @@
 // A query part, written into a lent buffer. Each function writes one piece over the buffer at a position: what stands before and after it stays.
+#![tactic(auto)]
+
 ghost use Rattle.std.specs.Prelude.{◌≡◌, true, ◌+◌, ◌*◌, ◌≤◌, ◌<◌, length, take, drop, get_or};
 ghost use mathlib.Core.List.{◌∷◌, flat_map};
 ghost use Rattle.lists.specs.Over.{over};
@@ -61,7 +63,7 @@ fn put_entries(buffer: &mut [u8], at: usize, cells: [Cell; 8], n: usize)
 // ---- rows
 
 // The 8 cells of a row.
-#[derive(Drop)]
+#[derive(Clone, Copy)]
 pub struct Row {
     pub cells: [Cell; 8],
 }

@@ -1,4 +1,6 @@
 // Entries compared and as numbers, and the queries that have no rows.
+#![tactic(auto)]
+
 pub mod code; // code.rt: the code of an entry
 
 ghost use Rattle.std.specs.Prelude.{◌≡◌};

@@ -1,5 +1,7 @@
 // The search for the next step of the chase of a tableau (SPECIFICATION, The chase): the first broken pair of rows.
 // The widths of the relations play no part: where a row has no column its cell holds constant 0, as in every row of its relation.
+#![tactic(auto)]
+
 ghost use Rattle.std.specs.Prelude.{◌≡◌, true, List, ◌<◌, length, get_or};
 ghost use Rattle.query.specs.declared.Cell.{Cell};
 ghost use Rattle.query.specs.View.{as_query, columns_of, dependency_of, held_of};
@@ -12,7 +14,7 @@ ghost use Rattle.theory.specs.Chase as chasing;
 use query::{Cell, Dependency, Entry, Tableau};
 
 // What the search for a step finds: the two different entries of the first broken pair, or nothing where the chase rests.
-#[derive(Drop)]
+#[derive(Clone, Copy)]
 pub enum NextStep {
     Rest,
     Step(Entry, Entry),

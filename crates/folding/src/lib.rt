@@ -1,5 +1,7 @@
 // Mappings of a stored query into some of its own rows (SPECIFICATION, Reduction): the rows without which it can be mapped into the others go. The candidates,
 // the table and the links of the search are made once; a trial only leaves rows out. Masks have bit d for row d.
+#![tactic(auto)]
+
 ghost use Rattle.std.specs.Prelude.{◌≡◌, true, List, ℕ, ◌^◌, ◌≤◌, ◌<◌, length};
 ghost use Rattle.query.specs.Rule.{good_query};
 ghost use Rattle.lists.specs.internal.Tells.{Tells};

@@ -6,6 +6,8 @@
 // among the rows, its right value and its tag; so the words of a leader are not looked at again. A leader is written as its number plus 1, and 0 is
 // the end of a chain. A row for which there is no room, or whose position is beyond 32 bits, is one that may be the first of a broken pair.
 // If every row of the relation is a leader, the left columns are a key: no two rows agree on them.
+#![tactic(auto)]
+
 ghost use Rattle.std.specs.Prelude.{◌≡◌, true, ℕ, ◌+◌, ◌*◌, ◌^◌, ◌≤◌, ◌<◌, length, get_or, set};
 ghost use Rattle.query.specs.View.{dependency_of};
 ghost use Rattle.words.specs.Words.{spells_rows, database_of};
@@ -19,14 +21,14 @@ ghost use Rattle.grouping.specs.internal.Walked.{RowBegins, Walked, Skips};
 use query::Dependency;
 
 // A row: the word at which it begins, and its position among the rows.
-#[derive(Drop)]
+#[derive(Clone, Copy)]
 pub struct Position {
     pub at: usize,
     pub number: usize,
 }
 
 // Where a walk leads to: a row that may be the first of a broken pair, or the end; and whether the left columns were seen to be a key.
-#[derive(Drop)]
+#[derive(Clone, Copy)]
 pub struct Skipped {
     pub row: Position,
     pub key: bool,
@@ -34,7 +36,7 @@ pub struct Skipped {
 
 // How far a walk is: the row that comes next, how many leaders are entered, the position of the first row known that may be the first of a broken
 // pair, and whether every row of the relation was entered.
-#[derive(Drop)]
+#[derive(Clone, Copy)]
 struct Walk {
     row: Position,
     count: usize,
@@ -43,7 +45,7 @@ struct Walk {
 }
 
 // A row that is compared with the leaders: its bucket and its tag, and its right value.
-#[derive(Drop)]
+#[derive(Clone, Copy)]
 struct Sought {
     bucket: usize,
     tag: u32,
@@ -51,7 +53,7 @@ struct Sought {
 }
 
 // A row beside the leader of its group: it has the leader's right value, or another, and then where the leader stands; or there is no such leader.
-#[derive(Drop)]
+#[derive(Clone, Copy)]
 enum Beside {
     Same,
     Differs(usize),

@@ -1,5 +1,7 @@
 // The calls of SPECIFICATION for programs in other languages, on numbers, bytes and words: a record is the bytes of its file, in and out.
 // Each returns 0, or the number of the refusal, which leaves every buffer and number that it is lent as it was; working memory too, unless the number is 10.
+#![tactic(auto)]
+
 ghost use Rattle.std.specs.Prelude.{◌≡◌, length};
 ghost use Rattle.format.specs.File.{read_file};
 ghost use Rattle.lent_numbers.specs.Lent.{returned, leaves, Wrote};

@@ -1,5 +1,7 @@
 // The chase of a tableau with functional and join dependencies (SPECIFICATION, The chase with join dependencies): rounds of the functional chase, after which repeated rows go and
 // the first row that a join dependency asks for is added, until none is asked for or there is no room.
+#![tactic(auto)]
+
 ghost use Rattle.join_chase.specs.internal.JoinChased.{JoinChasable, IsJoinChased, IsRound};
 
 use join_step::{next_row, with_row, without_repeats};
@@ -7,14 +9,14 @@ use query::{Dependency, JoinDependency, Tableau};
 use tableaux::no_tableau;
 
 // A chased tableau. Where a row more than 24 would be added it is over, and there is no tableau.
-#[derive(Drop)]
+#[derive(Clone, Copy)]
 pub struct JoinChased {
     pub over: bool,
     pub query: Tableau,
 }
 
 // What a round of the chase makes of a tableau: the end, or the tableau of the next round.
-#[derive(Drop)]
+#[derive(Clone, Copy)]
 struct Round {
     ended: bool,
     over: bool,

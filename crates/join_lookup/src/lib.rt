@@ -1,13 +1,15 @@
 // Rows of a relation, looked up by their values in some columns: in tables, which are hash chains in lent slices, or, without tables, in the words of the
 // database: slower, and never wrong. Table 0 has all rows, by the columns of some set; table k + 1 those for set k of a join dependency, by columns that sets
 // before it have, and of rows with the same values in the set only the first. Chains go from earlier to later rows.
+#![tactic(auto)]
+
 ghost use Rattle.std.specs.Prelude.{◌≡◌, true, false, List, ℕ, suc, ◌+◌, ◌*◌, ◌/◌, ◌%◌, ◌^◌, ◌≤◌, ◌<◌, length, take, get_or};
 ghost use Rattle.words.specs.Words.{spells_rows};
 ghost use Rattle.join_lookup.specs.internal.Starts.{start_of, row_count, BeginsAt, Has, Known};
 ghost use Rattle.join_lookup.specs.internal.Tables.{bucket_of, Room, Tabled, Reaches, FirstWith};
 
 // The relation whose rows are in the tables, its width, and the number of buckets; 0 where there are no tables.
-#[derive(Drop)]
+#[derive(Clone, Copy)]
 pub struct Index {
     pub relation: u32,
     pub width: usize,

@@ -1,5 +1,7 @@
 // The order in which a search goes through the sets of a join dependency: the next is the one that has most columns of those before it. That an arrangement has
 // the same sets is promised, and nothing of how good it is.
+#![tactic(auto)]
+
 ghost use Rattle.std.specs.Prelude.{◌≡◌, ◌≤◌, ◌<◌, length};
 ghost use Rattle.join_order.specs.internal.Arranged.{Arranged};
 

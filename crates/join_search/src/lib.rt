@@ -1,6 +1,8 @@
 // The search for the row that a join dependency asks for (SPECIFICATION, The chase with join dependencies): over rows as codes of entries, 8 to a row, of which size are in use.
 // What is chosen so far is one code for each column, or `FREE` where no set has the column yet. A column that a row's relation does not have
 // stands in no set.
+#![tactic(auto)]
+
 ghost use Rattle.std.specs.Prelude.{◌≡◌, true, ◌+◌, ◌*◌, ◌≤◌, ◌<◌, length, take, drop};
 ghost use Rattle.join_search.specs.internal.Search.{same_on, goes, choose, some_goes, all_go, is_first, extend_of, found_of, free_row};
 ghost use Rattle.join_search.specs.internal.Search.{Laid, Spare, Extendable};
@@ -11,7 +13,7 @@ use query::JoinDependency;
 pub const FREE: u32 = 4294967295;
 
 // A row that was looked for: whether there is one, and its codes. A column that its relation does not have is `FREE`.
-#[derive(Drop)]
+#[derive(Clone, Copy)]
 pub struct Missing {
     pub found: bool,
     pub row: [u32; 8],

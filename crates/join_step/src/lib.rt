@@ -1,5 +1,7 @@
 // What a round of the chase with join dependencies does to a tableau after the functional chase (SPECIFICATION, The chase with join dependencies): repeated rows go, and the
 // first row that a join dependency asks for and that is not there is added at the end.
+#![tactic(auto)]
+
 ghost use Rattle.std.specs.Prelude.{◌≡◌, true, List, map, ℕ, ◌*◌, ◌≤◌, ◌<◌, take, drop, get_or};
 ghost use Rattle.query.specs.Rule.{good_tableau, good_joins};
 ghost use Rattle.join_step.specs.internal.Step.{codes_of, cell_of, with_row, distinct_to, Joinable, IsNext};
@@ -9,7 +11,7 @@ use join_search::{first_missing, is_first};
 use query::{Cell, JoinDependency, Tableau};
 
 // The row that is to be added: whether there is one, its relation, and its cells.
-#[derive(Drop)]
+#[derive(Clone, Copy)]
 pub struct NextRow {
     pub found: bool,
     pub relation: u8,

@@ -1,6 +1,8 @@
 // The tables of a join dependency: one of all rows, by the columns of all sets, and one for each set, by the columns that sets before it have; of rows with the
 // same values in the set it has only the first. `heads` has a word for each bucket of each of 5 tables, and `nodes` six for each word of the database: a link
 // to the row before, and one for each table. Without room for them, or where a word's place is beyond 32 bits, there are no tables.
+#![tactic(auto)]
+
 ghost use Rattle.std.specs.Prelude.{◌≡◌, true, ℕ, suc, ◌+◌, ◌*◌, ◌≤◌, ◌<◌, length, get_or};
 ghost use Rattle.words.specs.Words.{spells_rows};
 ghost use Rattle.join_lookup.specs.internal.Starts.{BeginsAt, Known};

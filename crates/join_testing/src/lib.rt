@@ -2,6 +2,8 @@
 // through the rows that agree with those chosen before where sets overlap; at the end it looks for the row that is yielded. Whether rows can be chosen for
 // some sets does not depend on their order: each next set is the one that shares most columns with those before it, so that no product of rows is gone
 // through where sets that come later tie them together.
+#![tactic(auto)]
+
 ghost use Rattle.std.specs.Prelude.{◌≡◌, ℕ, ◌+◌, ◌≤◌, ◌<◌, get_or};
 ghost use Rattle.query.specs.View.{join_of, held_joins};
 ghost use Rattle.query.specs.Rule.{no_join};
@@ -15,7 +17,7 @@ use query::JoinDependency;
 use words::Violation;
 
 // Whether a choice of rows is found, and the words at which its rows begin.
-#[derive(Drop)]
+#[derive(Clone, Copy)]
 struct Found {
     some: bool,
     at: [usize; 4],
@@ -108,7 +110,7 @@ fn choose(
 }
 
 // The positions of the rows that are chosen for the sets of a join dependency, 0 where there is no set.
-#[derive(Drop)]
+#[derive(Clone, Copy)]
 pub enum ChosenRows {
     At(usize, usize, usize, usize),
     Absent,

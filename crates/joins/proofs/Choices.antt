@@ -30,6 +30,7 @@ use Rattle.joins.specs.JoinTheorems.{ChoiceOf}
 module _ {A : Type 0} where
   pub before-has : {x : A} {rest : List A} (xs : List A) (rests : List (List A)) → x ∈ xs → rest ∈ rests → (x ∷ rest) ∈ before xs rests
   unfolding before
+  before-has {rest = rest} [] rests x3 there = elim x3 [ ]
   before-has {rest = rest} (y ∷ xs) rests (Memᴰ.head e) there =
       Memᴰ.append_left (before xs rests) (Memᴰ.cast (ap (λ z. z ∷ rest) e) (Memᴰ.map (λ l. y ∷ l) there))
   before-has (y ∷ xs) rests (Memᴰ.tail at) there = Memᴰ.append_right (map (λ l. y ∷ l) rests) (before-has xs rests at there)

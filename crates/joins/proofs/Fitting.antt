@@ -31,6 +31,7 @@ in_some-set c (set ∷ sets) e =
 
 pub set-in_some : (c : ℕ) (sets : List (List ℕ)) (set : List ℕ) → set ∈ sets → c ∈ set → in_some c sets ≡ true
 unfolding in_some
+set-in_some c [] set x'' there = elim x'' [ ]
 set-in_some c (s ∷ sets) set (Memᴰ.head e) there =
     ap (λ b. cond b true (in_some c sets)) (mem-member c s (subst (λ l. c ∈ l) e there))
 set-in_some c (s ∷ sets) set (Memᴰ.tail at) there =

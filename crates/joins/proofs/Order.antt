@@ -155,6 +155,7 @@ first_found-without find (k ∷ kept) x xs is = ap (or_else (Option.map (λ a. (
 first_found-skip : {D A : Type 0} (find : D → Option A) (kept : List D) (x y : D) (xs : List D) → y ∈ kept → (find y ≡ none → find x ≡ none)
     → first_found find (kept ++ x ∷ xs) ≡ first_found find (kept ++ xs)
 unfolding first_found or_else
+first_found-skip {D = D} {A = A} find [] x y xs x4 nothing = elim x4 [ ]
 first_found-skip find (z ∷ kept) x y xs (Memᴰ.head e) nothing =
     option_cases (find z) (λ b is. rw is refl) (λ is. rw is (first_found-without find kept x xs (nothing (ap find e ∙ is))))
 first_found-skip find (z ∷ kept) x y xs (Memᴰ.tail at) nothing =
@@ -308,6 +309,7 @@ search_from-first {A} cut test sound front (xs ∷ xss) =
 chosen_entry-front : (front back : Choice) (c : ℕ) (p : List ℕ × Row Entry) → p ∈ front → c ∈ p.0
     → chosen_entry (front ++ back) c ≡ chosen_entry front c
 unfolding chosen_entry
+chosen_entry-front [] back c p at there = elim at [ ]
 chosen_entry-front (q ∷ front) back c p at there =
     bool_cases (member c q.0) (λ is. rw is refl)
     (λ is. rw is (mem-cases at (λ here. absurd (member-not-mem c q.0 is (subst (λ (s : List ℕ × Row Entry). c ∈ s.0) here there)))

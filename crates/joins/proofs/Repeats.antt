@@ -85,6 +85,7 @@ module _ {A : Type 0} (same : A → A → Bool) where
     -- Each element is there
     pub keep_first-has : (kept rest : List A) (y : A) → y ∈ rest → y ∈ keep_first same kept rest
     unfolding keep_first
+    keep_first-has kept [] y x' = elim x' [ ]
     keep_first-has kept (x ∷ xs) y (Memᴰ.head e) = keep_first-stays (keep_one kept x) xs y (Memᴰ.cast e (keep_one-has kept x))
     keep_first-has kept (x ∷ xs) y (Memᴰ.tail at) = keep_first-has (keep_one kept x) xs y at
 

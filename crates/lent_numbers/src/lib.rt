@@ -1,4 +1,6 @@
 // What a call on a file returns, and leaves in the numbers that it is lent: 0 and the parts of its answer, or the number of the refusal and the numbers as they were.
+#![tactic(auto)]
+
 ghost use Rattle.std.specs.Prelude.{◌≡◌};
 ghost use Rattle.record.specs.Calls.{status_reply};
 ghost use Rattle.record_calls.specs.Calls.{columns_reply};

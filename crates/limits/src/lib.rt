@@ -1,5 +1,7 @@
 // The rule of relations, dependencies, queries and places as tests: one function a test, callees first.
 // Each answers what its namesake in query/specs/Rule says of the same fields.
+#![tactic(auto)]
+
 ghost use Rattle.std.specs.Prelude.{true, cond, ◌&&◌, ◌≡◌, ◌+◌, ◌*◌, ◌-◌, ◌^◌, ◌≤◌, eqb, ltb, length, take, drop, get_or, replicate};
 ghost use mathlib.Core.List.{◌++◌, map, flatten};
 ghost use Rattle.theory.specs.Query.{member, subset, variables_of, row_entries};

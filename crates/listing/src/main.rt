@@ -1,4 +1,6 @@
 // Lists a file: reads standard input, its first 65,536 bytes if it is longer, and writes its listing to standard output.
+#![tactic(auto)]
+
 use libc::{STDIN_FILENO, STDOUT_FILENO};
 
 // It has no `ensures`, since there is nothing that one could name: the language has no input and no output of its own. `io::read_full` promises how many

@@ -14,6 +14,7 @@ module _ (test : ℕ → Bool) where
   -- Each is in the range and passes
   pub where-from : (start n c : ℕ) → Memᴰ c (numbers_where test start n) → (start ≤ c) × (c < start + n) × (test c ≡ true)
   unfolding numbers_where
+  where-from start zero c at = elim at [ ]
   where-from start (suc n) c at = go (test start) refl (where-from (suc start) n c) at
     where
       go : (b : Bool) → test start ≡ b → (Memᴰ c (numbers_where test (suc start) n) → (suc start ≤ c) × (c < suc start + n) × (test c ≡ true))

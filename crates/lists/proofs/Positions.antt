@@ -23,6 +23,7 @@ get_or-in (x ∷ xs) zero z h = Memᴰ.head refl
 get_or-in (x ∷ xs) (suc i) z h = Memᴰ.tail (get_or-in xs i z (le_of_suc-le-suc h))
 
 pub in-get_or : {A : Type 0} {x : A} (xs : List A) (z : A) → Memᴰ x xs → (i : ℕ) × (i < length xs) × (get_or xs i z ≡ x)
+in-get_or {A = A} [] z x'' = elim x'' [ ]
 in-get_or (y ∷ xs) z (Memᴰ.head e) = (0, omega arith, sym e)
 in-get_or (y ∷ xs) z (Memᴰ.tail at) = let w = in-get_or xs z at in let h : w.0 < length xs = w.1 in (suc w.0, omega arith, w.2)
 

@@ -56,6 +56,7 @@ every_made test (x ∷ xs) d at = and_both (test x) (every test xs) (at 0 (omega
 -- A test of every element holds of each
 pub every-member : {A : Type 0} (test : A → Bool) (xs : List A) {x : A} → every test xs ≡ true → Memᴰ x xs → test x ≡ true
 unfolding every
+every-member {A = A} test [] e x4 = elim x4 [ ]
 every-member test (y ∷ xs) e (Memᴰ.head p) = ap test p ∙ and_left (test y) (every test xs) e
 every-member test (y ∷ xs) e (Memᴰ.tail at) = every-member test xs (and_right (test y) (every test xs) e) at
 

@@ -1,1 +1,2 @@
 // Laws on lists, Booleans and numbers: see specs/ and proofs/. No code runs here.
+#![tactic(auto)]

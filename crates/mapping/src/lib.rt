@@ -1,4 +1,6 @@
 // Mappings from a stored query: found by search to a tableau, and checked to a stored query. A query without rows has none.
+#![tactic(auto)]
+
 mod assign; // assign.rt: the images of the variables, from the images of the rows
 mod carry; // carry.rt: whether given images carry entries, rows and a head
 pub mod cells; // cells.rt: a query or a tableau in one line of cells, and their codes
@@ -13,7 +15,7 @@ use candidates::table::{domains, table};
 use query::{Cell, Query, Tableau};
 
 // A mapping that was looked for: whether there is one, and the image of each variable. Where there is none the images hold constant 0.
-#[derive(Drop)]
+#[derive(Clone, Copy)]
 pub struct Mapped {
     pub found: bool,
     pub images: [Cell; 96],

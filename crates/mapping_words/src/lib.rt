@@ -1,4 +1,6 @@
 // Mappings as words: for each of 96 variables a tag (0 constant, 1 variable) and a number.
+#![tactic(auto)]
+
 ghost use Rattle.std.specs.Prelude.{◌≡◌, ◌+◌, ◌≤◌, length, drop};
 ghost use Rattle.lists.specs.Over.{over};
 ghost use Rattle.mapping_words.specs.Images.{entry_words, mapping_words, get_image, images_in};
@@ -37,7 +39,7 @@ pub fn put_mapping(images: [Cell; 96], words: &mut [u32])
 }
 
 // An entry, or none.
-#[derive(Drop)]
+#[derive(Clone, Copy)]
 pub enum ImageRead {
     Image(Entry),
     NoImage,

@@ -160,6 +160,7 @@ above (variable v ∷ es) = above es
 
 above-constant : (es : List Entry) (n : ℕ) → constant n ∈ es → n < above es
 unfolding above
+above-constant [] n x' = elim x' [ ]
 above-constant (constant m ∷ es) n (Memᴰ.head same) = let equal : n ≡ m = cc in omega arith
 above-constant (constant m ∷ es) n (Memᴰ.tail at) = let later = above-constant es n at in omega arith
 above-constant (variable v ∷ es) n (Memᴰ.head same) = absurd (constant-variable n v same)

@@ -205,6 +205,7 @@ try_rows-complete : (h : ℕ → Entry) (Q : Type 0) (next : PartialMapping → 
     → (r : Row Entry) (candidates : List (Row Entry)) (bs : PartialMapping) → try_rows next r candidates bs ≡ none → Fits h bs
     → map_row (value_of constant h) r ∈ candidates → Q → ⊥
 unfolding try_rows
+try_rows-complete h Q next complete r [] bs e fits x4 q = elim x4 [ ]
 try_rows-complete h Q next complete r (s ∷ ss) bs e fits (Memᴰ.head same) q =
     then-complete h bs (map_row (value_of constant h) r ≡ s) (send_row r s bs) (send_row-exact h r s bs) Q next complete
     (or_else-nothing (bind (send_row r s bs) next) (try_rows next r ss bs) e).0 fits same q

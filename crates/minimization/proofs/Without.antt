@@ -16,12 +16,14 @@ use Rattle.theory.proofs.Members.{◌⊆◌, cons-part}
 -- What is left stood there before
 pub without-part : {A : Type 0} {x : A} (xs : List A) (at : x ∈ xs) → without xs at ⊆ xs
 unfolding without
+without-part {A = A} [] at = elim at [ ]
 without-part (y ∷ xs) (Memᴰ.head e) = λ z there. Memᴰ.tail there
 without-part (y ∷ xs) (Memᴰ.tail at) = cons-part y (without-part xs at)
 
 -- What stood there is the element taken out, or is left
 pub without-cases : {A : Type 0} {x z : A} (xs : List A) (at : x ∈ xs) → z ∈ xs → (z ≡ x) ⊎ (z ∈ without xs at)
 unfolding without
+without-cases {A = A} {x = x} {z = z} [] at _ = elim at [ ]
 without-cases (y ∷ xs) (Memᴰ.head e) (Memᴰ.head same) = inl (same ∙ sym e)
 without-cases (y ∷ xs) (Memᴰ.head e) (Memᴰ.tail there) = inr there
 without-cases (y ∷ xs) (Memᴰ.tail at) (Memᴰ.head same) = inr (Memᴰ.head same)
@@ -36,6 +38,7 @@ without-cases {A} {x} {z} (y ∷ xs) (Memᴰ.tail at) (Memᴰ.tail there) = go (
 pub without-swap : {A : Type 0} {x y : A} (xs : List A) (here : y ∈ xs) (at : x ∈ without xs here)
     → (at' : x ∈ xs) × y ∈ without xs at' × without (without xs here) at ⊆ without xs at'
 unfolding without
+without-swap {A = A} {y = y} [] here at = elim here [ ]
 without-swap (w ∷ ws) (Memᴰ.head e) at = (Memᴰ.tail at, Memᴰ.head e, λ z there. Memᴰ.tail there)
 without-swap (w ∷ ws) (Memᴰ.tail here) (Memᴰ.head e) = (Memᴰ.head e, here, without-part ws here)
 without-swap {A} (w ∷ ws) (Memᴰ.tail here) (Memᴰ.tail at) =

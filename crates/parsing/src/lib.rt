@@ -1,4 +1,6 @@
 // What the parts of a file hold, read off bytes: numbers, then the query of a query part, the relations of part 0 and the dependencies of both kinds of part 1.
+#![tactic(auto)]
+
 ghost use Rattle.std.specs.Prelude.{◌≡◌, true, ◌+◌, ◌≤◌, ◌<◌, length, take, drop};
 ghost use Rattle.lists.specs.Tests.{between};
 ghost use Rattle.lists.specs.Over.{pad};
@@ -43,7 +45,7 @@ fn word32(s: &[u8], at: usize) -> u32
 }
 
 // A byte within limits, or none.
-#[derive(Drop)]
+#[derive(Clone, Copy)]
 pub enum ByteRead {
     Byte(u8),
     NoByte,
@@ -69,7 +71,7 @@ pub fn read_byte(s: &[u8], at: usize, low: u8, high: u8) -> ByteRead
 // ---- entries
 
 // An entry, or none.
-#[derive(Drop)]
+#[derive(Clone, Copy)]
 pub enum EntryRead {
     Read(Entry),
     NoEntry,
@@ -103,7 +105,7 @@ fn read_entry(s: &[u8], at: usize) -> EntryRead
 }
 
 // Entries in 8 cells.
-#[derive(Drop)]
+#[derive(Clone, Copy)]
 pub struct CellsRead {
     pub good: bool,
     pub cells: [Cell; 8],
@@ -135,7 +137,7 @@ fn read_entries(s: &[u8], at: usize, n: usize) -> CellsRead
 // ---- rows
 
 // The relations and cells of some rows, and whether the part ends with them.
-#[derive(Drop)]
+#[derive(Clone, Copy)]
 pub struct RowsRead {
     pub good: bool,
     pub whole: bool,
@@ -198,7 +200,7 @@ fn read_rows(part: &[u8], start: usize, size: usize, count: u8, widths: [u8; 8])
 // ---- query parts
 
 // A query, and whether the part ends with it.
-#[derive(Drop)]
+#[derive(Clone, Copy)]
 pub struct QueryRead {
     pub good: bool,
     pub whole: bool,
@@ -257,7 +259,7 @@ pub fn read_query(part: &[u8], count: u8, widths: [u8; 8]) -> QueryRead
 // ---- part 0: relations
 
 // The count of relations and their widths.
-#[derive(Drop)]
+#[derive(Clone, Copy)]
 pub struct RelationsRead {
     pub good: bool,
     pub count: u8,
@@ -303,7 +305,7 @@ pub fn read_relations(part: &[u8]) -> RelationsRead
 // ---- part 1: functional dependencies
 
 // A functional dependency, or none.
-#[derive(Drop)]
+#[derive(Clone, Copy)]
 pub enum DependencyRead {
     Found(Dependency),
     NoDependency,
@@ -332,7 +334,7 @@ fn read_dependency(part: &[u8], at: usize, count: u8, widths: [u8; 8]) -> Depend
 }
 
 // The number of functional dependencies and these.
-#[derive(Drop)]
+#[derive(Clone, Copy)]
 pub struct DependenciesRead {
     pub good: bool,
     pub held: u8,
@@ -376,7 +378,7 @@ pub fn read_dependencies(part: &[u8], count: u8, widths: [u8; 8]) -> Dependencie
 // ---- part 1: join dependencies
 
 // A join dependency, if it is good.
-#[derive(Drop)]
+#[derive(Clone, Copy)]
 pub struct JoinRead {
     pub good: bool,
     pub join: JoinDependency,
@@ -437,7 +439,7 @@ fn read_join(part: &[u8], at: usize, count: u8, widths: [u8; 8]) -> JoinRead
 }
 
 // The number of join dependencies and these.
-#[derive(Drop)]
+#[derive(Clone, Copy)]
 pub struct JoinsRead {
     pub good: bool,
     pub joined: u8,

@@ -1,4 +1,6 @@
 // The query parts of a file, each read as the very stretch of the file that its pair names.
+#![tactic(auto)]
+
 ghost use Rattle.std.specs.Prelude.{◌≡◌, true, ◌+◌, ◌-◌, ◌*◌, ◌≤◌, length, take, drop};
 ghost use Rattle.query.specs.Rule.{good_relations};
 ghost use Rattle.refusals.specs.Refusals.{refused};

@@ -1,4 +1,6 @@
 // Bytes and decimal numbers, written into a lent buffer. Each function takes the position to write from and returns the one after.
+#![tactic(auto)]
+
 ghost use Rattle.std.specs.Prelude.{[], ◌∷◌};
 ghost use Rattle.printing.specs.Decimal.{decimal, field};
 ghost use Rattle.printing.specs.internal.Writing.{Fits, WrittenAt};

@@ -32,6 +32,7 @@ use Rattle.query.proofs.Good.{good-query}
 -- A variable of some entries is one of the entries
 pub variable-in : (es : List theory.Entry) {v : ℕ} → v ∈ variables_of es → theory.variable v ∈ es
 unfolding variables_of
+variable-in [] {v = v} at = elim at [ ]
 variable-in (theory.constant n ∷ es) at = Memᴰ.tail (variable-in es at)
 variable-in (theory.variable w ∷ es) at =
     ⊎_elim (λ p. Memᴰ.head (ap theory.variable p)) (λ m. Memᴰ.tail (variable-in es m)) (Memᴰ.cases_cons at)
@@ -50,6 +51,7 @@ entry-within (Variable v) e = let h : v ≤ 95 = leb-true v 95 e in omega arith
 -- Good cells stand for entries within the limits
 pub cells-within : (cells : List Cell) {e : theory.Entry} → every good_cell cells ≡ true → e ∈ entries_of cells → Within e
 unfolding every
+cells-within [] {e = e} g x'' = elim x'' [ ]
 cells-within (c ∷ cs) g (Memᴰ.head p) = subst Within (sym p) (entry-within c.entry (and_left (good_cell c) (every good_cell cs) g))
 cells-within (c ∷ cs) g (Memᴰ.tail at) = cells-within cs (and_right (good_cell c) (every good_cell cs) g) at
 
@@ -104,6 +106,7 @@ module _ (schema : List ℕ) (narrow : (i : ℕ) → get_or schema i 0 ≤ 8) wh
   pub rows_fit : (rs : List ℕ) (cells : List Cell) {r : theory.Row theory.Entry} → 8 * length rs ≤ length cells
       → good_rows schema rs cells ≡ true → r ∈ rows_of schema rs cells → FitsSchema schema r
   unfolding rows_of
+  rows_fit [] cells {r = r} long good x3 = elim x3 [ ]
   rows_fit (k ∷ rs) cells long good (Memᴰ.head p) =
       let wide : get_or schema k 0 ≤ length cells = omega (arith, narrow k) in
       subst (FitsSchema schema) (sym p) (
@@ -116,6 +119,7 @@ module _ (schema : List ℕ) (narrow : (i : ℕ) → get_or schema i 0 ≤ 8) wh
   -- The entries of good rows are within the limits
   pub rows-within : (rs : List ℕ) (cells : List Cell) {e : theory.Entry} → good_rows schema rs cells ≡ true → e ∈ row_entries (rows_of schema rs cells) → Within e
   unfolding rows_of row_entries
+  rows-within [] cells {e = e} good at = elim at [ ]
   rows-within (k ∷ rs) cells good at =
       let w : ℕ = get_or schema k 0 in
       let used : every good_cell (take w (take 8 cells)) ≡ true =
@@ -172,6 +176,7 @@ unfolding columns_from
 columns-below start n mask zero {c} h at =
     let none : mask ≡ 0 = omega arith in
     absurd (Memᴰ.not-nil (subst (λ (cs : List ℕ). c ∈ cs) (no-columns start n) (subst (λ (m : ℕ). c ∈ columns_from start n m) none at)))
+columns-below start zero mask (suc k) {c = c} h at = elim at [ ]
 columns-below start (suc n) mask (suc k) {c} h at =
     let half : mask / 2 < 2 ^ k = omega (arith, two-pow-succ k) in
     go (eqb (mask % 2) 1) at (columns-below (suc start) n (mask / 2) k half)

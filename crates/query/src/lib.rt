@@ -1,14 +1,15 @@
 // A stored query, a place for one, a query with room for more rows, and stored dependencies of both kinds: their types.
+#![tactic(auto)]
 
 // An entry of a query: a constant or a variable, each by its number.
-#[derive(Drop)]
+#[derive(Clone, Copy)]
 pub enum Entry {
     Constant(u32),
     Variable(u8),
 }
 
 // One entry in an array.
-#[derive(Drop)]
+#[derive(Clone, Copy)]
 pub struct Cell {
     pub entry: Entry,
 }
@@ -20,7 +21,7 @@ pub const NO_CELL: Cell = Cell {
 
 // A query: a head of `arity` entries and `size` rows. Row r is of relation relations[r], and its entries are cells[8 * r ..], one a column.
 // A query without rows is the never query. What is not in use holds 0, an entry constant 0.
-#[derive(Drop)]
+#[derive(Clone, Copy)]
 pub struct Query {
     pub arity: u8,
     pub size: u8,
@@ -30,7 +31,7 @@ pub struct Query {
 }
 
 // A query with room for 24 rows, as the chase makes them; its fields are those of a query.
-#[derive(Drop)]
+#[derive(Clone, Copy)]
 pub struct Tableau {
     pub arity: u8,
     pub size: u8,
@@ -40,14 +41,14 @@ pub struct Tableau {
 }
 
 // A place for a query. A vacant one holds a query of zeros.
-#[derive(Drop)]
+#[derive(Clone, Copy)]
 pub struct Place {
     pub filled: bool,
     pub query: Query,
 }
 
 // A functional dependency: the columns of left (bit c for column c) determine column right of the relation.
-#[derive(Drop)]
+#[derive(Clone, Copy)]
 pub struct Dependency {
     pub relation: u8,
     pub left: u8,
@@ -62,7 +63,7 @@ pub const NO_DEPENDENCY: Dependency = Dependency {
 };
 
 // A join dependency: the relation is the join of its projections on the first `count` of the sets of columns (bit c for column c).
-#[derive(Drop)]
+#[derive(Clone, Copy)]
 pub struct JoinDependency {
     pub relation: u8,
     pub count: u8,

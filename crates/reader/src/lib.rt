@@ -1,4 +1,6 @@
 // The record of a file: the directory names the parts, and the first fault decides.
+#![tactic(auto)]
+
 ghost use Rattle.std.specs.Prelude.{◌≡◌, true, ◌+◌, ◌*◌, ◌≤◌, length, drop};
 ghost use Rattle.format.specs.File.{read_all, read_file, read_outcome, directory, chained, stretches};
 ghost use Rattle.record.specs.Calls.{outcome_reply};
@@ -29,7 +31,7 @@ fn chain(file: &[u8], n: usize) -> bool
 }
 
 // The number of parts, or a refusal.
-#[derive(Drop)]
+#[derive(Clone, Copy)]
 pub enum DirectoryRead {
     Parts(usize),
     Broken(u8),

@@ -1,4 +1,6 @@
 // Opening a record, dropping a query, and the columns that a set of columns determines.
+#![tactic(auto)]
+
 ghost use Rattle.std.specs.Prelude.{◌≡◌};
 ghost use Rattle.record.specs.Calls.{outcome_reply};
 ghost use Rattle.record_calls.specs.Calls.{blank_record, empty_record, open_record, drop_query, columns_reply, determined_columns};
@@ -7,7 +9,7 @@ use record::calls::{done, no_place, number, refused, with_place};
 use record::{Lookup, Outcome, Record};
 
 // What a question about determined columns answers: their set, bit c for column c, with their number; or the number of the refusal.
-#[derive(Drop)]
+#[derive(Clone, Copy)]
 pub enum Columns {
     Determined(u8, u8),
     Refused(u8),

@@ -1,4 +1,6 @@
 // The examples of the calls on the record alone (SPECIFICATION, Examples): a line for each call, with what it answered.
+#![tactic(auto)]
+
 mod records; // records.rt: limits, refusals and their order, determined columns
 
 fn main() {

@@ -1,5 +1,7 @@
 // The calls on the record alone, on files: a record is the bytes of its file, in and out.
 // Each returns 0, or the number of the refusal, which leaves every buffer and number that it is lent as it was.
+#![tactic(auto)]
+
 ghost use Rattle.std.specs.Prelude.{◌≡◌, true, length};
 ghost use Rattle.record.specs.Rule.{good_record};
 ghost use Rattle.record.specs.Calls.{outcome_reply, add_join};

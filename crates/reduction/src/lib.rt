@@ -1,5 +1,7 @@
 // Reducing the query of one place into a vacant one: chase it, lose rows while it can be mapped into itself without one of them, and find a mapping from the
 // query as it was stored.
+#![tactic(auto)]
+
 ghost use Rattle.std.specs.Prelude.{◌≡◌, ℕ, true, List};
 ghost use Rattle.lists.specs.Tests.{every, between};
 ghost use Rattle.query.specs.Rule.{good_query, head_safe};
@@ -14,7 +16,7 @@ use tableaux::{from_query, to_query};
 
 // What a reduction gives: its answer, the record after it, the number of replacements, and the mapping from the source query to the result.
 // Where there is no mapping, its images hold constant 0.
-#[derive(Drop)]
+#[derive(Clone, Copy)]
 pub struct Reduced {
     pub answer: Status,
     pub record: Record,
@@ -23,7 +25,7 @@ pub struct Reduced {
 }
 
 // A shortened query, the number of replacements, and the mapping from the query as it was. Where there is none, its images hold constant 0.
-#[derive(Drop)]
+#[derive(Clone, Copy)]
 struct Shortened {
     query: Query,
     count: u8,
@@ -52,7 +54,7 @@ fn shorten(q: Query, dependencies: [Dependency; 32], held: usize) -> Shortened
     let chased = chase::chase(from_query(q), dependencies, held);
     let tableau = chased.query;
     let query = to_query(tableau);
-    let result = core::core_of(query);
+    let result = query_core::core_of(query);
     let mapped = mapping::find(q, from_query(result));
     let images = mapped.images;
     Shortened {

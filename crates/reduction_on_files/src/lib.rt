@@ -1,4 +1,6 @@
 // Reducing on files: what the call leaves in what it is lent.
+#![tactic(auto)]
+
 ghost use Rattle.std.specs.Prelude.{length};
 ghost use Rattle.reduction_on_files.specs.Shortening.{reduction_fits, ReductionGiven, ReduceGives};
 ghost use Rattle.reduction_on_files.specs.internal.Steps.{SoundReduction};

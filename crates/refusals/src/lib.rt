@@ -1,4 +1,5 @@
 // The numbers with which calls are refused (SPECIFICATION, Refusals). specs/Refusals has the same names and the order in which they are asked.
+#![tactic(auto)]
 
 // 1: a file under 2 bytes, a wrong number of parts, or pairs that do not fit.
 pub const BAD_DIRECTORY: u8 = 1;

@@ -1,4 +1,6 @@
 // What a step of the chase does with the two entries that it finds (SPECIFICATION, The chase): which of them survives, and the replacement of the other.
+#![tactic(auto)]
+
 ghost use Rattle.std.specs.Prelude.{◌≡◌, Bool, true, map, ℕ, ◌*◌, ◌≤◌, take, drop};
 ghost use Rattle.query.specs.View.{entry_of, entries_of, as_query};
 ghost use Rattle.query.specs.Rule.{blank_cell};
@@ -10,7 +12,7 @@ ghost use Rattle.theory.specs.Chase as chasing;
 use query::{Cell, Entry, Tableau};
 
 // What two different entries that must be equal lead to: a clash, or the variable that goes and the entry that takes its place.
-#[derive(Drop)]
+#[derive(Clone, Copy)]
 pub enum Resolution {
     Clash,
     Replace(u8, Entry),

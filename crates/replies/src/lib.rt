@@ -1,4 +1,6 @@
 // What a test of a database and an evaluation on it answer, from what the search found.
+#![tactic(auto)]
+
 ghost use Rattle.std.specs.Prelude.{◌≡◌};
 ghost use Rattle.refusals.specs.Refusals.{gives};
 ghost use Rattle.replies.specs.Replies.{test_reply, count_reply, search_reply};
@@ -9,7 +11,7 @@ use words::Violation;
 // What a test says: the database obeys the dependencies; or the position of the first functional one that it breaks, with the positions of its first pair of
 // rows; or, where it breaks none of these, the position of the first join dependency that it breaks, with the positions of the rows of its first choice, 0
 // where there is no set; or the number of the refusal.
-#[derive(Drop)]
+#[derive(Clone, Copy)]
 pub enum Conformance {
     Obeys,
     Broken(usize, usize, usize),
@@ -18,7 +20,7 @@ pub enum Conformance {
 }
 
 // What an evaluation answers: how many answers were written, or the number of the refusal.
-#[derive(Drop)]
+#[derive(Clone, Copy)]
 pub enum Answered {
     Count(usize),
     Refused(u8),

@@ -1,5 +1,7 @@
 // The listing of a file, written into a lent buffer: `refused n`, or the lines of each filled place, reduced in a copy of the record from which every other
 // place is dropped.
+#![tactic(auto)]
+
 ghost use Rattle.std.specs.Prelude.{◌≡◌, true, ◌*◌, ◌≤◌, ◌<◌, length};
 ghost use Rattle.record.specs.Rule.{good_record};
 ghost use Rattle.record.specs.Calls.{is_filled};

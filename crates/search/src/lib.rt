@@ -4,6 +4,8 @@
 // placed next; a failure names rows to blame, and a row that is not among them hands the failure on at once. First one step of
 // the search, then the two functions that call each other, and last the call for other crates. Rows, candidates, masks and the
 // table are as in `consistency`.
+#![tactic(auto)]
+
 ghost use Rattle.std.specs.Prelude.{◌≡◌, true, false, ℕ, ◌<◌, ◌≤◌, get_or};
 ghost use Rattle.consistency.specs.internal.Solution.{Solution};
 ghost use Rattle.consistency.specs.internal.Consistent.{Below};
@@ -12,14 +14,14 @@ ghost use Rattle.search.specs.internal.Invariant.{IsEarlier, IsNext, IsCandidate
 use consistency::{State, all_links, choose, settled, start};
 
 // Whether there is a solution, and one. Without one, chosen means nothing.
-#[derive(Drop)]
+#[derive(Clone, Copy)]
 pub struct Solved {
     pub found: bool,
     pub chosen: [u8; 13],
 }
 
 // A solution, or the rows to blame: no solution has what is chosen at the placed ones of them.
-#[derive(Drop)]
+#[derive(Clone, Copy)]
 struct Attempt {
     found: bool,
     chosen: [u8; 13],
@@ -27,14 +29,14 @@ struct Attempt {
 }
 
 // What a test of choices finds: nothing, or rows whose choices are in no solution.
-#[derive(Drop)]
+#[derive(Clone, Copy)]
 enum Clash {
     Nothing,
     Rows(u16),
 }
 
 // The best row to be placed next of those seen, with its rank. No row yet: as many as there are rows.
-#[derive(Drop)]
+#[derive(Clone, Copy)]
 struct Best {
     row: usize,
     rank: u32,

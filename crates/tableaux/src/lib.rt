@@ -1,4 +1,6 @@
 // A stored query as a tableau, which has room for more rows, and back; and the tableaux that have no rows.
+#![tactic(auto)]
+
 ghost use Rattle.std.specs.Prelude.{◌≡◌, ◌++◌, take, replicate};
 ghost use Rattle.query.specs.Rule.{no_cell, never_tableau, no_tableau};
 ghost use Rattle.tableaux.specs.internal.Tableaux.{tableau_of, stored_of};

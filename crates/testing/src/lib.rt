@@ -1,6 +1,8 @@
 // The first of some dependencies that rows break, with its first pair of rows: one walk over the rows for each dependency, which skips to a row that
 // may be the first of a pair. A dependency whose left columns contain a key that an earlier walk has seen is obeyed, and needs no walk.
 // The lent slices hold tables of `grouping`: the larger they are, the fewer walks. What they hold before does not matter.
+#![tactic(auto)]
+
 ghost use Rattle.std.specs.Prelude.{ℕ, ◌≡◌, true, ◌≤◌, ◌<◌, map, take, get_or};
 ghost use Rattle.query.specs.View.{dependency_of};
 ghost use Rattle.words.specs.Words.{spells_rows, database_of};
@@ -16,21 +18,21 @@ use query::Dependency;
 use words::{Partner, RowPair, Violation};
 
 // The first pair of rows that break a dependency, and whether its left columns were seen to be a key of the rows.
-#[derive(Drop)]
+#[derive(Clone, Copy)]
 struct Tested {
     pair: RowPair,
     key: bool,
 }
 
 // The dependencies whose left columns were seen to be keys: the first `count` of an array.
-#[derive(Drop)]
+#[derive(Clone, Copy)]
 struct Keys {
     list: [Dependency; 32],
     count: usize,
 }
 
 // What is known once a dependency is tested: its first pair of rows, and the keys.
-#[derive(Drop)]
+#[derive(Clone, Copy)]
 struct Step {
     pair: RowPair,
     keys: Keys,

@@ -1,4 +1,6 @@
 // The lines of the listing, written into a lent buffer. Each function takes the position to write from and returns the one after.
+#![tactic(auto)]
+
 ghost use Rattle.std.specs.Prelude.{◌≡◌, ◌+◌, ◌*◌, ◌≤◌, true, [], ◌∷◌, ◌++◌, length, take, drop};
 ghost use Rattle.query.specs.View.{entry_of, entries_of, query_of, images_of};
 ghost use Rattle.query.specs.Rule.{good_relations, good_query};

@@ -59,6 +59,7 @@ map-agree f g (x ∷ xs) same = ap₂ ◌∷◌ (same x (Memᴰ.head refl)) (map
 
 -- A map that keeps a list keeps each of its elements
 pub map-fixes : {A : Type 0} (f : A → A) (xs : List A) → map f xs ≡ xs → (x : A) → x ∈ xs → f x ≡ x
+map-fixes {A = A} f [] same x x4 = elim x4 [ ]
 map-fixes f (y ∷ xs) same x (Memᴰ.head e) = let first : f y ≡ y = cc in cc
 map-fixes f (y ∷ xs) same x (Memᴰ.tail at) = let later : map f xs ≡ xs = cc in map-fixes f xs later x at
 
@@ -88,12 +89,14 @@ Nodup (x ∷ xs) = (x ∈ xs → ⊥) × Nodup xs
 -- A list without one element is one shorter
 pub without-length : {A : Type 0} {x : A} (xs : List A) (at : x ∈ xs) → suc (length (without xs at)) ≡ length xs
 unfolding without
+without-length {A = A} [] at = elim at [ ]
 without-length (y ∷ xs) (Memᴰ.head e) = refl
 without-length (y ∷ xs) (Memᴰ.tail at) = ap suc (without-length xs at)
 
 -- and has every other element still
 pub without-keeps : {A : Type 0} {x y : A} (xs : List A) (at : x ∈ xs) → y ∈ xs → (y ≡ x → ⊥) → y ∈ without xs at
 unfolding without
+without-keeps {A = A} {y = y} [] at there other = elim at [ ]
 without-keeps (z ∷ xs) (Memᴰ.head e) there other = mem-cases there (λ e'. absurd (other (e' ∙ sym e))) (λ at'. at')
 without-keeps (z ∷ xs) (Memᴰ.tail at) there other =
     mem-cases there (λ e'. Memᴰ.head e') (λ at'. Memᴰ.tail (without-keeps xs at at' other))
@@ -172,6 +175,7 @@ distinct-nodup (m ∷ ms) =
 -- A list that passes `subset` is a part of the other, and a part of it passes
 pub subset-true : (ms ns : List ℕ) → subset ms ns ≡ true → (n : ℕ) → n ∈ ms → n ∈ ns
 unfolding subset
+subset-true [] ns e n x'' = elim x'' [ ]
 subset-true (m ∷ ms) ns e n (Memᴰ.head same) = Memᴰ.cast same (member-mem m ns (and_left (member m ns) (subset ms ns) e))
 subset-true (m ∷ ms) ns e n (Memᴰ.tail at) = subset-true ms ns (and_right (member m ns) (subset ms ns) e) n at
 

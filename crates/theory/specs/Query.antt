@@ -10,6 +10,7 @@ x ∈ xs = Memᴰ x xs
 
 -- A list without the element at one position
 unfoldable pub without : {A : Type 0} {x : A} (xs : List A) → x ∈ xs → List A
+without {A = A} [] x'' = elim x'' [ ]
 without (y ∷ xs) (Memᴰ.head e) = xs
 without (y ∷ xs) (Memᴰ.tail at) = y ∷ without xs at
 

@@ -1,5 +1,7 @@
 // The rows of a database that arrives as words: the walk that judges them, and the rows that break a dependency with a given one.
 // `schema` is the width of each relation.
+#![tactic(auto)]
+
 ghost use Rattle.std.specs.Prelude.{◌≡◌, true, ◌+◌, ◌^◌, ◌≤◌, ◌<◌, length, drop, get_or};
 ghost use Rattle.query.specs.View.{dependency_of};
 ghost use Rattle.theory.specs.Chase.{first_passing};
@@ -82,14 +84,14 @@ pub fn breaks_at(words: &[u32], width: usize, d: Dependency, a: usize, b: usize)
 }
 
 // The position of a row that is found.
-#[derive(Drop)]
+#[derive(Clone, Copy)]
 pub enum Partner {
     At(usize),
     Absent,
 }
 
 // The positions of a pair of rows that is found.
-#[derive(Drop)]
+#[derive(Clone, Copy)]
 pub enum RowPair {
     At(usize, usize),
     Absent,
@@ -97,7 +99,7 @@ pub enum RowPair {
 
 // A dependency that is broken: a functional one by its position, and the positions of its pair of rows; or a join dependency by its position, and the
 // positions of the rows chosen for its sets, 0 where there is no set.
-#[derive(Drop)]
+#[derive(Clone, Copy)]
 pub enum Violation {
     At(usize, usize, usize),
     Joined(usize, usize, usize, usize, usize),

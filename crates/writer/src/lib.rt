@@ -1,4 +1,6 @@
 // The file of a record, written into a lent buffer.
+#![tactic(auto)]
+
 ghost use Rattle.std.specs.Prelude.{◌≡◌, true};
 ghost use Rattle.record.specs.Rule.{good_record};
 ghost use Rattle.writer.specs.Write.{length_reply, written, after_writing};
@@ -7,7 +9,7 @@ use assembly::{joins_length, places_length, put_directory, put_parts, up_to_fill
 use record::Record;
 
 // What writing answers: the length of the file, or the number of a refusal.
-#[derive(Drop)]
+#[derive(Clone, Copy)]
 pub enum Written {
     Length(usize),
     Refused(u8),

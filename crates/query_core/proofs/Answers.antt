@@ -1,6 +1,6 @@
 -- A query without the rows that it can do without has the answers of the query, on every database. It is a result of reduction under no dependencies.
 -- Assumes nothing.
-use Rattle.core.specs.Prelude.{◌≡◌, ℕ, ◌↔◌, List, []}
+use Rattle.std.specs.Prelude.{◌≡◌, ℕ, ◌↔◌, List, []}
 use mathlib.Core.Path.{refl, sym, ap, subst, ◌∙◌}
 use mathlib.Core.List.Memᴰ
 use Rattle.query.specs.declared.Query.{Query}
@@ -12,7 +12,7 @@ use Rattle.theory.specs.Answer.{Answer, Mapping}
 use Rattle.theory.specs.Chase.{chase, chase_for, chase_on, step, first_broken, first_found}
 use Rattle.minimization.specs.Reduction.{Reduction}
 use Rattle.minimization.proofs.Reduction.{reduction-answers, reduction-wellformed}
-use Rattle.core.specs.internal.CoreOf.{IsCoreOf}
+use Rattle.query_core.specs.internal.CoreOf.{IsCoreOf}
 
 -- Without dependencies the chase rests at once
 chase-nothing : (q : theory.Query) → (chase [] q).query ≡ q
