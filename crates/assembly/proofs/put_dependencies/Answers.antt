@@ -1,0 +1,108 @@
+use borrow.Author.Rules.{rules}
+use mathlib.Core.Path.{◌≡◌, refl, ◌∙◌}
+use mathlib.Core.List.{List, flat_map}
+use Prim.Native.Nat.{ℕ, ◌+◌, ◌*◌, ◌-◌, ◌≤◌, ◌<◌}
+use native.Mathlib.Nat.{add-zero}
+use native.Mathlib.Omega.{arith}
+use lib.ListN.{length, take, get_or, set, length-set}
+use lib.Seq.{length-take-le, get_or-take}
+use Rattle.query.specs.declared.Dependency.{Dependency}
+use Rattle.query.specs.Rule.{no_dependency}
+use Rattle.lists.specs.Over.{over}
+use Rattle.format.proofs.Lengths.{length-flat_map}
+use Rattle.assembly.specs.internal.Pieces.{put_dependency}
+use Rattle.encoder.proofs.Stores.{Writing, writing-starts, writing-room, writing-turns, writing-ends, byte-and-run}
+use Rattle.assembly.proofs.put_dependencies.Goals as goal
+
+begins : (buffer : List ℕ) (at held : ℕ) (list : List Dependency) → held ≤ length list → at + 1 + 3 * held ≤ length buffer
+    → Writing put_dependency buffer (at + 1) (take held list) buffer (at + 1 + 0) 0
+begins buffer at held list l h =
+    let e : length (flat_map put_dependency (take held list)) ≡ 3 * length (take held list) = length-flat_map put_dependency 3 (λ d. refl) (take held list) in
+    let k : length (take held list) ≡ held = length-take-le held list l in
+    rw (add-zero (at + 1)) (writing-starts put_dependency buffer (at + 1) (take held list) (omega arith))
+
+module _ (before : List ℕ) (at held : ℕ) (list : List Dependency) (buffer : List ℕ) (i : ℕ) (h : i < held) (l : held ≤ length list)
+    (w : Writing put_dependency before (at + 1) (take held list) buffer (at + 1 + 3 * i) i) where
+  room : at + 1 + 3 * i + 3 ≤ length buffer
+  room = let k : length (take held list) ≡ held = length-take-le held list l in omega (arith, writing-room w no_dependency (omega arith))
+
+  goes_on : (next : List ℕ) → next ≡ over buffer (at + 1 + 3 * i) (put_dependency (get_or list i no_dependency))
+      → Writing put_dependency before (at + 1) (take held list) next (at + 1 + 3 * (i + 1)) (i + 1)
+  goes_on next e =
+      let k : length (take held list) ≡ held = length-take-le held list l in
+      let g : get_or (take held list) i no_dependency ≡ get_or list i no_dependency = get_or-take held list i no_dependency h in
+      writing-turns w no_dependency next (at + 1 + 3 * (i + 1)) (omega arith) (rw g e) (omega arith)
+
+pub loop-i-init : goal.loop-i-init
+loop-i-init c =
+    let l : length c.args.list ≡ 32 = search rules in (
+      omega arith,
+      begins (set c.args.buffer.now c.args.at c.args.held) c.args.at c.args.held
+          c.args.list (omega (arith, c.requires.0)) (rw length-set c.requires.1),
+    )
+
+pub overflow_add-at : goal.overflow_add-at
+overflow_add-at c =
+    let l : length c.args.list ≡ 32 = search rules in
+    let after-loop = c in
+    let start = after-loop in
+    let r =
+    room (set start.args.buffer.now start.args.at start.args.held) start.args.at start.args.held start.args.list
+    after-loop.loop-i.buffer after-loop.loop-i.i c.loop-i-test.true (omega (arith, start.requires.0)) after-loop.loop-i.invariant.1 in
+    omega (arith, r)
+
+pub overflow_mul-i : goal.overflow_mul-i
+overflow_mul-i c =
+    let l : length c.args.list ≡ 32 = search rules in
+    let after-loop = c in
+    let start = after-loop in
+    let r =
+    room (set start.args.buffer.now start.args.at start.args.held) start.args.at start.args.held start.args.list
+    after-loop.loop-i.buffer after-loop.loop-i.i c.loop-i-test.true (omega (arith, start.requires.0)) after-loop.loop-i.invariant.1 in
+    omega (arith, r)
+
+pub overflow_add-at-in-loop-i : goal.overflow_add-at-in-loop-i
+overflow_add-at-in-loop-i c =
+    let l : length c.args.list ≡ 32 = search rules in
+    let after-loop = c in
+    let start = after-loop in
+    let r =
+    room (set start.args.buffer.now start.args.at start.args.held) start.args.at start.args.held start.args.list
+    after-loop.loop-i.buffer after-loop.loop-i.i c.loop-i-test.true (omega (arith, start.requires.0)) after-loop.loop-i.invariant.1 in
+    omega (arith, r)
+
+pub put_dependency-requires : goal.put_dependency-requires
+put_dependency-requires c =
+    let l : length c.args.list ≡ 32 = search rules in
+    let after-loop = c in
+    let start = after-loop in
+    room (set start.args.buffer.now start.args.at start.args.held) start.args.at start.args.held start.args.list
+    after-loop.loop-i.buffer after-loop.loop-i.i c.loop-i-test.true (omega (arith, start.requires.0)) after-loop.loop-i.invariant.1
+
+pub loop-i-preserved : goal.loop-i-preserved
+loop-i-preserved c =
+    let l : length c.args.list ≡ 32 = search rules in
+    let after-put-dependency = c in
+    let after-loop-test = after-put-dependency in
+    let after-loop = after-loop-test in
+    let start = after-loop in (
+      search rules,
+      goes_on (set start.args.buffer.now start.args.at start.args.held) start.args.at start.args.held start.args.list
+          after-loop.loop-i.buffer after-loop.loop-i.i after-loop-test.loop-i-test.true (omega (arith, start.requires.0)) after-loop.loop-i.invariant.1
+          after-put-dependency.put_dependency.new.0 after-put-dependency.put_dependency.ensures,
+    )
+
+pub shape_of-buffer : goal.shape_of-buffer
+shape_of-buffer c =
+    let start = c in
+    c.loop-i.invariant.1.long ∙ length-set start.args.buffer.now start.args.at start.args.held
+
+pub returns : goal.returns
+returns c =
+    let l : length c.args.list ≡ 32 = search rules in
+    let start = c in
+    let k : length (take start.args.held start.args.list) ≡ start.args.held =
+    length-take-le start.args.held start.args.list (omega (arith, start.requires.0)) in
+    byte-and-run start.args.buffer.now start.args.at start.args.held (flat_map put_dependency (take start.args.held start.args.list))
+    c.loop-i.buffer (omega (arith, start.requires.1))
+    (writing-ends c.loop-i.invariant.1 (omega arith)).0

@@ -1,0 +1,125 @@
+-- `assembly::put_joins` meets its contract. Invariant: the join dependencies from i on are still to be written. Assumes nothing.
+-- Nothing is written where none is held
+use mathlib.Core.Path.{◌≡◌, sym, ap, ◌∙◌}
+use mathlib.Core.List.{List, [], ◌∷◌, flat_map}
+use Prim.Native.Nat.{ℕ, ◌+◌, ◌-◌, ◌≤◌, ◌<◌}
+use native.Mathlib.Omega.{arith}
+use lib.ListN.{length, take, get_or, set, length-set}
+use lib.Seq.{length-take-le, get_or-take}
+use borrow.Author.Tests.{leb-true}
+use borrow.Author.Rules.{rules}
+use Rattle.query.specs.declared.JoinDependency.{JoinDependency}
+use Rattle.lists.specs.Over.{over}
+use Rattle.lists.proofs.Over.{over-nil}
+use Rattle.lists.proofs.Tests.{every-get_or}
+use Rattle.limits.proofs.Sets.{past_join}
+use Rattle.encoder.proofs.Stores.{Writing, writing-starts, writing-room, writing-turns, writing-ends, byte-and-run}
+use Rattle.assembly.specs.internal.Pieces.{put_join, few_sets, joins_bytes}
+use Rattle.assembly.proofs.Joins.{joins-none, joins-some}
+use Rattle.assembly.proofs.put_joins.Goals as goal
+
+nothing : (buffer : List ℕ) (at joined : ℕ) (list : List JoinDependency) → joined ≡ 0
+    → (buffer ≡ over buffer at (joins_bytes joined list)) × (at ≡ at + length (joins_bytes joined list))
+nothing buffer at joined list e =
+    let none : joins_bytes joined list ≡ [] = joins-none joined list e in
+    (sym (ap (over buffer at) none ∙ over-nil buffer at), omega (arith, ap length none))
+
+module _ (before : List ℕ) (at n : ℕ) (list : List JoinDependency) (buffer : List ℕ) (next i : ℕ) (h : i < n) (l : n ≤ length list)
+    (w : Writing put_join before (at + 1) (take n list) buffer next i) where
+  same : get_or (take n list) i past_join ≡ get_or list i past_join
+  same = get_or-take n list i past_join h
+
+  room : next + length (put_join (get_or list i past_join)) ≤ length buffer
+  room = let m : length (take n list) ≡ n = length-take-le n list l in rw (← same) (writing-room w past_join (omega arith))
+
+  goes_on : (after : List ℕ) (to : ℕ) → after ≡ over buffer next (put_join (get_or list i past_join)) → to ≡ next + length (put_join (get_or list i past_join))
+      → Writing put_join before (at + 1) (take n list) after to (i + 1)
+  goes_on after to e t =
+      let m : length (take n list) ≡ n = length-take-le n list l in writing-turns w past_join after to (omega arith) (rw same e) (rw same t)
+
+-- All are written
+ended : (buffer : List ℕ) (at joined : ℕ) (list : List JoinDependency) (after : List ℕ) (next : ℕ) → (joined ≡ 0 → ⊥) → at < length buffer
+    → (after ≡ over (set buffer at joined) (at + 1) (flat_map put_join (take joined list))) × (next ≡ at + 1 + length (flat_map put_join (take joined list)))
+    → (after ≡ over buffer at (joins_bytes joined list)) × (next ≡ at + length (joins_bytes joined list))
+ended buffer at joined list after next some h e =
+    let all : joins_bytes joined list ≡ joined ∷ flat_map put_join (take joined list) = joins-some joined list some in (
+      byte-and-run buffer at joined (flat_map put_join (take joined list)) after h e.0 ∙ ap (over buffer at) (sym all),
+      omega (arith, ap length all, e.1),
+    )
+
+four : (c : tie.Start invariant-loop decreases-loop) → length c.args.list ≡ 4
+four c = search rules
+
+-- There is room for the count and each join dependency
+whole : (c : tie.Else1 invariant-loop decreases-loop)
+    → c.args.at + 1 + length (flat_map put_join (take c.args.joined c.args.list))
+    ≤ length c.args.buffer.now
+whole c =
+    let start = c in
+    let all = ap length (joins-some start.args.joined start.args.list c.if-joined-eq0.false) in
+    omega (arith, all, start.requires.1)
+
+pub returns-then-joined-eq0 : goal.returns-then-joined-eq0
+returns-then-joined-eq0 c =
+    let start = c in
+    nothing start.args.buffer.now start.args.at start.args.joined start.args.list c.if-joined-eq0.true
+
+pub bounds-buffer-at : goal.bounds-buffer-at
+bounds-buffer-at c = omega (arith, whole c)
+
+pub overflow_add-next : goal.overflow_add-next
+overflow_add-next c = let room = whole c in search rules
+
+pub loop-i-init : goal.loop-i-init
+loop-i-init c =
+    let a = c.args in (
+      omega arith,
+      writing-starts put_join (set a.buffer-1.now a.at a.joined) (a.at + 1) (take a.joined a.list)
+          (rw (length-set a.buffer-1.now a.at a.joined) (whole c)),
+    )
+
+pub bounds-list-i : goal.bounds-list-i
+bounds-list-i c = let few = c.requires.0.0 in search rules
+
+pub put_join-next-requires : goal.put_join-next-requires
+put_join-next-requires c =
+    let in-loop = c in
+    let at-loop = in-loop in
+    let start = at-loop in
+    let a = start.args in (
+      leb-true _ 4
+          (every-get_or few_sets a.list at-loop.loop-i.i past_join start.requires.0.1 (omega (arith, four start, start.requires.0.0, in-loop.loop-i-test.true))),
+      room (set a.buffer-1.now a.at a.joined) a.at a.joined a.list at-loop.loop-i.buffer at-loop.loop-i.next at-loop.loop-i.i
+          in-loop.loop-i-test.true (omega (arith, four start, start.requires.0.0)) at-loop.loop-i.invariant.1,
+    )
+
+pub loop-i-preserved : goal.loop-i-preserved
+loop-i-preserved c =
+    let after-put-join = c in
+    let in-loop = after-put-join in
+    let at-loop = in-loop in
+    let start = at-loop in
+    let a = start.args in (
+      search rules,
+      goes_on (set a.buffer-1.now a.at a.joined) a.at a.joined a.list at-loop.loop-i.buffer at-loop.loop-i.next at-loop.loop-i.i
+          in-loop.loop-i-test.true (omega (arith, four start, start.requires.0.0)) at-loop.loop-i.invariant.1 after-put-join.put_join-next.new.0
+          after-put-join.put_join-next.result after-put-join.put_join-next.ensures.0 after-put-join.put_join-next.ensures.1,
+    )
+
+pub shape_of-buffer : goal.shape_of-buffer
+shape_of-buffer c =
+    let a = c.args in
+    c.loop-i.invariant.1.long ∙ length-set a.buffer-1.now a.at a.joined
+
+pub returns : goal.returns
+returns c =
+    let after-if1 = c in
+    let start = after-if1 in
+    let a = start.args in
+    let k : length (take a.joined a.list) ≡ a.joined = length-take-le a.joined a.list (omega (arith, four start, start.requires.0.0)) in
+    ended a.buffer-1.now a.at a.joined a.list c.loop-i.buffer c.loop-i.next after-if1.if-joined-eq0.false
+    (omega (arith, whole after-if1)) (writing-ends c.loop-i.invariant.1 (omega (arith, c.loop-i-test.false)))
+
+-- TODO names tie: four
+
+-- TODO names tie: whole

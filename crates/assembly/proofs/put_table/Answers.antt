@@ -1,0 +1,234 @@
+-- The parts from place k on
+use borrow.Author.Rules.{rules}
+use mathlib.Core.Path.{◌≡◌, sym, ap, refl, ◌∙◌}
+use mathlib.Core.List.{List, ◌∷◌, ◌++◌, map}
+use Prim.Native.Nat.{ℕ, ◌+◌, ◌*◌, ◌-◌, ◌≤◌, ◌<◌}
+use native.Mathlib.Nat.{add-zero}
+use native.Mathlib.Omega.{arith}
+use lib.ListN.{length, take, drop, get_or, length-append, length-drop, length-map}
+use lib.Seq.{length-take-le}
+use Rattle.query.specs.declared.Place.{Place}
+use Rattle.query.specs.Rule.{good_place}
+use Rattle.lists.specs.Over.{over}
+use Rattle.format.specs.Bytes.{bytes_of}
+use Rattle.format.specs.File.{table_of, put_place}
+use Rattle.lists.proofs.Over.{over-nil, over-length, over-over}
+use Rattle.lists.proofs.Tests.{every-get_or}
+use Rattle.query.proofs.Shape.{past_place}
+use Rattle.format.proofs.Numbers.{length-bytes}
+use Rattle.format.proofs.Directory.{length-table}
+use Rattle.assembly.proofs.FirstPlaces.{parts_next, parts-end}
+use Rattle.assembly.proofs.put_table.Goals as goal
+
+abbrev parts_from : List ℕ → List Place → ℕ → ℕ → List (List ℕ)
+parts_from schema places n k = map (put_place schema) (drop k (take n places))
+
+-- What has been written of the table
+record At (schema before : List ℕ) (at start n : ℕ) (places : List Place) (buffer : List ℕ) (due k : ℕ) : Type 0 where
+  few : k ≤ n
+  small : due ≤ 1000 + 534 * k
+  long : length buffer ≡ length before
+  rest : over before at (table_of start (map (put_place schema) (take n places))) ≡ over buffer (at + 4 * k) (table_of due (parts_from schema places n k))
+
+
+begins : (schema before : List ℕ) (at start n : ℕ) (places : List Place) → start ≤ 1000 → At schema before at start n places before start 0
+begins schema before at start n places h =
+    record {
+      few =
+          omega arith;
+      small =
+          omega arith;
+      long = refl;
+      rest = ap (λ (m : ℕ). over before m (table_of start (map (put_place schema) (take n places)))) (sym (add-zero at));
+    }
+
+parts-left : (schema : List ℕ) (places : List Place) (n k : ℕ) → n ≤ length places → length (parts_from schema places n k) ≡ n - k
+parts-left schema places n k l =
+    let m : length (take n places) ≡ n = length-take-le n places l in
+    length-map (drop k (take n places)) (put_place schema) ∙ length-drop k (take n places) ∙ ap (λ (j : ℕ). j - k) m
+
+table-cons : (due : ℕ) (p : List ℕ) (ps : List (List ℕ)) → table_of due (p ∷ ps) ≡ bytes_of 2 due ++ bytes_of 2 (length p) ++ table_of (due + length p) ps
+unfolding table_of
+table-cons due p ps = refl
+
+module _ (schema before : List ℕ) (at start n : ℕ) (places : List Place) (buffer : List ℕ) (due k : ℕ) (l : n ≤ length places)
+    (room : at + 4 * n ≤ length before)
+    (f : At schema before at start n places buffer due k) (h : k < n) where
+  room-first : at + 4 * k + 2 ≤ length buffer
+  room-first = omega (arith, f.long)
+
+  module _ (first : List ℕ) (e₁ : first ≡ over buffer (at + 4 * k) (bytes_of 2 due)) where
+    first-long : length first ≡ length buffer
+    first-long = ap length e₁ ∙ over-length buffer (bytes_of 2 due) (at + 4 * k) (omega (arith, length-bytes 2 due, room-first))
+
+    room-second : at + 4 * k + 2 + 2 ≤ length first
+    room-second = omega (arith, first-long, f.long)
+
+    goes_on : (size : ℕ) → size ≡ length (put_place schema (get_or places k past_place)) → size ≤ 534 → (second : List ℕ)
+        → second ≡ over first (at + 4 * k + 2) (bytes_of 2 size)
+        → At schema before at start n places second (due + size) (k + 1)
+    goes_on size es small second e₂ =
+        let p : List ℕ = put_place schema (get_or places k past_place) in
+        let ps : List (List ℕ) = parts_from schema places n (k + 1) in
+        let more : List ℕ = table_of (due + length p) ps in
+        let pair : List ℕ = bytes_of 2 due ++ bytes_of 2 (length p) in
+        let ld : length (bytes_of 2 due) ≡ 2 = length-bytes 2 due in
+        let lp : length (bytes_of 2 (length p)) ≡ 2 = length-bytes 2 (length p) in
+        let lq : length pair ≡ 4 = length-append (bytes_of 2 due) (bytes_of 2 (length p)) ∙ omega arith in
+        let lm : length more ≡ 4 * (n - (k + 1)) = length-table (due + length p) ps ∙ ap (λ (j : ℕ). 4 * j) (parts-left schema places n (k + 1) l) in
+        let long = f.long in
+        let split : table_of due (parts_from schema places n k) ≡ pair ++ more = ap (table_of due) (parts_next schema places n k l h) ∙ table-cons due p ps in
+        let n₁ : at + 4 * k + 2 ≡ at + 4 * k + length (bytes_of 2 due) = omega arith in
+        let two : second ≡ over buffer (at + 4 * k) pair =
+        e₂ ∙ ap (λ (b : List ℕ). over b (at + 4 * k + 2) (bytes_of 2 size)) e₁
+        ∙ ap (λ (s : ℕ). over (over buffer (at + 4 * k) (bytes_of 2 due)) (at + 4 * k + 2) (bytes_of 2 s)) es
+        ∙ ap (λ (j : ℕ). over (over buffer (at + 4 * k) (bytes_of 2 due)) j (bytes_of 2 (length p))) n₁
+        ∙ over-over buffer (at + 4 * k) (bytes_of 2 due) (bytes_of 2 (length p)) (omega arith) in
+        let n₂ : at + 4 * k + length pair ≡ at + 4 * (k + 1) = omega arith in
+        let three : over buffer (at + 4 * k) (pair ++ more) ≡ over second (at + 4 * (k + 1)) more =
+        sym (ap (λ (b : List ℕ). over b (at + 4 * (k + 1)) more) two ∙ ap (λ (j : ℕ). over (over buffer (at + 4 * k) pair) j more) (sym n₂)
+        ∙ over-over buffer (at + 4 * k) pair more (omega arith)) in
+        record {
+          few = omega arith;
+          small = omega (arith, f.small);
+          long = ap length two ∙ over-length buffer pair (at + 4 * k) (omega arith) ∙ long;
+          rest = f.rest ∙ ap (over buffer (at + 4 * k)) split ∙ three ∙ ap (λ (s : ℕ). over second (at + 4 * (k + 1)) (table_of (due + s) ps)) (sym es);
+        }
+
+ended : (schema before : List ℕ) (at start n : ℕ) (places : List Place) (buffer : List ℕ) (due k : ℕ) → n ≤ length places
+    → At schema before at start n places buffer due k → n ≤ k
+    → buffer ≡ over before at (table_of start (map (put_place schema) (take n places)))
+unfolding table_of
+ended schema before at start n places buffer due k l f h =
+    sym (f.rest ∙ ap (λ (ps : List (List ℕ)). over buffer (at + 4 * k) (table_of due ps)) (parts-end schema places n k l h) ∙ over-nil buffer (at + 4 * k))
+
+pub loop-k-init : goal.loop-k-init
+loop-k-init c =
+    begins (take c.args.count c.args.widths) c.args.buffer.now c.args.at c.args.start
+    c.args.n c.args.places c.requires.1.1.0.1
+
+pub place_length-size-requires : goal.place_length-size-requires
+place_length-size-requires c =
+    let l : length c.args.places ≡ 8 = search rules in
+    let start = c in (
+      start.requires.0,
+      every-get_or (good_place (take start.args.count start.args.widths)) start.args.places c.loop-k.k past_place
+          start.requires.1.0 (omega (arith, start.requires.1.1.0.0)),
+    )
+
+pub overflow_mul-k : goal.overflow_mul-k
+overflow_mul-k c =
+    let l : length c.args.places ≡ 8 = search rules in
+    let after-loop = c in
+    let start' = after-loop in
+    omega (
+      arith,
+      room-first (take start'.args.count start'.args.widths) start'.args.buffer.now start'.args.at start'.args.start
+          start'.args.n start'.args.places after-loop.loop-k.buffer after-loop.loop-k.due after-loop.loop-k.k (omega (arith, start'.requires.1.1.0.0))
+          start'.requires.1.1.1 after-loop.loop-k.invariant c.loop-k-test.true,
+    )
+
+pub overflow_add-at : goal.overflow_add-at
+overflow_add-at c =
+    let l : length c.args.places ≡ 8 = search rules in
+    let after-loop = c in
+    let start' = after-loop in
+    omega (
+      arith,
+      room-first (take start'.args.count start'.args.widths) start'.args.buffer.now start'.args.at start'.args.start
+          start'.args.n start'.args.places after-loop.loop-k.buffer after-loop.loop-k.due after-loop.loop-k.k (omega (arith, start'.requires.1.1.0.0))
+          start'.requires.1.1.1 after-loop.loop-k.invariant c.loop-k-test.true,
+    )
+
+pub put_word-requires : goal.put_word-requires
+put_word-requires c =
+    let l : length c.args.places ≡ 8 = search rules in
+    let after-loop = c in
+    let start' = after-loop in
+    room-first (take start'.args.count start'.args.widths) start'.args.buffer.now start'.args.at start'.args.start start'.args.n
+    start'.args.places after-loop.loop-k.buffer after-loop.loop-k.due after-loop.loop-k.k (omega (arith, start'.requires.1.1.0.0)) start'.requires.1.1.1
+    after-loop.loop-k.invariant c.loop-k-test.true
+
+pub overflow_mul-k-in-loop-k : goal.overflow_mul-k-in-loop-k
+overflow_mul-k-in-loop-k c =
+    let l : length c.args.places ≡ 8 = search rules in
+    let after-loop-test = c in
+    let after-loop = after-loop-test in
+    let start' = after-loop in
+    omega (
+      arith,
+      room-first (take start'.args.count start'.args.widths) start'.args.buffer.now start'.args.at start'.args.start
+          start'.args.n start'.args.places after-loop.loop-k.buffer after-loop.loop-k.due after-loop.loop-k.k (omega (arith, start'.requires.1.1.0.0))
+          start'.requires.1.1.1 after-loop.loop-k.invariant after-loop-test.loop-k-test.true,
+    )
+
+pub overflow_add-at-in-loop-k : goal.overflow_add-at-in-loop-k
+overflow_add-at-in-loop-k c =
+    let l : length c.args.places ≡ 8 = search rules in
+    let after-loop-test = c in
+    let after-loop = after-loop-test in
+    let start' = after-loop in
+    omega (
+      arith,
+      room-first (take start'.args.count start'.args.widths) start'.args.buffer.now start'.args.at start'.args.start
+          start'.args.n start'.args.places after-loop.loop-k.buffer after-loop.loop-k.due after-loop.loop-k.k (omega (arith, start'.requires.1.1.0.0))
+          start'.requires.1.1.1 after-loop.loop-k.invariant after-loop-test.loop-k-test.true,
+    )
+
+pub overflow_add-at-in-loop-k-2 : goal.overflow_add-at-in-loop-k-2
+overflow_add-at-in-loop-k-2 c =
+    let l : length c.args.places ≡ 8 = search rules in
+    let after-loop-test = c in
+    let after-loop = after-loop-test in
+    let start' = after-loop in
+    omega (
+      arith,
+      room-first (take start'.args.count start'.args.widths) start'.args.buffer.now start'.args.at start'.args.start
+          start'.args.n start'.args.places after-loop.loop-k.buffer after-loop.loop-k.due after-loop.loop-k.k (omega (arith, start'.requires.1.1.0.0))
+          start'.requires.1.1.1 after-loop.loop-k.invariant after-loop-test.loop-k-test.true,
+    )
+
+pub put_word-requires-in-loop-k : goal.put_word-requires-in-loop-k
+put_word-requires-in-loop-k c =
+    let l : length c.args.places ≡ 8 = search rules in
+    let after-put-word = c in
+    let after-loop-test = after-put-word in
+    let after-loop = after-loop-test in
+    let start' = after-loop in
+    room-second (take start'.args.count start'.args.widths) start'.args.buffer.now start'.args.at start'.args.start start'.args.n
+    start'.args.places after-loop.loop-k.buffer after-loop.loop-k.due after-loop.loop-k.k (omega (arith, start'.requires.1.1.0.0)) start'.requires.1.1.1
+    after-loop.loop-k.invariant after-loop-test.loop-k-test.true after-put-word.put_word.new.0 after-put-word.put_word.ensures
+
+pub overflow_add-due : goal.overflow_add-due
+overflow_add-due c =
+    let after-place-length = c in
+    let after-loop = after-place-length in
+    let start = after-loop in
+    omega (arith, after-place-length.place_length-size.ensures.1, after-loop.loop-k.invariant.small, after-loop.loop-k.invariant.few, start.requires.1.1.0.0)
+
+pub loop-k-preserved : goal.loop-k-preserved
+loop-k-preserved c =
+    let l : length c.args.places ≡ 8 = search rules in
+    let after-put-word2 = c in
+    let after-put-word = after-put-word2 in
+    let after-place-length = after-put-word in
+    let after-loop-test = after-place-length in
+    let after-loop = after-loop-test in
+    let start' = after-loop in
+    goes_on (take start'.args.count start'.args.widths) start'.args.buffer.now start'.args.at start'.args.start start'.args.n
+    start'.args.places after-loop.loop-k.buffer after-loop.loop-k.due after-loop.loop-k.k (omega (arith, start'.requires.1.1.0.0)) start'.requires.1.1.1
+    after-loop.loop-k.invariant after-loop-test.loop-k-test.true after-put-word.put_word.new.0 after-put-word.put_word.ensures
+    after-place-length.place_length-size.result after-place-length.place_length-size.ensures.0 after-place-length.place_length-size.ensures.1
+    after-put-word2.put_word-in-loop-k.new.0 after-put-word2.put_word-in-loop-k.ensures
+
+pub shape_of-buffer : goal.shape_of-buffer
+shape_of-buffer c =
+    c.loop-k.invariant.long
+
+pub returns : goal.returns
+returns c =
+    let l : length c.args.places ≡ 8 = search rules in
+    let start' = c in
+    ended (take start'.args.count start'.args.widths) start'.args.buffer.now start'.args.at start'.args.start start'.args.n
+    start'.args.places c.loop-k.buffer c.loop-k.due c.loop-k.k (omega (arith, start'.requires.1.1.0.0)) c.loop-k.invariant
+    c.loop-k-test.false

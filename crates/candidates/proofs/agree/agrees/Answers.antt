@@ -1,0 +1,29 @@
+-- `agrees` tells whether the two rows take each shared variable to one number. The invariant: they do in the columns passed.
+-- Assumes nothing.
+use borrow.Author.Rules.{rules}
+use borrow.Author.Count.{below_more}
+use mathlib.Core.Path.{sym, ◌∙◌}
+use mathlib.Core.Bool.{false≢true}
+use borrow.Author.Tests.{not-true, not-false}
+use Prim.Native.Nat.{◌-◌}
+use native.Mathlib.Nat.{not-le_of_lt}
+use mathlib.Core.Logic.{⊎_elim}
+use Rattle.query.proofs.Codes.{code-constant, code-variable}
+use Rattle.lists.proofs.Positions.{tells-true, tells-false}
+use Rattle.candidates.proofs.agree.agrees.Goals as goal
+
+pub returns-then-not-takes : goal.returns-then-not-takes
+returns-then-not-takes c =
+    let large = (code-variable _ _ (sym c.decode-own.ensures ∙ c.in-Variable.is)).0 in
+    let i = c.loop-i.i in
+    tells-false (λ p. false≢true (sym (not-true _ c.if-not-takes.true) ∙ c.takes.ensures.1 (p i (search rules) large)))
+
+pub loop-i-preserved : goal.loop-i-preserved
+loop-i-preserved c = (
+  search rules,
+  below_more _ _ c.loop-i.invariant.1
+      (⊎_elim (λ w e. absurd (not-le_of_lt (code-constant _ _ (sym c.decode-own.ensures ∙ w.in-Constant.1.given.1)) e)) (λ w e. w.if-not-takes.ensures.0 (not-false _ w.4.left)) c.match-own.branch-raw),
+)
+
+pub returns : goal.returns
+returns c = tells-true (λ j h. c.loop-i.invariant.1 j (search rules))

@@ -1,0 +1,26 @@
+-- `fixes` tells whether the image has the row's constants. The invariant: it has those of the columns passed.
+-- Assumes nothing.
+use borrow.Author.Rules.{rules}
+use borrow.Author.Count.{below_more}
+use mathlib.Core.Path.{sym, ◌∙◌}
+use Prim.Native.Nat.{◌-◌}
+use native.Mathlib.Nat.{not-le_of_lt}
+use mathlib.Core.Logic.{⊎_elim}
+use Rattle.query.proofs.Codes.{code-constant, code-variable}
+use Rattle.lists.proofs.Positions.{tells-true, tells-false}
+use Rattle.candidates.proofs.agree.fixes.Goals as goal
+
+pub returns-then-target-d : goal.returns-then-target-d
+returns-then-target-d c =
+    let small = code-constant _ _ (sym c.decode-own.ensures ∙ c.in-Constant.is) in
+    tells-false (λ p. c.if-target-d.true (p c.loop-i.i (search rules) small))
+
+pub loop-i-preserved : goal.loop-i-preserved
+loop-i-preserved c = (
+  search rules,
+  below_more _ _ c.loop-i.invariant.1
+      (⊎_elim (λ w e. w.3.left) (λ w e. absurd (not-le_of_lt e (code-variable _ _ (sym c.decode-own.ensures ∙ w.in-Variable.1.given.1)).0)) c.match-own.branch-raw),
+)
+
+pub returns : goal.returns
+returns c = tells-true (λ j h. c.loop-i.invariant.1 j (search rules))

@@ -1,0 +1,24 @@
+-- `spernevan_check` gives what checking promises, once the file is read. Assumes nothing.
+use mathlib.Core.Path.{refl}
+use Rattle.refusals.specs.Refusals.{reply}
+use Rattle.comparison.specs.Comparison.{pair_refusal}
+use Rattle.record_on_files.proofs.Files.{read_done, read-refused}
+use Rattle.comparison_on_files.specs.Queries.{words_map}
+use Rattle.comparison_on_files.proofs.Checks.{says_same}
+use Rattle.comparison_on_files.proofs.check_in_file.Goals as goal
+
+pub returns-in-Done : goal.returns-in-Done
+returns-in-Done c =
+    let a = c.args in
+    let read = c.read-outcome in
+    says_same
+    (read_done a.file.now read.result read.ensures (λ r. reply (pair_refusal r a.p a.q) (words_map r a.p a.q a.mapping.now))
+    c.in-Done.is) _ _ _ c.check_words.ensures
+
+pub returns-in-Refused : goal.returns-in-Refused
+returns-in-Refused c =
+    let a = c.args in
+    let read = c.read-outcome in
+    says_same
+    (read-refused a.file.now read.result read.ensures (λ r. reply (pair_refusal r a.p a.q) (words_map r a.p a.q a.mapping.now))
+    _ c.in-Refused.is) a.verdict.now _ a.verdict.now (refl, refl)

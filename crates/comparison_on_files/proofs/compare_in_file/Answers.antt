@@ -1,0 +1,43 @@
+-- `spernevan_compare` gives what comparing promises, once the file is read. Assumes nothing.
+use Rattle.record.proofs.Good.{good-record}
+use Rattle.format.specs.File.{read_file}
+use Rattle.record_on_files.proofs.Files.{read-good}
+use Rattle.format.proofs.Results.{outcome-done, outcome-refused}
+use Rattle.comparison_on_files.proofs.Verdicts.{compare-done, compare-refused}
+use Rattle.comparison_on_files.proofs.Shapes.{comparison-shaped}
+use Rattle.comparison_on_files.proofs.compare_in_file.Goals as goal
+
+pub store_comparison-requires : goal.store_comparison-requires
+store_comparison-requires c =
+    let a = c.args in
+    let r = c.read-outcome.result.«record» in
+    let good = read-good a.file.now c.read-outcome.result
+    c.read-outcome.ensures
+    (λ i. (c.type_inv.file i).fits)
+    c.in-Done.is in (
+      (good-record r good).relations,
+      λ apart. (c.compare-compared.ensures.chased apart).1,
+    )
+
+pub returns-in-Done : goal.returns-in-Done
+returns-in-Done c =
+    let a =
+    c.args in
+    compare-done a.file.now a.p a.q a.verdict.now a.mapping-1.now a.part-1.now a.size.now
+    c.read-outcome.result.«record»
+    (outcome-done (read_file a.file.now)
+    c.read-outcome.result
+    c.read-outcome.ensures
+    c.in-Done.is)
+    c.compare-compared.result
+    c.compare-compared.ensures
+    (comparison-shaped c.compare-compared.result _
+    c.compare-compared.type-inv) _ _ _ _ _
+    c.store_comparison.ensures
+
+pub returns-in-Refused : goal.returns-in-Refused
+returns-in-Refused c =
+    let a = c.args in
+    compare-refused a.file.now a.p a.q a.verdict.now a.mapping-1.now a.part-1.now a.size.now _
+    (outcome-refused (read_file a.file.now) c.read-outcome.result _ c.read-outcome.ensures
+    c.in-Refused.is)

@@ -1,0 +1,54 @@
+-- `store_apart` stores a verdict with its query. Assumes nothing.
+-- A good tableau's head and rows are few
+use mathlib.Core.Path.{◌≡◌}
+use Prim.Native.Nat.{◌≤◌, ◌<◌}
+use native.Mathlib.Omega.{arith}
+use lib.ListN.{length, take}
+use Rattle.query.specs.View.{as_query}
+use Rattle.query.proofs.Good.{good-query}
+use Rattle.format.specs.Parts.{query_for}
+use Rattle.comparison_on_files.proofs.Verdicts.{verdict-short, verdict-long, verdict-stored}
+use Rattle.comparison_on_files.proofs.store_apart.Goals as goal
+
+fits : (c : tie.Start) → (c.args.chased.arity ≤ 8) × (c.args.chased.size ≤ 24)
+fits c =
+    let parts = good-query 24 (take c.args.count c.args.widths) (as_query c.args.chased) c.requires.1 in
+    (parts.arity, parts.size)
+
+pub returns-then-mapping-lt192 : goal.returns-then-mapping-lt192
+returns-then-mapping-lt192 c =
+    let a = c.args in
+    verdict-short a.images a.verdict.now a.mapping-1.now a.part-1.now a.size.now 0 ((query_for 24 (take a.count a.widths)).put (as_query a.chased))
+    c.if-mapping-lt192.true
+
+pub query_length-n-requires : goal.query_length-n-requires
+query_length-n-requires c = (c.requires.0, fits c)
+
+pub returns-then-part-n : goal.returns-then-part-n
+returns-then-part-n c =
+    let a = c.args in
+    let schema = take a.count a.widths in
+    let n : c.query_length-n.result ≡ length ((query_for 24 schema).put (as_query a.chased)) = c.query_length-n.ensures.0 in
+    let l : length a.part-1.now < c.query_length-n.result = c.if-part-n.true in
+    verdict-long a.images a.verdict.now a.mapping-1.now a.part-1.now a.size.now 0 ((query_for 24 schema).put (as_query a.chased))
+    c.if-mapping-lt192.false (omega arith)
+
+pub put_query-requires : goal.put_query-requires
+put_query-requires c =
+    let n = c.query_length-n.ensures.0 in
+    let l : c.query_length-n.result ≤ length c.args.part.now = c.if-part-n.false in
+    (c.requires.0, (fits c, omega arith))
+
+pub returns : goal.returns
+returns c =
+    let a = c.args in
+    let schema = take a.count a.widths in
+    let n : c.query_length-n.result ≡ length ((query_for 24 schema).put (as_query a.chased)) =
+    c.query_length-n.ensures.0 in
+    let l : c.query_length-n.result ≤ length a.part-1.now =
+    c.if-part-n.false in
+    verdict-stored a.images a.verdict.now a.mapping-1.now a.part-1.now a.size.now 0 ((query_for 24 schema).put (as_query a.chased)) _ _ _
+    c.if-mapping-lt192.false (omega arith) c.put_mapping.ensures
+    c.put_query.ensures.0 n
+
+-- TODO names tie: fits

@@ -1,0 +1,29 @@
+-- `count_in_file` gives the count of the answers, once the file is read. Assumes nothing.
+use mathlib.Core.Path.{◌≡◌, sym, ap, ◌∙◌}
+use Rattle.replies.specs.Replies.{count_reply}
+use Rattle.database.specs.Calls.{counted}
+use Rattle.database_on_files.specs.Databases.{counted_in}
+use Rattle.refusals.specs.Refusals.{refused}
+use Rattle.lent_numbers.specs.Lent.{returned}
+use Rattle.lent_numbers.proofs.Lent.{leaves-same, refused-number, refused-leaves}
+use Rattle.record_on_files.proofs.Files.{read_done, read-refused}
+use Rattle.database_on_files.proofs.count_in_file.Goals as goal
+
+pub returns-in-Done : goal.returns-in-Done
+returns-in-Done c =
+    let d = c in
+    let t = d in
+    let o = t in
+    let a = o.args in
+    let l = c.leave_count.ensures in
+    let p : count_reply d.count-done.result ≡ counted_in a.file.now a.place a.words.now =
+    d.count-done.ensures ∙ sym (read_done a.file.now o.read-outcome.result o.read-outcome.ensures (λ r. counted r a.place a.words.now) t.in-Done.is) in
+    (l.0 ∙ ap returned p, l.1 ∙ leaves-same p (λ n. n) a.count-done.now)
+
+pub returns-in-Refused : goal.returns-in-Refused
+returns-in-Refused c =
+    let o = c in
+    let a = o.args in
+    let p : counted_in a.file.now a.place a.words.now ≡ refused c.in-Refused.n =
+    read-refused a.file.now o.read-outcome.result o.read-outcome.ensures (λ r. counted r a.place a.words.now) _ c.in-Refused.is in
+    (refused-number p, refused-leaves p (λ n. n) a.count-done.now)

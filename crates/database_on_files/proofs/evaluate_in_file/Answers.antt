@@ -1,0 +1,40 @@
+-- `evaluate_in_file` gives the count and the answers, once the file is read. Assumes nothing.
+use mathlib.Core.Path.{◌≡◌, sym, ap, ◌∙◌}
+use lib.ListN.{length}
+use Rattle.format.specs.File.{read_file}
+use Rattle.format.proofs.Results.{outcome-done, outcome-refused}
+use Rattle.replies.specs.Replies.{count_reply}
+use Rattle.database.specs.Calls.{evaluated, buffer_then}
+use Rattle.database_on_files.specs.Databases.{evaluated_in}
+use Rattle.refusals.specs.Refusals.{refused}
+use Rattle.lent_numbers.specs.Lent.{returned}
+use Rattle.lent_numbers.proofs.Lent.{leaves-same, done-leaves, refused-number, refused-leaves}
+use Rattle.record_on_files.proofs.Files.{read_done, read-refused}
+use Rattle.database_on_files.proofs.evaluate_in_file.Goals as goal
+
+pub returns-in-Done : goal.returns-in-Done
+returns-in-Done c =
+    let d = c in
+    let t = d in
+    let o = t in
+    let a = o.args in
+    let l = c.leave_count.ensures in
+    let done = t.in-Done.is in
+    let p : count_reply d.evaluate-done.result ≡ evaluated_in a.file.now a.place a.words.now (length a.answers-1.now) =
+    d.evaluate-done.ensures.0
+    ∙ sym (read_done a.file.now o.read-outcome.result o.read-outcome.ensures (λ r. evaluated r a.place a.words.now (length a.answers-1.now)) done) in
+    let w = done-leaves (outcome-done (read_file a.file.now) o.read-outcome.result o.read-outcome.ensures done)
+    (λ r. buffer_then r a.place a.words.now a.answers-1.now) a.answers-1.now in
+    (l.0 ∙ ap returned p, (d.evaluate-done.ensures.1 ∙ w, l.1 ∙ leaves-same p (λ n. n) a.count.now))
+
+pub returns-in-Refused : goal.returns-in-Refused
+returns-in-Refused c =
+    let o = c in
+    let a = o.args in
+    let n = c.in-Refused.n in
+    let p : evaluated_in a.file.now a.place a.words.now (length a.answers-1.now) ≡ refused n =
+    read-refused a.file.now o.read-outcome.result o.read-outcome.ensures (λ r. evaluated r a.place a.words.now (length a.answers-1.now)) n
+    c.in-Refused.is in
+    let w = refused-leaves (outcome-refused (read_file a.file.now) o.read-outcome.result n o.read-outcome.ensures c.in-Refused.is)
+    (λ r. buffer_then r a.place a.words.now a.answers-1.now) a.answers-1.now in
+    (refused-number p, (w, refused-leaves p (λ n. n) a.count.now))

@@ -1,0 +1,9 @@
+-- `demands::demand1::evaluate` meets its contract. Assumes nothing.
+use Rattle.demands.proofs.Conditions.{evaluate-meets}
+use Rattle.demands.proofs.demand1.evaluate.Goals as goal
+
+pub returns : goal.returns
+returns c =
+    let k = c in
+    let a = k.args in
+    evaluate-meets a.given a.place a.words.now a.buffer-1.now _ k.evaluate.result k.evaluate.ensures.0 k.evaluate.ensures.1

@@ -1,0 +1,9 @@
+-- `demands::demand2::evaluate_lent` meets its contract. Assumes nothing.
+use Rattle.demands.proofs.Answering.{evaluates}
+use Rattle.demands.proofs.demand2.evaluate_lent.Goals as goal
+
+pub returns : goal.returns
+returns c =
+    let k = c in
+    let a = k.args in
+    evaluates a.given a.place a.words.now a.buffer-1.now _ k.evaluate_lent.result k.evaluate_lent.ensures.0 k.evaluate_lent.ensures.1.0

@@ -1,0 +1,45 @@
+use borrow.Author.Rules.{rules}
+use Prim.Native.Nat.{◌≤◌}
+use native.Mathlib.Omega.{arith}
+use lib.ListN.{take}
+use Rattle.query.specs.View.{as_query}
+use Rattle.query.proofs.Shape.{SizedFor}
+use Rattle.format.proofs.Parts.{head_fits}
+use Rattle.format.proofs.Rules.{good-narrow}
+use Rattle.lists.proofs.Loops.{mapped-length}
+use Rattle.encoder.proofs.PlaceParts.{query-exact}
+use Rattle.encoder.proofs.query_length.Goals as goal
+
+sized : (c : tie.Start) → SizedFor 24 (as_query c.args.t)
+sized c = record { head = search (mapped-length, rules); relations = search (mapped-length, rules); cells = search (mapped-length, rules) }
+
+used : (c : tie.After-head-in-use) → c.head_in_use-used.result ≤ 8
+used c =
+    let start = c in
+    rw c.head_in_use-used.ensures (head_fits start.args.t.size start.args.t.arity start.requires.1.0)
+
+pub rows_length-rows-requires : goal.rows_length-rows-requires
+rows_length-rows-requires c = (c.requires.0, c.requires.1.1)
+
+pub overflow_mul-result : goal.overflow_mul-result
+overflow_mul-result c = omega (arith, used c)
+
+pub overflow_add-result : goal.overflow_add-result
+overflow_add-result c = omega (arith, used c)
+
+pub overflow_add-result-2 : goal.overflow_add-result-2
+overflow_add-result-2 c = omega (arith, used c, c.rows_length-rows.ensures.1, c.requires.1.1)
+
+pub returns : goal.returns
+returns c =
+    let start = c in
+    let schema = take start.args.count start.args.widths in
+    let head = c.head_in_use-used in (
+      query-exact schema (good-narrow start.args.count start.args.widths start.requires.0) 24 (as_query start.args.t) head.result
+          c.rows_length-rows.result (sized start) head.ensures (used c) c.rows_length-rows.ensures.0,
+      omega (arith, used c, c.rows_length-rows.ensures.1),
+    )
+
+-- TODO names tie: sized
+
+-- TODO names tie: used

@@ -1,0 +1,96 @@
+-- `sought_of` takes two hashes of a row's left values, and its right value. Invariant: the hashes of what is left of the left set, begun with h and tag,
+-- are the whole hashes.
+-- Assumes nothing.
+use mathlib.Core.Path.{◌≡◌, refl, sym, ap, subst, ◌∙◌}
+use mathlib.Core.Logic.{⊎_elim, inl, inr}
+use Prim.Native.Nat.{ℕ, ◌-◌, ◌+◌, ◌*◌, ◌/◌, ◌%◌, ◌^◌, ◌<◌}
+use native.Mathlib.Nat.{mod-lt, div-le_self}
+use native.Mathlib.Omega.{arith}
+use Rattle.theory.specs.Query.{column}
+use Rattle.query.specs.View.{columns_of}
+use Rattle.words.specs.internal.Rows.{span_at}
+use Rattle.grouping.specs.internal.Hash.{hash_from, spread}
+use Rattle.grouping.specs.declared.Sought.{Sought}
+use Rattle.grouping.proofs.Hashes.{mask-some, mask-half, span_value, Mixed, hash-start, hash-on, hash-low, hash-end}
+use borrow.Author.Rules.{rules}
+use Rattle.grouping.proofs.sought_of.Goals as goal
+
+-- Equal parts make equal wholes
+abbrev made : ℕ → ℕ → ℕ → Sought
+made b t r = record { bucket = b; tag = t; right = r }
+
+same : {b b' t t' r r' : ℕ} → b ≡ b' → t ≡ t' → r ≡ r' → made b t r ≡ made b' t' r'
+same {b} {b'} {t} {t'} {r} {r'} e f g = ap (λ (x : ℕ). made x t r) e ∙ ap (λ (x : ℕ). made b' x r) f ∙ ap (made b' t') g
+
+pub loop-left-init : goal.loop-left-init
+loop-left-init c = let s = c in
+    let all : s.args.width - 0 ≡ s.args.width = omega arith in
+    (search rules, subst (λ (n : ℕ). s.args.d.left < 2 ^ n) (sym all) s.requires.1.1, search rules, search rules, refl, refl)
+
+-- A column of the left set is left
+inside : (c : tie.In-loop invariant-loop decreases-loop) → c.loop-left.c < c.args.width
+inside c = let l = c.loop-left in
+    omega (arith, mask-some (c.args.width - l.c) l.left l.invariant.1 c.loop-left-test.true)
+
+pub value-x-requires : goal.value-x-requires
+value-x-requires c = omega (arith, inside c, c.requires.0)
+
+pub overflow_add-c : goal.overflow_add-c
+overflow_add-c c = omega (arith, inside c, c.ranges.width)
+
+-- What the passed column does to each hash
+mixed-h : (c : tie.Joined1 invariant-loop decreases-loop) → Mixed 1000003 c.args.width c.args.words.now
+    c.args.a c.loop-left.c c.loop-left.false c.loop-left.h c.if-left-eq1.h
+mixed-h c = let l = c.loop-left in
+    ⊎_elim (λ w. inl (w.if-left-eq1.true, w.h-is ∙ ap (λ (x : ℕ). (l.h * 1000003 + x) % 4294967296) w.value-x.ensures)) (λ w. inr (w.if-left-eq1.false, w.h-is)) c.if-left-eq1.branch-raw
+
+mixed-tag : (c : tie.Joined1 invariant-loop decreases-loop) → Mixed 2654435761 c.args.width
+    c.args.words.now c.args.a c.loop-left.c
+    c.loop-left.false c.loop-left.tag c.if-left-eq1.tag
+mixed-tag c = let l = c.loop-left in
+    ⊎_elim (λ w. inl (w.if-left-eq1.true, w.tag-is ∙ ap (λ (x : ℕ). (l.tag * 2654435761 + x) % 4294967296) w.value-x.ensures)) (λ w. inr (w.if-left-eq1.false, w.tag-is)) c.if-left-eq1.branch-raw
+
+pub loop-left-preserved : goal.loop-left-preserved
+loop-left-preserved c = let a = c.args in
+    let l = c.loop-left in
+    let W = a.words.now in
+    let low : l.c < a.width = inside c in
+    let less : a.width - l.c - 1 ≡ a.width - (l.c + 1) = omega arith in (
+      omega arith,
+      subst (λ (n : ℕ). l.left / 2 < 2 ^ n) less (mask-half (a.width - l.c) l.left (omega arith) l.invariant.1),
+      hash-low 1000003 a.width W a.a l.c l.left l.h c.if-left-eq1.h l.invariant.2 (mixed-h c),
+      hash-low 2654435761 a.width W a.a l.c l.left l.tag c.if-left-eq1.tag l.invariant.3 (mixed-tag c),
+      l.invariant.4 ∙ hash-on 1000003 a.width W a.a l.c l.left l.h c.if-left-eq1.h low (mixed-h c),
+      l.invariant.5 ∙ hash-on 2654435761 a.width W a.a l.c l.left l.tag c.if-left-eq1.tag low (mixed-tag c),
+    )
+
+pub overflow_mul-result : goal.overflow_mul-result
+overflow_mul-result c = omega (arith, c.loop-left.invariant.2, div-le_self c.loop-left.h c.args.buckets)
+
+pub overflow_add-result : goal.overflow_add-result
+overflow_add-result c = omega (arith, c.loop-left.invariant.2, div-le_self c.loop-left.h c.args.buckets)
+
+pub returns : goal.returns
+returns c = let e = c in
+    let l = e.loop-left in
+    let s = e in
+    let a = s.args in
+    let W = a.words.now in
+    let r = span_at a.width W a.a in
+    let done : l.left ≡ 0 = e.loop-left-test.false in
+    let h : hash_from 1000003 (columns_of a.d.left) 0 r ≡ l.h =
+    hash-start 1000003 a.width W a.a a.d.left s.requires.1.0 s.requires.1.1 ∙ l.invariant.4
+    ∙ hash-end 1000003 a.width W a.a l.c l.left l.h done in
+    let tag : hash_from 2654435761 (columns_of a.d.left) 0 r ≡ l.tag =
+    hash-start 2654435761 a.width W a.a a.d.left s.requires.1.0 s.requires.1.1 ∙ l.invariant.5
+    ∙ hash-end 2654435761 a.width W a.a l.c l.left l.tag done in
+    let right : column 0 r a.d.right ≡ c.value.result = span_value a.width W a.a a.d.right s.requires.1.2 ∙ sym c.value.ensures in (
+      sym (same (ap (spread a.buckets) h) tag right),
+      mod-lt (l.h + l.h / a.buckets * 2654435761) {m = a.buckets} s.requires.1.3,
+    )
+
+-- TODO names tie: inside
+
+-- TODO names tie: mixed-h
+
+-- TODO names tie: mixed-tag

@@ -1,0 +1,99 @@
+-- `find` goes along table 0. Invariant: no row passed has the values. Assumes nothing.
+use mathlib.Core.Path.{◌≡◌}
+use Prim.Native.Nat.{suc, ◌-◌}
+use mathlib.Core.Bool.{true}
+use native.Mathlib.Omega.{arith}
+use lib.ListN.{length}
+use Rattle.join_lookup.specs.internal.Tables.{Reaches}
+use Rattle.join_lookup.proofs.Reaching.{pass-begins, pass-next, pass-found, pass-end, reach-less}
+use Rattle.join_lookup.proofs.find.Goals as goal
+
+pub start-at-requires : goal.start-at-requires
+start-at-requires c = let s = c in
+    ((s.requires.0.0, s.requires.0.1, omega arith), λ some. (s.requires.0.2 some).0)
+
+pub loop-at-init : goal.loop-at-init
+loop-at-init c = let s = c in
+    let a = s.args in
+    (s.requires.0.0, s.requires.0.1, (0, c.start-at.ensures 0 a.nodes.now s.requires.1, λ p l. absurd (omega arith)))
+
+pub has-requires : goal.has-requires
+has-requires c = let s = c in
+    let a = s.args in
+    let l = c in
+    let w = l.loop-at.invariant in
+    let p = w.2 in
+    ((w.0, w.1), (w.2.1.row, pass-begins a.schema.now a.words.now w.0 a.x w.1 a.columns a.values l.loop-at.at p c.loop-at-test.true))
+
+pub returns-then-has : goal.returns-then-has
+returns-then-has c = let s = c in
+    let a = s.args in
+    let l = c in
+    let i = c in
+    let h = c in
+    let w = l.loop-at.invariant in
+    let p = w.2 in
+    pass-found a.schema.now a.words.now w.0 a.x w.1 a.columns a.values l.loop-at.at p
+    (h.has.ensures.0 w.2.1.row (pass-begins a.schema.now a.words.now w.0 a.x w.1 a.columns a.values l.loop-at.at p i.loop-at-test.true)
+    c.if-has.true)
+
+pub following-at-requires : goal.following-at-requires
+following-at-requires c = let s = c in
+    let a = s.args in
+    let l = c in
+    let i = c in
+    let w = l.loop-at.invariant in
+    let p = w.2 in (
+      (w.0, w.1, omega arith),
+      (
+        (w.2.1.row, pass-begins a.schema.now a.words.now w.0 a.x w.1 a.columns a.values l.loop-at.at p i.loop-at-test.true),
+        λ some. (s.requires.0.2 some).1,
+      ),
+    )
+
+-- The way goes on
+onward : (c : tie.After-following invariant-loop decreases-loop)
+    → Reaches c.args.schema.now c.args.words.now c.args.x 0 c.args.columns 0 c.args.values
+    (suc c.loop-at.invariant.2.1.row) c.following-at.result
+onward c = let s = c in
+    let a = s.args in
+    let l = c in
+    let w = l.loop-at.invariant in
+    let size : length a.values ≡ 8 = s.well-formed.1.1.1.1.0.1.0.1 in
+    c.following-at.ensures a.columns 0 w.2.0 a.values a.heads.now s.ranges.columns.fits (omega (arith, w.1.narrow)) s.requires.1 w.2.1
+
+pub loop-at-smaller : goal.loop-at-smaller
+loop-at-smaller c = let s = c in
+    let a = s.args in
+    let l = c in
+    let i = c in
+    let w = l.loop-at.invariant in
+    omega (
+      arith,
+      i.loop-at-test.true,
+      reach-less a.schema.now a.words.now w.0 a.x w.1 0 a.columns 0 a.values w.2.1.row l.loop-at.at c.following-at.result w.2.1.place (onward c),
+    )
+
+pub loop-at-preserved : goal.loop-at-preserved
+loop-at-preserved c = let s = c in
+    let a = s.args in
+    let l = c in
+    let i = c in
+    let h = c in
+    let e = c in
+    let w = l.loop-at.invariant in
+    let p = w.2 in
+    let n = pass-next a.schema.now a.words.now w.0 a.x w.1 a.columns a.values l.loop-at.at p
+    (h.has.ensures.1 w.2.1.row (pass-begins a.schema.now a.words.now w.0 a.x w.1 a.columns a.values l.loop-at.at p i.loop-at-test.true)
+    e.if-has.false)
+    c.following-at.result (onward c) in
+    (w.0, w.1, n)
+
+pub returns : goal.returns
+returns c = let s = c in
+    let a = s.args in
+    let l = c in
+    let w = l.loop-at.invariant in
+    pass-end a.schema.now a.words.now w.0 a.x w.1 a.columns a.values l.loop-at.at w.2 c.loop-at-test.false
+
+-- TODO names tie: onward

@@ -1,0 +1,76 @@
+-- `following` is the link of a row, or where the next row begins. Assumes nothing.
+-- The row is there
+use mathlib.Core.Path.{◌≡◌, sym, ap, ◌∙◌, subst}
+use mathlib.Core.Bool.{true}
+use Prim.Native.Nat.{ℕ, suc, ◌+◌, ◌*◌, ◌<◌}
+use native.Mathlib.Omega.{arith}
+use lib.ListN.{length, drop, get_or}
+use Rattle.words.specs.Words.{spells_rows}
+use Rattle.join_lookup.specs.internal.Starts.{start_of}
+use Rattle.join_lookup.proofs.Starting.{begins, start-inside, start-next}
+use Rattle.join_lookup.proofs.Reaching.{reach-next, reach-link, reach-inside}
+use Rattle.join_lookup.proofs.following.Goals as goal
+
+inside : (c : tie.Start) → c.args.at < length c.args.words.now
+inside c = let a = c.args in
+    let p = c.requires.1.0 in
+    omega (arith, p.1.0, start-inside a.schema.now a.words.now c.requires.0.0 p.0 p.1.1)
+
+-- Its link is in the slice
+room : (c : tie.Else1) → 6 * c.args.at + 1 + c.args.t < length c.args.nodes.now
+room c = let s = c in
+    omega (arith, inside s, s.requires.1.1 (omega (arith, c.if-x-eq0.false)), s.requires.0.2)
+
+pub next-requires : goal.next-requires
+next-requires c = let s = c in
+    let a = s.args in
+    let p = s.requires.1.0 in
+    let b = begins a.schema.now a.words.now s.requires.0.0 p.0 (omega (arith, p.1.1)) in
+    (inside s, subst (λ (n : ℕ). spells_rows a.schema.now (drop n a.words.now) ≡ true) (sym p.1.0) b.from.good)
+
+pub returns-then-x-eq0 : goal.returns-then-x-eq0
+returns-then-x-eq0 c = let s = c in
+    let t = c in
+    let a = s.args in
+    let p = s.requires.1.0 in
+    λ columns set from values heads small wide table g.
+    let i = reach-inside a.schema.now a.words.now s.requires.0.0 a.x s.requires.0.1 a.t columns set values from a.at p.0 p.1 g in
+    let n = start-next a.schema.now a.words.now s.requires.0.0 g.row i.1 in
+    let e : c.next.result ≡ start_of a.schema.now a.words.now (suc g.row) =
+    c.next.ensures.place ∙ ap (λ (m : ℕ). m + 1 + get_or a.schema.now (get_or a.words.now m 0) 0) g.place ∙ sym n.place in
+    reach-next a.schema.now a.words.now s.requires.0.0 a.x s.requires.0.1 a.t columns set values t.if-x-eq0.true from a.at
+    c.next.result g i.1 e
+
+pub overflow_mul-result : goal.overflow_mul-result
+overflow_mul-result c = omega (arith, room c)
+
+pub overflow_add-result : goal.overflow_add-result
+overflow_add-result c = omega (arith, room c)
+
+pub overflow_add-result-2 : goal.overflow_add-result-2
+overflow_add-result-2 c = omega (arith, room c)
+
+pub offset_bounds-nodes-at : goal.offset_bounds-nodes-at
+offset_bounds-nodes-at c = omega (arith, room c)
+
+pub bounds-nodes-at : goal.bounds-nodes-at
+bounds-nodes-at c = room c
+
+pub overflow_cast-result : goal.overflow_cast-result
+overflow_cast-result c = let s = c in
+    omega (arith, c.type_inv.nodes (6 * s.args.at + 1 + s.args.t))
+
+pub returns : goal.returns
+returns c = let s = c in
+    let e = c in
+    let a = s.args in
+    let p = s.requires.1.0 in
+    let some : 0 < a.x.buckets = omega (arith, e.if-x-eq0.false) in
+    λ columns set from values heads small wide table g.
+    let i = reach-inside a.schema.now a.words.now s.requires.0.0 a.x s.requires.0.1 a.t columns set values from a.at p.0 p.1 g in
+    reach-link a.schema.now a.words.now s.requires.0.0 a.x s.requires.0.1 a.t columns set values small wide some heads a.nodes.now from a.at
+    (table some) g i.1
+
+-- TODO names tie: inside
+
+-- TODO names tie: room

@@ -1,0 +1,42 @@
+-- `join_search::goes` meets its contract. The loop's invariant: whether the row goes is whether it does in the columns from c on of what is left of the set.
+-- Assumes nothing.
+use mathlib.Core.Path.{refl, sym, ◌∙◌}
+use mathlib.Core.Logic.{⊎_elim}
+use Prim.Native.Nat.{◌-◌}
+use borrow.Author.Rules.{rules}
+use Rattle.join_search.specs.internal.Search.{goes_at, goes}
+use Rattle.join_search.proofs.Turns.{columns-skip, columns-pass, columns-fail, columns-end}
+use Rattle.join_search.proofs.Rows.{goes-free, goes_same, goes-not}
+use Rattle.join_search.proofs.goes.Goals as goal
+
+pub loop-c-init : goal.loop-c-init
+loop-c-init c = (search rules, refl)
+
+pub returns-then-chosen-c-2 : goal.returns-then-chosen-c-2
+unfolding goes
+returns-then-chosen-c-2 c =
+    let s = c in
+    let l = c.loop-c in
+    let a = s.args in
+    columns-fail (goes_at a.codes.now a.chosen a.i) l.c l.rest (search rules) c.if-rest-eq1.true
+    (goes-not a.codes.now a.chosen a.i l.c c.if-chosen-c.true c.if-chosen-c-2.true)
+    ∙ sym l.invariant.1
+
+pub loop-c-preserved : goal.loop-c-preserved
+loop-c-preserved c =
+    let a = c.args in
+    let l = c.loop-c in
+    let test = goes_at a.codes.now a.chosen a.i in (
+      search rules,
+      l.invariant.1
+          ∙ ⊎_elim
+          (λ w. columns-pass test l.c l.rest (search rules) w.0.taken (goes_same a.codes.now a.chosen a.i l.c w.3.left))
+          (⊎_elim
+          (λ w. columns-pass test l.c l.rest (search rules) w.0.taken (goes-free a.codes.now a.chosen a.i l.c w.1.left))
+          (λ w. columns-skip test l.c l.rest (search rules) w.left))
+          c.if-rest-eq1.branch,
+    )
+
+pub returns : goal.returns
+unfolding goes
+returns c = columns-end _ _ _ c.loop-c-test.false ∙ sym c.loop-c.invariant.1

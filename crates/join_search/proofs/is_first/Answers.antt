@@ -1,0 +1,56 @@
+-- `join_search::is_first` meets its contract. The loop's invariant: whether an earlier row is the same is whether one from row e on is. Assumes nothing.
+-- Whether row e is of the relation and the same as row i in the columns of a set
+use mathlib.Core.Path.{◌≡◌, refl, sym, ◌∙◌, ap}
+use mathlib.Core.Logic.{⊎_elim}
+use mathlib.Core.Bool.{Bool, true, false, not, ◌&&◌}
+use mathlib.Core.List.{List}
+use Prim.Native.Nat.{ℕ, ◌-◌}
+use native.Mathlib.Nat.{sub-zero}
+use lib.Dec.{eqb}
+use lib.ListN.{get_or}
+use borrow.Author.Rules.{rules}
+use Rattle.join_search.specs.internal.Search.{some_of, same_on}
+use Rattle.join_search.proofs.Turns.{some_next, some-found, some_end, tested-true, tested-false, tested-other}
+use Rattle.join_search.proofs.is_first.Goals as goal
+
+abbrev same : List ℕ → List ℕ → ℕ → ℕ → ℕ → ℕ → Bool
+same codes relations relation set i e = eqb (get_or relations e 0) relation && same_on codes set i e
+
+not_first : (b s : Bool) → true ≡ s → false ≡ b && not s
+not_first true s e = ap not e
+not_first false s e = refl
+
+pub returns-then-relations-i : goal.returns-then-relations-i
+returns-then-relations-i c = sym (tested-other _ _ _ c.if-relations-i.true)
+
+pub loop-e-init : goal.loop-e-init
+loop-e-init c = (search rules, refl)
+
+pub returns-then-same_on : goal.returns-then-same_on
+returns-then-same_on c =
+    let a = c.args in
+    let l = c.loop-e in
+    let test = same a.codes.now a.relations.now a.relation a.set a.i in
+    not_first (eqb (get_or a.relations.now a.i 0) a.relation) (some_of test 0 a.i)
+    (some-found test a.i l.e (search rules)
+    (tested-true _ _ c.same_on.result _ c.if-relations-e.true c.same_on.ensures c.if-same_on.true)
+    ∙ sym l.invariant.1 ∙ ap (some_of test 0) (sub-zero a.i))
+
+pub loop-e-preserved : goal.loop-e-preserved
+loop-e-preserved c =
+    let a = c.args in
+    let l = c.loop-e in
+    let test = same a.codes.now a.relations.now a.relation a.set a.i in (
+      search rules,
+      l.invariant.1
+          ∙ some_next test a.i l.e (search rules)
+          (⊎_elim (λ w. tested-false _ _ w.same_on.result _ w.if-relations-e.true w.same_on.ensures w.if-same_on.false) (λ w. tested-other _ _ _ w.if-relations-e.false) c.if-relations-e.branch-raw),
+    )
+
+pub returns : goal.returns
+returns c =
+    let a = c.args in
+    let l = c.loop-e in
+    let test = same a.codes.now a.relations.now a.relation a.set a.i in
+    let nothing = some_end test a.i l.e c.loop-e-test.false ∙ sym l.invariant.1 ∙ ap (some_of test 0) (sub-zero a.i) in
+    sym (tested-true _ _ (not (some_of test 0 a.i)) _ c.if-relations-i.false refl (ap not (sym nothing)))

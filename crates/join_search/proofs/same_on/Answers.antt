@@ -1,0 +1,41 @@
+-- `join_search::same_on` meets its contract. The loop's invariant: whether the rows are the same is whether they are in the columns from c on of what is left
+-- of the set. Assumes nothing.
+-- Whether two rows have the same code in a column
+use mathlib.Core.Path.{refl, sym, ◌∙◌}
+use mathlib.Core.Logic.{⊎_elim}
+use mathlib.Core.Bool.{Bool}
+use mathlib.Core.List.{List}
+use Prim.Native.Nat.{ℕ, ◌+◌, ◌*◌, ◌-◌}
+use lib.Dec.{eqb}
+use lib.ListN.{get_or}
+use borrow.Author.Rules.{rules}
+use borrow.Author.Tests.{eq-eqb, ne_eqb}
+use Rattle.join_search.proofs.Turns.{columns-skip, columns-pass, columns-fail, columns-end}
+use Rattle.join_search.proofs.same_on.Goals as goal
+
+abbrev same_at : List ℕ → ℕ → ℕ → ℕ → Bool
+same_at codes i e c = eqb (get_or codes (8 * i + c) 0) (get_or codes (8 * e + c) 0)
+
+pub loop-c-init : goal.loop-c-init
+loop-c-init c = (search rules, refl)
+
+pub returns-then-codes-i : goal.returns-then-codes-i
+returns-then-codes-i c =
+    let a = c.args in
+    let l = c.loop-c in
+    columns-fail (same_at a.codes.now a.i a.e) l.c l.rest (search rules) c.if-rest-eq1.true
+    (ne_eqb _ _ c.if-codes-i.true)
+    ∙ sym l.invariant.1
+
+pub loop-c-preserved : goal.loop-c-preserved
+loop-c-preserved c =
+    let a = c.args in
+    let l = c.loop-c in
+    let test = same_at a.codes.now a.i a.e in (
+      search rules,
+      l.invariant.1
+          ∙ ⊎_elim (λ w. columns-pass test l.c l.rest (search rules) w.if-rest-eq1.true (eq-eqb _ _ w.if-codes-i.false)) (λ w. columns-skip test l.c l.rest (search rules) w.if-rest-eq1.false) c.if-rest-eq1.branch-raw,
+    )
+
+pub returns : goal.returns
+returns c = columns-end _ _ _ c.loop-c-test.false ∙ sym c.loop-c.invariant.1

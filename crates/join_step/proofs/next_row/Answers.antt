@@ -1,0 +1,95 @@
+-- `join_step::next_row` meets its contract. The loop's invariant: nothing is found for the join dependencies before k. Assumes nothing.
+-- What stands past the end of an array of join dependencies
+use mathlib.Core.Path.{◌≡◌, refl, sym, ◌∙◌, ap}
+use mathlib.Core.Bool.{true}
+use mathlib.Core.List.{List, []}
+use Prim.Native.Nat.{ℕ, ◌-◌, ◌≤◌, ◌<◌}
+use native.Mathlib.Omega.{arith}
+use lib.Dec.{leb}
+use lib.ListN.{length, take, get_or}
+use lib.Seq.{get_or-take, length-take-le}
+use borrow.Author.Rules.{rules}
+use borrow.Author.Tests.{eqb-true, leb-true}
+use Rattle.lists.specs.Tests.{every}
+use Rattle.lists.proofs.Tests.{every-get_or}
+use Rattle.lists.proofs.Loops.{mapped-length}
+use Rattle.query.specs.declared.JoinDependency.{JoinDependency}
+use Rattle.query.specs.Rule.{shaped_join}
+use Rattle.join_rule.proofs.Shapes.{argument-shaped}
+use Rattle.join_step.proofs.Next.{nothing-more, next-nothing, next_one}
+use Rattle.join_step.proofs.next_row.Goals as goal
+
+abbrev past_join : JoinDependency
+past_join = record { relation = 0; count = 0; sets = [] }
+
+-- Each of an array has 4 sets, and each that is held at most 4 of them in use
+four-sets : (joins : List JoinDependency) → every shaped_join joins ≡ true → (k : ℕ) → k < length joins → length (get_or joins k past_join).sets ≡ 4
+four-sets joins shaped k h = eqb-true _ _ (every-get_or shaped_join joins k past_join shaped h)
+
+count_at : (joins : List JoinDependency) (joined : ℕ) → every (λ j. leb j.count 4) (take joined joins) ≡ true → (k : ℕ) → k < joined
+    → joined ≤ length joins → (get_or joins k past_join).count ≤ 4
+count_at joins joined fits k h enough =
+    leb-true _ _ (ap (λ (j : JoinDependency). leb j.count 4) (sym (get_or-take joined joins k past_join h))
+    ∙ every-get_or (λ j. leb j.count 4) (take joined joins) k past_join fits (rw (length-take-le joined joins enough) h))
+
+-- The tableau has room for 24 rows
+cells-long : (s : tie.Start invariant-loop decreases-loop) → length s.args.t.cells ≡ 192
+cells-long s = search (mapped-length, rules)
+
+pub loop-k-init : goal.loop-k-init
+loop-k-init c =
+    let four : length c.args.joins ≡ 4 = search rules in
+    let codes : length c.codes_of-codes.result ≡ 192 = search rules in
+    let relations : length c.args.t.relations ≡ 24 = search (mapped-length, rules) in
+    (four, codes, relations, search rules, λ e less. absurd (omega arith))
+
+pub first_missing-missing-requires : goal.first_missing-missing-requires
+first_missing-missing-requires c =
+    let l = c.loop-k in
+    let s = c in
+    let p = s.requires in (
+      record { codes-long = l.invariant.1; relations-long = l.invariant.2; size_fits = p.size_fits },
+      count_at s.args.joins s.args.joined p.counts-fit l.k c.loop-k-test.true (omega (arith, l.invariant.0, p.joined-fits)),
+    )
+
+pub returns-then-missing : goal.returns-then-missing
+returns-then-missing c =
+    let m = c in
+    let i = m in
+    let l = i.loop-k in
+    let f = i in
+    let s = f in
+    let a = s.args in
+    let low = i.loop-k-test.true in
+    let enough : a.joined ≤ length a.joins = omega (arith, l.invariant.0, s.requires.joined-fits) in
+    let four = four-sets a.joins (argument-shaped 4 a.joins _ s.well-formed.1.0) l.k (omega (arith, enough, low)) in
+    λ schema narrow good good-joins.
+    next_one a.t a.joins a.joined _ f.codes_of-codes.ensures l.invariant.2 (cells-long s) enough past_join schema narrow good good-joins l.k low
+    l.invariant.4 four _ m.first_missing-missing.ensures c.if-missing.true _ c.Cells-of.ensures
+
+pub loop-k-preserved : goal.loop-k-preserved
+loop-k-preserved c =
+    let s = c in
+    let a = s.args in
+    let l = c.loop-k in
+    let low = c.loop-k-test.true in
+    let four = four-sets a.joins (argument-shaped 4 a.joins _ s.well-formed.1.0) l.k (omega (arith, l.invariant.0, s.requires.joined-fits, low)) in (
+      l.invariant.0,
+      l.invariant.1,
+      l.invariant.2,
+      search rules,
+      nothing-more _ _ _ a.joins past_join l.k l.invariant.4 four c.first_missing-missing.result c.first_missing-missing.ensures c.if-missing.false,
+    )
+
+pub returns : goal.returns
+returns c =
+    let l = c.loop-k in
+    let f = c in
+    let s = f in
+    let a = s.args in
+    let enough : a.joined ≤ length a.joins = omega (arith, l.invariant.0, s.requires.joined-fits) in
+    λ schema narrow good good-joins.
+    next-nothing a.t a.joins a.joined _ f.codes_of-codes.ensures l.invariant.2 (cells-long s) enough past_join schema narrow good good-joins
+    (λ e less. l.invariant.4 e (omega (arith, c.loop-k-test.false))) _ refl
+
+-- TODO names tie: cells-long

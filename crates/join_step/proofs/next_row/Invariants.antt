@@ -1,0 +1,11 @@
+-- `join_step::next_row` meets its contract. The loop's invariant: nothing is found for the join dependencies before k. Assumes nothing.
+-- What stands past the end of an array of join dependencies
+use mathlib.Core.Path.{◌≡◌}
+use Prim.Native.Nat.{◌-◌, ◌≤◌}
+use lib.ListN.{length}
+use Rattle.join_step.proofs.Next.{NothingBefore}
+use Rattle.join_step.proofs.next_row.Given as goal
+
+abbrev pub invariant-loop-k : goal.invariant-loop-k
+invariant-loop-k l =
+    (length l.joins ≡ 4) × (length l.codes ≡ 192) × (length l.relations ≡ 24) × (l.k ≤ l.joined) × NothingBefore l.codes l.relations l.size l.joins past_join l.k

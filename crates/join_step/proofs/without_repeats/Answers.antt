@@ -1,0 +1,69 @@
+-- `join_step::without_repeats` meets its contract. The loop's invariant: what is kept is the tableau with its first i rows only, and of those no repeated ones.
+-- Assumes nothing.
+-- The tableau, from its parts
+use mathlib.Core.Path.{◌≡◌, refl, sym, ◌∙◌, ap}
+use mathlib.Core.Logic.{⊎_elim}
+use mathlib.Core.List.{List}
+use Prim.Native.Nat.{ℕ, ◌*◌, ◌-◌}
+use native.Mathlib.Omega.{arith}
+use lib.ListN.{length, take, drop, get_or}
+use borrow.Author.Rules.{rules}
+use Rattle.lists.proofs.Loops.{mapped-length}
+use Rattle.query.specs.declared.Cell.{Cell}
+use Rattle.query.specs.declared.Tableau.{Tableau}
+use Rattle.join_search.specs.internal.Search.{is_first}
+use Rattle.join_step.specs.internal.Step.{with_row, distinct_to}
+use Rattle.join_step.proofs.Rows.{distinct-size, distinct-keeps, distinct-drops}
+use Rattle.join_step.proofs.without_repeats.Goals as goal
+
+abbrev whole : Tableau → ℕ → List ℕ → List Cell → Tableau
+whole kept size relations cells = record { arity = kept.arity; size = size; head = kept.head-1; relations = relations; cells = cells }
+
+pub loop-i-init : goal.loop-i-init
+unfolding distinct_to
+loop-i-init c =
+    let s = c in
+    let codes : length c.codes_of-codes.result ≡ 192 = search rules in
+    let relations : length s.args.t.relations ≡ 24 = search (mapped-length, rules) in
+    (search rules, codes, relations, c.codes_of-codes.ensures, refl)
+
+pub is_first-requires : goal.is_first-requires
+is_first-requires c =
+    let l = c.loop-i in
+    let s = c in (
+      record { codes-long = l.invariant.1; relations-long = l.invariant.2; size_fits = omega (arith, c.loop-i-test.true, s.requires) },
+      omega (arith, c.loop-i-test.true, s.requires),
+    )
+
+pub with_row-kept-requires : goal.with_row-kept-requires
+with_row-kept-requires c =
+    let s = c in
+    let l = c.loop-i in
+    let small = distinct-size s.args.t l.i in
+    let same : l.auto.size ≡ (distinct_to s.args.t l.i).size = ap (λ (k : Tableau). k.size) l.invariant.4 in
+    omega (arith, small, same, c.loop-i-test.true, s.requires)
+
+pub loop-i-preserved : goal.loop-i-preserved
+loop-i-preserved c =
+    let s = c in
+    let t = s.args.t in
+    let l = c.loop-i in
+    let row = take 8 (drop (8 * l.i) t.cells-1) in
+    let first = c.is_first.ensures
+    ∙ ap (λ (n : List ℕ). is_first n t.relations-1 (get_or t.relations-1 l.i 0) 255 l.i) l.invariant.3 in (
+      search rules,
+      l.invariant.1,
+      l.invariant.2,
+      l.invariant.3,
+      ⊎_elim (λ w.
+          w.kept-is ∙ w.with_row-kept.ensures ∙ ap (λ (k : Tableau). with_row k (get_or t.relations-1 l.i 0) w.row_at-row.result) l.invariant.4
+          ∙ ap (with_row (distinct_to t l.i) (get_or t.relations-1 l.i 0)) w.row_at-row.ensures
+          ∙ sym (distinct-keeps t l.i (sym first ∙ w.if-is_first.true))) (λ w. w.kept-is ∙ l.invariant.4 ∙ sym (distinct-drops t l.i (sym first ∙ w.if-is_first.false))) c.if-is_first.branch-raw,
+    )
+
+pub returns : goal.returns
+returns c =
+    let t = c.args.t in
+    let l = c.loop-i in
+    let whole_is : l.i ≡ t.size = omega (arith, l.invariant.0, c.loop-i-test.false) in
+    l.invariant.4 ∙ ap (distinct_to t) whole_is

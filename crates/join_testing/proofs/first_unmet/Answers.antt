@@ -1,0 +1,78 @@
+-- `first_unmet` is the first join dependency with a choice, and its first. Invariant: the search from join dependency k on finds what the whole search finds.
+-- Assumes nothing.
+use mathlib.Core.Path.{◌≡◌, refl, sym, ap, subst, ◌∙◌}
+use mathlib.Core.List.{List, [], ◌∷◌, map}
+use Prim.Native.Nat.{◌≤◌, ◌-◌, ◌+◌}
+use native.Mathlib.Omega.{arith}
+use lib.ListN.{length, take, drop, get_or}
+use Rattle.theory.specs.Database as database
+use Rattle.query.specs.View.{join_of}
+use Rattle.query.specs.Rule.{no_join}
+use Rattle.query.specs.declared.JoinDependency.{JoinDependency}
+use Rattle.words.specs.Words.{database_of}
+use Rattle.lists.proofs.Positions.{left-cons, left-none}
+use Rattle.lists.proofs.Loops.{get_d_any}
+use Rattle.join_testing.specs.Unmet.{first_unmet_from, unmet_of}
+use Rattle.join_tables.specs.internal.Indexed.{Searchable}
+use Rattle.join_testing.proofs.Finding.{unmet-found, unmet-later, unmet-end}
+use borrow.Author.Rules.{rules}
+use Rattle.join_testing.proofs.first_unmet.Goals as goal
+
+-- What an array that is read past its end gives
+abbrev unread : JoinDependency
+unread = record { relation = 0; count = 0; sets = [] }
+
+-- The search from join dependency k on, by join dependency k and the later ones
+onward : (c : tie.In-loop invariant-loop decreases-loop)
+    → first_unmet_from 0 c.args.schema.now (map join_of (take c.args.joined c.args.joins)) (database_of c.args.schema.now c.args.words.now)
+    ≡ first_unmet_from c.loop-k.k c.args.schema.now (join_of (get_or c.args.joins c.loop-k.k unread)
+    ∷ map join_of (drop (c.loop-k.k + 1) (take c.args.joined c.args.joins))) (database_of c.args.schema.now c.args.words.now)
+onward c = let s = c in
+    let a = s.args in
+    let l = c.loop-k in
+    let size : length a.joins ≡ 4 = search rules in
+    let room : a.joined ≤ length a.joins = omega (arith, s.requires.0) in
+    l.invariant.1
+    ∙ ap (λ (x : List database.JoinDependency). first_unmet_from l.k a.schema.now x (database_of a.schema.now a.words.now))
+    (ap (map join_of) (left-cons a.joined l.k a.joins unread c.loop-k-test.true room))
+
+pub loop-k-init : goal.loop-k-init
+loop-k-init c = (search rules, refl, refl, refl)
+
+pub first_choice-found-requires : goal.first_choice-found-requires
+first_choice-found-requires c = let s = c in
+    let k = c.loop-k.k in
+    let low = c.loop-k-test.true in
+    let size : length s.args.joins ≡ 4 = search rules in
+    subst (Searchable s.args.schema.now s.args.words.now) (get_d_any s.args.joins k no_join unread (omega (arith, s.requires.0)))
+    (s.requires.1 k low)
+
+pub returns-in-At : goal.returns-in-At
+returns-in-At c = let f = c.found-1.given in
+    let i = c in
+    let a = c.args in
+    let k = c.loop-k.k in
+    sym (ap unmet_of (onward i)
+    ∙ unmet-found a.schema.now (database_of a.schema.now a.words.now) (join_of (get_or a.joins k unread))
+    (map join_of (drop (k + 1) (take a.joined a.joins))) k f.0.0 f.0.1.0 f.0.1.1.0 f.0.1.1.1.0 (sym f.1 ∙ c.first_choice-found.ensures))
+
+pub loop-k-preserved : goal.loop-k-preserved
+loop-k-preserved c = let i = c in
+    let l = c.loop-k in
+    let a = c.args in (
+      search rules,
+      onward i
+          ∙ unmet-later a.schema.now (database_of a.schema.now a.words.now) (join_of (get_or a.joins l.k unread))
+          (map join_of (drop (l.k + 1) (take a.joined a.joins))) l.k (sym c.in_default.is ∙ c.first_choice-found.ensures),
+      c.nodes-1.given ∙ l.invariant.2,
+      c.heads-1.given ∙ l.invariant.3,
+    )
+
+pub returns : goal.returns
+returns c = let l = c.loop-k in
+    let e = c in
+    let a = c.args in
+    sym (ap unmet_of (l.invariant.1 ∙ ap (λ (x : List database.JoinDependency). first_unmet_from l.k a.schema.now x (database_of a.schema.now a.words.now))
+    (ap (map join_of) (left-none a.joined l.k a.joins e.loop-k-test.false)) ∙ unmet-end a.schema.now (database_of a.schema.now a.words.now) l.k))
+
+-- TODO names tie: onward

@@ -1,0 +1,44 @@
+-- What the outcome of reading says
+use mathlib.Core.Path.{◌≡◌, refl, sym, ap, ◌∙◌}
+use mathlib.Core.List.{List}
+use Prim.Native.Nat.{ℕ}
+use lib.ListN.{drop}
+use Rattle.refusals.specs.Refusals.{Reply, gives, refused, ◌>>=◌}
+use Rattle.record.specs.declared.Record.{Record}
+use Rattle.record.specs.Calls.{outcome_reply}
+use Rattle.format.specs.File.{directory, stretches, read_all, read_file, read_outcome}
+use Rattle.places.specs.internal.Read.{outcome_of}
+use Rattle.reader.proofs.Directories.{accepts, refuses}
+use Rattle.reader.proofs.read.Goals as goal
+
+outcome-says : (x : Reply Record) → outcome_reply (outcome_of x) ≡ read_outcome x
+outcome-says (gives r) = refl
+outcome-says (refused n) = refl
+
+pub read_parts-requires : goal.read_parts-requires
+read_parts-requires c =
+    let start = c in
+    let a = accepts start.args.file.now c.in-Parts.n (sym c.in-Parts.is ∙ c.read_directory.ensures) in
+    ((a.low, a.high, a.fits), a.chain)
+
+pub returns-in-Parts : goal.returns-in-Parts
+unfolding read_file ◌>>=◌
+returns-in-Parts c =
+    let after-n = c in
+    let after-read-directory = after-n in
+    let start = after-read-directory in
+    ap outcome_reply c.read_parts.ensures
+    ∙ outcome-says (read_all (stretches after-n.in-Parts.n start.args.file.now (drop 2 start.args.file.now))) ∙ sym (ap read_outcome
+    (ap (λ (o : Reply (List (List ℕ))). o >>= read_all)
+    (accepts start.args.file.now after-n.in-Parts.n (sym after-n.in-Parts.is ∙ after-read-directory.read_directory.ensures)).parts))
+
+pub returns-in-Broken : goal.returns-in-Broken
+unfolding read_file ◌>>=◌
+returns-in-Broken c =
+    let after-number = c in
+    let after-read-directory = after-number in
+    let start = after-read-directory in
+    ap outcome_reply c.refusal.ensures ∙ sym (ap read_outcome
+    (ap (λ (o : Reply (List (List ℕ))). o >>= read_all)
+    (refuses (directory start.args.file.now) after-number.in-Broken.number
+    (sym after-number.in-Broken.is ∙ after-read-directory.read_directory.ensures))))

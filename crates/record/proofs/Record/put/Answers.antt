@@ -1,0 +1,135 @@
+-- `record::Record::put` meets its contract, by `Outcomes`: each answer follows the test that decides it in `put_query`.
+-- Assumes nothing.
+use mathlib.Core.Path.{◌≡◌, sym, ap, ◌∙◌}
+use mathlib.Core.Bool.{true}
+use mathlib.Core.Option.{none, some}
+use Prim.Native.Nat.{ℕ, ◌<◌}
+use native.Mathlib.Omega.{arith}
+use borrow.Author.Tests.{not-true, not-false}
+use Rattle.record.specs.declared.Record.{Record}
+use Rattle.record.specs.declared.Lookup.TheVariants as lookup
+use Rattle.record.specs.View.{schema_of}
+use Rattle.record.specs.Rule.{good_record}
+use Rattle.query.specs.Rule.{good_query, head_safe}
+use Rattle.record.specs.Calls.{concluded}
+use Rattle.record.specs.internal.Lookup.{number_of, vacant_place}
+use Rattle.record.proofs.Good.{good-record}
+use Rattle.query.proofs.Good.{good-query}
+use Rattle.record.proofs.Refusals.{place-at, vacant-at}
+use Rattle.record.proofs.Outcomes.{put-broken, put-high, put-unfit, put-unsafe, put-filled, put-done}
+use Rattle.record.proofs.Record.put.Goals as goal
+
+pub returns-then-not-is_good : goal.returns-then-not-is_good
+returns-then-not-is_good c =
+    c.refused.ensures ∙ put-broken c.args.self c.args.place
+    c.args.q (sym c.is_good.ensures ∙ not-true _ c.if-not-is_good.true)
+
+-- what the tests passed so far tell
+good : (c : tie.Else1) → good_record c.args.self ≡ true
+good c = sym c.is_good.ensures ∙ not-false _ c.if-not-is_good.false
+
+low : (c : tie.After-enum-told) → c.args.place < 8
+low c =
+    (place-at c.args.place c.in-At.field-0
+    (sym c.place_at-found.ensures ∙ c.in-At.is)).1
+
+fit : (c : tie.Else2)
+    → good_query (schema_of c.args.self)
+    c.args.q ≡ true
+fit c = sym c.query_good.ensures ∙ not-false _ c.if-not-query_good.false
+
+safe : (c : tie.Else3)
+    → head_safe (schema_of c.args.self)
+    c.args.q ≡ true
+safe c = sym c.head_safe.ensures ∙ not-false _ c.if-not-head_safe.false
+
+pub returns-in_default : goal.returns-in_default
+returns-in_default c =
+    let self = c.args.self in
+    let told = c.enum_told-in_default-1.given in
+    let number : c.number.result ≡ told.0.0 = c.number.ensures ∙ ap number_of told.1 in
+    c.refused-in_default.ensures ∙ ap (λ (n : ℕ). concluded (some n) self self) number
+    ∙ put-high c.args.self
+    c.args.place
+    c.args.q (good c) told.0.0
+    (sym c.place_at-found.ensures ∙ told.1)
+
+pub query_good-requires : goal.query_good-requires
+query_good-requires c = (good-record c.args.self (good c)).relations
+
+pub returns-then-not-query_good : goal.returns-then-not-query_good
+returns-then-not-query_good c =
+    c.refused-then-not-query_good.ensures
+    ∙ put-unfit c.args.self
+    c.args.place
+    c.args.q (good c)
+    (low c) (sym c.query_good.ensures ∙ not-true _ c.if-not-query_good.true)
+
+pub head_safe-requires : goal.head_safe-requires
+head_safe-requires c =
+    let within =
+    good-query 12 (schema_of c.args.self)
+    c.args.q (fit c)
+    in (
+      (good-record c.args.self
+          (good c)).relations,
+      within.arity,
+      within.size,
+    )
+
+pub returns-then-not-head_safe : goal.returns-then-not-head_safe
+returns-then-not-head_safe c =
+    c.refused-then-not-head_safe.ensures
+    ∙ put-unsafe c.args.self
+    c.args.place
+    c.args.q
+    (good c) (low c)
+    (fit c)
+    (sym c.head_safe.ensures ∙ not-true _ c.if-not-head_safe.true)
+
+pub returns-in_default-found : goal.returns-in_default-found
+returns-in_default-found c =
+    let self = c.args.self in
+    let told = c.enum_told-in_default-found-1.given in
+    let number : c.number-in_default-found.result ≡ told.0.0 = c.number-in_default-found.ensures ∙ ap number_of told.1 in
+    c.refused-in_default-found.ensures ∙ ap (λ (n : ℕ). concluded (some n) self self) number
+    ∙ put-filled c.args.self
+    c.args.place
+    c.args.q
+    (good c)
+    (low c) (fit c)
+    (safe c) told.0.0
+    (sym c.vacant_place-found.ensures ∙ told.1)
+
+pub with_place-requires : goal.with_place-requires
+with_place-requires c =
+    let self = c.args.self in
+    let place = c.args.place in
+    let at = c.in-At-found.at in
+    let is : vacant_place self place ≡ lookup.At at = sym c.vacant_place-found.ensures ∙ c.in-At-found.is in
+    omega (arith, (vacant-at self place at is).0, (vacant-at self place at is).1)
+
+pub returns : goal.returns
+returns c =
+    let self = c.args.self in
+    let place =
+    c.args.place
+    in
+    let at = c.in-At-found.at in
+    let is : vacant_place self place ≡ lookup.At at =
+    sym c.vacant_place-found.ensures ∙ c.in-At-found.is
+    in
+    c.done.ensures ∙ ap (λ (after : Record). concluded none after after) c.with_place.ensures
+    ∙ put-done self place
+    c.args.q
+    (good c)
+    (low c)
+    (fit c) (safe c) at is
+
+-- TODO names tie: good
+
+-- TODO names tie: low
+
+-- TODO names tie: fit
+
+-- TODO names tie: safe

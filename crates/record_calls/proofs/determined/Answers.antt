@@ -1,0 +1,53 @@
+-- `record_calls::determined` meets its contract, by `Outcomes`: the closed mask is that of the determined columns, and its ones are their number.
+-- Assumes nothing.
+use mathlib.Core.Path.{◌≡◌, sym, ◌∙◌}
+use mathlib.Core.Bool.{true}
+use native.Mathlib.Nat.{lt_of_le_of_lt}
+use lib.Count.{ones-le}
+use lib.Dec.{lit<}
+use lib.ListN.{length}
+use borrow.Author.Tests.{not-true, not-false}
+use borrow.Author.Rules.{rules}
+use Rattle.record.specs.Rule.{good_record}
+use Rattle.lists.proofs.Loops.{mapped-length}
+use Rattle.record.proofs.Good.{good-record}
+use Rattle.record_calls.proofs.Outcomes.{rights-narrow, determined-broken, determined-unfit, determined-done}
+use Rattle.record_calls.proofs.determined.Goals as goal
+
+-- what the tests passed so far tell
+good : (c : tie.Else1) → good_record c.args.given ≡ true
+good c = sym c.is_good.ensures ∙ not-false _ c.if-not-is_good.false
+
+pub returns-then-not-is_good : goal.returns-then-not-is_good
+returns-then-not-is_good c =
+    determined-broken c.args.given c.args.relation
+    c.args.left (sym c.is_good.ensures ∙ not-true _ c.if-not-is_good.true)
+
+pub set_good-requires : goal.set_good-requires
+set_good-requires c = (good-record c.args.given (good c)).relations
+
+pub returns-then-not-set_good : goal.returns-then-not-set_good
+returns-then-not-set_good c =
+    determined-unfit c.args.given c.args.relation
+    c.args.left (good c) (sym c.set_good.ensures ∙ not-true _ c.if-not-set_good.true)
+
+pub closed_columns-mask-requires : goal.closed_columns-mask-requires
+closed_columns-mask-requires c = (
+  (good-record c.args.given (good c)).held,
+  rights-narrow
+      c.args.given (good c),
+)
+
+pub overflow_cast-result : goal.overflow_cast-result
+overflow_cast-result c = record { fits = lt_of_le_of_lt (ones-le 8 _ (search rules)) (lit< tt) }
+
+pub returns : goal.returns
+returns c =
+    let given = c.args.given in
+    let long : length given.dependencies-1 ≡ 32 = search (mapped-length, rules) in
+    determined-done c.args.given
+    c.args.relation c.args.left
+    (good c) (sym c.set_good.ensures ∙ not-false _ c.if-not-set_good.false) long
+    c.closed_columns-mask.result c.closed_columns-mask.ensures
+
+-- TODO names tie: good

@@ -1,0 +1,29 @@
+-- `spernevan_determined` gives the columns and their number, once the file is read. Assumes nothing.
+use mathlib.Core.Path.{◌≡◌, sym, ap, ◌∙◌}
+use Rattle.record_calls.specs.Calls.{columns_reply, determined_columns}
+use Rattle.record_on_files.specs.Records.{determined_in}
+use Rattle.refusals.specs.Refusals.{refused}
+use Rattle.record_on_files.proofs.Files.{read_done, read-refused}
+use Rattle.lent_numbers.specs.Lent.{returned}
+use Rattle.lent_numbers.proofs.Lent.{leaves-same, refused-number, refused-leaves}
+use Rattle.record_on_files.proofs.determined_in_file.Goals as goal
+
+pub returns-in-Done : goal.returns-in-Done
+returns-in-Done c =
+    let d = c in
+    let t = d in
+    let o = t in
+    let a = o.args in
+    let l = c.leave_columns.ensures in
+    let p : columns_reply d.determined.result ≡ determined_in a.file.now a.relation a.left =
+    d.determined.ensures
+    ∙ sym (read_done a.file.now o.read-outcome.result o.read-outcome.ensures (λ r. determined_columns r a.relation a.left) t.in-Done.is) in
+    (l.0 ∙ ap returned p, (l.1.0 ∙ leaves-same p (λ t. t.0) a.columns.now, l.1.1 ∙ leaves-same p (λ t. t.1) a.count.now))
+
+pub returns-in-Refused : goal.returns-in-Refused
+returns-in-Refused c =
+    let s = c in
+    let p : determined_in s.args.file.now s.args.relation s.args.left ≡ refused c.in-Refused.n =
+    read-refused s.args.file.now c.read-outcome.result c.read-outcome.ensures
+    (λ r. determined_columns r s.args.relation s.args.left) _ c.in-Refused.is in
+    (refused-number p, (refused-leaves p (λ t. t.0) s.args.columns.now, refused-leaves p (λ t. t.1) s.args.count.now))

@@ -1,0 +1,27 @@
+-- `tableaux::more_cells` meets its contract. The loop's invariant: the first i are stored, and what is not in use stands after them. Assumes nothing.
+use mathlib.Core.Path.{◌≡◌, refl, ap, ◌∙◌}
+use mathlib.Core.List.{List, ◌++◌}
+use Prim.Native.Nat.{◌-◌}
+use native.Mathlib.Omega.{arith}
+use lib.ListN.{get_or, set, replicate}
+use lib.Seq.{take_all}
+use borrow.Author.Rules.{rules}
+use Rattle.query.specs.declared.Cell.{Cell}
+use Rattle.query.specs.Rule.{no_cell}
+use Rattle.lists.proofs.Loops.{filled_to, filled_next}
+use Rattle.tableaux.proofs.more_cells.Goals as goal
+
+pub loop-i-init : goal.loop-i-init
+loop-i-init c = (search rules, refl)
+
+pub loop-i-preserved : goal.loop-i-preserved
+loop-i-preserved c =
+    let cells = c.args.cells in
+    let i = c.loop-i.i in
+    (search rules, ap (λ (l : List Cell). set l i (get_or cells i no_cell)) c.loop-i.invariant.1 ∙ filled_next 192 no_cell cells i (search rules) (search rules))
+
+pub returns : goal.returns
+returns c =
+    let cells = c.args.cells in
+    let all : c.loop-i.i ≡ 96 = omega arith in
+    c.loop-i.invariant.1 ∙ ap (filled_to 192 no_cell cells) all ∙ ap (λ (l : List Cell). l ++ replicate 96 no_cell) (take_all 96 cells (search rules))
