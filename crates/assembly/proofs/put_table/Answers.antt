@@ -30,7 +30,6 @@ record At (schema before : List ℕ) (at start n : ℕ) (places : List Place) (b
   long : length buffer ≡ length before
   rest : over before at (table_of start (map (put_place schema) (take n places))) ≡ over buffer (at + 4 * k) (table_of due (parts_from schema places n k))
 
-
 begins : (schema before : List ℕ) (at start n : ℕ) (places : List Place) → start ≤ 1000 → At schema before at start n places before start 0
 begins schema before at start n places h =
     record {

@@ -20,7 +20,6 @@ pub record PutIn (words : List ℕ) (at mask : ℕ) (values row : List ℕ) (c :
   pub new : (d : ℕ) → d < c → BitOf mask d → get_or row d 0 ≡ get_or words (at + 1 + d) 0
   pub old : (d : ℕ) → (BitOf mask d → ⊥) → get_or row d 0 ≡ get_or values d 0
 
-
 put-here : (words : List ℕ) (at mask : ℕ) (values row : List ℕ) (c x : ℕ) → PutIn words at mask values row c → c < 8 → BitOf mask c
     → x ≡ get_or words (at + 1 + c) 0 → PutIn words at mask values (set row c x) (c + 1)
 put-here words at mask values row c x p h bit e =

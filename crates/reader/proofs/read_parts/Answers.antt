@@ -124,7 +124,6 @@ module _ (file : List ℕ) (n : ℕ) (low : 2 ≤ n) (part0 part1 : List ℕ) (e
     unfolding read_all
     all = ap read_all (first_two file n low) ∙ rw (e₀, e₁)
 
-
 module _ (file : List ℕ) (n : ℕ) (low : 2 ≤ n) (part0 : List ℕ) (e₀ : part0 ≡ stretch file (table_at file 0)) (rs : RelationsRead)
     (er : rs ≡ relations_read (complete bad_relations (relations.get part0))) where
   refuses-relations : rs.good ≡ false → outcome_of (refused bad_relations) ≡ outcome_of (read_all (stretches n file (drop 2 file)))
