@@ -14,22 +14,15 @@ use Rattle.record.specs.internal.Lookup.{filled_place}
 use Rattle.admission.proofs.Admitted.{wide, lookup-broken, lookup-elsewhere, lookup-unspelled, lookup-here}
 use Rattle.admission.proofs.evaluable.Goals as goal
 
-abbrev begun : tie.Else1 → tie.Start
-begun c = c
-
-good : (c : tie.Else1) → good_record (begun c).args.given ≡ true
+good : (c : goal.Else-not-is_good) → good_record c.args.given ≡ true
 good c = sym c.is_good.ensures ∙ not-false c.is_good.result c.if-not-is_good.false
 
--- Where the place was found
-abbrev passed : tie.After-known-told → tie.Else1
-passed c = c
-
-placed : (c : tie.After-known-told)
-    → filled_place (begun (passed c)).args.given (begun (passed c)).args.place ≡ lookup.At c.in-At.at
+placed : (c : goal.In-At)
+    → filled_place c.args.given c.args.place ≡ lookup.At c.in-At.at
 placed c = sym c.filled_place-found.ensures ∙ c.in-At.is
 
-widths : (c : tie.After-known-told) → (begun (passed c)).args.given.relations ≤ length (begun (passed c)).args.given.widths
-widths c = wide (begun (passed c)).args.given (good (passed c)) (search rules)
+widths : (c : goal.In-At) → c.args.given.relations ≤ length c.args.given.widths
+widths c = wide c.args.given (good c.before.before.before.before) (search rules)
 
 pub returns-then-not-is_good : goal.returns-then-not-is_good
 returns-then-not-is_good c =
@@ -39,40 +32,30 @@ returns-then-not-is_good c =
 pub returns-in_default : goal.returns-in_default
 returns-in_default c =
     let p = c in
-    let a = (begun p).args in
+    let a = p.args in
     let looked = c.filled_place-found.ensures in
     let told = c.enum_told-1.given in
-    told.1 ∙ lookup-elsewhere a.given a.place a.words.now told.0.0 (good p) (sym looked ∙ told.1)
+    told.1 ∙ lookup-elsewhere a.given a.place a.words.now told.0.0 (good (goal.at.returns-in_default c).Else-not-is_good) (sym looked ∙ told.1)
 
 pub slice_bounds-widths-end : goal.slice_bounds-widths-end
-slice_bounds-widths-end c = widths c
+slice_bounds-widths-end c = widths (goal.at.slice_bounds-widths-end c).In-At
 
 pub slice_bounds-spelled-end : goal.slice_bounds-spelled-end
 slice_bounds-spelled-end c =
     let p = c in
-    let r = (begun (passed p)).args.given in
-    sym (length-take-le r.relations r.widths-1 (widths p))
+    let r = p.args.given in
+    sym (length-take-le r.relations r.widths-1 (widths (goal.at.slice_bounds-spelled-end c).In-At))
 
 pub returns-then-not-spelled : goal.returns-then-not-spelled
 returns-then-not-spelled c =
     let p = c in
-    let a = (begun (passed p)).args in
-    lookup-unspelled a.given a.place a.words.now p.in-At.at (good (passed p)) (placed p)
+    let a = p.args in
+    lookup-unspelled a.given a.place a.words.now p.in-At.at (good (goal.at.returns-then-not-spelled c).Else-not-is_good) (placed (goal.at.returns-then-not-spelled c).In-At)
     (sym c.spelled.ensures ∙ not-true c.spelled.result c.if-not-spelled.true)
 
 pub returns : goal.returns
 returns c =
     let p = c in
-    let a = (begun (passed p)).args in
-    lookup-here a.given a.place a.words.now p.in-At.at (good (passed p)) (placed p)
+    let a = p.args in
+    lookup-here a.given a.place a.words.now p.in-At.at (good (goal.at.returns c).Else-not-is_good) (placed (goal.at.returns c).In-At)
     (sym c.spelled.ensures ∙ not-false c.spelled.result c.if-not-spelled.false)
-
--- TODO names tie: begun
-
--- TODO names tie: good
-
--- TODO names tie: passed
-
--- TODO names tie: placed
-
--- TODO names tie: widths

@@ -12,15 +12,12 @@ use Rattle.record.specs.Rule.{good_record}
 use Rattle.admission.proofs.Admitted.{wide, test-broken, test-unspelled, test-goes}
 use Rattle.admission.proofs.testable.Goals as goal
 
-abbrev begun : tie.Else1 → tie.Start
-begun c = c
-
-good : (c : tie.Else1) → good_record (begun c).args.given ≡ true
+good : (c : goal.Else-not-is_good) → good_record c.args.given ≡ true
 good c = sym c.is_good.ensures ∙ not-false c.is_good.result c.if-not-is_good.false
 
 -- There are as many widths as relations
-widths : (c : tie.Else1) → (begun c).args.given.relations ≤ length (begun c).args.given.widths
-widths c = wide (begun c).args.given (good c) (search rules)
+widths : (c : goal.Else-not-is_good) → c.args.given.relations ≤ length c.args.given.widths
+widths c = wide c.args.given (good c) (search rules)
 
 pub returns-then-not-is_good : goal.returns-then-not-is_good
 returns-then-not-is_good c =
@@ -28,28 +25,22 @@ returns-then-not-is_good c =
     test-broken a.given a.words.now (sym c.is_good.ensures ∙ not-true c.is_good.result c.if-not-is_good.true)
 
 pub slice_bounds-widths-end : goal.slice_bounds-widths-end
-slice_bounds-widths-end c = widths c
+slice_bounds-widths-end c = widths (goal.at.slice_bounds-widths-end c).Else-not-is_good
 
 pub slice_bounds-spelled-end : goal.slice_bounds-spelled-end
 slice_bounds-spelled-end c =
     let p = c in
-    let r = (begun p).args.given in
-    sym (length-take-le r.relations r.widths-1 (widths p))
+    let r = p.args.given in
+    sym (length-take-le r.relations r.widths-1 (widths (goal.at.slice_bounds-spelled-end c).Else-not-is_good))
 
 pub returns-then-not-spelled : goal.returns-then-not-spelled
 returns-then-not-spelled c =
     let p = c in
-    let a = (begun p).args in
-    test-unspelled a.given a.words.now (good p) (sym c.spelled.ensures ∙ not-true c.spelled.result c.if-not-spelled.true)
+    let a = p.args in
+    test-unspelled a.given a.words.now (good (goal.at.returns-then-not-spelled c).Else-not-is_good) (sym c.spelled.ensures ∙ not-true c.spelled.result c.if-not-spelled.true)
 
 pub returns : goal.returns
 returns c =
     let p = c in
-    let a = (begun p).args in
-    test-goes a.given a.words.now (good p) (sym c.spelled.ensures ∙ not-false c.spelled.result c.if-not-spelled.false)
-
--- TODO names tie: begun
-
--- TODO names tie: good
-
--- TODO names tie: widths
+    let a = p.args in
+    test-goes a.given a.words.now (good (goal.at.returns c).Else-not-is_good) (sym c.spelled.ensures ∙ not-false c.spelled.result c.if-not-spelled.false)

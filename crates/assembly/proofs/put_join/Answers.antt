@@ -58,51 +58,51 @@ ended buffer at relation n sets after h e =
     (byte-and-run (set buffer at relation) (at + 1) n sets after (rw length-set (omega arith))
     (e ∙ ap (over (begun buffer at relation n) (at + 2)) (ones sets) ∙ ap (λ (k : ℕ). over (begun buffer at relation n) k sets) (sym two)))
 
-four : (c : tie.Start invariant-loop decreases-loop) → length c.args.j.sets ≡ 4
+four : (c : goal.Start) → length c.args.j.sets ≡ 4
 four c = search (mapped-length, rules)
 
-long : (c : tie.Start invariant-loop decreases-loop) → length (put_join c.args.j) ≡ 2 + c.args.j.count
+long : (c : goal.Start) → length (put_join c.args.j) ≡ 2 + c.args.j.count
 long c = join-long c.args.j (four c) c.requires.0
 
 pub bounds-buffer-at : goal.bounds-buffer-at
-bounds-buffer-at c = let start = c in omega (arith, long start, start.requires.1)
+bounds-buffer-at c = let start = c in omega (arith, long (goal.at.bounds-buffer-at c).Start, start.requires.1)
 
 pub overflow_add-buffer : goal.overflow_add-buffer
-overflow_add-buffer c = let start = c in let l = long start in let room = start.requires.1 in search rules
+overflow_add-buffer c = let start = c in let l = long (goal.at.overflow_add-buffer c).Start in let room = start.requires.1 in search rules
 
 pub bounds-buffer-at-2 : goal.bounds-buffer-at-2
 bounds-buffer-at-2 c =
     let start = c in
-    omega (arith, long start, start.requires.1, length-set start.args.buffer.now start.args.at start.args.j.relation)
+    omega (arith, long (goal.at.bounds-buffer-at-2 c).Start, start.requires.1, length-set start.args.buffer.now start.args.at start.args.j.relation)
 
 pub loop-i-init : goal.loop-i-init
 loop-i-init c =
     let start = c in
     let a = start.args in (
       omega arith,
-      begins (begun a.buffer.now a.at a.j.relation a.j.count) a.at a.j.count a.j.sets (omega (arith, four start, start.requires.0))
-          (omega (arith, long start, start.requires.1, begun-long a.buffer.now a.at a.j.relation a.j.count)),
+      begins (begun a.buffer.now a.at a.j.relation a.j.count) a.at a.j.count a.j.sets (omega (arith, four (goal.at.loop-i-init c).Start, start.requires.0))
+          (omega (arith, long (goal.at.loop-i-init c).Start, start.requires.1, begun-long a.buffer.now a.at a.j.relation a.j.count)),
     )
 
 -- There is room for the set at i
-next-room : (c : tie.In-loop invariant-loop decreases-loop) → c.args.at + 2 + c.loop-i.i < length c.loop-i.buffer
+next-room : (c : goal.In-loop-i) → c.args.at + 2 + c.loop-i.i < length c.loop-i.buffer
 next-room c =
     let start = c in
     let a = start.args in
     room (begun a.buffer.now a.at a.j.relation a.j.count) a.at a.j.count a.j.sets c.loop-i.buffer c.loop-i.i
-    c.loop-i-test.true (omega (arith, four start, start.requires.0)) c.loop-i.invariant.1
+    c.loop-i-test.true (omega (arith, four c.before.before.before.before, start.requires.0)) c.loop-i.invariant.1
 
 pub bounds-sets-i : goal.bounds-sets-i
 bounds-sets-i c = let few = c.requires.0 in search rules
 
 pub overflow_add-buffer-in-loop-i : goal.overflow_add-buffer-in-loop-i
-overflow_add-buffer-in-loop-i c = let r = next-room c in search rules
+overflow_add-buffer-in-loop-i c = let r = next-room (goal.at.overflow_add-buffer-in-loop-i c).In-loop-i in search rules
 
 pub overflow_add-buffer-in-loop-i-2 : goal.overflow_add-buffer-in-loop-i-2
-overflow_add-buffer-in-loop-i-2 c = let r = next-room c in search rules
+overflow_add-buffer-in-loop-i-2 c = let r = next-room (goal.at.overflow_add-buffer-in-loop-i-2 c).In-loop-i in search rules
 
 pub bounds-buffer-at-in-loop-i : goal.bounds-buffer-at-in-loop-i
-bounds-buffer-at-in-loop-i c = next-room c
+bounds-buffer-at-in-loop-i c = next-room (goal.at.bounds-buffer-at-in-loop-i c).In-loop-i
 
 pub loop-i-preserved : goal.loop-i-preserved
 loop-i-preserved c =
@@ -110,14 +110,14 @@ loop-i-preserved c =
     let a = start.args in (
       search rules,
       goes_on (begun a.buffer.now a.at a.j.relation a.j.count) a.at a.j.count a.j.sets c.loop-i.buffer c.loop-i.i
-          c.loop-i-test.true (omega (arith, four start, start.requires.0)) c.loop-i.invariant.1,
+          c.loop-i-test.true (omega (arith, four (goal.at.loop-i-preserved c).Start, start.requires.0)) c.loop-i.invariant.1,
     )
 
 pub overflow_add-result : goal.overflow_add-result
-overflow_add-result c = let start = c in let l = long start in let room = start.requires.1 in search rules
+overflow_add-result c = let start = c in let l = long (goal.at.overflow_add-result c).Start in let room = start.requires.1 in search rules
 
 pub overflow_add-result-2 : goal.overflow_add-result-2
-overflow_add-result-2 c = let start = c in let l = long start in let room = start.requires.1 in search rules
+overflow_add-result-2 c = let start = c in let l = long (goal.at.overflow_add-result-2 c).Start in let room = start.requires.1 in search rules
 
 pub shape_of-buffer : goal.shape_of-buffer
 shape_of-buffer c =
@@ -128,14 +128,8 @@ pub returns : goal.returns
 returns c =
     let start = c in
     let a = start.args in
-    let k : length (take a.j.count a.j.sets) ≡ a.j.count = length-take-le a.j.count a.j.sets (omega (arith, four start, start.requires.0)) in (
+    let k : length (take a.j.count a.j.sets) ≡ a.j.count = length-take-le a.j.count a.j.sets (omega (arith, four (goal.at.returns c).Start, start.requires.0)) in (
       ended a.buffer.now a.at a.j.relation a.j.count (take a.j.count a.j.sets) c.loop-i.buffer
-          (omega (arith, long start, start.requires.1)) (writing-ends c.loop-i.invariant.1 (omega arith)).0,
-      omega (arith, long start),
+          (omega (arith, long (goal.at.returns c).Start, start.requires.1)) (writing-ends c.loop-i.invariant.1 (omega arith)).0,
+      omega (arith, long (goal.at.returns c).Start),
     )
-
--- TODO names tie: four
-
--- TODO names tie: long
-
--- TODO names tie: next-room

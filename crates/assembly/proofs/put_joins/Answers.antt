@@ -47,11 +47,11 @@ ended buffer at joined list after next some h e =
       omega (arith, ap length all, e.1),
     )
 
-four : (c : tie.Start invariant-loop decreases-loop) → length c.args.list ≡ 4
+four : (c : goal.Start) → length c.args.list ≡ 4
 four c = search rules
 
 -- There is room for the count and each join dependency
-whole : (c : tie.Else1 invariant-loop decreases-loop)
+whole : (c : goal.Else-joined-eq0)
     → c.args.at + 1 + length (flat_map put_join (take c.args.joined c.args.list))
     ≤ length c.args.buffer.now
 whole c =
@@ -65,17 +65,17 @@ returns-then-joined-eq0 c =
     nothing start.args.buffer.now start.args.at start.args.joined start.args.list c.if-joined-eq0.true
 
 pub bounds-buffer-at : goal.bounds-buffer-at
-bounds-buffer-at c = omega (arith, whole c)
+bounds-buffer-at c = omega (arith, whole (goal.at.bounds-buffer-at c).Else-joined-eq0)
 
 pub overflow_add-next : goal.overflow_add-next
-overflow_add-next c = let room = whole c in search rules
+overflow_add-next c = let room = whole (goal.at.overflow_add-next c).Else-joined-eq0 in search rules
 
 pub loop-i-init : goal.loop-i-init
 loop-i-init c =
     let a = c.args in (
       omega arith,
       writing-starts put_join (set a.buffer-1.now a.at a.joined) (a.at + 1) (take a.joined a.list)
-          (rw (length-set a.buffer-1.now a.at a.joined) (whole c)),
+          (rw (length-set a.buffer-1.now a.at a.joined) (whole (goal.at.loop-i-init c).Else-joined-eq0)),
     )
 
 pub bounds-list-i : goal.bounds-list-i
@@ -118,8 +118,4 @@ returns c =
     let a = start.args in
     let k : length (take a.joined a.list) ≡ a.joined = length-take-le a.joined a.list (omega (arith, four start, start.requires.0.0)) in
     ended a.buffer-1.now a.at a.joined a.list c.loop-i.buffer c.loop-i.next after-if1.if-joined-eq0.false
-    (omega (arith, whole after-if1)) (writing-ends c.loop-i.invariant.1 (omega (arith, c.loop-i-test.false)))
-
--- TODO names tie: four
-
--- TODO names tie: whole
+    (omega (arith, whole (goal.at.returns c).Else-joined-eq0)) (writing-ends c.loop-i.invariant.1 (omega (arith, c.loop-i-test.false)))

@@ -18,183 +18,138 @@ use Rattle.assembly.proofs.Joins.{few-sets}
 use Rattle.assembly.proofs.RecordParts.{first-long, second-long, parts-long}
 use Rattle.assembly.proofs.put_parts.Goals as goal
 
-widths-long : (c : tie.Start) → length c.args.given.widths ≡ 8
+widths-long : (c : goal.Start) → length c.args.given.widths ≡ 8
 widths-long c = search (mapped-length, rules)
 
-list-long : (c : tie.Start) → length c.args.given.dependencies ≡ 32
+list-long : (c : goal.Start) → length c.args.given.dependencies ≡ 32
 list-long c = search (mapped-length, rules)
 
 -- The bytes of each part
-abbrev relation_bytes : tie.Start → List ℕ
+abbrev relation_bytes : goal.Start → List ℕ
 relation_bytes c = relations.put (c.args.given.relations, c.args.given.widths)
 
-abbrev list_bytes : tie.Start → List ℕ
+abbrev list_bytes : goal.Start → List ℕ
 list_bytes c = dependency_bytes c.args.given.held c.args.given.dependencies
 
-abbrev tail_bytes : tie.Start → List ℕ
+abbrev tail_bytes : goal.Start → List ℕ
 tail_bytes c = joins_bytes c.args.given.joined c.args.given.joins
 
-abbrev place_bytes : tie.Start → List ℕ
+abbrev place_bytes : goal.Start → List ℕ
 place_bytes c = flatten (map (put_place (schema_of c.args.given)) (take c.args.n c.args.given.places))
 
 -- Where the dependencies of each kind start, and the places
-abbrev second : tie.Start → ℕ
+abbrev second : goal.Start → ℕ
 second c = c.args.start + 1 + c.args.given.relations
 
-abbrev third : tie.Start → ℕ
+abbrev third : goal.Start → ℕ
 third c = second c + 1 + 3 * c.args.given.held
 
-abbrev fourth : tie.Start → ℕ
+abbrev fourth : goal.Start → ℕ
 fourth c = third c + length (tail_bytes c)
 
-relations-long : (c : tie.Start) → length (relation_bytes c) ≡ 1 + c.args.given.relations
+relations-long : (c : goal.Start) → length (relation_bytes c) ≡ 1 + c.args.given.relations
 relations-long c = first-long c.args.given c.requires.0 (widths-long c) (list-long c)
 
-dependencies-long : (c : tie.Start) → length (list_bytes c) ≡ 1 + 3 * c.args.given.held
+dependencies-long : (c : goal.Start) → length (list_bytes c) ≡ 1 + 3 * c.args.given.held
 dependencies-long c = second-long c.args.given c.requires.0 (widths-long c) (list-long c)
 
-room : (c : tie.Start) → fourth c + length (place_bytes c) ≤ length c.args.buffer.now
+room : (c : goal.Start) → fourth c + length (place_bytes c) ≤ length c.args.buffer.now
 room c = omega (arith, parts-long c.args.given c.requires.0 (widths-long c) (list-long c) c.args.n, c.requires.1.1)
 
-short : (c : tie.Start) → length c.args.buffer.now < 2 ^ 63
+short : (c : goal.Start) → length c.args.buffer.now < 2 ^ 63
 short c = search rules
 
-abbrev first-run-start : tie.After-put-relations → tie.Start
-first-run-start c = c
-
-first_run : (c : tie.After-put-relations)
-    → Run (first-run-start c).args.buffer.now (first-run-start c).args.start ([] ++ relation_bytes (first-run-start c)) c.put_relations.new.0
-    (second (first-run-start c))
+first_run : (c : goal.After-put_relations)
+    → Run c.args.buffer.now c.args.start ([] ++ relation_bytes c.before.before.before.before.before.before.before) c.put_relations.new.0
+    (second c.before.before.before.before.before.before.before)
 first_run c =
-    let start' = first-run-start c in
-    run-turns (run-starts start'.args.buffer.now start'.args.start) (relation_bytes start') c.put_relations.new.0 (second start')
-    (omega (arith, relations-long start', room start')) c.put_relations.ensures (omega (arith, relations-long start'))
+    let start' = c in
+    run-turns (run-starts start'.args.buffer.now start'.args.start) (relation_bytes c.before.before.before.before.before.before.before) c.put_relations.new.0 (second c.before.before.before.before.before.before.before)
+    (omega (arith, relations-long c.before.before.before.before.before.before.before, room c.before.before.before.before.before.before.before)) c.put_relations.ensures (omega (arith, relations-long c.before.before.before.before.before.before.before))
 
-abbrev second-run-start : tie.After-put-dependencies → tie.Start
-second-run-start c = first-run-start c
+abbrev second-run-start : goal.After-put_dependencies → goal.Start
+second-run-start c = c
 
-second_run : (c : tie.After-put-dependencies)
+second_run : (c : goal.After-put_dependencies)
     → Run (second-run-start c).args.buffer.now (second-run-start c).args.start ([] ++ relation_bytes (second-run-start c) ++ list_bytes (second-run-start c))
     c.put_dependencies.new.0 (third (second-run-start c))
 second_run c =
     let start' = second-run-start c in
-    run-turns (first_run c) (list_bytes start') c.put_dependencies.new.0 (third start')
+    run-turns (first_run c.before.before.before.before) (list_bytes start') c.put_dependencies.new.0 (third start')
     (omega (arith, dependencies-long start', room start')) c.put_dependencies.ensures (omega (arith, dependencies-long start'))
 
-abbrev third-run-start : tie.After-put-joins → tie.Start
-third-run-start c = second-run-start c
+abbrev third-run-start : goal.After-put_joins-third → goal.Start
+third-run-start c = second-run-start c.before.before.before.before
 
-third-run : (c : tie.After-put-joins)
+third-run : (c : goal.After-put_joins-third)
     → Run (third-run-start c).args.buffer.now (third-run-start c).args.start
     ([] ++ relation_bytes (third-run-start c) ++ list_bytes (third-run-start c) ++ tail_bytes (third-run-start c)) c.put_joins-third.new.0
     (fourth (third-run-start c))
 third-run c =
     let start' = third-run-start c in
-    run-turns (second_run c) (tail_bytes start') c.put_joins-third.new.0 (fourth start')
+    run-turns (second_run c.before.before.before.before) (tail_bytes start') c.put_joins-third.new.0 (fourth start')
     (omega (arith, room start')) c.put_joins-third.ensures.0 refl
 
-abbrev fourth-run-start : tie.After-put-places → tie.Start
-fourth-run-start c = third-run-start c
+abbrev fourth-run-start : goal.After-put_places → goal.Start
+fourth-run-start c = third-run-start c.before.before.before.before
 
-fourth-run : (c : tie.After-put-places)
+fourth-run : (c : goal.After-put_places)
     → Run (fourth-run-start c).args.buffer.now (fourth-run-start c).args.start
     ([] ++ relation_bytes (fourth-run-start c) ++ list_bytes (fourth-run-start c) ++ tail_bytes (fourth-run-start c) ++ place_bytes (fourth-run-start c))
     c.put_places.new.0 (fourth (fourth-run-start c) + length (place_bytes (fourth-run-start c)))
 fourth-run c =
     let start' = fourth-run-start c in
     let after-put-joins = c in
-    run-turns (third-run after-put-joins) (place_bytes start') c.put_places.new.0 (fourth start' + length (place_bytes start')) (room start')
+    run-turns (third-run c.before.before.before.before) (place_bytes start') c.put_places.new.0 (fourth start' + length (place_bytes start')) (room start')
     (c.put_places.ensures ∙ ap (λ (k : ℕ). over after-put-joins.put_joins-third.new.0 k (place_bytes start')) after-put-joins.put_joins-third.ensures.1) refl
 
 -- ---- the needs
 pub overflow_add-first : goal.overflow_add-first
-overflow_add-first c = omega (arith, room c, short c)
+overflow_add-first c = omega (arith, room (goal.at.overflow_add-first c).Start, short (goal.at.overflow_add-first c).Start)
 
 pub overflow_add-first-2 : goal.overflow_add-first-2
-overflow_add-first-2 c = omega (arith, room c, short c)
+overflow_add-first-2 c = omega (arith, room (goal.at.overflow_add-first-2 c).Start, short (goal.at.overflow_add-first-2 c).Start)
 
 pub overflow_add-second : goal.overflow_add-second
-overflow_add-second c = omega (arith, room c, short c)
+overflow_add-second c = omega (arith, room (goal.at.overflow_add-second c).Start, short (goal.at.overflow_add-second c).Start)
 
 pub overflow_mul-second : goal.overflow_mul-second
-overflow_mul-second c = omega (arith, room c, short c)
+overflow_mul-second c = omega (arith, room (goal.at.overflow_mul-second c).Start, short (goal.at.overflow_mul-second c).Start)
 
 pub overflow_add-second-2 : goal.overflow_add-second-2
-overflow_add-second-2 c = omega (arith, room c, short c)
+overflow_add-second-2 c = omega (arith, room (goal.at.overflow_add-second-2 c).Start, short (goal.at.overflow_add-second-2 c).Start)
 
 pub put_relations-requires : goal.put_relations-requires
 put_relations-requires c =
     let start = c in (
       (relations-bounds start.args.given.relations start.args.given.widths (good-record start.args.given start.requires.0).relations).1,
-      omega (arith, room start),
+      omega (arith, room (goal.at.put_relations-requires c).Start),
     )
 
 pub put_dependencies-requires : goal.put_dependencies-requires
 put_dependencies-requires c =
     let after-put-relations = c in
-    let start = first-run-start after-put-relations in
-    ((good-record start.args.given start.requires.0).held, omega (arith, (first_run after-put-relations).long, room start))
+    let start = after-put-relations in
+    ((good-record start.args.given start.requires.0).held, omega (arith, (first_run (goal.at.put_dependencies-requires c).After-put_relations).long, room start))
 
 pub put_joins-third-requires : goal.put_joins-third-requires
 put_joins-third-requires c =
     let after-put-dependencies = c in
-    let start = second-run-start after-put-dependencies in
+    let start = second-run-start (goal.at.put_joins-third-requires c).After-put_dependencies in
     let parts = good-record start.args.given start.requires.0 in (
       (parts.joined, few-sets (schema_of start.args.given) start.args.given.joined start.args.given.joins parts.joins-1),
-      omega (arith, (second_run after-put-dependencies).long, room start),
+      omega (arith, (second_run (goal.at.put_joins-third-requires c).After-put_dependencies).long, room start),
     )
 
 pub put_places-requires : goal.put_places-requires
 put_places-requires c =
     let after-put-joins = c in
-    let start = third-run-start after-put-joins in
+    let start = third-run-start (goal.at.put_places-requires c).After-put_joins-third in
     let parts = good-record start.args.given start.requires.0 in
-    (parts.relations, (parts.places-1, (start.requires.1.0, omega (arith, (third-run after-put-joins).long, after-put-joins.put_joins-third.ensures.1, room start))))
+    (parts.relations, (parts.places-1, (start.requires.1.0, omega (arith, (third-run (goal.at.put_places-requires c).After-put_joins-third).long, after-put-joins.put_joins-third.ensures.1, room start))))
 
 pub shape_of-buffer : goal.shape_of-buffer
-shape_of-buffer c = (fourth-run c).long
+shape_of-buffer c = (fourth-run (goal.at.shape_of-buffer c).After-put_places).long
 
 pub returns : goal.returns
-returns c = (fourth-run c).written
-
--- TODO names tie: widths-long
-
--- TODO names tie: list-long
-
--- TODO names tie: relation_bytes
-
--- TODO names tie: list_bytes
-
--- TODO names tie: tail_bytes
-
--- TODO names tie: place_bytes
-
--- TODO names tie: second
-
--- TODO names tie: third
-
--- TODO names tie: fourth
-
--- TODO names tie: relations-long
-
--- TODO names tie: dependencies-long
-
--- TODO names tie: room
-
--- TODO names tie: short
-
--- TODO names tie: first-run-start
-
--- TODO names tie: first_run
-
--- TODO names tie: second-run-start
-
--- TODO names tie: second_run
-
--- TODO names tie: third-run-start
-
--- TODO names tie: third-run
-
--- TODO names tie: fourth-run-start
-
--- TODO names tie: fourth-run
+returns c = (fourth-run (goal.at.returns c).After-put_places).written

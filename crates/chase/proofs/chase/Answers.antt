@@ -92,14 +92,14 @@ replace-query-requires c =
     (rw l.invariant.2.same_size s.requires.size_fits, l.invariant.2.rest-blank)
 
 -- The dependencies and the query before a replacement
-abbrev held_at : tie.After-replace invariant-loop decreases-loop → List Dependency
+abbrev held_at : goal.After-replace-query → List Dependency
 held_at c = let a = c.args in held_of a.dependencies a.held
 
-abbrev query_at : tie.After-replace invariant-loop decreases-loop → Query
+abbrev query_at : goal.After-replace-query → Query
 query_at c = as_query c.loop-a.query
 
 -- After it one replacement fewer is left
-fewer : (c : tie.After-replace invariant-loop decreases-loop)
+fewer : (c : goal.After-replace-query)
     → (chasing.chase (held_at c) (wide_query (query_at c))).count ≡ suc (chasing.chase (held_at c) (wide_query (as_query c.replace-query.result))).count
 fewer c =
     let f = c.found-1.given in
@@ -120,11 +120,11 @@ pub overflow_add-count : goal.overflow_add-count
 overflow_add-count c =
     let s = c in
     let l = c.loop-a in
-    let bound = under-count (as_query s.args.t) (held_at c) (query_at c) l.count l.invariant.2 s.requires.arity-fits s.requires.size_fits in
-    record { fits = omega (arith, fewer c, bound) }
+    let bound = under-count (as_query s.args.t) (held_at (goal.at.overflow_add-count c).After-replace-query) (query_at (goal.at.overflow_add-count c).After-replace-query) l.count l.invariant.2 s.requires.arity-fits s.requires.size_fits in
+    record { fits = omega (arith, fewer (goal.at.overflow_add-count c).After-replace-query, bound) }
 
 pub loop-a-smaller : goal.loop-a-smaller
-loop-a-smaller c = omega (arith, fewer c)
+loop-a-smaller c = omega (arith, fewer (goal.at.loop-a-smaller c).After-replace-query)
 
 pub loop-a-preserved : goal.loop-a-preserved
 loop-a-preserved c =
@@ -135,8 +135,8 @@ loop-a-preserved c =
     let room = l.invariant.0 in
     let next = under-replace
     (as_query s.args.t)
-    (held_at c)
-    (query_at c)
+    (held_at (goal.at.loop-a-preserved c).After-replace-query)
+    (query_at (goal.at.loop-a-preserved c).After-replace-query)
     f.0.0
     f.0.1.0
     e.0.0
@@ -148,9 +148,3 @@ loop-a-preserved c =
     (omega (arith, s.requires.size_fits))
     (rw f.1 at c.find_step-found.ensures.1) in
     (room, l.invariant.1, rw c.replace-query.ensures next)
-
--- TODO names tie: held_at
-
--- TODO names tie: query_at
-
--- TODO names tie: fewer

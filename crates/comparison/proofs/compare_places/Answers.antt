@@ -25,7 +25,7 @@ stored-requires c =
     (standing s.args.given s.args.p s.args.q s.requires).low-p
 
 -- The arrays of the first query are as long as its type says
-sized : (c : tie.After-from-query) → SizedFor 12 (stored_at c.args.given c.args.p)
+sized : (c : goal.After-from_query) → SizedFor 12 (stored_at c.args.given c.args.p)
 sized c =
     let ok = c.stored.type-inv in
     let here : SizedFor 12 c.stored.result =
@@ -38,7 +38,7 @@ sized c =
     subst (SizedFor 12) c.stored.ensures here
 
 -- The tableau that is chased is that of the first query
-tableau-is : (c : tie.After-from-query)
+tableau-is : (c : goal.After-from_query)
     → c.from_query.result ≡ tableau_of (stored_at c.args.given c.args.p)
 tableau-is c = c.from_query.ensures ∙ ap tableau_of c.stored.ensures
 
@@ -46,10 +46,10 @@ pub chase-chased-requires : goal.chase-chased-requires
 chase-chased-requires c =
     let from = c in
     let s = from in
-    rw (tableau-is from) (can-be-chased s.args.given s.args.p s.args.q s.requires (sized from))
+    rw (tableau-is (goal.at.chase-chased-requires c).After-from_query) (can-be-chased s.args.given s.args.p s.args.q s.requires (sized (goal.at.chase-chased-requires c).After-from_query))
 
 -- What the chase promises, for the tableau of the first query
-chased : (c : tie.After-chase)
+chased : (c : goal.After-chase-chased)
     → IsJoinChased
     (tableau_of (stored_at c.args.given
     c.args.p))
@@ -60,16 +60,16 @@ chased : (c : tie.After-chase)
     c.args.given.joins
     c.args.given.joined
     c.chase-chased.result
-chased c = rw (tableau-is c) at c.chase-chased.ensures
+chased c = rw (tableau-is c.before.before.before) at c.chase-chased.ensures
 
 -- The sets of its join dependencies are as many as their type says
-shaped : (c : tie.After-chase) → every shaped_join c.args.given.joins ≡ true
+shaped : (c : goal.After-chase-chased) → every shaped_join c.args.given.joins ≡ true
 shaped c =
     let s = c in
     joins-shaped 4 s.args.given.joins _ s.well-formed.0.1.1.1.1.1.1.1.0
 
 -- The chased tableau has room for 24 rows
-room : (c : tie.After-chase) → length c.chase-chased.result.query.relations ≡ 24
+room : (c : goal.After-chase-chased) → length c.chase-chased.result.query.relations ≡ 24
 room c = let tableau = c.chase-chased.type-inv.1.1.1.0 in search (mapped-length, rules, tableau)
 
 pub returns-then-chased : goal.returns-then-chased
@@ -77,8 +77,8 @@ returns-then-chased c =
     let after = c in
     let s = after in
     subst (Compared s.args.given s.args.p s.args.q) (sym c.only.ensures)
-    (answers-over s.args.given s.args.p s.args.q s.requires (sized after) (shaped after) after.chase-chased.result
-    (chased after) c.if-chased.true)
+    (answers-over s.args.given s.args.p s.args.q s.requires (sized (goal.at.returns-then-chased c).After-from_query) (shaped (goal.at.returns-then-chased c).After-chase-chased) after.chase-chased.result
+    (chased (goal.at.returns-then-chased c).After-chase-chased) c.if-chased.true)
 
 pub returns-then-query-eq0 : goal.returns-then-query-eq0
 returns-then-query-eq0 c =
@@ -106,7 +106,7 @@ find-mapped-requires c =
     (subst Storable (sym c.stored-2.ensures) both.0, both.1)
 
 -- What the search for a mapping promises, from the second query
-finds : (c : tie.After-find)
+finds : (c : goal.After-find-mapped)
     → Finds (stored_at c.args.given
     c.args.q)
     c.chase-chased.result.query c.find-mapped.result
@@ -122,7 +122,7 @@ returns-then-mapped c =
     (λ (t : Tableau). Compared s.args.given s.args.p s.args.q (record { verdict = Mapped; images = found.find-mapped.result.images; query = t }))
     (sym c.no_tableau.ensures)
     (answers-contained s.args.given s.args.p s.args.q s.requires (sized after) (shaped after) after.chase-chased.result
-    (chased after) under.if-chased.false found.find-mapped.result (finds found) c.if-mapped.true)
+    (chased after) under.if-chased.false found.find-mapped.result (finds (goal.at.returns-then-mapped c).After-find-mapped) c.if-mapped.true)
 
 pub returns : goal.returns
 returns c =
@@ -131,16 +131,4 @@ returns c =
     let after = under in
     let s = after in
     answers-apart s.args.given s.args.p s.args.q s.requires (sized after) (shaped after) after.chase-chased.result
-    (chased after) under.if-chased.false found.find-mapped.result (finds found) (room after) found.if-query-eq0.false c.if-mapped.false
-
--- TODO names tie: sized
-
--- TODO names tie: tableau-is
-
--- TODO names tie: chased
-
--- TODO names tie: shaped
-
--- TODO names tie: room
-
--- TODO names tie: finds
+    (chased after) under.if-chased.false found.find-mapped.result (finds (goal.at.returns c).After-find-mapped) (room after) found.if-query-eq0.false c.if-mapped.false

@@ -10,7 +10,7 @@ use Rattle.format.specs.Parts.{query_for}
 use Rattle.comparison_on_files.proofs.Verdicts.{verdict-short, verdict-long, verdict-stored}
 use Rattle.comparison_on_files.proofs.store_apart.Goals as goal
 
-fits : (c : tie.Start) → (c.args.chased.arity ≤ 8) × (c.args.chased.size ≤ 24)
+fits : (c : goal.Start) → (c.args.chased.arity ≤ 8) × (c.args.chased.size ≤ 24)
 fits c =
     let parts = good-query 24 (take c.args.count c.args.widths) (as_query c.args.chased) c.requires.1 in
     (parts.arity, parts.size)
@@ -22,7 +22,7 @@ returns-then-mapping-lt192 c =
     c.if-mapping-lt192.true
 
 pub query_length-n-requires : goal.query_length-n-requires
-query_length-n-requires c = (c.requires.0, fits c)
+query_length-n-requires c = (c.requires.0, fits (goal.at.query_length-n-requires c).Start)
 
 pub returns-then-part-n : goal.returns-then-part-n
 returns-then-part-n c =
@@ -37,7 +37,7 @@ pub put_query-requires : goal.put_query-requires
 put_query-requires c =
     let n = c.query_length-n.ensures.0 in
     let l : c.query_length-n.result ≤ length c.args.part.now = c.if-part-n.false in
-    (c.requires.0, (fits c, omega arith))
+    (c.requires.0, (fits (goal.at.put_query-requires c).Start, omega arith))
 
 pub returns : goal.returns
 returns c =
@@ -50,5 +50,3 @@ returns c =
     verdict-stored a.images a.verdict.now a.mapping-1.now a.part-1.now a.size.now 0 ((query_for 24 schema).put (as_query a.chased)) _ _ _
     c.if-mapping-lt192.false (omega arith) c.put_mapping.ensures
     c.put_query.ensures.0 n
-
--- TODO names tie: fits

@@ -14,64 +14,47 @@ use Rattle.lent_numbers.proofs.Lent.{refused-number, refused-leaves}
 use Rattle.database_on_files.proofs.Memory.{unused-read}
 use Rattle.database_on_files.proofs.count_in_file_lent.Goals as goal
 
-abbrev begun : tie.After-read → tie.Start
-begun c = c
-
--- The reading of the file before the call on its record
-abbrev passed : tie.After-count-lent → tie.After-read
-passed c = c
-
-abbrev start : tie.After-count-lent → tie.Start
-start c = begun (passed c)
+abbrev start : goal.After-count_lent-done → goal.Start
+start c = c
 
 -- Once the file is read the count is that of its record
-of-record : (c : tie.After-count-lent)
+of-record : (c : goal.After-count_lent-done)
     → count_reply c.count_lent-done.result ≡ counted_in (start c).args.file.now (start c).args.place (start c).args.words.now
 of-record c =
     let s = (start c).args in
-    let o = (passed c).read in
+    let o = c.read in
     c.count_lent-done.ensures.0
     ∙ sym (read_done s.file.now o.result o.ensures (λ r. counted r s.place s.words.now) c.in-Done.is)
 
 -- Working memory is as the call on its record leaves it
-unused : (c : tie.After-count-lent) (before after : List ℕ)
-    → UnusedIfRefused (search_conditions (passed c).read.result.«record» (start c).args.place (start c).args.words.now) before after
+unused : (c : goal.After-count_lent-done) (before after : List ℕ)
+    → UnusedIfRefused (search_conditions c.read.result.«record» (start c).args.place (start c).args.words.now) before after
     → UnusedInFile (start c).args.file.now (λ r. search_conditions r (start c).args.place (start c).args.words.now) before after
 unused c before after =
     let s = (start c).args in
-    let o = (passed c).read in
+    let o = c.read in
     unused-read s.file.now o.result o.ensures c.in-Done.is
     (λ r. search_conditions r s.place s.words.now) before after
 
 pub returns-in-Done : goal.returns-in-Done
 returns-in-Done c =
     let k = c in
-    let p = of-record k in
+    let p = of-record (goal.at.returns-in-Done c).After-count_lent-done in
     let l = c.leave_count.ensures in
     let m = k.count_lent-done.ensures.1 in (
       l.0 ∙ ap returned p,
       (
-        l.1 ∙ ap (λ (x : Reply ℕ). leaves x (λ n. n) (start k).args.count.now) p,
-        (unused k _ _ m.0, (unused k _ _ m.1.0, (unused k _ _ m.1.1.0, unused k _ _ m.1.1.1))),
+        l.1 ∙ ap (λ (x : Reply ℕ). leaves x (λ n. n) (start (goal.at.returns-in-Done c).After-count_lent-done).args.count.now) p,
+        (unused (goal.at.returns-in-Done c).After-count_lent-done _ _ m.0, (unused (goal.at.returns-in-Done c).After-count_lent-done _ _ m.1.0, (unused (goal.at.returns-in-Done c).After-count_lent-done _ _ m.1.1.0, unused (goal.at.returns-in-Done c).After-count_lent-done _ _ m.1.1.1))),
       ),
     )
 
 pub returns-in-Refused : goal.returns-in-Refused
 returns-in-Refused c =
     let o = c.read-outcome in
-    let s = (begun c).args in
+    let s = c.args in
     let p : counted_in s.file.now s.place s.words.now ≡ refused c.in-Refused.n =
     read-refused s.file.now o.result o.ensures (λ r. counted r s.place s.words.now) _ c.in-Refused.is in (
       refused-number p,
       (refused-leaves p (λ n. n) s.count.now, (λ n r. refl, (λ n r. refl, (λ n r. refl, λ n r. refl)))),
     )
-
--- TODO names tie: begun
-
--- TODO names tie: passed
-
--- TODO names tie: start
-
--- TODO names tie: of-record
-
--- TODO names tie: unused

@@ -17,57 +17,50 @@ use Rattle.format.proofs.Results.{outcome-done, outcome-refused}
 use Rattle.database_on_files.proofs.Memory.{unused-read}
 use Rattle.database_on_files.proofs.evaluate_in_file_lent.Goals as goal
 
-abbrev begun : tie.After-read → tie.Start
-begun c = c
-
--- The reading of the file before the call on its record
-abbrev passed : tie.After-evaluate-lent → tie.After-read
-passed c = c
-
-abbrev start : tie.After-evaluate-lent → tie.Start
-start c = begun (passed c)
+abbrev start : goal.After-evaluate_lent-done → goal.Start
+start c = c
 
 -- Once the file is read the count is that of its record
-of-record : (c : tie.After-evaluate-lent)
+of-record : (c : goal.After-evaluate_lent-done)
     → count_reply c.evaluate_lent-done.result ≡ evaluated_in (start c).args.file.now (start c).args.place (start c).args.words.now (length (start c).args.answers.now)
 of-record c =
     let s = (start c).args in
-    let o = (passed c).read in
+    let o = c.read in
     c.evaluate_lent-done.ensures.0
     ∙ sym (read_done s.file.now o.result o.ensures (λ r. evaluated r s.place s.words.now (length s.answers-1.now)) c.in-Done.is)
 
 -- And the answers are those of its place
-written : (c : tie.After-evaluate-lent)
-    → buffer_then (passed c).read.result.«record» (start c).args.place (start c).args.words.now (start c).args.answers.now
+written : (c : goal.After-evaluate_lent-done)
+    → buffer_then c.read.result.«record» (start c).args.place (start c).args.words.now (start c).args.answers.now
     ≡ answers_left (start c).args.file.now (start c).args.place (start c).args.words.now (start c).args.answers.now
 written c =
     let s = (start c).args in
-    let o = (passed c).read in
+    let o = c.read in
     done-leaves (outcome-done (read_file s.file.now) o.result o.ensures c.in-Done.is)
     (λ r. buffer_then r s.place s.words.now s.answers-1.now) s.answers-1.now
 
 -- Working memory is as the call on its record leaves it
-unused : (c : tie.After-evaluate-lent) (before after : List ℕ)
-    → UnusedIfRefused (search_conditions (passed c).read.result.«record» (start c).args.place (start c).args.words.now) before after
+unused : (c : goal.After-evaluate_lent-done) (before after : List ℕ)
+    → UnusedIfRefused (search_conditions c.read.result.«record» (start c).args.place (start c).args.words.now) before after
     → UnusedInFile (start c).args.file.now (λ r. search_conditions r (start c).args.place (start c).args.words.now) before after
 unused c before after =
     let s = (start c).args in
-    let o = (passed c).read in
+    let o = c.read in
     unused-read s.file.now o.result o.ensures c.in-Done.is
     (λ r. search_conditions r s.place s.words.now) before after
 
 pub returns-in-Done : goal.returns-in-Done
 returns-in-Done c =
     let k = c in
-    let p = of-record k in
+    let p = of-record (goal.at.returns-in-Done c).After-evaluate_lent-done in
     let l = c.leave_count.ensures in
     let m = k.evaluate_lent-done.ensures.1.1 in (
       l.0 ∙ ap returned p,
       (
-        k.evaluate_lent-done.ensures.1.0 ∙ written k,
+        k.evaluate_lent-done.ensures.1.0 ∙ written (goal.at.returns-in-Done c).After-evaluate_lent-done,
         (
-          l.1 ∙ ap (λ (x : Reply ℕ). leaves x (λ n. n) (start k).args.count.now) p,
-          (unused k _ _ m.0, (unused k _ _ m.1.0, (unused k _ _ m.1.1.0, unused k _ _ m.1.1.1))),
+          l.1 ∙ ap (λ (x : Reply ℕ). leaves x (λ n. n) (start (goal.at.returns-in-Done c).After-evaluate_lent-done).args.count.now) p,
+          (unused (goal.at.returns-in-Done c).After-evaluate_lent-done _ _ m.0, (unused (goal.at.returns-in-Done c).After-evaluate_lent-done _ _ m.1.0, (unused (goal.at.returns-in-Done c).After-evaluate_lent-done _ _ m.1.1.0, unused (goal.at.returns-in-Done c).After-evaluate_lent-done _ _ m.1.1.1))),
         ),
       ),
     )
@@ -75,7 +68,7 @@ returns-in-Done c =
 pub returns-in-Refused : goal.returns-in-Refused
 returns-in-Refused c =
     let o = c.read-outcome in
-    let s = (begun c).args in
+    let s = c.args in
     let p : evaluated_in s.file.now s.place s.words.now (length s.answers-1.now) ≡ refused c.in-Refused.n =
     read-refused s.file.now o.result o.ensures (λ r. evaluated r s.place s.words.now (length s.answers-1.now)) _ c.in-Refused.is in (
       refused-number p,
@@ -85,15 +78,3 @@ returns-in-Refused c =
         (refused-leaves p (λ n. n) s.count.now, (λ n r. refl, (λ n r. refl, (λ n r. refl, λ n r. refl)))),
       ),
     )
-
--- TODO names tie: begun
-
--- TODO names tie: passed
-
--- TODO names tie: start
-
--- TODO names tie: of-record
-
--- TODO names tie: written
-
--- TODO names tie: unused

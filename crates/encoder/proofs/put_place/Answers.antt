@@ -13,35 +13,32 @@ use Rattle.format.specs.File.{put_place}
 use Rattle.encoder.proofs.PlaceParts.{filled-part, vacant-part, filled-sizes}
 use Rattle.encoder.proofs.put_place.Goals as goal
 
-abbrev first : tie.After-from-query → tie.Start
-first c = c
-
-sized : (c : tie.Start) → SizedFor 12 c.args.place.query
+sized : (c : goal.Start) → SizedFor 12 c.args.place.query
 sized c = record { head = search (mapped-length, rules); relations = search (mapped-length, rules); cells = search (mapped-length, rules) }
 
 -- The part is that of the tableau that is made
-part : (c : tie.After-from-query)
-    → put_place (take (first c).args.count (first c).args.widths) (first c).args.place
-    ≡ (query_for 24 (take (first c).args.count (first c).args.widths)).put (as_query c.from_query.result)
+part : (c : goal.After-from_query)
+    → put_place (take c.args.count c.args.widths) c.args.place
+    ≡ (query_for 24 (take c.args.count c.args.widths)).put (as_query c.from_query.result)
 part c =
-    filled-part (take (first c).args.count (first c).args.widths) (first c).args.place c.if-place.true (first c).requires.1.0
-    c.from_query.result c.from_query.ensures (sized (first c))
+    filled-part (take c.args.count c.args.widths) c.args.place c.if-place.true c.requires.1.0
+    c.from_query.result c.from_query.ensures (sized c.before.before.before.before.before)
 
 pub put_query-requires : goal.put_query-requires
 put_query-requires c =
-    let start = first c in
+    let start = c in
     let fits =
     filled-sizes (take start.args.count start.args.widths) start.args.place c.if-place.true start.requires.1.0
     c.from_query.result c.from_query.ensures
     in
-    (start.requires.0, ((fits.0, omega (arith, fits.1)), rw (part c) at start.requires.1.1))
+    (start.requires.0, ((fits.0, omega (arith, fits.1)), rw (part (goal.at.put_query-requires c).After-from_query) at start.requires.1.1))
 
 pub shape_of-buffer-then-place : goal.shape_of-buffer-then-place
 shape_of-buffer-then-place c =
     c.put_query.auto.0
 
 pub returns-then-place : goal.returns-then-place
-returns-then-place c = rw (part c) c.put_query.ensures
+returns-then-place c = rw (part (goal.at.returns-then-place c).After-from_query) c.put_query.ensures
 
 pub bounds-buffer-at : goal.bounds-buffer-at
 bounds-buffer-at c =
@@ -64,9 +61,3 @@ returns c =
     let e = vacant-part (take c.args.count c.args.widths) c.args.place c.if-place.false in
     let room = rw e at c.requires.1.1 in
     rw e (sets-eq (255 ∷ []) c.args.buffer.now c.args.at room, refl)
-
--- TODO names tie: first
-
--- TODO names tie: sized
-
--- TODO names tie: part

@@ -9,8 +9,6 @@ use borrow.Author.Rules.{rules}
 use Rattle.grouping.proofs.locate.Goals as goal
 
 -- Where the call began
-abbrev begun : tie.At-loop invariant-loop decreases-loop → tie.Start invariant-loop decreases-loop
-begun c = c
 
 pub loop-n-init : goal.loop-n-init
 loop-n-init c = let s = c in
@@ -18,12 +16,12 @@ loop-n-init c = let s = c in
 
 pub next-at-requires : goal.next-at-requires
 next-at-requires c = let l = c in
-    (ltb-true l.loop-n.at (length (begun l).args.words.now) c.if-at-words.true, l.loop-n.invariant.0.from.good)
+    (ltb-true l.loop-n.at (length l.args.words.now) c.if-at-words.true, l.loop-n.invariant.0.from.good)
 
 pub loop-n-preserved : goal.loop-n-preserved
 loop-n-preserved c = let i = c in
     let l = i in
-    let a = (begun l).args in
+    let a = l.args in
     (placed-next a.schema.now a.words.now l.loop-n.at c.next-at.result l.loop-n.n l.loop-n.invariant.0 c.next-at.ensures, search rules)
 
 pub returns-else-at-words : goal.returns-else-at-words
@@ -31,5 +29,3 @@ returns-else-at-words c = c.loop-n.invariant
 
 pub returns-after-loop-n : goal.returns-after-loop-n
 returns-after-loop-n c = c.loop-n.invariant
-
--- TODO names tie: begun

@@ -17,36 +17,30 @@ use Rattle.grouping.proofs.Passing.{placed_end, walked_start, walked_end, walked
 use Rattle.grouping.proofs.skip.Goals as goal
 
 -- Where the call began
-abbrev begun : tie.Joined2 invariant-loop decreases-loop → tie.Start invariant-loop decreases-loop
-begun c = c
 
 -- The buckets that are used are buckets, and there is one
-few : (c : tie.Joined2 invariant-loop decreases-loop) → c.if-heads-buckets.buckets ≤ length (begun c).args.heads.now
+few : (c : goal.Joined-heads-buckets) → c.if-heads-buckets.buckets ≤ length c.args.heads.now
 few c = ⊎_elim (λ w. omega (arith, w.buckets-is)) (λ w. omega (arith, w.if-heads-buckets.false, w.buckets-is)) c.if-heads-buckets.branch-raw
 
-some : (c : tie.Joined2 invariant-loop decreases-loop) → 0 < c.if-heads-buckets.buckets
-some c = let there : length (begun c).args.heads.now ≡ 0 → ⊥ = c.if-heads-eq0.false in
+some : (c : goal.Joined-heads-buckets) → 0 < c.if-heads-buckets.buckets
+some c = let there : length c.args.heads.now ≡ 0 → ⊥ = c.if-heads-eq0.false in
     ⊎_elim (λ w. omega (arith, w.buckets-is)) (λ w. omega (arith, w.buckets-is)) c.if-heads-buckets.branch-raw
 
--- Where the walk began
-abbrev joined : tie.At-loop invariant-loop decreases-loop → tie.Joined2 invariant-loop decreases-loop
-joined c = c
-
 -- All rows are passed: what that says of a position that is not beyond the least, and of a key
-skipped : (e : tie.Else3 invariant-loop decreases-loop) (p : Position)
-    → RowBegins (begun (joined e)).args.schema.now (begun (joined e)).args.words.now p.at p.number
+skipped : (e : goal.After-loop-walk) (p : Position)
+    → RowBegins e.args.schema.now e.args.words.now p.at p.number
     → p.number ≤ e.loop-walk.walk.least
-    → Skips (begun (joined e)).args.schema.now (begun (joined e)).args.words.now
-    (begun (joined e)).args.d p
+    → Skips e.args.schema.now e.args.words.now
+    e.args.d p
 skipped e p = let l = e in
-    let a = (begun (joined l)).args in
+    let a = l.args in
     walked_end a.schema.now a.words.now a.d l.loop-walk.walk l.loop-walk.used l.loop-walk.nodes l.loop-walk.invariant.0 e.loop-walk-test.false p
 
-seen : (e : tie.Else3 invariant-loop decreases-loop) → e.loop-walk.walk.key ≡ true
-    → Key (dependency_of (begun (joined e)).args.d)
-    (database_of (begun (joined e)).args.schema.now (begun (joined e)).args.words.now)
+seen : (e : goal.After-loop-walk) → e.loop-walk.walk.key ≡ true
+    → Key (dependency_of e.args.d)
+    (database_of e.args.schema.now e.args.words.now)
 seen e = let l = e in
-    let a = (begun (joined l)).args in
+    let a = l.args in
     walked-key a.schema.now a.words.now a.d l.loop-walk.walk l.loop-walk.used l.loop-walk.nodes l.loop-walk.invariant.0 e.loop-walk-test.false
 
 pub returns-then-heads-eq0 : goal.returns-then-heads-eq0
@@ -61,23 +55,23 @@ overflow_add-buckets-2 c = let s = c in
     omega (arith, s.well-formed.1.0, div-le_self (length s.args.words.now) (get_or s.args.schema.now s.args.d.relation 0 + 1))
 
 pub slice_bounds-used-end : goal.slice_bounds-used-end
-slice_bounds-used-end c = few c
+slice_bounds-used-end c = few (goal.at.slice_bounds-used-end c).Joined-heads-buckets
 
 pub slice_bounds-used-end-2 : goal.slice_bounds-used-end-2
-slice_bounds-used-end-2 c = sym (length-take-le c.if-heads-buckets.buckets (begun c).args.heads.now (few c))
+slice_bounds-used-end-2 c = sym (length-take-le c.if-heads-buckets.buckets c.args.heads.now (few (goal.at.slice_bounds-used-end-2 c).Joined-heads-buckets))
 
 pub loop-walk-init : goal.loop-walk-init
 loop-walk-init c = let u = c.clear in
     let j = c in
-    let s = begun j in
+    let s = j in
     let a = s.args in
-    let size : length u.new.0 ≡ j.if-heads-buckets.buckets = u.ensures.0 ∙ length-take-le j.if-heads-buckets.buckets a.heads.now (few j) in
-    (walked_start a.schema.now a.words.now a.d u.new.0 a.nodes-1.now s.requires.1 (omega (arith, some j)) u.ensures.1, refl, refl)
+    let size : length u.new.0 ≡ j.if-heads-buckets.buckets = u.ensures.0 ∙ length-take-le j.if-heads-buckets.buckets a.heads.now (few (goal.at.loop-walk-init c).Joined-heads-buckets) in
+    (walked_start a.schema.now a.words.now a.d u.new.0 a.nodes-1.now s.requires.1 (omega (arith, some (goal.at.loop-walk-init c).Joined-heads-buckets)) u.ensures.1, refl, refl)
 
 pub step-walk-requires : goal.step-walk-requires
 step-walk-requires c = let t = c in
     let l = t in
-    ((begun (joined l)).pre.0, (t.loop-walk-test.true, l.loop-walk.invariant.0))
+    (l.pre.0, (t.loop-walk-test.true, l.loop-walk.invariant.0))
 
 pub loop-walk-smaller : goal.loop-walk-smaller
 loop-walk-smaller c = let u = c in
@@ -92,25 +86,13 @@ loop-walk-preserved c = let u = c in
 pub returns-then-walk-words : goal.returns-then-walk-words
 returns-then-walk-words c = let e = c in
     let l = e in
-    let a = (begun (joined l)).args in
+    let a = l.args in
     let end : Position = record { at = length a.words.now; number = length a.words.now } in
-    (skipped e end (placed_end a.schema.now a.words.now) (omega (arith, c.if-walk-words.true)), seen e)
+    (skipped (goal.at.returns-then-walk-words c).After-loop-walk end (placed_end a.schema.now a.words.now) (omega (arith, c.if-walk-words.true)), seen (goal.at.returns-then-walk-words c).After-loop-walk)
 
 pub locate-row-requires : goal.locate-row-requires
-locate-row-requires c = (begun (joined c)).pre.1
+locate-row-requires c = c.pre.1
 
 pub returns : goal.returns
 returns c = let e = c in
-    (skipped e c.locate-row.result c.locate-row.ensures.0 c.locate-row.ensures.1, seen e)
-
--- TODO names tie: begun
-
--- TODO names tie: few
-
--- TODO names tie: some
-
--- TODO names tie: joined
-
--- TODO names tie: skipped
-
--- TODO names tie: seen
+    (skipped (goal.at.returns c).After-loop-walk c.locate-row.result c.locate-row.ensures.0 c.locate-row.ensures.1, seen (goal.at.returns c).After-loop-walk)

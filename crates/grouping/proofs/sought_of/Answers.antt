@@ -16,6 +16,7 @@ use borrow.Author.Rules.{rules}
 use Rattle.grouping.proofs.sought_of.Goals as goal
 
 -- Equal parts make equal wholes
+
 abbrev made : ℕ → ℕ → ℕ → Sought
 made b t r = record { bucket = b; tag = t; right = r }
 
@@ -28,23 +29,23 @@ loop-left-init c = let s = c in
     (search rules, subst (λ (n : ℕ). s.args.d.left < 2 ^ n) (sym all) s.requires.1.1, search rules, search rules, refl, refl)
 
 -- A column of the left set is left
-inside : (c : tie.In-loop invariant-loop decreases-loop) → c.loop-left.c < c.args.width
+inside : (c : goal.In-loop-left) → c.loop-left.c < c.args.width
 inside c = let l = c.loop-left in
     omega (arith, mask-some (c.args.width - l.c) l.left l.invariant.1 c.loop-left-test.true)
 
 pub value-x-requires : goal.value-x-requires
-value-x-requires c = omega (arith, inside c, c.requires.0)
+value-x-requires c = omega (arith, inside (goal.at.value-x-requires c).In-loop-left, c.requires.0)
 
 pub overflow_add-c : goal.overflow_add-c
-overflow_add-c c = omega (arith, inside c, c.ranges.width)
+overflow_add-c c = omega (arith, inside (goal.at.overflow_add-c c).In-loop-left, c.ranges.width)
 
 -- What the passed column does to each hash
-mixed-h : (c : tie.Joined1 invariant-loop decreases-loop) → Mixed 1000003 c.args.width c.args.words.now
+mixed-h : (c : goal.Joined-left-eq1) → Mixed 1000003 c.args.width c.args.words.now
     c.args.a c.loop-left.c c.loop-left.false c.loop-left.h c.if-left-eq1.h
 mixed-h c = let l = c.loop-left in
     ⊎_elim (λ w. inl (w.if-left-eq1.true, w.h-is ∙ ap (λ (x : ℕ). (l.h * 1000003 + x) % 4294967296) w.value-x.ensures)) (λ w. inr (w.if-left-eq1.false, w.h-is)) c.if-left-eq1.branch-raw
 
-mixed-tag : (c : tie.Joined1 invariant-loop decreases-loop) → Mixed 2654435761 c.args.width
+mixed-tag : (c : goal.Joined-left-eq1) → Mixed 2654435761 c.args.width
     c.args.words.now c.args.a c.loop-left.c
     c.loop-left.false c.loop-left.tag c.if-left-eq1.tag
 mixed-tag c = let l = c.loop-left in
@@ -54,14 +55,14 @@ pub loop-left-preserved : goal.loop-left-preserved
 loop-left-preserved c = let a = c.args in
     let l = c.loop-left in
     let W = a.words.now in
-    let low : l.c < a.width = inside c in
+    let low : l.c < a.width = inside (goal.at.loop-left-preserved c).In-loop-left in
     let less : a.width - l.c - 1 ≡ a.width - (l.c + 1) = omega arith in (
       omega arith,
       subst (λ (n : ℕ). l.left / 2 < 2 ^ n) less (mask-half (a.width - l.c) l.left (omega arith) l.invariant.1),
-      hash-low 1000003 a.width W a.a l.c l.left l.h c.if-left-eq1.h l.invariant.2 (mixed-h c),
-      hash-low 2654435761 a.width W a.a l.c l.left l.tag c.if-left-eq1.tag l.invariant.3 (mixed-tag c),
-      l.invariant.4 ∙ hash-on 1000003 a.width W a.a l.c l.left l.h c.if-left-eq1.h low (mixed-h c),
-      l.invariant.5 ∙ hash-on 2654435761 a.width W a.a l.c l.left l.tag c.if-left-eq1.tag low (mixed-tag c),
+      hash-low 1000003 a.width W a.a l.c l.left l.h c.if-left-eq1.h l.invariant.2 (mixed-h (goal.at.loop-left-preserved c).Joined-left-eq1),
+      hash-low 2654435761 a.width W a.a l.c l.left l.tag c.if-left-eq1.tag l.invariant.3 (mixed-tag (goal.at.loop-left-preserved c).Joined-left-eq1),
+      l.invariant.4 ∙ hash-on 1000003 a.width W a.a l.c l.left l.h c.if-left-eq1.h low (mixed-h (goal.at.loop-left-preserved c).Joined-left-eq1),
+      l.invariant.5 ∙ hash-on 2654435761 a.width W a.a l.c l.left l.tag c.if-left-eq1.tag low (mixed-tag (goal.at.loop-left-preserved c).Joined-left-eq1),
     )
 
 pub overflow_mul-result : goal.overflow_mul-result
@@ -88,9 +89,3 @@ returns c = let e = c in
       sym (same (ap (spread a.buckets) h) tag right),
       mod-lt (l.h + l.h / a.buckets * 2654435761) {m = a.buckets} s.requires.1.3,
     )
-
--- TODO names tie: inside
-
--- TODO names tie: mixed-h
-
--- TODO names tie: mixed-tag

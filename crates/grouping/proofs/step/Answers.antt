@@ -17,17 +17,14 @@ use Rattle.grouping.specs.declared.Walk.{Walk}
 use Rattle.grouping.proofs.Passing.{row_room, walked-other, walked_same, walked-differ, walked-full, walked-new}
 use Rattle.grouping.proofs.step.Goals as goal
 
-abbrev begun : tie.After-shared-slice-known3 → tie.Start
-begun c = c
-
 -- Where the next row begins
-abbrev after : tie.After-shared-slice-known3 → ℕ
+abbrev after : goal.After-shared_slice_known-3-1 → ℕ
 after c = c.next.result
 
-next : (c : tie.After-shared-slice-known3) → Next (begun c).args.schema.now (begun c).args.words.now (begun c).args.walk.row.at (after c)
+next : (c : goal.After-shared_slice_known-3-1) → Next c.args.schema.now c.args.words.now c.args.walk.row.at (after c)
 next c = c.next.ensures
 
-on : (c : tie.After-shared-slice-known3) → (begun c).args.walk.row.at < after c
+on : (c : goal.After-shared_slice_known-3-1) → c.args.walk.row.at < after c
 on c = omega (arith, (next c).place)
 
 pub next-requires : goal.next-requires
@@ -35,88 +32,84 @@ next-requires c = let s = c in
     (s.requires.1.0, s.requires.1.1.placed.from.good)
 
 pub returns-then-words-at : goal.returns-then-words-at
-returns-then-words-at c = let s = begun c in
+returns-then-words-at c = let s = c in
     let a = s.args in (
-      walked-other a.schema.now a.words.now a.d a.walk a.heads-1.now a.nodes-1.now s.requires.1.1 (after c) (next c)
+      walked-other a.schema.now a.words.now a.d a.walk a.heads-1.now a.nodes-1.now s.requires.1.1 (after (goal.at.returns-then-words-at c).After-shared_slice_known-3-1) (next (goal.at.returns-then-words-at c).After-shared_slice_known-3-1)
           c.if-words-at.true,
-      on c,
+      on (goal.at.returns-then-words-at c).After-shared_slice_known-3-1,
     )
 
 -- The row is of the dependency's relation, and inside the words
-relation : (c : tie.Else1) → get_or (begun c).args.words.now (begun c).args.walk.row.at 0 ≡ (begun c).args.d.relation
+relation : (c : goal.Else-words-at) → get_or c.args.words.now c.args.walk.row.at 0 ≡ c.args.d.relation
 relation c = c.if-words-at.false
 
-room : (c : tie.Else1) → (begun c).args.walk.row.at + 1 + get_or (begun c).args.schema.now (begun c).args.d.relation 0
-    ≤ length (begun c).args.words.now
-room c = let s = begun c in
+room : (c : goal.Else-words-at) → c.args.walk.row.at + 1 + get_or c.args.schema.now c.args.d.relation 0
+    ≤ length c.args.words.now
+room c = let s = c in
     let a = s.args in
-    row_room a.schema.now a.words.now a.d a.walk a.heads-1.now a.nodes-1.now s.requires.1.1 (after c) (next c) (relation c)
+    row_room a.schema.now a.words.now a.d a.walk a.heads-1.now a.nodes-1.now s.requires.1.1 (after c.before) (next c.before) (relation c)
 
--- What the comparison said
-abbrev compared : tie.After-compare → tie.Else1
-compared c = c
-
-abbrev key : tie.Else1 → ℕ → ℕ
-key c = let a = (begun c).args in
+abbrev key : goal.Else-words-at → ℕ → ℕ
+key c = let a = c.args in
     key_of (dependency_of a.d) (database_of a.schema.now a.words.now) (length a.heads-1.now) a.nodes-1.now
 
-said : (c : tie.After-compare) (x : Beside) → c.compare-found.result ≡ x
-    → BesideSays (key (compared c)) (begun (compared c).before).args.nodes.now (begun (compared c).before).args.walk.count
+said : (c : goal.After-compare-found) (x : Beside) → c.compare-found.result ≡ x
+    → BesideSays (key c.before.before.before) (c.before).args.nodes.now (c.before).args.walk.count
     c.sought_of-sought.result x
-said c x e = let s = begun (compared c).before in
+said c x e = let s = c.before in
     let a = s.args in
-    subst (λ (y : Beside). BesideSays (key (compared c)) a.nodes-1.now a.walk.count c.sought_of-sought.result y) e
-    (c.compare-found.ensures (key (compared c)) s.requires.1.1.table.chained)
+    subst (λ (y : Beside). BesideSays (key c.before.before.before) a.nodes-1.now a.walk.count c.sought_of-sought.result y) e
+    (c.compare-found.ensures (key c.before.before.before) s.requires.1.1.table.chained)
 
 -- The leaders are in the nodes, and there may be room for one more
-stored : (c : tie.After-enum-told2) → 4 * (begun (compared c).before).args.walk.count
-    ≤ length (begun (compared c).before).args.nodes.now
-stored c = (begun (compared c).before).requires.1.1.table.stored
+stored : (c : goal.In-Alone) → 4 * (c.before).args.walk.count
+    ≤ length (c.before).args.nodes.now
+stored c = (c.before).requires.1.1.table.stored
 
-free : (c : tie.Then2) → 4 * (begun (compared c).before).args.walk.count + 3
-    < length (begun (compared c).before).args.nodes.now
-free c = omega (arith, stored c, c.else-nodes-count-ge4.true)
+free : (c : goal.Then-nodes-count-ge4) → 4 * (c.before).args.walk.count + 3
+    < length (c.before).args.nodes.now
+free c = omega (arith, stored c.before, c.else-nodes-count-ge4.true)
 
 pub bounds-schema-index : goal.bounds-schema-index
-bounds-schema-index c = omega (arith, (begun c).requires.0.known)
+bounds-schema-index c = omega (arith, c.requires.0.known)
 
 pub sought_of-sought-requires : goal.sought_of-sought-requires
-sought_of-sought-requires c = let T = (begun c).requires.0 in
-    (room c, (T.narrow, T.left-fits, T.right-fits, (begun c).requires.1.1.bucket))
+sought_of-sought-requires c = let T = c.requires.0 in
+    (room (goal.at.sought_of-sought-requires c).Else-words-at, (T.narrow, T.left-fits, T.right-fits, c.requires.1.1.bucket))
 
 pub compare-found-requires : goal.compare-found-requires
 compare-found-requires c = let e = c in
-    let h = (begun e).requires.1.1 in
-    ((c.sought_of-sought.ensures.1, h.table.stored), (key e, h.table.chained))
+    let h = e.requires.1.1 in
+    ((c.sought_of-sought.ensures.1, h.table.stored), (key (goal.at.compare-found-requires c).Else-words-at, h.table.chained))
 
 pub overflow_mul-count : goal.overflow_mul-count
-overflow_mul-count c = omega (arith, stored c, (begun (compared c).before).well-formed.1.1.1.1.1.0)
+overflow_mul-count c = omega (arith, stored (goal.at.overflow_mul-count c).In-Alone, (c.before).well-formed.1.1.1.1.1.0)
 
 pub overflow_sub-nodes : goal.overflow_sub-nodes
-overflow_sub-nodes c = omega (arith, stored c)
+overflow_sub-nodes c = omega (arith, stored (goal.at.overflow_sub-nodes c).In-Alone)
 
 -- The row's position, and so the leader's number, is in 32 bits
-low : (c : tie.Then3) → (begun (compared c).before).args.walk.row.number < 4294967295
-low c = ltb-true (begun (compared c).before).args.walk.row.number 4294967295 c.if-number-lt4294967295.true
+low : (c : goal.Then-number-lt4294967295) → (c.before).args.walk.row.number < 4294967295
+low c = ltb-true (c.before).args.walk.row.number 4294967295 c.if-number-lt4294967295.true
 
-few : (c : tie.Then3) → (begun (compared c).before).args.walk.count < 4294967295
-few c = omega (arith, low c, (begun (compared c).before).requires.1.1.few)
+few : (c : goal.Then-number-lt4294967295) → (c.before).args.walk.count < 4294967295
+few c = omega (arith, low c, (c.before).requires.1.1.few)
 
 pub enter-requires : goal.enter-requires
 enter-requires c = let t = c in
     let k = t in
-    let more = free t in
-    (k.sought_of-sought.ensures.1, ((omega arith, omega arith, more), (omega (arith, few t), omega (arith, low t))))
+    let more = free (goal.at.enter-requires c).Then-nodes-count-ge4 in
+    (k.sought_of-sought.ensures.1, ((omega arith, omega arith, more), (omega (arith, few (goal.at.enter-requires c).Then-number-lt4294967295), omega (arith, low (goal.at.enter-requires c).Then-number-lt4294967295))))
 
 pub overflow_add-result : goal.overflow_add-result
-overflow_add-result c = omega (arith, few c)
+overflow_add-result c = omega (arith, few (goal.at.overflow_add-result c).Then-number-lt4294967295)
 
 pub returns-then-number-lt4294967295 : goal.returns-then-number-lt4294967295
 returns-then-number-lt4294967295 c = let u = c in
     let t = u in
     let k = t in
-    let e = compared k in
-    let s = begun e in
+    let e = k in
+    let s = e in
     let a = s.args in
     let q = k.sought_of-sought in
     let w : Walk = record {
@@ -135,11 +128,11 @@ returns-then-number-lt4294967295 c = let u = c in
 
 pub returns-in-Same : goal.returns-in-Same
 returns-in-Same c = let k = c in
-    let e = compared k in
-    let s = begun e in
+    let e = k in
+    let s = e in
     let a = s.args in
     let q = k.sought_of-sought in
-    let l = said k _ c.in-Same.is in (
+    let l = said (goal.at.returns-in-Same c).After-compare-found _ c.in-Same.is in (
       walked_same a.schema.now a.words.now a.d a.walk a.heads-1.now a.nodes-1.now s.requires.1.1 (after e) (next e)
           (relation e) q.result q.ensures.0 l.0 l.1 l.2 l.3,
       on e,
@@ -148,8 +141,8 @@ returns-in-Same c = let k = c in
 pub returns-in-Differs : goal.returns-in-Differs
 returns-in-Differs c = let f = c in
     let k = f in
-    let e = compared k in
-    let s = begun e in
+    let e = k in
+    let s = e in
     let a = s.args in
     let q = k.sought_of-sought in
     let l = said k _ f.in-Differs.is in (
@@ -162,37 +155,11 @@ returns-in-Differs c = let f = c in
 pub returns-else-nodes-count-ge4 : goal.returns-else-nodes-count-ge4
 returns-else-nodes-count-ge4 c = let h = c in
     let k = h in
-    let e = compared k in
-    let s = begun e in
+    let e = k in
+    let s = e in
     let a = s.args in
     let q = k.sought_of-sought in (
       walked-full a.schema.now a.words.now a.d a.walk a.heads-1.now a.nodes-1.now s.requires.1.1 (after e) (next e)
           (relation e) q.result q.ensures.0 (said k _ h.in-Alone.is) c.lesser-in-Alone.result c.lesser-in-Alone.ensures.0 c.lesser-in-Alone.ensures.1,
       on e,
     )
-
--- TODO names tie: begun
-
--- TODO names tie: after
-
--- TODO names tie: next
-
--- TODO names tie: on
-
--- TODO names tie: relation
-
--- TODO names tie: room
-
--- TODO names tie: compared
-
--- TODO names tie: key
-
--- TODO names tie: said
-
--- TODO names tie: stored
-
--- TODO names tie: free
-
--- TODO names tie: low
-
--- TODO names tie: few

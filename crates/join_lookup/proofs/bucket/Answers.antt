@@ -40,7 +40,7 @@ loop-c-preserved c = let s = c in
     )
 
 -- What is spread stays below the number of buckets
-below : (c : tie.After-loop invariant-loop decreases-loop) → (c.loop-c.h * 2654435769) % 4294967296 * c.args.buckets < c.args.buckets * 4294967296
+below : (c : goal.After-loop-c) → (c.loop-c.h * 2654435769) % 4294967296 * c.args.buckets < c.args.buckets * 4294967296
 below c =
     let n = c.args.buckets in
     let m = (c.loop-c.h * 2654435769) % 4294967296 in
@@ -49,7 +49,7 @@ below c =
     omega arith
 
 pub overflow_mul-result : goal.overflow_mul-result
-overflow_mul-result c = omega (arith, below c, c.requires.2)
+overflow_mul-result c = omega (arith, below (goal.at.overflow_mul-result c).After-loop-c, c.requires.2)
 
 pub returns : goal.returns
 returns c = let s = c in
@@ -58,7 +58,5 @@ returns c = let s = c in
     let e : mixed 0 a.columns (take a.width a.values) ≡ l.h =
     mixed-start a.values a.width a.columns ∙ l.invariant.2 ∙ mixed-end a.values a.width l.c l.left l.h c.loop-c-test.false in (
       sym (ap (λ (x : ℕ). ((x * 2654435769) % 4294967296 * a.buckets) / 4294967296) e),
-      (div-lt_iff_lt-mul {k = 4294967296} (omega arith)).1 (below c),
+      (div-lt_iff_lt-mul {k = 4294967296} (omega arith)).1 (below (goal.at.returns c).After-loop-c),
     )
-
--- TODO names tie: below

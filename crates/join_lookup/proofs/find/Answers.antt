@@ -52,7 +52,7 @@ following-at-requires c = let s = c in
     )
 
 -- The way goes on
-onward : (c : tie.After-following invariant-loop decreases-loop)
+onward : (c : goal.After-following-at)
     → Reaches c.args.schema.now c.args.words.now c.args.x 0 c.args.columns 0 c.args.values
     (suc c.loop-at.invariant.2.1.row) c.following-at.result
 onward c = let s = c in
@@ -71,7 +71,7 @@ loop-at-smaller c = let s = c in
     omega (
       arith,
       i.loop-at-test.true,
-      reach-less a.schema.now a.words.now w.0 a.x w.1 0 a.columns 0 a.values w.2.1.row l.loop-at.at c.following-at.result w.2.1.place (onward c),
+      reach-less a.schema.now a.words.now w.0 a.x w.1 0 a.columns 0 a.values w.2.1.row l.loop-at.at c.following-at.result w.2.1.place (onward (goal.at.loop-at-smaller c).After-following-at),
     )
 
 pub loop-at-preserved : goal.loop-at-preserved
@@ -86,7 +86,7 @@ loop-at-preserved c = let s = c in
     let n = pass-next a.schema.now a.words.now w.0 a.x w.1 a.columns a.values l.loop-at.at p
     (h.has.ensures.1 w.2.1.row (pass-begins a.schema.now a.words.now w.0 a.x w.1 a.columns a.values l.loop-at.at p i.loop-at-test.true)
     e.if-has.false)
-    c.following-at.result (onward c) in
+    c.following-at.result (onward (goal.at.loop-at-preserved c).After-following-at) in
     (w.0, w.1, n)
 
 pub returns : goal.returns
@@ -95,5 +95,3 @@ returns c = let s = c in
     let l = c in
     let w = l.loop-at.invariant in
     pass-end a.schema.now a.words.now w.0 a.x w.1 a.columns a.values l.loop-at.at w.2 c.loop-at-test.false
-
--- TODO names tie: onward

@@ -11,22 +11,22 @@ use Rattle.join_lookup.proofs.Starting.{begins, start-inside, start-next}
 use Rattle.join_lookup.proofs.Reaching.{reach-next, reach-link, reach-inside}
 use Rattle.join_lookup.proofs.following.Goals as goal
 
-inside : (c : tie.Start) → c.args.at < length c.args.words.now
+inside : (c : goal.Start) → c.args.at < length c.args.words.now
 inside c = let a = c.args in
     let p = c.requires.1.0 in
     omega (arith, p.1.0, start-inside a.schema.now a.words.now c.requires.0.0 p.0 p.1.1)
 
 -- Its link is in the slice
-room : (c : tie.Else1) → 6 * c.args.at + 1 + c.args.t < length c.args.nodes.now
+room : (c : goal.Else-x-eq0) → 6 * c.args.at + 1 + c.args.t < length c.args.nodes.now
 room c = let s = c in
-    omega (arith, inside s, s.requires.1.1 (omega (arith, c.if-x-eq0.false)), s.requires.0.2)
+    omega (arith, inside c.before.before.before.before.before, s.requires.1.1 (omega (arith, c.if-x-eq0.false)), s.requires.0.2)
 
 pub next-requires : goal.next-requires
 next-requires c = let s = c in
     let a = s.args in
     let p = s.requires.1.0 in
     let b = begins a.schema.now a.words.now s.requires.0.0 p.0 (omega (arith, p.1.1)) in
-    (inside s, subst (λ (n : ℕ). spells_rows a.schema.now (drop n a.words.now) ≡ true) (sym p.1.0) b.from.good)
+    (inside (goal.at.next-requires c).Start, subst (λ (n : ℕ). spells_rows a.schema.now (drop n a.words.now) ≡ true) (sym p.1.0) b.from.good)
 
 pub returns-then-x-eq0 : goal.returns-then-x-eq0
 returns-then-x-eq0 c = let s = c in
@@ -42,19 +42,19 @@ returns-then-x-eq0 c = let s = c in
     c.next.result g i.1 e
 
 pub overflow_mul-result : goal.overflow_mul-result
-overflow_mul-result c = omega (arith, room c)
+overflow_mul-result c = omega (arith, room (goal.at.overflow_mul-result c).Else-x-eq0)
 
 pub overflow_add-result : goal.overflow_add-result
-overflow_add-result c = omega (arith, room c)
+overflow_add-result c = omega (arith, room (goal.at.overflow_add-result c).Else-x-eq0)
 
 pub overflow_add-result-2 : goal.overflow_add-result-2
-overflow_add-result-2 c = omega (arith, room c)
+overflow_add-result-2 c = omega (arith, room (goal.at.overflow_add-result-2 c).Else-x-eq0)
 
 pub offset_bounds-nodes-at : goal.offset_bounds-nodes-at
-offset_bounds-nodes-at c = omega (arith, room c)
+offset_bounds-nodes-at c = omega (arith, room (goal.at.offset_bounds-nodes-at c).Else-x-eq0)
 
 pub bounds-nodes-at : goal.bounds-nodes-at
-bounds-nodes-at c = room c
+bounds-nodes-at c = room (goal.at.bounds-nodes-at c).Else-x-eq0
 
 pub overflow_cast-result : goal.overflow_cast-result
 overflow_cast-result c = let s = c in
@@ -70,7 +70,3 @@ returns c = let s = c in
     let i = reach-inside a.schema.now a.words.now s.requires.0.0 a.x s.requires.0.1 a.t columns set values from a.at p.0 p.1 g in
     reach-link a.schema.now a.words.now s.requires.0.0 a.x s.requires.0.1 a.t columns set values small wide some heads a.nodes.now from a.at
     (table some) g i.1
-
--- TODO names tie: inside
-
--- TODO names tie: room

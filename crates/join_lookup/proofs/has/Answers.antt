@@ -14,15 +14,16 @@ use borrow.Author.Rules.{rules}
 use Rattle.join_lookup.proofs.has.Goals as goal
 
 -- The row is there
-inside : (c : tie.Start invariant-loop decreases-loop) → c.args.at < length c.args.words.now
+
+inside : (c : goal.Start) → c.args.at < length c.args.words.now
 inside c = let a = c.args in
     begins-inside a.schema.now a.words.now c.requires.0.0 a.x c.requires.0.1 a.at c.requires.1.0 c.requires.1.1
 
 pub offset_bounds-words-at : goal.offset_bounds-words-at
-offset_bounds-words-at c = omega (arith, inside c)
+offset_bounds-words-at c = omega (arith, inside (goal.at.offset_bounds-words-at c).Start)
 
 pub bounds-words-at : goal.bounds-words-at
-bounds-words-at c = inside c
+bounds-words-at c = inside (goal.at.bounds-words-at c).Start
 
 pub returns-then-words-at : goal.returns-then-words-at
 returns-then-words-at c = let s = c in
@@ -86,5 +87,3 @@ returns c = let s = c in
           s.ranges.columns.fits (λ d h bit. l.loop-c.invariant.2 d (omega (arith, c.loop-c-test.false)) bit)),
       (λ p b t. absurd (true≢false t)),
     )
-
--- TODO names tie: inside

@@ -7,13 +7,13 @@ use lib.ListN.{length}
 use Rattle.join_lookup.proofs.Reaching.{reach-first, reach-head}
 use Rattle.join_lookup.proofs.start.Goals as goal
 
-some : (c : tie.Else1) → 0 < c.args.x.buckets
+some : (c : goal.Else-x-eq0) → 0 < c.args.x.buckets
 some c = omega (arith, c.if-x-eq0.false)
 
-room : (c : tie.After-bucket) → 5 * c.bucket-b.result + c.args.t < length c.args.heads.now
+room : (c : goal.After-bucket-b) → 5 * c.bucket-b.result + c.args.t < length c.args.heads.now
 room c = let s = c in
     let e = c in
-    omega (arith, c.bucket-b.ensures.1, s.requires.1 (some e), s.requires.0.2)
+    omega (arith, c.bucket-b.ensures.1, s.requires.1 (some c.before), s.requires.0.2)
 
 pub returns-then-x-eq0 : goal.returns-then-x-eq0
 returns-then-x-eq0 c = let s = c in
@@ -21,19 +21,19 @@ returns-then-x-eq0 c = let s = c in
     λ set nodes table. reach-first a.schema.now a.words.now s.requires.0.0 a.x s.requires.0.1 a.t a.columns set a.values c.if-x-eq0.true
 
 pub bucket-b-requires : goal.bucket-b-requires
-bucket-b-requires c = let s = c in (s.requires.0.1.narrow, some c, s.requires.0.1.few)
+bucket-b-requires c = let s = c in (s.requires.0.1.narrow, some (goal.at.bucket-b-requires c).Else-x-eq0, s.requires.0.1.few)
 
 pub overflow_mul-result : goal.overflow_mul-result
-overflow_mul-result c = omega (arith, room c)
+overflow_mul-result c = omega (arith, room (goal.at.overflow_mul-result c).After-bucket-b)
 
 pub overflow_add-result : goal.overflow_add-result
-overflow_add-result c = omega (arith, room c)
+overflow_add-result c = omega (arith, room (goal.at.overflow_add-result c).After-bucket-b)
 
 pub offset_bounds-heads-b : goal.offset_bounds-heads-b
-offset_bounds-heads-b c = omega (arith, room c)
+offset_bounds-heads-b c = omega (arith, room (goal.at.offset_bounds-heads-b c).After-bucket-b)
 
 pub bounds-heads-b : goal.bounds-heads-b
-bounds-heads-b c = room c
+bounds-heads-b c = room (goal.at.bounds-heads-b c).After-bucket-b
 
 pub overflow_cast-result : goal.overflow_cast-result
 overflow_cast-result c = let s = c in
@@ -48,8 +48,4 @@ returns c = let s = c in
     let size : length a.values ≡ 8 = s.well-formed.1.1.1.1.1.0.1.0.1 in
     λ set nodes table.
     reach-head a.schema.now a.words.now s.requires.0.0 a.x s.requires.0.1 a.t a.columns set a.values s.ranges.columns.fits
-    (omega (arith, s.requires.0.1.narrow)) a.heads.now nodes b.bucket-b.result b.bucket-b.ensures.0 b.bucket-b.ensures.1 (table (some e))
-
--- TODO names tie: some
-
--- TODO names tie: room
+    (omega (arith, s.requires.0.1.narrow)) a.heads.now nodes b.bucket-b.result b.bucket-b.ensures.0 b.bucket-b.ensures.1 (table (some (goal.at.returns c).Else-x-eq0))

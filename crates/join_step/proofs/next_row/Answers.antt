@@ -33,7 +33,7 @@ count_at joins joined fits k h enough =
     ∙ every-get_or (λ j. leb j.count 4) (take joined joins) k past_join fits (rw (length-take-le joined joins enough) h))
 
 -- The tableau has room for 24 rows
-cells-long : (s : tie.Start invariant-loop decreases-loop) → length s.args.t.cells ≡ 192
+cells-long : (s : goal.Start) → length s.args.t.cells ≡ 192
 cells-long s = search (mapped-length, rules)
 
 pub loop-k-init : goal.loop-k-init
@@ -91,5 +91,3 @@ returns c =
     λ schema narrow good good-joins.
     next-nothing a.t a.joins a.joined _ f.codes_of-codes.ensures l.invariant.2 (cells-long s) enough past_join schema narrow good good-joins
     (λ e less. l.invariant.4 e (omega (arith, c.loop-k-test.false))) _ refl
-
--- TODO names tie: cells-long

@@ -6,8 +6,6 @@ use Rattle.join_tables.proofs.Filling.{levelled-none, levelled-next, levelled-al
 use Rattle.join_tables.proofs.fill.Goals as goal
 
 -- Where the call began
-abbrev begun : tie.At-loop invariant-loop decreases-loop → tie.Start invariant-loop decreases-loop
-begun c = c
 
 pub thread-requires : goal.thread-requires
 thread-requires c = let s = c in
@@ -25,12 +23,12 @@ loop-k-init c = let d = c in
     )
 
 pub bounds-j-k : goal.bounds-j-k
-bounds-j-k c = let s = begun c in
+bounds-j-k c = let s = c in
     omega (arith, c.loop-k-test.true, s.requires.0.0.few, s.requires.0.0.shaped)
 
 pub enter_set-requires : goal.enter_set-requires
 enter_set-requires c = let i = c in
-    let s = begun i in
+    let s = i in
     let v = i.loop-k.invariant.0 in
     ((s.requires.0.0.spelled, s.requires.0.1, omega (arith, i.loop-k-test.true, s.requires.0.0.few)), (v.room, v.thread))
 
@@ -38,7 +36,7 @@ pub loop-k-preserved : goal.loop-k-preserved
 loop-k-preserved c = let u = c in
     let i = u in
     let l = i.loop-k in
-    let s = begun i in
+    let s = i in
     let a = s.args in
     let e = u.enter_set.ensures in (
       levelled-next a.schema.now a.words.now a.j a.x l.heads-1 l.nodes-1 l.filled l.k l.invariant.0 i.loop-k-test.true s.requires.0.0.few
@@ -49,7 +47,7 @@ loop-k-preserved c = let u = c in
 
 pub enter-requires : goal.enter-requires
 enter-requires c = let e = c in
-    let s = begun e in
+    let s = e in
     let v = e.loop-k.invariant.0 in
     ((s.requires.0.0.spelled, s.requires.0.1, omega arith), ((v.room, v.thread), λ some. absurd (some refl)))
 
@@ -57,9 +55,7 @@ pub returns : goal.returns
 returns c = let u = c in
     let e = u in
     let l = e.loop-k in
-    let s = begun e in
+    let s = e in
     let a = s.args in
     levelled-all a.schema.now a.words.now a.j a.x l.heads-1 l.nodes-1 l.filled l.k l.invariant.0 e.loop-k-test.false s.requires.0.0.few
     s.requires.0.1 s.requires.0.2 u.enter.new.1.1.1.1.1.1.0 u.enter.new.1.1.1.1.1.1.1.0 u.enter.ensures.0 u.enter.ensures.1
-
--- TODO names tie: begun

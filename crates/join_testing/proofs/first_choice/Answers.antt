@@ -14,32 +14,29 @@ use Rattle.join_testing.proofs.Arranging.{some-sets, plain-indexed}
 use Rattle.join_testing.proofs.Finding.{searched-none, searched-some, first-inside}
 use Rattle.join_testing.proofs.first_choice.Goals as goal
 
-abbrev start : tie.Else1 → tie.Start
-start c = c
-
-abbrev at : tie.Else1 → List ℕ
+abbrev at : goal.Else-not-found → List ℕ
 at c = c.choose-found.result.at
 
 -- The choice that is found
-first : (c : tie.Else1) → FirstFrom (start c).args.schema.now (start c).args.words.now (start c).args.j (plainly (start c).args.schema.now (start c).args.j) 0
+first : (c : goal.Else-not-found) → FirstFrom c.args.schema.now c.args.words.now c.args.j (plainly c.args.schema.now c.args.j) 0
     (replicate 8 0) (at c)
 first c = c.choose-found.ensures.some (not-false _ c.if-not-found.false)
 
 -- Word n of it is where a row begins
-placed : (c : tie.Else1) (n : ℕ) → get_or (at c) n 0 ≡ start_of (start c).args.schema.now (start c).args.words.now (get_or (first c).positions n 0)
+placed : (c : goal.Else-not-found) (n : ℕ) → get_or (at c) n 0 ≡ start_of c.args.schema.now c.args.words.now (get_or (first c).positions n 0)
 placed c n = let e : 0 + n ≡ n = omega arith in ap (λ (m : ℕ). get_or (at c) m 0) (sym e) ∙ (first c).places n
 
-begins : (c : tie.Else1) (n : ℕ) → (p : ℕ) × (get_or (at c) n 0 ≡ start_of (start c).args.schema.now (start c).args.words.now p)
-    × (p ≤ row_count (start c).args.schema.now (start c).args.words.now)
+begins : (c : goal.Else-not-found) (n : ℕ) → (p : ℕ) × (get_or (at c) n 0 ≡ start_of c.args.schema.now c.args.words.now p)
+    × (p ≤ row_count c.args.schema.now c.args.words.now)
 begins c n = (
   get_or (first c).positions n 0,
   placed c n,
-  first-inside (start c).requires (plain-indexed (start c).args.j (start c).requires) (replicate 8 0) (at c) (first c) n,
+  first-inside c.requires (plain-indexed c.args.j c.requires) (replicate 8 0) (at c) (first c) n,
 )
 
 -- and its position is known
-known : (c : tie.Else1) (n r : ℕ) → get_or (at c) n 0 ≡ start_of (start c).args.schema.now (start c).args.words.now r → r ≡ get_or (first c).positions n 0
-known c n r e = start-one (start c).args.schema.now (start c).args.words.now r (get_or (first c).positions n 0) (sym e ∙ placed c n)
+known : (c : goal.Else-not-found) (n r : ℕ) → get_or (at c) n 0 ≡ start_of c.args.schema.now c.args.words.now r → r ≡ get_or (first c).positions n 0
+known c n r e = start-one c.args.schema.now c.args.words.now r (get_or (first c).positions n 0) (sym e ∙ placed c n)
 
 pub choose-found-requires : goal.choose-found-requires
 unfolding filled_to
@@ -51,37 +48,25 @@ returns-then-not-found c = let s = c in
     (not-true _ c.if-not-found.true)))
 
 pub position_of-a-requires : goal.position_of-a-requires
-position_of-a-requires c = let e = c in ((start e).requires.spelled, begins e 0)
+position_of-a-requires c = let e = c in (e.requires.spelled, begins (goal.at.position_of-a-requires c).Else-not-found 0)
 
 pub position_of-b-requires : goal.position_of-b-requires
-position_of-b-requires c = let e = c in ((start e).requires.spelled, begins e 1)
+position_of-b-requires c = let e = c in (e.requires.spelled, begins (goal.at.position_of-b-requires c).Else-not-found 1)
 
 pub position_of-c-requires : goal.position_of-c-requires
-position_of-c-requires c = let e = c in ((start e).requires.spelled, begins e 2)
+position_of-c-requires c = let e = c in (e.requires.spelled, begins (goal.at.position_of-c-requires c).Else-not-found 2)
 
 pub position_of-d-requires : goal.position_of-d-requires
-position_of-d-requires c = let e = c in ((start e).requires.spelled, begins e 3)
+position_of-d-requires c = let e = c in (e.requires.spelled, begins (goal.at.position_of-d-requires c).Else-not-found 3)
 
 pub returns : goal.returns
 returns c = let e = c in
     let s = c in
     let f = c in
-    let p = known e 0 c.position_of-a.result c.position_of-a.ensures in
-    let q = known e 1 c.position_of-b.result c.position_of-b.ensures in
-    let r = known e 2 c.position_of-c.result c.position_of-c.ensures in
-    let t = known e 3 c.position_of-d.result c.position_of-d.ensures in
+    let p = known (goal.at.returns c).Else-not-found 0 c.position_of-a.result c.position_of-a.ensures in
+    let q = known (goal.at.returns c).Else-not-found 1 c.position_of-b.result c.position_of-b.ensures in
+    let r = known (goal.at.returns c).Else-not-found 2 c.position_of-c.result c.position_of-c.ensures in
+    let t = known (goal.at.returns c).Else-not-found 3 c.position_of-d.result c.position_of-d.ensures in
     (λ i. chosen-rows.At (p i) (q i) (r i) (t i))
     ∙ sym (ap rows_chosen (searched-some s.requires (plain-indexed s.args.j s.requires) (replicate 8 0) f.choose-found.result f.choose-found.ensures
-    (not-false _ e.if-not-found.false) (first e)))
-
--- TODO names tie: start
-
--- TODO names tie: at
-
--- TODO names tie: first
-
--- TODO names tie: placed
-
--- TODO names tie: begins
-
--- TODO names tie: known
+    (not-false _ e.if-not-found.false) (first (goal.at.returns c).Else-not-found)))

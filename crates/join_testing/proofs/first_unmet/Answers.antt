@@ -19,11 +19,12 @@ use borrow.Author.Rules.{rules}
 use Rattle.join_testing.proofs.first_unmet.Goals as goal
 
 -- What an array that is read past its end gives
+
 abbrev unread : JoinDependency
 unread = record { relation = 0; count = 0; sets = [] }
 
 -- The search from join dependency k on, by join dependency k and the later ones
-onward : (c : tie.In-loop invariant-loop decreases-loop)
+onward : (c : goal.In-loop-k)
     → first_unmet_from 0 c.args.schema.now (map join_of (take c.args.joined c.args.joins)) (database_of c.args.schema.now c.args.words.now)
     ≡ first_unmet_from c.loop-k.k c.args.schema.now (join_of (get_or c.args.joins c.loop-k.k unread)
     ∷ map join_of (drop (c.loop-k.k + 1) (take c.args.joined c.args.joins))) (database_of c.args.schema.now c.args.words.now)
@@ -52,7 +53,7 @@ returns-in-At c = let f = c.found-1.given in
     let i = c in
     let a = c.args in
     let k = c.loop-k.k in
-    sym (ap unmet_of (onward i)
+    sym (ap unmet_of (onward (goal.at.returns-in-At c).In-loop-k)
     ∙ unmet-found a.schema.now (database_of a.schema.now a.words.now) (join_of (get_or a.joins k unread))
     (map join_of (drop (k + 1) (take a.joined a.joins))) k f.0.0 f.0.1.0 f.0.1.1.0 f.0.1.1.1.0 (sym f.1 ∙ c.first_choice-found.ensures))
 
@@ -61,7 +62,7 @@ loop-k-preserved c = let i = c in
     let l = c.loop-k in
     let a = c.args in (
       search rules,
-      onward i
+      onward (goal.at.loop-k-preserved c).In-loop-k
           ∙ unmet-later a.schema.now (database_of a.schema.now a.words.now) (join_of (get_or a.joins l.k unread))
           (map join_of (drop (l.k + 1) (take a.joined a.joins))) l.k (sym c.in_default.is ∙ c.first_choice-found.ensures),
       c.nodes-1.given ∙ l.invariant.2,
@@ -74,5 +75,3 @@ returns c = let l = c.loop-k in
     let a = c.args in
     sym (ap unmet_of (l.invariant.1 ∙ ap (λ (x : List database.JoinDependency). first_unmet_from l.k a.schema.now x (database_of a.schema.now a.words.now))
     (ap (map join_of) (left-none a.joined l.k a.joins e.loop-k-test.false)) ∙ unmet-end a.schema.now (database_of a.schema.now a.words.now) l.k))
-
--- TODO names tie: onward

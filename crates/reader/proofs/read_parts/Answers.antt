@@ -215,8 +215,8 @@ part-second-requires c =
     )
 
 -- What is known where the relations are good
-module _ (c : tie.Else1) where
-  abbrev after-read-relations : tie.After-read-relations
+module _ (c : goal.Else-not-first) where
+  abbrev after-read-relations : goal.After-read_relations-first
   after-read-relations = c
 
   abbrev after-part : tie.After-part
@@ -251,8 +251,8 @@ returns-then-not-functional c =
     (not-true after-read-dependencies.read_dependencies-functional.result.good c.if-not-functional.true)
 
 -- What is known where the functional dependencies are good too
-module _ (c : tie.After-dependencies) where
-  abbrev after-read-dependencies : tie.After-read-dependencies
+module _ (c : goal.After-dependencies-1) where
+  abbrev after-read-dependencies : goal.After-read_dependencies-functional
   after-read-dependencies = c
 
   abbrev after-part2 : tie.After-part2
@@ -311,7 +311,3 @@ returns c =
     (after-read-dependencies d).read-dependencies.result (after-read-dependencies d).read-dependencies.ensures (file-bytes e) (second-good d)
     after-read-joins.read_joins-rest.result after-read-joins.read_joins-rest.ensures
     (not-false after-read-joins.read_joins-rest.result.good c.if-not-rest.false)
-
--- TODO names tie: module
-
--- TODO names tie: module

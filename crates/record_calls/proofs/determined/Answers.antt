@@ -15,7 +15,8 @@ use Rattle.record_calls.proofs.Outcomes.{rights-narrow, determined-broken, deter
 use Rattle.record_calls.proofs.determined.Goals as goal
 
 -- what the tests passed so far tell
-good : (c : tie.Else1) → good_record c.args.given ≡ true
+
+good : (c : goal.Else-not-is_good) → good_record c.args.given ≡ true
 good c = sym c.is_good.ensures ∙ not-false _ c.if-not-is_good.false
 
 pub returns-then-not-is_good : goal.returns-then-not-is_good
@@ -24,18 +25,18 @@ returns-then-not-is_good c =
     c.args.left (sym c.is_good.ensures ∙ not-true _ c.if-not-is_good.true)
 
 pub set_good-requires : goal.set_good-requires
-set_good-requires c = (good-record c.args.given (good c)).relations
+set_good-requires c = (good-record c.args.given (good (goal.at.set_good-requires c).Else-not-is_good)).relations
 
 pub returns-then-not-set_good : goal.returns-then-not-set_good
 returns-then-not-set_good c =
     determined-unfit c.args.given c.args.relation
-    c.args.left (good c) (sym c.set_good.ensures ∙ not-true _ c.if-not-set_good.true)
+    c.args.left (good (goal.at.returns-then-not-set_good c).Else-not-is_good) (sym c.set_good.ensures ∙ not-true _ c.if-not-set_good.true)
 
 pub closed_columns-mask-requires : goal.closed_columns-mask-requires
 closed_columns-mask-requires c = (
-  (good-record c.args.given (good c)).held,
+  (good-record c.args.given (good (goal.at.closed_columns-mask-requires c).Else-not-is_good)).held,
   rights-narrow
-      c.args.given (good c),
+      c.args.given (good (goal.at.closed_columns-mask-requires c).Else-not-is_good),
 )
 
 pub overflow_cast-result : goal.overflow_cast-result
@@ -47,7 +48,5 @@ returns c =
     let long : length given.dependencies-1 ≡ 32 = search (mapped-length, rules) in
     determined-done c.args.given
     c.args.relation c.args.left
-    (good c) (sym c.set_good.ensures ∙ not-false _ c.if-not-set_good.false) long
+    (good (goal.at.returns c).Else-not-is_good) (sym c.set_good.ensures ∙ not-false _ c.if-not-set_good.false) long
     c.closed_columns-mask.result c.closed_columns-mask.ensures
-
--- TODO names tie: good

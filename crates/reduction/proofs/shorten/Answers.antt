@@ -19,7 +19,8 @@ use Rattle.reduction.proofs.Results.{chased-query, chased-counted, chased-good, 
 use Rattle.reduction.proofs.shorten.Goals as goal
 
 -- The arrays of the query are as long as its type says
-sized : (c : tie.After-from-query) → SizedFor 12 c.args.q
+
+sized : (c : goal.After-from_query) → SizedFor 12 c.args.q
 sized c = record { head = search (mapped-length, rules); relations = search (mapped-length, rules); cells = search (mapped-length, rules) }
 
 pub chase-chased-requires : goal.chase-chased-requires
@@ -27,44 +28,44 @@ chase-chased-requires c =
     let a = c.args in
     let p = c.requires in
     let good : good_tableau p.schema c.from_query.result ≡ true =
-    ap (good_tableau p.schema) c.from_query.ensures ∙ tableau-good p.schema a.q (sized c) p.query-good
+    ap (good_tableau p.schema) c.from_query.ensures ∙ tableau-good p.schema a.q (sized (goal.at.chase-chased-requires c).After-from_query) p.query-good
     in
     chasable p.schema a.held a.dependencies c.from_query.result p.widths p.dependencies-good good
 
 -- What the chase promises, for the tableau of the query
-chased : (c : tie.After-chase) (schema : List ℕ) → every (between 1 8) schema ≡ true → good_query schema c.args.q ≡ true
+chased : (c : goal.After-chase-chased) (schema : List ℕ) → every (between 1 8) schema ≡ true → good_query schema c.args.q ≡ true
     → IsChased schema c.args.dependencies c.args.held (tableau_of c.args.q) c.chase-chased.result
 chased c schema widths good =
     let q = c.args.q in
     let is = c.from_query.ensures in
-    rw is at (c.chase-chased.ensures schema (ap (good_tableau schema) is ∙ tableau-good schema q (sized c) good) widths)
+    rw is at (c.chase-chased.ensures schema (ap (good_tableau schema) is ∙ tableau-good schema q (sized c.before) good) widths)
 
 -- The arrays of the chased tableau are as long as its type says
-roomy : (c : tie.After-chase) → SizedFor 24 (as_query c.chase-chased.result.query)
+roomy : (c : goal.After-chase-chased) → SizedFor 24 (as_query c.chase-chased.result.query)
 roomy c = record { head = search (mapped-length, rules); relations = search (mapped-length, rules); cells = search (mapped-length, rules) }
 
 -- It is good as a stored query
-good-again : (c : tie.After-to-query) (schema : List ℕ) → every (between 1 8) schema ≡ true → good_query schema c.args.q ≡ true
+good-again : (c : goal.After-to_query-query) (schema : List ℕ) → every (between 1 8) schema ≡ true → good_query schema c.args.q ≡ true
     → good_query schema c.to_query-query.result ≡ true
 good-again c schema widths good =
     let after = c in
     let a = after.args in
     ap (good_query schema) c.to_query-query.ensures
-    ∙ chased-good schema widths a.dependencies a.held a.q (sized after) good after.chase-chased.result (chased after schema widths good)
-    (roomy after)
+    ∙ chased-good schema widths a.dependencies a.held a.q (sized c.before.before.before) good after.chase-chased.result (chased c.before.before schema widths good)
+    (roomy c.before.before)
 
 pub core_of-result-requires : goal.core_of-result-requires
 core_of-result-requires c =
     let p = c.requires in
-    (p.schema, width-le p.schema p.widths, good-again c p.schema p.widths p.query-good)
+    (p.schema, width-le p.schema p.widths, good-again (goal.at.core_of-result-requires c).After-to_query-query p.schema p.widths p.query-good)
 
 -- What losing rows promises
-pruned : (c : tie.After-core-of) (schema : List ℕ) → every (between 1 8) schema ≡ true → good_query schema c.args.q ≡ true
+pruned : (c : goal.After-core_of-result) (schema : List ℕ) → every (between 1 8) schema ≡ true → good_query schema c.args.q ≡ true
     → IsCoreOf schema c.to_query-query.result c.core_of-result.result
-pruned c schema widths good = c.core_of-result.ensures schema (width-le schema widths) (good-again c schema widths good)
+pruned c schema widths good = c.core_of-result.ensures schema (width-le schema widths) (good-again c.before schema widths good)
 
 -- The tableau of the result is good
-result-sized : (c : tie.After-from-query2) → SizedFor 12 c.core_of-result.result
+result-sized : (c : goal.After-from_query-2) → SizedFor 12 c.core_of-result.result
 result-sized c =
     let ok = c.core_of-result.type-inv in
     record {
@@ -73,16 +74,16 @@ result-sized c =
       cells = search (mapped-length, rules, ok);
     }
 
-result-good : (c : tie.After-from-query2) (schema : List ℕ) → every (between 1 8) schema ≡ true
+result-good : (c : goal.After-from_query-2) (schema : List ℕ) → every (between 1 8) schema ≡ true
     → good_query schema c.args.q ≡ true → good_tableau schema c.from_query-2.result ≡ true
 result-good c schema widths good =
     ap (good_tableau schema) c.from_query-2.ensures
-    ∙ tableau-good schema c.core_of-result.result (result-sized c) (pruned c schema widths good).good
+    ∙ tableau-good schema c.core_of-result.result (result-sized c) (pruned c.before schema widths good).good
 
 pub find-mapped-requires : goal.find-mapped-requires
 find-mapped-requires c =
     let p = c.requires in
-    ((p.schema, p.query-good), (p.schema, result-good c p.schema p.widths p.query-good))
+    ((p.schema, p.query-good), (p.schema, result-good (goal.at.find-mapped-requires c).After-from_query-2 p.schema p.widths p.query-good))
 
 pub returns : goal.returns
 returns c =
@@ -112,17 +113,3 @@ returns c =
     (subst (λ (T : theory.Query). IsMapped (query_of schema q) T found.find-mapped.result)
     (ap (λ (t : Tableau). query_of schema (as_query t)) tableau-is ∙ tableau-query schema cored.core_of-result.result (result-sized again) p.good narrow)
     (found.find-mapped.ensures schema narrow good (result-good again schema widths good) same))
-
--- TODO names tie: sized
-
--- TODO names tie: chased
-
--- TODO names tie: roomy
-
--- TODO names tie: good-again
-
--- TODO names tie: pruned
-
--- TODO names tie: result-sized
-
--- TODO names tie: result-good

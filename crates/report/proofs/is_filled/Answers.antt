@@ -11,13 +11,11 @@ use Rattle.query.proofs.Shape.{past_place}
 use borrow.Author.Rules.{rules}
 use Rattle.report.proofs.is_filled.Goals as goal
 
-read : (c : tie.Start) → get_or c.args.given.places c.args.place past_place ≡ get_or c.args.given.places c.args.place no_place
+read : (c : goal.Start) → get_or c.args.given.places c.args.place past_place ≡ get_or c.args.given.places c.args.place no_place
 read c =
     let long : length c.args.given.places ≡ 8 = search (mapped-length, rules) in
     let within : c.args.place < length c.args.given.places = omega (arith, c.requires) in
     get_d_any c.args.given.places c.args.place past_place no_place within
 
 pub returns : goal.returns
-returns c = ap (λ (p : Place). p.filled) (read c)
-
--- TODO names tie: read
+returns c = ap (λ (p : Place). p.filled) (read (goal.at.returns c).Start)

@@ -8,17 +8,17 @@ use Rattle.report.proofs.Listed.{listable, lines-written}
 use borrow.Author.Rules.{rules}
 use Rattle.report.proofs.write_lines.Goals as goal
 
-eight : (c : tie.Start) → length c.args.given.places ≡ 8
+eight : (c : goal.Start) → length c.args.given.places ≡ 8
 eight c = let long : length c.args.given.places ≡ 8 = search (mapped-length, rules) in long
 
 -- The arrays of what the calls return have their lengths, and the count is a byte
-source-long : (c : tie.After-stored) → length c.stored-source.result.relations ≡ 12
+source-long : (c : goal.After-stored-source) → length c.stored-source.result.relations ≡ 12
 source-long c = let long : length c.stored-source.result.relations ≡ 12 = search (mapped-length, rules) in long
 
-result-long : (c : tie.After-stored2) → length c.stored-result.result.relations ≡ 12
+result-long : (c : goal.After-stored-result) → length c.stored-result.result.relations ≡ 12
 result-long c = let long : length c.stored-result.result.relations ≡ 12 = search (mapped-length, rules) in long
 
-count_small : (c : tie.After-reduce) → c.reduce-reduced.result.count < 256
+count_small : (c : goal.After-reduce-reduced) → c.reduce-reduced.result.count < 256
 count_small c = let small : c.reduce-reduced.result.count < 256 = search rules in small
 
 pub stored-result-requires : goal.stored-result-requires
@@ -50,11 +50,3 @@ returns c =
     single.alone-single.result single.alone-single.ensures reduced.reduce-reduced.result reduced.reduce-reduced.ensures source.stored-source.result source.stored-source.ensures
     result.stored-result.result result.stored-result.ensures (source-long source) (result-long result) (count_small reduced) s.args.buffer.now s.args.at
     written.write_place.new.0 written.write_place.result written.write_place.ensures
-
--- TODO names tie: eight
-
--- TODO names tie: source-long
-
--- TODO names tie: result-long
-
--- TODO names tie: count_small

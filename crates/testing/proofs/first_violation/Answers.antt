@@ -20,48 +20,46 @@ use borrow.Author.Rules.{rules}
 use Rattle.testing.proofs.first_violation.Goals as goal
 
 -- Where the call began
-abbrev begun : tie.At-loop invariant-loop decreases-loop → tie.Start invariant-loop decreases-loop
-begun c = c
 
 -- The buckets that are used are buckets
-few : (c : tie.Joined1 invariant-loop decreases-loop) → c.if-words-buckets.buckets ≤ length c.args.heads.now
+few : (c : goal.Joined-words-buckets) → c.if-words-buckets.buckets ≤ length c.args.heads.now
 few c = ⊎_elim (λ w. omega (arith, w.if-words-buckets.true, w.buckets-is)) (λ w. omega (arith, w.buckets-is)) c.if-words-buckets.branch-raw
 
 -- The search from dependency k on, by dependency k and the later ones
-onward : (c : tie.In-loop invariant-loop decreases-loop)
-    → first_broken_from 0 (map dependency_of (take (begun c).args.held (begun c).args.t3))
-    (database_of (begun c).args.schema.now (begun c).args.words.now)
-    ≡ first_broken_from c.loop-k.k (dependency_of (get_or (begun c).args.t3 c.loop-k.k no_dependency)
-    ∷ map dependency_of (drop (c.loop-k.k + 1) (take (begun c).args.held (begun c).args.t3)))
-    (database_of (begun c).args.schema.now (begun c).args.words.now)
+onward : (c : goal.In-loop-k)
+    → first_broken_from 0 (map dependency_of (take c.args.held c.args.t3))
+    (database_of c.args.schema.now c.args.words.now)
+    ≡ first_broken_from c.loop-k.k (dependency_of (get_or c.args.t3 c.loop-k.k no_dependency)
+    ∷ map dependency_of (drop (c.loop-k.k + 1) (take c.args.held c.args.t3)))
+    (database_of c.args.schema.now c.args.words.now)
 onward c =
     let l = c.loop-k in
-    let a = (begun c).args in
+    let a = c.args in
     let size : length a.dependencies ≡ 32 = search rules in
-    let room : a.held ≤ length a.dependencies = omega (arith, (begun c).pre.0) in
+    let room : a.held ≤ length a.dependencies = omega (arith, c.pre.0) in
     l.invariant.1
     ∙ ap (λ (x : List database.Dependency). first_broken_from l.k x (database_of a.schema.now a.words.now))
     (ap (map dependency_of) (left-cons a.held l.k a.dependencies no_dependency c.loop-k-test.true room))
 
 pub slice_bounds-used-end : goal.slice_bounds-used-end
-slice_bounds-used-end c = few c
+slice_bounds-used-end c = few (goal.at.slice_bounds-used-end c).Joined-words-buckets
 
 pub slice_bounds-used-end-2 : goal.slice_bounds-used-end-2
-slice_bounds-used-end-2 c = sym (length-take-le c.if-words-buckets.buckets c.args.heads.now (few c))
+slice_bounds-used-end-2 c = sym (length-take-le c.if-words-buckets.buckets c.args.heads.now (few (goal.at.slice_bounds-used-end-2 c).Joined-words-buckets))
 
 pub loop-k-init : goal.loop-k-init
 loop-k-init c = (search rules, refl, record { few = omega arith; hold = λ k low. absurd (omega arith) }, refl, refl)
 
 pub test-step-requires : goal.test-step-requires
 test-step-requires c = let i = c in
-    let s = begun i in
+    let s = i in
     (s.requires.1.0 i.loop-k.k i.loop-k-test.true, (s.requires.1.1, i.loop-k.invariant.2))
 
 pub returns-in-At : goal.returns-in-At
 returns-in-At c = let f = c.found-1.given in
     let q = c in
     let i = q in
-    let a = (begun i).args in
+    let a = i.args in
     let k = i.loop-k.k in
     sym (ap violation_of (onward i)
     ∙ violation-found (database_of a.schema.now a.words.now) (dependency_of (get_or a.dependencies k no_dependency))
@@ -71,7 +69,7 @@ pub loop-k-preserved : goal.loop-k-preserved
 loop-k-preserved c = let q = c in
     let i = q in
     let l = i.loop-k in
-    let a = (begun i).args in (
+    let a = i.args in (
       search rules,
       onward i
           ∙ violation-later (database_of a.schema.now a.words.now) (dependency_of (get_or a.dependencies l.k no_dependency))
@@ -84,12 +82,6 @@ loop-k-preserved c = let q = c in
 pub returns : goal.returns
 returns c = let e = c in
     let l = e.loop-k in
-    let a = (begun e).args in
+    let a = e.args in
     sym (ap violation_of (l.invariant.1 ∙ ap (λ (x : List database.Dependency). first_broken_from l.k x (database_of a.schema.now a.words.now))
     (ap (map dependency_of) (left-none a.held l.k a.dependencies e.loop-k-test.false)) ∙ violation-end (database_of a.schema.now a.words.now) l.k))
-
--- TODO names tie: begun
-
--- TODO names tie: few
-
--- TODO names tie: onward

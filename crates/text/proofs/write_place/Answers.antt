@@ -25,26 +25,26 @@ use Rattle.text.proofs.Bound.{place_short}
 use Rattle.text.proofs.Occurring.{rows-occurring}
 use Rattle.text.proofs.write_place.Goals as goal
 
-abbrev schema : tie.Start → List ℕ
+abbrev schema : goal.Start → List ℕ
 schema c = take c.args.relations c.args.widths
 
-abbrev source : tie.Start → theory.Query
+abbrev source : goal.Start → theory.Query
 source c = query_of (schema c) c.args.source
 
-abbrev result : tie.Start → theory.Query
+abbrev result : goal.Start → theory.Query
 result c = query_of (schema c) c.args.res
 
-source-long : (c : tie.Start) → c.args.source.size ≤ length c.args.source.relations
+source-long : (c : goal.Start) → c.args.source.size ≤ length c.args.source.relations
 source-long c = let l : length c.args.source.relations ≡ 12 = search (mapped-length, rules) in omega (arith, (good-query 12 _ _ c.requires.source-good).size)
 
-result-long : (c : tie.Start) → c.args.res.size ≤ length c.args.res.relations
+result-long : (c : goal.Start) → c.args.res.size ≤ length c.args.res.relations
 result-long c = let l : length c.args.res.relations ≡ 12 = search (mapped-length, rules) in omega (arith, (good-query 12 _ _ c.requires.result-good).size)
 
 -- What is to be written
-abbrev text : tie.Start → List ℕ
+abbrev text : goal.Start → List ℕ
 text c = place_text c.args.place (source c) (result c) c.args.count (images_of c.args.images)
 
-text-fits : (c : tie.Start) → Fits c.args.buffer.now c.args.at (text c)
+text-fits : (c : goal.Start) → Fits c.args.buffer.now c.args.at (text c)
 text-fits c =
     let p = c.requires in
     let short =
@@ -54,7 +54,7 @@ text-fits c =
     record { room = omega (arith, p.room) }
 
 -- Where the result is never, one line is left
-never-left : (c : tie.Start) → c.args.res.size ≡ 0
+never-left : (c : goal.Start) → c.args.res.size ≡ 0
     → Progress c.args.buffer.now c.args.at (text c) (never_line c.args.place c.args.source.size c.args.count) c.args.buffer.now
     c.args.at
 unfolding place_text
@@ -64,14 +64,14 @@ never-left c z =
     left_as (started (text-fits c)) (rw (k, m))
 
 -- The variables that stand in a row are those that occur
-variables : (c : tie.Start) → variables_in_rows (source c) ≡ occurring (source c)
+variables : (c : goal.Start) → variables_in_rows (source c) ≡ occurring (source c)
 unfolding head_safe
 variables c =
     rows-occurring (source c) (variables-below 12 (schema c) (width-le _ _ c.requires.relations-good) c.args.source c.requires.source-good)
     (λ v at. subset-true _ _ c.requires.source-safe v at)
 
 -- Else the four parts are left
-lines_left : (c : tie.Start) → (c.args.res.size ≡ 0 → ⊥)
+lines_left : (c : goal.Start) → (c.args.res.size ≡ 0 → ⊥)
     → Progress c.args.buffer.now c.args.at (text c)
     (place_line c.args.place c.args.source.size c.args.res.size c.args.count
     ++ (head_line (entries_of (take c.args.res.arity c.args.res.head))
@@ -86,17 +86,17 @@ lines_left c some =
     left_as (started (text-fits c)) (rw (k, m, z, variables c))
 
 pub put_never_line-requires : goal.put_never_line-requires
-put_never_line-requires c = rest-fits (never-left c c.if-kept-eq0.true)
+put_never_line-requires c = rest-fits (never-left (goal.at.put_never_line-requires c).Start c.if-kept-eq0.true)
 
 pub returns-then-kept-eq0 : goal.returns-then-kept-eq0
 returns-then-kept-eq0 c =
     let test = c in
-    wrote-rest (never-left test test.if-kept-eq0.true) c.put_never_line.ensures
+    wrote-rest (never-left (goal.at.returns-then-kept-eq0 c).Start test.if-kept-eq0.true) c.put_never_line.ensures
 
 pub put_place_line-next-requires : goal.put_place_line-next-requires
 put_place_line-next-requires c =
     let chosen = c in
-    part-fits (lines_left chosen chosen.if-kept-eq0.false) _ _ refl
+    part-fits (lines_left (goal.at.put_place_line-next-requires c).Start chosen.if-kept-eq0.false) _ _ refl
 
 pub put_head_line-next-requires : goal.put_head_line-next-requires
 put_head_line-next-requires c =
@@ -136,23 +136,3 @@ returns c =
     let left = wrote (wrote (lines_left chosen chosen.if-kept-eq0.false) _ refl line.put_place_line-next.ensures) _ refl
     head.put_head_line-next.ensures in
     wrote-rest (wrote left _ refl rows.put_rows-next.ensures) map.put_map_line.ensures
-
--- TODO names tie: schema
-
--- TODO names tie: source
-
--- TODO names tie: result
-
--- TODO names tie: source-long
-
--- TODO names tie: result-long
-
--- TODO names tie: text
-
--- TODO names tie: text-fits
-
--- TODO names tie: never-left
-
--- TODO names tie: variables
-
--- TODO names tie: lines_left

@@ -30,107 +30,98 @@ module _ (r : Record) (good : good_record r ≡ true) (buffer : List ℕ) (size 
   done after h e = let w = fits-written r buffer good (omega arith) in (ap gives es ∙ w.0, e ∙ w.1)
 
 -- ---- what holds at each place, proved where it first does
-widths-long : (c : tie.Start) → length c.args.given.widths ≡ 8
+widths-long : (c : goal.Start) → length c.args.given.widths ≡ 8
 widths-long c = search (mapped-length, rules)
 
-list-long : (c : tie.Start) → length c.args.given.dependencies ≡ 32
+list-long : (c : goal.Start) → length c.args.given.dependencies ≡ 32
 list-long c = search (mapped-length, rules)
 
-places-long : (c : tie.Start) → length c.args.given.places ≡ 8
+places-long : (c : goal.Start) → length c.args.given.places ≡ 8
 places-long c = search (mapped-length, rules)
 
-counts : (c : tie.Start) → c.args.given.relations ≤ 8
+counts : (c : goal.Start) → c.args.given.relations ≤ 8
 counts c = (relations-bounds c.args.given.relations c.args.given.widths (good-record c.args.given c.requires).relations).1
 
 -- How long part 1 is
-abbrev second : tie.Start → ℕ
+abbrev second : goal.Start → ℕ
 second c = 1 + 3 * c.args.given.held + length (joins_bytes c.args.given.joined c.args.given.joins)
 
 -- The directory, where n parts are places
-abbrev directory : tie.Start → ℕ → List ℕ
+abbrev directory : goal.Start → ℕ → List ℕ
 directory c n = directory_bytes n (1 + c.args.given.relations) (second c) (map (put_place (schema_of c.args.given)) (take n c.args.given.places))
 
 -- The length of the file
-abbrev file_length : tie.Start → ℕ → ℕ → ℕ → ℕ
+abbrev file_length : goal.Start → ℕ → ℕ → ℕ → ℕ
 file_length c n tail others = 2 + 4 * (n + 2) + (1 + c.args.given.relations) + (1 + 3 * c.args.given.held + tail) + others
 
-abbrev filled-start : tie.After-up-to-filled → tie.Start
-filled-start c = c
+held : (c : goal.After-up_to_filled-n) → c.up_to_filled-n.result ≤ length c.args.given.places
+held c = rw (places-long c.before.before.before.before.before) c.up_to_filled-n.ensures.1
 
-held : (c : tie.After-up-to-filled) → c.up_to_filled-n.result ≤ length (filled-start c).args.given.places
-held c = rw (places-long (filled-start c)) c.up_to_filled-n.ensures.1
+abbrev lengths-start : goal.After-places_length-others → goal.Start
+lengths-start c = c
 
-abbrev lengths-filled : tie.After-places-length → tie.After-up-to-filled
-lengths-filled c = c
-
-abbrev lengths-start : tie.After-places-length → tie.Start
-lengths-start c = filled-start (lengths-filled c)
-
-tail-is : (c : tie.After-places-length)
+tail-is : (c : goal.After-places_length-others)
     → c.joins_length.result ≡ length (joins_bytes (lengths-start c).args.given.joined (lengths-start c).args.given.joins)
 tail-is c = c.joins_length.ensures.0
 
-lengths : (c : tie.After-places-length)
-    → (length (directory (lengths-start c) (lengths-filled c).up-to-filled.result) ≡ 2 + 4 * ((lengths-filled c).up-to-filled.result + 2))
-    × (file_length (lengths-start c) (lengths-filled c).up-to-filled.result c.joins_length.result c.places_length-others.result
+lengths : (c : goal.After-places_length-others)
+    → (length (directory (lengths-start c) c.up-to-filled.result) ≡ 2 + 4 * (c.up-to-filled.result + 2))
+    × (file_length (lengths-start c) c.up-to-filled.result c.joins_length.result c.places_length-others.result
     ≡ length (file_of (lengths-start c).args.given))
 lengths c =
     let start = lengths-start c in
-    let n = (lengths-filled c).up-to-filled.result in
+    let n = c.up-to-filled.result in
     let l =
     file-long start.args.given start.requires (widths-long start) (list-long start) n c.places_length-others.result
-    (lengths-filled c).up-to-filled.ensures.0 (held (lengths-filled c)) c.places_length-others.ensures.0 in
+    c.up-to-filled.ensures.0 (held c.before.before) c.places_length-others.ensures.0 in
     (l.0, ap (λ (k : ℕ). file_length start n k c.places_length-others.result) (tail-is c) ∙ l.1)
 
-parts : (c : tie.After-places-length)
+parts : (c : goal.After-places_length-others)
     → 1 + (lengths-start c).args.given.relations + (1 + 3 * (lengths-start c).args.given.held + c.joins_length.result) + c.places_length-others.result
-    ≡ length (part_bytes (lengths-start c).args.given (lengths-filled c).up-to-filled.result)
+    ≡ length (part_bytes (lengths-start c).args.given c.up-to-filled.result)
 parts c =
     let start = lengths-start c in
     omega (
       arith,
-      parts-long start.args.given start.requires (widths-long start) (list-long start) (lengths-filled c).up-to-filled.result,
+      parts-long start.args.given start.requires (widths-long start) (list-long start) c.up-to-filled.result,
       c.places_length-others.ensures.0,
       tail-is c,
     )
 
-abbrev first-run-lengths : tie.After-put-directory → tie.After-places-length
-first-run-lengths c = c
-
-first_run : (c : tie.After-put-directory)
-    → Run (lengths-start (first-run-lengths c)).args.buffer.now 0
-    ([] ++ directory (lengths-start (first-run-lengths c)) (lengths-filled (first-run-lengths c)).up-to-filled.result)
-    c.put_directory.new.0 (2 + 4 * ((lengths-filled (first-run-lengths c)).up-to-filled.result + 2))
+first_run : (c : goal.After-put_directory)
+    → Run (lengths-start c.before.before.before).args.buffer.now 0
+    ([] ++ directory (lengths-start c.before.before.before) c.up-to-filled.result)
+    c.put_directory.new.0 (2 + 4 * (c.up-to-filled.result + 2))
 first_run c =
-    let earlier = first-run-lengths c in
-    let n = (lengths-filled earlier).up-to-filled.result in
-    let start = lengths-start earlier in
+    let earlier = c in
+    let n = earlier.up-to-filled.result in
+    let start = lengths-start c.before.before.before in
     let given = start.args.given in
     let written : c.put_directory.new.0 ≡ over start.args.buffer.now 0 (directory start n) =
     c.put_directory.ensures
     ∙ ap
     (λ (k : ℕ). over start.args.buffer.now 0 (directory_bytes n (1 + given.relations) (1 + 3 * given.held + k)
     (map (put_place (schema_of given)) (take n given.places-1))))
-    (tail-is earlier) in
+    (tail-is c.before.before.before) in
     run-turns (run-starts start.args.buffer.now 0) (directory start n) c.put_directory.new.0 (2 + 4 * (n + 2))
-    (omega (arith, (lengths earlier).0, c.if-buffer-size.false)) written (omega (arith, (lengths earlier).0))
+    (omega (arith, (lengths c.before.before.before).0, c.if-buffer-size.false)) written (omega (arith, (lengths c.before.before.before).0))
 
-abbrev second-run-lengths : tie.After-put-parts → tie.After-places-length
-second-run-lengths c = first-run-lengths c
+abbrev second-run-lengths : goal.After-put_parts → goal.After-places_length-others
+second-run-lengths c = c
 
-second_run : (c : tie.After-put-parts)
+second_run : (c : goal.After-put_parts)
     → Run (lengths-start (second-run-lengths c)).args.buffer.now 0
-    ([] ++ directory (lengths-start (second-run-lengths c)) (lengths-filled (second-run-lengths c)).up-to-filled.result
-    ++ part_bytes (lengths-start (second-run-lengths c)).args.given (lengths-filled (second-run-lengths c)).up-to-filled.result)
+    ([] ++ directory (lengths-start (second-run-lengths c)) (second-run-lengths c).up-to-filled.result
+    ++ part_bytes (lengths-start (second-run-lengths c)).args.given (second-run-lengths c).up-to-filled.result)
     c.put_parts.new.0
-    (2 + 4 * ((lengths-filled (second-run-lengths c)).up-to-filled.result + 2)
-    + length (part_bytes (lengths-start (second-run-lengths c)).args.given (lengths-filled (second-run-lengths c)).up-to-filled.result))
+    (2 + 4 * ((second-run-lengths c).up-to-filled.result + 2)
+    + length (part_bytes (lengths-start (second-run-lengths c)).args.given (second-run-lengths c).up-to-filled.result))
 second_run c =
     let earlier = c in
-    let lengthened = first-run-lengths earlier in
-    let n = (lengths-filled lengthened).up-to-filled.result in
+    let lengthened = earlier in
+    let n = lengthened.up-to-filled.result in
     let start = lengths-start lengthened in
-    run-turns (first_run earlier) (part_bytes start.args.given n) c.put_parts.new.0 (2 + 4 * (n + 2) + length (part_bytes start.args.given n))
+    run-turns (first_run c.before.before.before.before) (part_bytes start.args.given n) c.put_parts.new.0 (2 + 4 * (n + 2) + length (part_bytes start.args.given n))
     (omega (arith, parts lengthened, earlier.if-buffer-size.false)) c.put_parts.ensures refl
 
 -- ---- the needs
@@ -138,61 +129,61 @@ pub up_to_filled-n-requires : goal.up_to_filled-n-requires
 up_to_filled-n-requires c = tt
 
 pub overflow_cast-first : goal.overflow_cast-first
-overflow_cast-first c = omega (arith, counts (filled-start c))
+overflow_cast-first c = omega (arith, counts (goal.at.overflow_cast-first c).Start)
 
 pub overflow_add-first : goal.overflow_add-first
-overflow_add-first c = omega (arith, counts (filled-start c))
+overflow_add-first c = omega (arith, counts (goal.at.overflow_add-first c).Start)
 
-few-held : (c : tie.Start) → c.args.given.held ≤ 32
+few-held : (c : goal.Start) → c.args.given.held ≤ 32
 few-held c = (good-record c.args.given c.requires).held
 
 pub overflow_cast-second : goal.overflow_cast-second
-overflow_cast-second c = omega (arith, few-held (filled-start c))
+overflow_cast-second c = omega (arith, few-held (goal.at.overflow_cast-second c).Start)
 
 pub overflow_mul-second : goal.overflow_mul-second
-overflow_mul-second c = omega (arith, few-held (filled-start c))
+overflow_mul-second c = omega (arith, few-held (goal.at.overflow_mul-second c).Start)
 
 pub overflow_add-second : goal.overflow_add-second
-overflow_add-second c = omega (arith, few-held (filled-start c))
+overflow_add-second c = omega (arith, few-held (goal.at.overflow_add-second c).Start)
 
 pub joins_length-requires : goal.joins_length-requires
 joins_length-requires c =
-    let start = filled-start c in
+    let start = c in
     let good = good-record start.args.given start.requires in
     (good.joined, few-sets (schema_of start.args.given) start.args.given.joined start.args.given.joins good.joins-1)
 
 pub overflow_add-second-2 : goal.overflow_add-second-2
-overflow_add-second-2 c = omega (arith, few-held (filled-start c), c.joins_length.ensures.1)
+overflow_add-second-2 c = omega (arith, few-held (goal.at.overflow_add-second-2 c).Start, c.joins_length.ensures.1)
 
 pub places_length-others-requires : goal.places_length-others-requires
 places_length-others-requires c =
-    let start = filled-start c in
+    let start = c in
     let good = good-record start.args.given start.requires in
     (good.relations, (good.places-1, c.up_to_filled-n.ensures.1))
 
 pub overflow_add-size : goal.overflow_add-size
-overflow_add-size c = omega (arith, (lengths-filled c).up-to-filled.ensures.1)
+overflow_add-size c = omega (arith, c.up-to-filled.ensures.1)
 
 pub overflow_mul-size : goal.overflow_mul-size
-overflow_mul-size c = omega (arith, (lengths-filled c).up-to-filled.ensures.1)
+overflow_mul-size c = omega (arith, c.up-to-filled.ensures.1)
 
 pub overflow_add-size-2 : goal.overflow_add-size-2
-overflow_add-size-2 c = omega (arith, (lengths-filled c).up-to-filled.ensures.1)
+overflow_add-size-2 c = omega (arith, c.up-to-filled.ensures.1)
 
 pub overflow_add-size-3 : goal.overflow_add-size-3
-overflow_add-size-3 c = omega (arith, (lengths-filled c).up-to-filled.ensures.1, counts (lengths-start c))
+overflow_add-size-3 c = omega (arith, c.up-to-filled.ensures.1, counts (lengths-start (goal.at.overflow_add-size-3 c).After-places_length-others))
 
 pub overflow_add-size-4 : goal.overflow_add-size-4
 overflow_add-size-4 c =
-    omega (arith, (lengths-filled c).up-to-filled.ensures.1, counts (lengths-start c), few-held (lengths-start c), c.joins_length.ensures.1)
+    omega (arith, c.up-to-filled.ensures.1, counts (lengths-start (goal.at.overflow_add-size-4 c).After-places_length-others), few-held (lengths-start (goal.at.overflow_add-size-4 c).After-places_length-others), c.joins_length.ensures.1)
 
 pub overflow_add-size-5 : goal.overflow_add-size-5
 overflow_add-size-5 c =
     omega (
       arith,
-      (lengths-filled c).up-to-filled.ensures.1,
-      counts (lengths-start c),
-      few-held (lengths-start c),
+      c.up-to-filled.ensures.1,
+      counts (lengths-start (goal.at.overflow_add-size-5 c).After-places_length-others),
+      few-held (lengths-start (goal.at.overflow_add-size-5 c).After-places_length-others),
       c.joins_length.ensures.1,
       c.places_length-others.ensures.1,
     )
@@ -200,21 +191,21 @@ overflow_add-size-5 c =
 pub returns-then-buffer-size : goal.returns-then-buffer-size
 returns-then-buffer-size c =
     let l = c in
-    let start = lengths-start l in
+    let start = lengths-start (goal.at.returns-then-buffer-size c).After-places_length-others in
     too_long start.args.given start.requires start.args.buffer.now
-    (file_length start (lengths-filled l).up-to-filled.result l.joins_length.result l.places_length-others.result) (lengths l).1 c.if-buffer-size.true
+    (file_length start l.up-to-filled.result l.joins_length.result l.places_length-others.result) (lengths (goal.at.returns-then-buffer-size c).After-places_length-others).1 c.if-buffer-size.true
 
 pub put_directory-requires : goal.put_directory-requires
 put_directory-requires c =
     let l = c in
-    let start = lengths-start l in
+    let start = lengths-start (goal.at.put_directory-requires c).After-places_length-others in
     let good = good-record start.args.given start.requires in (
       good.relations,
       (
         good.places-1,
         (
           (
-            (lengths-filled l).up-to-filled.ensures.1,
+            l.up-to-filled.ensures.1,
             omega (arith, counts start),
             omega (arith, few-held start, l.joins_length.ensures.1),
           ),
@@ -224,76 +215,38 @@ put_directory-requires c =
     )
 
 pub overflow_add-n : goal.overflow_add-n
-overflow_add-n c = omega (arith, (lengths-filled (first-run-lengths c)).up-to-filled.ensures.1)
+overflow_add-n c = omega (arith, c.up-to-filled.ensures.1)
 
 pub overflow_mul-n : goal.overflow_mul-n
-overflow_mul-n c = omega (arith, (lengths-filled (first-run-lengths c)).up-to-filled.ensures.1)
+overflow_mul-n c = omega (arith, c.up-to-filled.ensures.1)
 
 pub overflow_add-n-2 : goal.overflow_add-n-2
-overflow_add-n-2 c = omega (arith, (lengths-filled (first-run-lengths c)).up-to-filled.ensures.1)
+overflow_add-n-2 c = omega (arith, c.up-to-filled.ensures.1)
 
 pub put_parts-requires : goal.put_parts-requires
 put_parts-requires c =
     let earlier = c in
-    let l = first-run-lengths earlier in (
+    let l = earlier in (
       (lengths-start l).pre,
       (
-        (lengths-filled l).up-to-filled.ensures.1,
-        omega (arith, (first_run earlier).long, parts l, earlier.if-buffer-size.false),
+        l.up-to-filled.ensures.1,
+        omega (arith, (first_run (goal.at.put_parts-requires c).After-put_directory).long, parts l, earlier.if-buffer-size.false),
       ),
     )
 
 pub shape_of-buffer : goal.shape_of-buffer
-shape_of-buffer c = (second_run c).long
+shape_of-buffer c = (second_run (goal.at.shape_of-buffer c).After-put_parts).long
 
 pub returns : goal.returns
 returns c =
     let after-put-parts = c in
-    let l = second-run-lengths after-put-parts in
+    let l = second-run-lengths (goal.at.returns c).After-put_parts in
     let start = lengths-start l in
     let given = start.args.given in
     let good = start.requires in
     let buffer = start.args.buffer.now in
-    let n = (lengths-filled l).up-to-filled.result in
-    let split = file-split given good (widths-long start) (list-long start) n (lengths-filled l).up-to-filled.ensures.0 (held (lengths-filled l)) in
+    let n = l.up-to-filled.result in
+    let split = file-split given good (widths-long start) (list-long start) n l.up-to-filled.ensures.0 (held l) in
     done given good buffer (file_length start n l.joins_length.result l.places_length-others.result) (lengths l).1
     after-put-parts.put_parts.new.0 after-put-parts.if-buffer-size.false
-    ((second_run after-put-parts).written ∙ ap (over buffer 0) (sym split))
-
--- TODO names tie: widths-long
-
--- TODO names tie: list-long
-
--- TODO names tie: places-long
-
--- TODO names tie: counts
-
--- TODO names tie: second
-
--- TODO names tie: directory
-
--- TODO names tie: file_length
-
--- TODO names tie: filled-start
-
--- TODO names tie: held
-
--- TODO names tie: lengths-filled
-
--- TODO names tie: lengths-start
-
--- TODO names tie: tail-is
-
--- TODO names tie: lengths
-
--- TODO names tie: parts
-
--- TODO names tie: first-run-lengths
-
--- TODO names tie: first_run
-
--- TODO names tie: second-run-lengths
-
--- TODO names tie: second_run
-
--- TODO names tie: few-held
+    ((second_run (goal.at.returns c).After-put_parts).written ∙ ap (over buffer 0) (sym split))

@@ -25,20 +25,20 @@ returns-then-not-is_good c =
     c.args.q (sym c.is_good.ensures ∙ not-true _ c.if-not-is_good.true)
 
 -- what the tests passed so far tell
-good : (c : tie.Else1) → good_record c.args.self ≡ true
+good : (c : goal.Else-not-is_good) → good_record c.args.self ≡ true
 good c = sym c.is_good.ensures ∙ not-false _ c.if-not-is_good.false
 
-low : (c : tie.After-enum-told) → c.args.place < 8
+low : (c : goal.In-At) → c.args.place < 8
 low c =
     (place-at c.args.place c.in-At.field-0
     (sym c.place_at-found.ensures ∙ c.in-At.is)).1
 
-fit : (c : tie.Else2)
+fit : (c : goal.Else-not-query_good)
     → good_query (schema_of c.args.self)
     c.args.q ≡ true
 fit c = sym c.query_good.ensures ∙ not-false _ c.if-not-query_good.false
 
-safe : (c : tie.Else3)
+safe : (c : goal.Else-not-head_safe)
     → head_safe (schema_of c.args.self)
     c.args.q ≡ true
 safe c = sym c.head_safe.ensures ∙ not-false _ c.if-not-head_safe.false
@@ -51,28 +51,28 @@ returns-in_default c =
     c.refused-in_default.ensures ∙ ap (λ (n : ℕ). concluded (some n) self self) number
     ∙ put-high c.args.self
     c.args.place
-    c.args.q (good c) told.0.0
+    c.args.q (good (goal.at.returns-in_default c).Else-not-is_good) told.0.0
     (sym c.place_at-found.ensures ∙ told.1)
 
 pub query_good-requires : goal.query_good-requires
-query_good-requires c = (good-record c.args.self (good c)).relations
+query_good-requires c = (good-record c.args.self (good (goal.at.query_good-requires c).Else-not-is_good)).relations
 
 pub returns-then-not-query_good : goal.returns-then-not-query_good
 returns-then-not-query_good c =
     c.refused-then-not-query_good.ensures
     ∙ put-unfit c.args.self
     c.args.place
-    c.args.q (good c)
-    (low c) (sym c.query_good.ensures ∙ not-true _ c.if-not-query_good.true)
+    c.args.q (good (goal.at.returns-then-not-query_good c).Else-not-is_good)
+    (low (goal.at.returns-then-not-query_good c).In-At) (sym c.query_good.ensures ∙ not-true _ c.if-not-query_good.true)
 
 pub head_safe-requires : goal.head_safe-requires
 head_safe-requires c =
     let within =
     good-query 12 (schema_of c.args.self)
-    c.args.q (fit c)
+    c.args.q (fit (goal.at.head_safe-requires c).Else-not-query_good)
     in (
       (good-record c.args.self
-          (good c)).relations,
+          (good (goal.at.head_safe-requires c).Else-not-is_good)).relations,
       within.arity,
       within.size,
     )
@@ -83,8 +83,8 @@ returns-then-not-head_safe c =
     ∙ put-unsafe c.args.self
     c.args.place
     c.args.q
-    (good c) (low c)
-    (fit c)
+    (good (goal.at.returns-then-not-head_safe c).Else-not-is_good) (low (goal.at.returns-then-not-head_safe c).In-At)
+    (fit (goal.at.returns-then-not-head_safe c).Else-not-query_good)
     (sym c.head_safe.ensures ∙ not-true _ c.if-not-head_safe.true)
 
 pub returns-in_default-found : goal.returns-in_default-found
@@ -96,9 +96,9 @@ returns-in_default-found c =
     ∙ put-filled c.args.self
     c.args.place
     c.args.q
-    (good c)
-    (low c) (fit c)
-    (safe c) told.0.0
+    (good (goal.at.returns-in_default-found c).Else-not-is_good)
+    (low (goal.at.returns-in_default-found c).In-At) (fit (goal.at.returns-in_default-found c).Else-not-query_good)
+    (safe (goal.at.returns-in_default-found c).Else-not-head_safe) told.0.0
     (sym c.vacant_place-found.ensures ∙ told.1)
 
 pub with_place-requires : goal.with_place-requires
@@ -122,14 +122,6 @@ returns c =
     c.done.ensures ∙ ap (λ (after : Record). concluded none after after) c.with_place.ensures
     ∙ put-done self place
     c.args.q
-    (good c)
-    (low c)
-    (fit c) (safe c) at is
-
--- TODO names tie: good
-
--- TODO names tie: low
-
--- TODO names tie: fit
-
--- TODO names tie: safe
+    (good (goal.at.returns c).Else-not-is_good)
+    (low (goal.at.returns c).In-At)
+    (fit (goal.at.returns c).Else-not-query_good) (safe (goal.at.returns c).Else-not-head_safe) at is
