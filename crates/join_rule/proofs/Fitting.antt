@@ -26,6 +26,7 @@ use Rattle.join_rule.specs.Fitting.{GoodJoinFits, GoodJoinsFit, GoodJoinWithin}
 -- What stands in a list of lists stands in one of them
 flatten-of : {x : ℕ} (lists : List (List ℕ)) → x ∈ flatten lists → (l : List ℕ) × l ∈ lists × x ∈ l
 unfolding flatten
+flatten-of mathlib.Core.List.[] at = elim at [ ]
 flatten-of (l ∷ lists) at =
     ⊎_elim (λ here. (l, Memᴰ.head refl, here))
     (λ later. let found = flatten-of lists later in (found.0, Memᴰ.tail found.1, found.2))

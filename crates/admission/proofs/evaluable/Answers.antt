@@ -5,7 +5,6 @@ use mathlib.Core.Path.{◌≡◌, sym, ◌∙◌}
 use mathlib.Core.Bool.{true}
 use Prim.Native.Nat.{◌≤◌}
 use borrow.Author.Rules.{rules}
-use borrow.Author.Tests.{not-true, not-false}
 use lib.ListN.{length}
 use lib.Seq.{length-take-le}
 use Rattle.record.specs.Rule.{good_record}
@@ -15,7 +14,7 @@ use Rattle.admission.proofs.Admitted.{wide, lookup-broken, lookup-elsewhere, loo
 use Rattle.admission.proofs.evaluable.Goals as goal
 
 good : (c : goal.Else-not-is_good) → good_record c.args.given ≡ true
-good c = sym c.is_good.ensures ∙ not-false c.is_good.result c.if-not-is_good.false
+good c = sym c.is_good.ensures ∙ c.if-not-is_good.false
 
 placed : (c : goal.In-At)
     → filled_place c.args.given c.args.place ≡ lookup.At c.in-At.at
@@ -27,7 +26,7 @@ widths c = wide c.args.given (good c.before.before.before.before) (search rules)
 pub returns-then-not-is_good : goal.returns-then-not-is_good
 returns-then-not-is_good c =
     let a = c.args in
-    lookup-broken a.given a.place a.words.now (sym c.is_good.ensures ∙ not-true c.is_good.result c.if-not-is_good.true)
+    lookup-broken a.given a.place a.words.now (sym c.is_good.ensures ∙ c.if-not-is_good.true)
 
 pub returns-in_default : goal.returns-in_default
 returns-in_default c =
@@ -44,18 +43,18 @@ pub slice_bounds-spelled-end : goal.slice_bounds-spelled-end
 slice_bounds-spelled-end c =
     let p = c in
     let r = p.args.given in
-    sym (length-take-le r.relations r.widths-1 (widths (goal.at.slice_bounds-spelled-end c).In-At))
+    sym (length-take-le r.relations r.widths (widths (goal.at.slice_bounds-spelled-end c).In-At))
 
 pub returns-then-not-spelled : goal.returns-then-not-spelled
 returns-then-not-spelled c =
     let p = c in
     let a = p.args in
     lookup-unspelled a.given a.place a.words.now p.in-At.at (good (goal.at.returns-then-not-spelled c).Else-not-is_good) (placed (goal.at.returns-then-not-spelled c).In-At)
-    (sym c.spelled.ensures ∙ not-true c.spelled.result c.if-not-spelled.true)
+    (sym c.spelled.ensures ∙ c.if-not-spelled.true)
 
 pub returns : goal.returns
 returns c =
     let p = c in
     let a = p.args in
     lookup-here a.given a.place a.words.now p.in-At.at (good (goal.at.returns c).Else-not-is_good) (placed (goal.at.returns c).In-At)
-    (sym c.spelled.ensures ∙ not-false c.spelled.result c.if-not-spelled.false)
+    (sym c.spelled.ensures ∙ c.if-not-spelled.false)

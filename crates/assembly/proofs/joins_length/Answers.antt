@@ -31,16 +31,16 @@ pub loop-i-preserved : goal.loop-i-preserved
 loop-i-preserved c =
     let at-loop = c in
     let start = at-loop in
-    let l : length start.args.list ≡ 4 = search rules in
+    let l : length start.args.t2 ≡ 4 = search rules in
     let e =
-    joins-next start.args.joined start.args.list at-loop.loop-i.i (omega (arith, start.requires.0)) c.loop-i-test.true in
+    joins-next start.args.joined start.args.t2 at-loop.loop-i.i (omega (arith, start.requires.0)) c.loop-i-test.true in
     (search rules, omega (arith, c.join_length-sum.ensures.1), omega (arith, e, c.join_length-sum.ensures.0, at-loop.loop-i.invariant.2))
 
 pub returns : goal.returns
 returns c =
     let after-if1 = c in
     let start = after-if1 in
-    let l : length start.args.list ≡ 4 = search rules in
-    let e = joins-end start.args.joined start.args.list c.loop-i.i (omega (arith, start.requires.0)) c.loop-i-test.false in
-    let all = ap length (joins-some start.args.joined start.args.list after-if1.if-joined-eq0.false) in
+    let l : length start.args.t2 ≡ 4 = search rules in
+    let e = joins-end start.args.joined start.args.t2 c.loop-i.i (omega (arith, start.requires.0)) c.loop-i-test.false in
+    let all = ap length (joins-some start.args.joined start.args.t2 after-if1.if-joined-eq0.false) in
     (omega (arith, e, all, c.loop-i.invariant.2), omega (arith, start.requires.0))

@@ -48,7 +48,7 @@ loop-k-preserved c =
     let after-loop = c in
     let start = after-loop in
     let e =
-    next (take start.args.count start.args.widths) start.args.places start.args.n after-loop.loop-k.k (omega (arith, start.requires.1.1))
+    next (take start.args.count start.args.widths) start.args.t1 start.args.n after-loop.loop-k.k (omega (arith, start.requires.1.1))
     c.loop-k-test.true in
     (search rules, omega (arith, c.place_length-sum.ensures.1), omega (arith, e, c.place_length-sum.ensures.0, after-loop.loop-k.invariant.2))
 

@@ -47,7 +47,7 @@ overflow_add-at c =
     let after-loop = c in
     let start = after-loop in
     let r =
-    room (set start.args.buffer.now start.args.at start.args.held) start.args.at start.args.held start.args.list
+    room (set start.args.buffer.now start.args.at start.args.held) start.args.at start.args.held start.args.t4
     after-loop.loop-i.buffer after-loop.loop-i.i c.loop-i-test.true (omega (arith, start.requires.0)) after-loop.loop-i.invariant.1 in
     omega (arith, r)
 
@@ -57,7 +57,7 @@ overflow_mul-i c =
     let after-loop = c in
     let start = after-loop in
     let r =
-    room (set start.args.buffer.now start.args.at start.args.held) start.args.at start.args.held start.args.list
+    room (set start.args.buffer.now start.args.at start.args.held) start.args.at start.args.held start.args.t4
     after-loop.loop-i.buffer after-loop.loop-i.i c.loop-i-test.true (omega (arith, start.requires.0)) after-loop.loop-i.invariant.1 in
     omega (arith, r)
 
@@ -67,7 +67,7 @@ overflow_add-at-in-loop-i c =
     let after-loop = c in
     let start = after-loop in
     let r =
-    room (set start.args.buffer.now start.args.at start.args.held) start.args.at start.args.held start.args.list
+    room (set start.args.buffer.now start.args.at start.args.held) start.args.at start.args.held start.args.t4
     after-loop.loop-i.buffer after-loop.loop-i.i c.loop-i-test.true (omega (arith, start.requires.0)) after-loop.loop-i.invariant.1 in
     omega (arith, r)
 
@@ -76,7 +76,7 @@ put_dependency-requires c =
     let l : length c.args.list ≡ 32 = search rules in
     let after-loop = c in
     let start = after-loop in
-    room (set start.args.buffer.now start.args.at start.args.held) start.args.at start.args.held start.args.list
+    room (set start.args.buffer.now start.args.at start.args.held) start.args.at start.args.held start.args.t4
     after-loop.loop-i.buffer after-loop.loop-i.i c.loop-i-test.true (omega (arith, start.requires.0)) after-loop.loop-i.invariant.1
 
 pub loop-i-preserved : goal.loop-i-preserved
@@ -87,8 +87,8 @@ loop-i-preserved c =
     let after-loop = after-loop-test in
     let start = after-loop in (
       search rules,
-      goes_on (set start.args.buffer.now start.args.at start.args.held) start.args.at start.args.held start.args.list
-          after-loop.loop-i.buffer after-loop.loop-i.i after-loop-test.loop-i-test.true (omega (arith, start.requires.0)) after-loop.loop-i.invariant.1
+      goes_on (set start.args.buffer.now start.args.at start.args.held) start.args.at start.args.held start.args.t4
+          after-loop.loop.buffer after-loop.loop.i after-loop-test.loop-test.true (omega (arith, start.requires.0)) after-loop.loop.invariant.1
           after-put-dependency.put_dependency.new.0 after-put-dependency.put_dependency.ensures,
     )
 

@@ -83,7 +83,7 @@ last-run c =
     let earlier = c in
     let start = start-5 c.before.before.before.before in
     run-turns (run-5 c.before.before.before.before) (table_of (begin start) (listed start)) c.put_table.new.0 (10 + length (table_of (begin start) (listed start)))
-    (omega (arith, length-table (begin start) (listed start), few start, start.requires.1.1.1)) c.put_table.ensures refl
+    (omega (arith, length-table (begin start) (listed start), few start, start.pre.1.1.1)) c.put_table.ensures refl
 
 pub put_word-requires : goal.put_word-requires
 put_word-requires c = omega (arith, c.requires.1.1.1)
@@ -94,40 +94,40 @@ put_word-requires-2 c = omega (arith, (run-1 (goal.at.put_word-requires-2 c).Aft
 pub put_word-requires-3 : goal.put_word-requires-3
 put_word-requires-3 c =
     let start = start-2 (goal.at.put_word-requires-3 c).After-put_word-2 in
-    omega (arith, (run-2 (goal.at.put_word-requires-3 c).After-put_word-2).long, start.requires.1.1.1)
+    omega (arith, (run-2 (goal.at.put_word-requires-3 c).After-put_word-2).long, start.pre.1.1.1)
 
 pub overflow_add-start-3 : goal.overflow_add-start-3
 overflow_add-start-3 c =
     let start = start-3 (goal.at.overflow_add-start-3 c).After-put_word-3 in
-    omega (arith, start.requires.1.1.0)
+    omega (arith, start.pre.1.1.0)
 
 pub put_word-requires-4 : goal.put_word-requires-4
 put_word-requires-4 c =
     let start = start-3 (goal.at.put_word-requires-4 c).After-put_word-3 in
-    omega (arith, (run-3 (goal.at.put_word-requires-4 c).After-put_word-3).long, start.requires.1.1.1)
+    omega (arith, (run-3 (goal.at.put_word-requires-4 c).After-put_word-3).long, start.pre.1.1.1)
 
 pub put_word-requires-5 : goal.put_word-requires-5
 put_word-requires-5 c =
     let start = start-4 (goal.at.put_word-requires-5 c).After-put_word-4 in
-    omega (arith, (run-4 (goal.at.put_word-requires-5 c).After-put_word-4).long, start.requires.1.1.1)
+    omega (arith, (run-4 (goal.at.put_word-requires-5 c).After-put_word-4).long, start.pre.1.1.1)
 
 pub overflow_add-start-4 : goal.overflow_add-start-4
 overflow_add-start-4 c =
     let start = start-5 (goal.at.overflow_add-start-4 c).After-put_word-5 in
-    omega (arith, start.requires.1.1.0)
+    omega (arith, start.pre.1.1.0)
 
 pub overflow_add-start-5 : goal.overflow_add-start-5
 overflow_add-start-5 c =
     let start = start-5 (goal.at.overflow_add-start-5 c).After-put_word-5 in
-    omega (arith, start.requires.1.1.0)
+    omega (arith, start.pre.1.1.0)
 
 pub put_table-requires : goal.put_table-requires
 put_table-requires c =
     let start = start-5 (goal.at.put_table-requires c).After-put_word-5 in (
-      start.requires.0,
+      start.pre.0,
       (
-        start.requires.1.0,
-        ((start.requires.1.1.0.0, omega (arith, start.requires.1.1.0)), omega (arith, (run-5 (goal.at.put_table-requires c).After-put_word-5).long, start.requires.1.1.1)),
+        start.pre.1.0,
+        ((start.pre.1.1.0.0, omega (arith, start.pre.1.1.0)), omega (arith, (run-5 (goal.at.put_table-requires c).After-put_word-5).long, start.pre.1.1.1)),
       ),
     )
 

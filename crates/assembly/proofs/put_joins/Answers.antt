@@ -74,8 +74,8 @@ pub loop-i-init : goal.loop-i-init
 loop-i-init c =
     let a = c.args in (
       omega arith,
-      writing-starts put_join (set a.buffer-1.now a.at a.joined) (a.at + 1) (take a.joined a.list)
-          (rw (length-set a.buffer-1.now a.at a.joined) (whole (goal.at.loop-i-init c).Else-joined-eq0)),
+      writing-starts put_join (set a.buffer.now a.at a.joined) (a.at + 1) (take a.joined a.list)
+          (rw (length-set a.buffer.now a.at a.joined) (whole (goal.at.loop-i-init c).Else-joined-eq0)),
     )
 
 pub bounds-list-i : goal.bounds-list-i
@@ -88,9 +88,9 @@ put_join-next-requires c =
     let start = at-loop in
     let a = start.args in (
       leb-true _ 4
-          (every-get_or few_sets a.list at-loop.loop-i.i past_join start.requires.0.1 (omega (arith, four start, start.requires.0.0, in-loop.loop-i-test.true))),
-      room (set a.buffer-1.now a.at a.joined) a.at a.joined a.list at-loop.loop-i.buffer at-loop.loop-i.next at-loop.loop-i.i
-          in-loop.loop-i-test.true (omega (arith, four start, start.requires.0.0)) at-loop.loop-i.invariant.1,
+          (every-get_or few_sets a.list at-loop.loop.i past_join start.requires.0.1 (omega (arith, four start, start.requires.0.0, in-loop.loop-i-test.true))),
+      room (set a.buffer.now a.at a.joined) a.at a.joined a.list at-loop.loop.buffer at-loop.loop.next at-loop.loop.i
+          in-loop.loop-i-test.true (omega (arith, four start, start.requires.0.0)) at-loop.loop.invariant.1,
     )
 
 pub loop-i-preserved : goal.loop-i-preserved
@@ -101,15 +101,15 @@ loop-i-preserved c =
     let start = at-loop in
     let a = start.args in (
       search rules,
-      goes_on (set a.buffer-1.now a.at a.joined) a.at a.joined a.list at-loop.loop-i.buffer at-loop.loop-i.next at-loop.loop-i.i
-          in-loop.loop-i-test.true (omega (arith, four start, start.requires.0.0)) at-loop.loop-i.invariant.1 after-put-join.put_join-next.new.0
+      goes_on (set a.buffer.now a.at a.joined) a.at a.joined a.list at-loop.loop.buffer at-loop.loop.next at-loop.loop.i
+          in-loop.loop-test.true (omega (arith, four start, start.requires.0.0)) at-loop.loop.invariant.1 after-put-join.put_join-next.new.0
           after-put-join.put_join-next.result after-put-join.put_join-next.ensures.0 after-put-join.put_join-next.ensures.1,
     )
 
 pub shape_of-buffer : goal.shape_of-buffer
 shape_of-buffer c =
     let a = c.args in
-    c.loop-i.invariant.1.long ∙ length-set a.buffer-1.now a.at a.joined
+    c.loop-i.invariant.1.long ∙ length-set a.buffer.now a.at a.joined
 
 pub returns : goal.returns
 returns c =
@@ -117,5 +117,5 @@ returns c =
     let start = after-if1 in
     let a = start.args in
     let k : length (take a.joined a.list) ≡ a.joined = length-take-le a.joined a.list (omega (arith, four start, start.requires.0.0)) in
-    ended a.buffer-1.now a.at a.joined a.list c.loop-i.buffer c.loop-i.next after-if1.if-joined-eq0.false
+    ended a.buffer.now a.at a.joined a.list c.loop-i.buffer c.loop-i.next after-if1.if-joined-eq0.false
     (omega (arith, whole (goal.at.returns c).Else-joined-eq0)) (writing-ends c.loop-i.invariant.1 (omega (arith, c.loop-i-test.false)))

@@ -130,14 +130,14 @@ pub put_dependencies-requires : goal.put_dependencies-requires
 put_dependencies-requires c =
     let after-put-relations = c in
     let start = after-put-relations in
-    ((good-record start.args.given start.requires.0).held, omega (arith, (first_run (goal.at.put_dependencies-requires c).After-put_relations).long, room start))
+    ((good-record start.args.given start.pre.0).held, omega (arith, (first_run (goal.at.put_dependencies-requires c).After-put_relations).long, room start))
 
 pub put_joins-third-requires : goal.put_joins-third-requires
 put_joins-third-requires c =
     let after-put-dependencies = c in
     let start = second-run-start (goal.at.put_joins-third-requires c).After-put_dependencies in
-    let parts = good-record start.args.given start.requires.0 in (
-      (parts.joined, few-sets (schema_of start.args.given) start.args.given.joined start.args.given.joins parts.joins-1),
+    let parts = good-record start.args.given start.pre.0 in (
+      (parts.joined, few-sets (schema_of start.args.given) start.args.given.joined start.args.given.joins parts.joins),
       omega (arith, (second_run (goal.at.put_joins-third-requires c).After-put_dependencies).long, room start),
     )
 
@@ -145,8 +145,8 @@ pub put_places-requires : goal.put_places-requires
 put_places-requires c =
     let after-put-joins = c in
     let start = third-run-start (goal.at.put_places-requires c).After-put_joins-third in
-    let parts = good-record start.args.given start.requires.0 in
-    (parts.relations, (parts.places-1, (start.requires.1.0, omega (arith, (third-run (goal.at.put_places-requires c).After-put_joins-third).long, after-put-joins.put_joins-third.ensures.1, room start))))
+    let parts = good-record start.args.given start.pre.0 in
+    (parts.relations, (parts.places, (start.pre.1.0, omega (arith, (third-run (goal.at.put_places-requires c).After-put_joins-third).long, after-put-joins.put_joins-third.ensures.1, room start))))
 
 pub shape_of-buffer : goal.shape_of-buffer
 shape_of-buffer c = (fourth-run (goal.at.shape_of-buffer c).After-put_places).long

@@ -48,9 +48,9 @@ put_place-at-requires c =
     let start' = after-loop in (
       start'.requires.0,
       (
-        every-get_or (good_place (take start'.args.count start'.args.widths)) start'.args.places after-loop.loop-k.k past_place
+        every-get_or (good_place (take start'.args.count start'.args.widths)) start'.args.t3 after-loop.loop-k.k past_place
             start'.requires.1.0 (omega (arith, start'.requires.1.1.0)),
-        room (take start'.args.count start'.args.widths) start'.args.buffer.now start'.args.start start'.args.n start'.args.places
+        room (take start'.args.count start'.args.widths) start'.args.buffer.now start'.args.start start'.args.n start'.args.t3
             after-loop.loop-k.buffer after-loop.loop-k.at after-loop.loop-k.k c.loop-k-test.true (omega (arith, start'.requires.1.1.0))
             after-loop.loop-k.invariant.1,
       ),
@@ -65,8 +65,8 @@ loop-k-preserved c =
     let start' = after-loop in (
       search rules,
       goes_on (take start'.args.count start'.args.widths) start'.args.buffer.now start'.args.start start'.args.n
-          start'.args.places after-loop.loop-k.buffer after-loop.loop-k.at after-loop.loop-k.k after-loop-test.loop-k-test.true
-          (omega (arith, start'.requires.1.1.0)) after-loop.loop-k.invariant.1 after-put-place.put_place-at.new.0 after-put-place.put_place-at.result
+          start'.args.t3 after-loop.loop.buffer after-loop.loop.at after-loop.loop.k after-loop-test.loop-test.true
+          (omega (arith, start'.requires.1.1.0)) after-loop.loop.invariant.1 after-put-place.put_place-at.new.0 after-put-place.put_place-at.result
           after-put-place.put_place-at.ensures.0 after-put-place.put_place-at.ensures.1,
     )
 

@@ -123,7 +123,7 @@ overflow_mul-k c =
     omega (
       arith,
       room-first (take start'.args.count start'.args.widths) start'.args.buffer.now start'.args.at start'.args.start
-          start'.args.n start'.args.places after-loop.loop-k.buffer after-loop.loop-k.due after-loop.loop-k.k (omega (arith, start'.requires.1.1.0.0))
+          start'.args.n start'.args.t4 after-loop.loop-k.buffer after-loop.loop-k.due after-loop.loop-k.k (omega (arith, start'.requires.1.1.0.0))
           start'.requires.1.1.1 after-loop.loop-k.invariant c.loop-k-test.true,
     )
 
@@ -135,7 +135,7 @@ overflow_add-at c =
     omega (
       arith,
       room-first (take start'.args.count start'.args.widths) start'.args.buffer.now start'.args.at start'.args.start
-          start'.args.n start'.args.places after-loop.loop-k.buffer after-loop.loop-k.due after-loop.loop-k.k (omega (arith, start'.requires.1.1.0.0))
+          start'.args.n start'.args.t4 after-loop.loop-k.buffer after-loop.loop-k.due after-loop.loop-k.k (omega (arith, start'.requires.1.1.0.0))
           start'.requires.1.1.1 after-loop.loop-k.invariant c.loop-k-test.true,
     )
 
@@ -145,7 +145,7 @@ put_word-requires c =
     let after-loop = c in
     let start' = after-loop in
     room-first (take start'.args.count start'.args.widths) start'.args.buffer.now start'.args.at start'.args.start start'.args.n
-    start'.args.places after-loop.loop-k.buffer after-loop.loop-k.due after-loop.loop-k.k (omega (arith, start'.requires.1.1.0.0)) start'.requires.1.1.1
+    start'.args.t4 after-loop.loop-k.buffer after-loop.loop-k.due after-loop.loop-k.k (omega (arith, start'.requires.1.1.0.0)) start'.requires.1.1.1
     after-loop.loop-k.invariant c.loop-k-test.true
 
 pub overflow_mul-k-in-loop-k : goal.overflow_mul-k-in-loop-k
@@ -157,8 +157,8 @@ overflow_mul-k-in-loop-k c =
     omega (
       arith,
       room-first (take start'.args.count start'.args.widths) start'.args.buffer.now start'.args.at start'.args.start
-          start'.args.n start'.args.places after-loop.loop-k.buffer after-loop.loop-k.due after-loop.loop-k.k (omega (arith, start'.requires.1.1.0.0))
-          start'.requires.1.1.1 after-loop.loop-k.invariant after-loop-test.loop-k-test.true,
+          start'.args.n start'.args.t4 after-loop.loop.buffer after-loop.loop.due after-loop.loop.k (omega (arith, start'.requires.1.1.0.0))
+          start'.requires.1.1.1 after-loop.loop.invariant after-loop-test.loop-k-test.true,
     )
 
 pub overflow_add-at-in-loop-k : goal.overflow_add-at-in-loop-k
@@ -170,8 +170,8 @@ overflow_add-at-in-loop-k c =
     omega (
       arith,
       room-first (take start'.args.count start'.args.widths) start'.args.buffer.now start'.args.at start'.args.start
-          start'.args.n start'.args.places after-loop.loop-k.buffer after-loop.loop-k.due after-loop.loop-k.k (omega (arith, start'.requires.1.1.0.0))
-          start'.requires.1.1.1 after-loop.loop-k.invariant after-loop-test.loop-k-test.true,
+          start'.args.n start'.args.t4 after-loop.loop.buffer after-loop.loop.due after-loop.loop.k (omega (arith, start'.requires.1.1.0.0))
+          start'.requires.1.1.1 after-loop.loop.invariant after-loop-test.loop-k-test.true,
     )
 
 pub overflow_add-at-in-loop-k-2 : goal.overflow_add-at-in-loop-k-2
@@ -183,8 +183,8 @@ overflow_add-at-in-loop-k-2 c =
     omega (
       arith,
       room-first (take start'.args.count start'.args.widths) start'.args.buffer.now start'.args.at start'.args.start
-          start'.args.n start'.args.places after-loop.loop-k.buffer after-loop.loop-k.due after-loop.loop-k.k (omega (arith, start'.requires.1.1.0.0))
-          start'.requires.1.1.1 after-loop.loop-k.invariant after-loop-test.loop-k-test.true,
+          start'.args.n start'.args.t4 after-loop.loop.buffer after-loop.loop.due after-loop.loop.k (omega (arith, start'.requires.1.1.0.0))
+          start'.requires.1.1.1 after-loop.loop.invariant after-loop-test.loop-k-test.true,
     )
 
 pub put_word-requires-in-loop-k : goal.put_word-requires-in-loop-k
@@ -195,15 +195,15 @@ put_word-requires-in-loop-k c =
     let after-loop = after-loop-test in
     let start' = after-loop in
     room-second (take start'.args.count start'.args.widths) start'.args.buffer.now start'.args.at start'.args.start start'.args.n
-    start'.args.places after-loop.loop-k.buffer after-loop.loop-k.due after-loop.loop-k.k (omega (arith, start'.requires.1.1.0.0)) start'.requires.1.1.1
-    after-loop.loop-k.invariant after-loop-test.loop-k-test.true after-put-word.put_word.new.0 after-put-word.put_word.ensures
+    start'.args.t4 after-loop.loop.buffer after-loop.loop.due after-loop.loop.k (omega (arith, start'.requires.1.1.0.0)) start'.requires.1.1.1
+    after-loop.loop.invariant after-loop-test.loop-test.true after-put-word.put_word.new.0 after-put-word.put_word.ensures
 
 pub overflow_add-due : goal.overflow_add-due
 overflow_add-due c =
     let after-place-length = c in
     let after-loop = after-place-length in
     let start = after-loop in
-    omega (arith, after-place-length.place_length-size.ensures.1, after-loop.loop-k.invariant.small, after-loop.loop-k.invariant.few, start.requires.1.1.0.0)
+    omega (arith, after-place-length.place_length-size.ensures.1, after-loop.loop.invariant.small, after-loop.loop.invariant.few, start.requires.1.1.0.0)
 
 pub loop-k-preserved : goal.loop-k-preserved
 loop-k-preserved c =
@@ -215,9 +215,9 @@ loop-k-preserved c =
     let after-loop = after-loop-test in
     let start' = after-loop in
     goes_on (take start'.args.count start'.args.widths) start'.args.buffer.now start'.args.at start'.args.start start'.args.n
-    start'.args.places after-loop.loop-k.buffer after-loop.loop-k.due after-loop.loop-k.k (omega (arith, start'.requires.1.1.0.0)) start'.requires.1.1.1
-    after-loop.loop-k.invariant after-loop-test.loop-k-test.true after-put-word.put_word.new.0 after-put-word.put_word.ensures
-    after-place-length.place_length-size.result after-place-length.place_length-size.ensures.0 after-place-length.place_length-size.ensures.1
+    start'.args.t4 after-loop.loop.buffer after-loop.loop.due after-loop.loop.k (omega (arith, start'.requires.1.1.0.0)) start'.requires.1.1.1
+    after-loop.loop.invariant after-loop-test.loop-test.true after-put-word.put_word.new.0 after-put-word.put_word.ensures
+    after-place-length.place-length.result after-place-length.place-length.ensures.0 after-place-length.place-length.ensures.1
     after-put-word2.put_word-in-loop-k.new.0 after-put-word2.put_word-in-loop-k.ensures
 
 pub shape_of-buffer : goal.shape_of-buffer

@@ -86,7 +86,7 @@ returns-then-query-eq0 c =
     let after = under in
     let s = after in
     subst (Compared s.args.given s.args.p s.args.q) (sym c.only-then-query-eq0.ensures)
-    (answers-never s.args.given s.args.p s.args.q s.requires (sized after) (shaped after) after.chase-chased.result
+    (answers-never s.args.given s.args.p s.args.q s.requires (sized after) (shaped after) after.chase.result
     (chased after) under.if-chased.false c.if-query-eq0.true)
 
 pub stored-requires-2 : goal.stored-requires-2
@@ -100,7 +100,7 @@ find-mapped-requires c =
     let after = under in
     let s = after in
     let both =
-    both-storable s.args.given s.args.p s.args.q s.requires (sized after) (shaped after) after.chase-chased.result
+    both-storable s.args.given s.args.p s.args.q s.requires (sized after) (shaped after) after.chase.result
     (chased after) under.if-chased.false
     in
     (subst Storable (sym c.stored-2.ensures) both.0, both.1)
@@ -121,8 +121,8 @@ returns-then-mapped c =
     subst
     (λ (t : Tableau). Compared s.args.given s.args.p s.args.q (record { verdict = Mapped; images = found.find-mapped.result.images; query = t }))
     (sym c.no_tableau.ensures)
-    (answers-contained s.args.given s.args.p s.args.q s.requires (sized after) (shaped after) after.chase-chased.result
-    (chased after) under.if-chased.false found.find-mapped.result (finds (goal.at.returns-then-mapped c).After-find-mapped) c.if-mapped.true)
+    (answers-contained s.args.given s.args.p s.args.q s.requires (sized after) (shaped after) after.chase.result
+    (chased after) under.if1.false found.find-mapped.result (finds (goal.at.returns-then-mapped c).After-find-mapped) c.if-mapped.true)
 
 pub returns : goal.returns
 returns c =
@@ -130,5 +130,5 @@ returns c =
     let under = found in
     let after = under in
     let s = after in
-    answers-apart s.args.given s.args.p s.args.q s.requires (sized after) (shaped after) after.chase-chased.result
-    (chased after) under.if-chased.false found.find-mapped.result (finds (goal.at.returns c).After-find-mapped) (room after) found.if-query-eq0.false c.if-mapped.false
+    answers-apart s.args.given s.args.p s.args.q s.requires (sized after) (shaped after) after.chase.result
+    (chased after) under.if1.false found.find-mapped.result (finds (goal.at.returns c).After-find-mapped) (room after) found.if-query-eq0.false c.if-mapped.false

@@ -4,7 +4,7 @@ use mathlib.Core.Path.{◌≡◌, sym, ap, ◌∙◌}
 use mathlib.Core.Bool.{true}
 use Prim.Native.Nat.{◌<◌}
 use native.Mathlib.Omega.{arith}
-use borrow.Author.Tests.{not-true, not-false}
+use borrow.Author.Tests.{not-false}
 use Rattle.record.specs.Rule.{good_record}
 use Rattle.record.specs.internal.Lookup.{number_of}
 use Rattle.record.proofs.Refusals.{place-at, filled_at}
@@ -15,7 +15,7 @@ use Rattle.comparison.proofs.filled_pair.Goals as goal
 pub returns-then-not-is_good : goal.returns-then-not-is_good
 returns-then-not-is_good c =
     pair-broken c.args.given c.args.p c.args.q
-    (sym c.is_good.ensures ∙ not-true _ c.if-not-is_good.true)
+    (sym c.is_good.ensures ∙ c.if-not-is_good.true)
 
 pub returns-in_default : goal.returns-in_default
 returns-in_default c =
@@ -23,7 +23,7 @@ returns-in_default c =
     let p = c.args.p in
     let q = c.args.q in
     let good : good_record given ≡ true = sym c.is_good.ensures
-    ∙ not-false _ c.if-not-is_good.false in
+    ∙ c.if-not-is_good.false in
     let told = c.enum_told-in_default-1.given in
     let is : Refused c.number.result ≡ Refused told.0.0 = ap Refused (c.number.ensures ∙ ap number_of told.1) in
     is ∙ first_above given p q good told.0.0 (sym c.place_at-found.ensures ∙ told.1)
@@ -34,7 +34,7 @@ returns-in_default-found c =
     let p = c.args.p in
     let q = c.args.q in
     let good : good_record given ≡ true = sym c.is_good.ensures
-    ∙ not-false _ c.if-not-is_good.false in
+    ∙ c.if-not-is_good.false in
     let low-p : p < 8 = (place-at p _ (sym c.place_at-found.ensures
     ∙ c.in-At.is)).1 in
     let told = c.enum_told-in_default-found-1.given in
@@ -47,7 +47,7 @@ returns-in_default-found-2 c =
     let p = c.args.p in
     let q = c.args.q in
     let good : good_record given ≡ true = sym c.is_good.ensures
-    ∙ not-false _ c.if-not-is_good.false in
+    ∙ c.if-not-is_good.false in
     let low-p : p < 8 = (place-at p _ (sym c.place_at-found.ensures
     ∙ c.in-At.is)).1 in
     let low-q : q < 8 = (place-at q _ (sym c.place_at-found-2.ensures
@@ -95,7 +95,7 @@ returns-then-a-b c =
     let p = c.args.p in
     let q = c.args.q in
     let good : good_record given ≡ true = sym c.is_good.ensures
-    ∙ not-false _ c.if-not-is_good.false in
+    ∙ c.if-not-is_good.false in
     found-differ given p q good _ _ (sym c.filled_place-found.ensures ∙ c.in-At-found-2.is)
     (sym c.filled_place-found-2.ensures
     ∙ c.in-At-found-3.is)
@@ -107,7 +107,7 @@ returns c =
     let p = c.args.p in
     let q = c.args.q in
     let good : good_record given ≡ true = sym c.is_good.ensures
-    ∙ not-false _ c.if-not-is_good.false in
+    ∙ c.if-not-is_good.false in
     found-stand given p q good _ _ (sym c.filled_place-found.ensures ∙ c.in-At-found-2.is)
     (sym c.filled_place-found-2.ensures
     ∙ c.in-At-found-3.is)

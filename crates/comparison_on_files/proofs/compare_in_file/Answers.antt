@@ -23,7 +23,7 @@ pub returns-in-Done : goal.returns-in-Done
 returns-in-Done c =
     let a =
     c.args in
-    compare-done a.file.now a.p a.q a.verdict.now a.mapping-1.now a.part-1.now a.size.now
+    compare-done a.file.now a.p a.q a.verdict.now a.mapping.now a.part.now a.size.now
     c.read-outcome.result.«record»
     (outcome-done (read_file a.file.now)
     c.read-outcome.result
@@ -38,6 +38,6 @@ returns-in-Done c =
 pub returns-in-Refused : goal.returns-in-Refused
 returns-in-Refused c =
     let a = c.args in
-    compare-refused a.file.now a.p a.q a.verdict.now a.mapping-1.now a.part-1.now a.size.now _
+    compare-refused a.file.now a.p a.q a.verdict.now a.mapping.now a.part.now a.size.now _
     (outcome-refused (read_file a.file.now) c.read-outcome.result _ c.read-outcome.ensures
     c.in-Refused.is)

@@ -18,7 +18,7 @@ fits c =
 pub returns-then-mapping-lt192 : goal.returns-then-mapping-lt192
 returns-then-mapping-lt192 c =
     let a = c.args in
-    verdict-short a.images a.verdict.now a.mapping-1.now a.part-1.now a.size.now 0 ((query_for 24 (take a.count a.widths)).put (as_query a.chased))
+    verdict-short a.images a.verdict.now a.mapping.now a.part.now a.size.now 0 ((query_for 24 (take a.count a.widths)).put (as_query a.chased))
     c.if-mapping-lt192.true
 
 pub query_length-n-requires : goal.query_length-n-requires
@@ -29,8 +29,8 @@ returns-then-part-n c =
     let a = c.args in
     let schema = take a.count a.widths in
     let n : c.query_length-n.result ≡ length ((query_for 24 schema).put (as_query a.chased)) = c.query_length-n.ensures.0 in
-    let l : length a.part-1.now < c.query_length-n.result = c.if-part-n.true in
-    verdict-long a.images a.verdict.now a.mapping-1.now a.part-1.now a.size.now 0 ((query_for 24 schema).put (as_query a.chased))
+    let l : length a.part.now < c.query_length-n.result = c.if-part-n.true in
+    verdict-long a.images a.verdict.now a.mapping.now a.part.now a.size.now 0 ((query_for 24 schema).put (as_query a.chased))
     c.if-mapping-lt192.false (omega arith)
 
 pub put_query-requires : goal.put_query-requires
@@ -45,8 +45,8 @@ returns c =
     let schema = take a.count a.widths in
     let n : c.query_length-n.result ≡ length ((query_for 24 schema).put (as_query a.chased)) =
     c.query_length-n.ensures.0 in
-    let l : c.query_length-n.result ≤ length a.part-1.now =
+    let l : c.query_length-n.result ≤ length a.part.now =
     c.if-part-n.false in
-    verdict-stored a.images a.verdict.now a.mapping-1.now a.part-1.now a.size.now 0 ((query_for 24 schema).put (as_query a.chased)) _ _ _
+    verdict-stored a.images a.verdict.now a.mapping.now a.part.now a.size.now 0 ((query_for 24 schema).put (as_query a.chased)) _ _ _
     c.if-mapping-lt192.false (omega arith) c.put_mapping.ensures
     c.put_query.ensures.0 n

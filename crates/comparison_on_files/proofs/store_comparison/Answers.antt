@@ -16,30 +16,30 @@ store_apart-requires c = (
 pub returns-in-Apart : goal.returns-in-Apart
 returns-in-Apart c =
     let a = c.args in
-    comparison-same a.compared.images a.verdict.now a.mapping-1.now a.part-1.now a.size.now
-    (comparison-apart (length a.mapping-1.now) (length a.part-1.now) (take a.count a.widths) a.compared
+    comparison-same a.compared.images a.verdict.now a.mapping.now a.part.now a.size.now
+    (comparison-apart (length a.mapping.now) (length a.part.now) (take a.count a.widths) a.compared
     c.in-Apart.is) _ _ _ _ _
     c.store_apart.ensures
 
 pub returns-in-Mapped : goal.returns-in-Mapped
 returns-in-Mapped c =
     let a = c.args in
-    comparison-same a.compared.images a.verdict.now a.mapping-1.now a.part-1.now a.size.now
-    (comparison-contained (length a.mapping-1.now) (length a.part-1.now) (take a.count a.widths) a.compared
+    comparison-same a.compared.images a.verdict.now a.mapping.now a.part.now a.size.now
+    (comparison-contained (length a.mapping.now) (length a.part.now) (take a.count a.widths) a.compared
     c.in-Mapped.is) _ _ _ _ _
     c.store_contained.ensures
 
 pub returns-in-Never : goal.returns-in-Never
 returns-in-Never c =
     let a = c.args in
-    comparison-same a.compared.images a.verdict.now a.mapping-1.now a.part-1.now a.size.now
-    (comparison-never (length a.mapping-1.now) (length a.part-1.now) (take a.count a.widths) a.compared
+    comparison-same a.compared.images a.verdict.now a.mapping.now a.part.now a.size.now
+    (comparison-never (length a.mapping.now) (length a.part.now) (take a.count a.widths) a.compared
     c.in-Never.is) _ _ _ _ _
     c.store_contained-in-Never.ensures
 
 pub returns-in-Refused : goal.returns-in-Refused
 returns-in-Refused c =
     let a = c.args in
-    comparison-none a.compared.images a.verdict.now a.mapping-1.now a.part-1.now a.size.now
-    (comparison-refused (length a.mapping-1.now) (length a.part-1.now) (take a.count a.widths) a.compared _ c.in-Refused.is
+    comparison-none a.compared.images a.verdict.now a.mapping.now a.part.now a.size.now
+    (comparison-refused (length a.mapping.now) (length a.part.now) (take a.count a.widths) a.compared _ c.in-Refused.is
     ∙ ap refused (sym c.refusal_for.ensures))

@@ -38,7 +38,7 @@ pub returns-then-rest-eq0 : goal.returns-then-rest-eq0
 returns-then-rest-eq0 c =
     let args = c.args in
     let loop = c.loop-d in
-    whole args.table.now args.own_val args.p args.q loop.d loop.mask-1 c.if-rest-eq0.true loop.invariant.1
+    whole args.table.now args.own args.p args.q loop.d loop.mask c.if-rest-eq0.true loop.invariant.1
 
 pub loop-d-preserved : goal.loop-d-preserved
 loop-d-preserved c =
@@ -47,11 +47,11 @@ loop-d-preserved c =
     let goes = together args.table.now args.p loop.d args.q in (
       search rules,
       ⊎_elim (λ w.
-          subst⁻¹ (Supports args.table.now args.own_val args.p args.q (loop.d + 1)) w.mask-1
-          (more args.table.now args.own_val args.p args.q loop.d loop.mask-1 (bit_or loop.mask-1 goes) loop.invariant.1
-          (λ e b. bit_or_left loop.mask-1 goes e b) (λ h e b. bit_or_right loop.mask-1 goes e b))) (λ w.
-          subst⁻¹ (Supports args.table.now args.own_val args.p args.q (loop.d + 1)) w.mask-is
-          (more args.table.now args.own_val args.p args.q loop.d loop.mask-1 loop.mask-1 loop.invariant.1
+          subst⁻¹ (Supports args.table.now args.own args.p args.q (loop.d + 1)) w.mask-1
+          (more args.table.now args.own args.p args.q loop.d loop.mask (bit_or loop.mask goes) loop.invariant.1
+          (λ e b. bit_or_left loop.mask goes e b) (λ h e b. bit_or_right loop.mask goes e b))) (λ w.
+          subst⁻¹ (Supports args.table.now args.own args.p args.q (loop.d + 1)) w.mask-is
+          (more args.table.now args.own args.p args.q loop.d loop.mask loop.mask loop.invariant.1
           (λ e b. b) (λ h e b. absurd (w.if-rest-eq1.false h)))) c.if-rest-eq1.branch-raw,
     )
 

@@ -17,8 +17,8 @@ returns-in-Done c =
     let a = o.args in
     let l = c.leave_count.ensures in
     let p : count_reply d.count-done.result ≡ counted_in a.file.now a.place a.words.now =
-    d.count-done.ensures ∙ sym (read_done a.file.now o.read-outcome.result o.read-outcome.ensures (λ r. counted r a.place a.words.now) t.in-Done.is) in
-    (l.0 ∙ ap returned p, l.1 ∙ leaves-same p (λ n. n) a.count-done.now)
+    d.count-done.ensures ∙ sym (read_done a.file.now o.read.result o.read.ensures (λ r. counted r a.place a.words.now) t.enum_told.given.1) in
+    (l.0 ∙ ap returned p, l.1 ∙ leaves-same p (λ n. n) a.count.now)
 
 pub returns-in-Refused : goal.returns-in-Refused
 returns-in-Refused c =
@@ -26,4 +26,4 @@ returns-in-Refused c =
     let a = o.args in
     let p : counted_in a.file.now a.place a.words.now ≡ refused c.in-Refused.n =
     read-refused a.file.now o.read-outcome.result o.read-outcome.ensures (λ r. counted r a.place a.words.now) _ c.in-Refused.is in
-    (refused-number p, refused-leaves p (λ n. n) a.count-done.now)
+    (refused-number p, refused-leaves p (λ n. n) a.count.now)

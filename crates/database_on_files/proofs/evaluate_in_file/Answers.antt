@@ -19,12 +19,12 @@ returns-in-Done c =
     let o = t in
     let a = o.args in
     let l = c.leave_count.ensures in
-    let done = t.in-Done.is in
-    let p : count_reply d.evaluate-done.result ≡ evaluated_in a.file.now a.place a.words.now (length a.answers-1.now) =
+    let done = t.enum_told.given.1 in
+    let p : count_reply d.evaluate-done.result ≡ evaluated_in a.file.now a.place a.words.now (length a.answers.now) =
     d.evaluate-done.ensures.0
-    ∙ sym (read_done a.file.now o.read-outcome.result o.read-outcome.ensures (λ r. evaluated r a.place a.words.now (length a.answers-1.now)) done) in
-    let w = done-leaves (outcome-done (read_file a.file.now) o.read-outcome.result o.read-outcome.ensures done)
-    (λ r. buffer_then r a.place a.words.now a.answers-1.now) a.answers-1.now in
+    ∙ sym (read_done a.file.now o.read.result o.read.ensures (λ r. evaluated r a.place a.words.now (length a.answers.now)) done) in
+    let w = done-leaves (outcome-done (read_file a.file.now) o.read.result o.read.ensures done)
+    (λ r. buffer_then r a.place a.words.now a.answers.now) a.answers.now in
     (l.0 ∙ ap returned p, (d.evaluate-done.ensures.1 ∙ w, l.1 ∙ leaves-same p (λ n. n) a.count.now))
 
 pub returns-in-Refused : goal.returns-in-Refused
@@ -32,9 +32,9 @@ returns-in-Refused c =
     let o = c in
     let a = o.args in
     let n = c.in-Refused.n in
-    let p : evaluated_in a.file.now a.place a.words.now (length a.answers-1.now) ≡ refused n =
-    read-refused a.file.now o.read-outcome.result o.read-outcome.ensures (λ r. evaluated r a.place a.words.now (length a.answers-1.now)) n
+    let p : evaluated_in a.file.now a.place a.words.now (length a.answers.now) ≡ refused n =
+    read-refused a.file.now o.read-outcome.result o.read-outcome.ensures (λ r. evaluated r a.place a.words.now (length a.answers.now)) n
     c.in-Refused.is in
     let w = refused-leaves (outcome-refused (read_file a.file.now) o.read-outcome.result n o.read-outcome.ensures c.in-Refused.is)
-    (λ r. buffer_then r a.place a.words.now a.answers-1.now) a.answers-1.now in
+    (λ r. buffer_then r a.place a.words.now a.answers.now) a.answers.now in
     (refused-number p, (w, refused-leaves p (λ n. n) a.count.now))

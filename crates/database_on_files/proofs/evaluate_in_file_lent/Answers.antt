@@ -27,7 +27,7 @@ of-record c =
     let s = (start c).args in
     let o = c.read in
     c.evaluate_lent-done.ensures.0
-    ∙ sym (read_done s.file.now o.result o.ensures (λ r. evaluated r s.place s.words.now (length s.answers-1.now)) c.in-Done.is)
+    ∙ sym (read_done s.file.now o.result o.ensures (λ r. evaluated r s.place s.words.now (length s.answers.now)) c.in-Done.is)
 
 -- And the answers are those of its place
 written : (c : goal.After-evaluate_lent-done)
@@ -37,7 +37,7 @@ written c =
     let s = (start c).args in
     let o = c.read in
     done-leaves (outcome-done (read_file s.file.now) o.result o.ensures c.in-Done.is)
-    (λ r. buffer_then r s.place s.words.now s.answers-1.now) s.answers-1.now
+    (λ r. buffer_then r s.place s.words.now s.answers.now) s.answers.now
 
 -- Working memory is as the call on its record leaves it
 unused : (c : goal.After-evaluate_lent-done) (before after : List ℕ)
@@ -69,12 +69,12 @@ pub returns-in-Refused : goal.returns-in-Refused
 returns-in-Refused c =
     let o = c.read-outcome in
     let s = c.args in
-    let p : evaluated_in s.file.now s.place s.words.now (length s.answers-1.now) ≡ refused c.in-Refused.n =
-    read-refused s.file.now o.result o.ensures (λ r. evaluated r s.place s.words.now (length s.answers-1.now)) _ c.in-Refused.is in (
+    let p : evaluated_in s.file.now s.place s.words.now (length s.answers.now) ≡ refused c.in-Refused.n =
+    read-refused s.file.now o.result o.ensures (λ r. evaluated r s.place s.words.now (length s.answers.now)) _ c.in-Refused.is in (
       refused-number p,
       (
         refused-leaves (outcome-refused (read_file s.file.now) o.result _ o.ensures c.in-Refused.is)
-            (λ r. buffer_then r s.place s.words.now s.answers-1.now) s.answers-1.now,
+            (λ r. buffer_then r s.place s.words.now s.answers.now) s.answers.now,
         (refused-leaves p (λ n. n) s.count.now, (λ n r. refl, (λ n r. refl, (λ n r. refl, λ n r. refl)))),
       ),
     )

@@ -55,7 +55,7 @@ overflow_mul-i c =
     let after-loop = c in
     let start = after-loop in
     let r =
-    room start.args.buffer.now start.args.at start.args.n start.args.cells after-loop.loop-i.buffer after-loop.loop-i.i
+    room start.args.buffer.now start.args.at start.args.n start.args.t3 after-loop.loop-i.buffer after-loop.loop-i.i
     c.loop-i-test.true (omega (arith, start.requires.0)) after-loop.loop-i.invariant.1 in
     omega arith
 
@@ -65,7 +65,7 @@ overflow_add-at c =
     let after-loop = c in
     let start = after-loop in
     let r =
-    room start.args.buffer.now start.args.at start.args.n start.args.cells after-loop.loop-i.buffer after-loop.loop-i.i
+    room start.args.buffer.now start.args.at start.args.n start.args.t3 after-loop.loop-i.buffer after-loop.loop-i.i
     c.loop-i-test.true (omega (arith, start.requires.0)) after-loop.loop-i.invariant.1 in
     omega arith
 
@@ -75,7 +75,7 @@ put_entry-requires c =
     let after-loop = c in
     let start = after-loop in
     let r =
-    room start.args.buffer.now start.args.at start.args.n start.args.cells after-loop.loop-i.buffer after-loop.loop-i.i
+    room start.args.buffer.now start.args.at start.args.n start.args.t3 after-loop.loop-i.buffer after-loop.loop-i.i
     c.loop-i-test.true (omega (arith, start.requires.0)) after-loop.loop-i.invariant.1 in
     r
 
@@ -87,9 +87,9 @@ loop-i-preserved c =
     let after-loop = after-loop-test in
     let start = after-loop in (
       search rules,
-      goes_on start.args.buffer.now start.args.at start.args.n start.args.cells after-loop.loop-i.buffer
-          after-put-entry.put_entry.new.0 after-loop.loop-i.i after-loop-test.loop-i-test.true (omega (arith, start.requires.0))
-          after-loop.loop-i.invariant.1
+      goes_on start.args.buffer.now start.args.at start.args.n start.args.t3 after-loop.loop.buffer
+          after-put-entry.put_entry.new.0 after-loop.loop.i after-loop-test.loop-test.true (omega (arith, start.requires.0))
+          after-loop.loop.invariant.1
           after-put-entry.put_entry.ensures,
     )
 

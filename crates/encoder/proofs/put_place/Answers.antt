@@ -28,10 +28,10 @@ pub put_query-requires : goal.put_query-requires
 put_query-requires c =
     let start = c in
     let fits =
-    filled-sizes (take start.args.count start.args.widths) start.args.place c.if-place.true start.requires.1.0
+    filled-sizes (take start.args.count start.args.widths) start.args.place c.if-place.true start.pre.1.0
     c.from_query.result c.from_query.ensures
     in
-    (start.requires.0, ((fits.0, omega (arith, fits.1)), rw (part (goal.at.put_query-requires c).After-from_query) at start.requires.1.1))
+    (start.pre.0, ((fits.0, omega (arith, fits.1)), rw (part (goal.at.put_query-requires c).After-from_query) at start.pre.1.1))
 
 pub shape_of-buffer-then-place : goal.shape_of-buffer-then-place
 shape_of-buffer-then-place c =

@@ -33,9 +33,9 @@ loop-r-preserved c =
     let after-loop = c in
     let start = after-loop in
     let e =
-    next (take start.args.count start.args.widths) start.args.named start.args.size after-loop.loop-r.r c.loop-r-test.true
+    next (take start.args.count start.args.widths) start.args.t2 start.args.size after-loop.loop-r.r c.loop-r-test.true
     (omega (arith, start.requires.1)) in
-    (search rules, omega (arith, c.width_of_lem.ensures.1), omega (arith, e, c.width_of_lem.ensures.0, after-loop.loop-r.invariant.2))
+    (search rules, omega (arith, c.width_of-width.ensures.1), omega (arith, e, c.width_of-width.ensures.0, after-loop.loop-r.invariant.2))
 
 pub returns : goal.returns
 returns c =

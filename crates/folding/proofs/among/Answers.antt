@@ -17,10 +17,10 @@ pub loop-r-preserved : goal.loop-r-preserved
 loop-r-preserved c =
     let a = c.args in
     let l = c.loop-r in
-    let inside : l.r < length l.all-1 = search rules in (
+    let inside : l.r < length l.all = search rules in (
       search rules,
       search rules,
-      stored_more (λ j x. x ≡ bit_and (get_or a.domain.now j 0) a.left) l.all-1 l.r (bit_and (get_or a.domain.now l.r 0) a.left) 0 inside
+      stored_more (λ j x. x ≡ bit_and (get_or a.domain.now j 0) a.left) l.all l.r (bit_and (get_or a.domain.now l.r 0) a.left) 0 inside
           l.invariant.2 refl,
     )
 
@@ -28,12 +28,12 @@ pub returns : goal.returns
 returns c =
     let a = c.args in
     let l = c.loop-r in
-    let long : length l.all-1 ≡ 13 = l.invariant.1 in
+    let long : length l.all ≡ 13 = l.invariant.1 in
     let few : a.size ≤ 12 = c.requires in
     let past : a.size ≤ l.r = c.loop-r-test.false in
     record {
       rows = λ r h.
-          get_or-set_other l.all-1 a.size r (get_or a.domain.now a.size 0) 0 (λ e. let z : r ≡ a.size = e in omega arith)
+          get_or-set_other l.all a.size r (get_or a.domain.now a.size 0) 0 (λ e. let z : r ≡ a.size = e in omega arith)
           ∙ l.invariant.2 r (omega arith);
-      head = get_or-set_same l.all-1 a.size (get_or a.domain.now a.size 0) 0 (omega arith);
+      head = get_or-set_same l.all a.size (get_or a.domain.now a.size 0) 0 (omega arith);
     }

@@ -62,7 +62,7 @@ bounds-nodes-s-then-nodes-s c = omega (arith, stored (goal.at.bounds-nodes-s-the
 pub returns-then-nodes-s-2 : goal.returns-then-nodes-s-2
 returns-then-nodes-s-2 c = let m = c in
     let i = m in
-    λ key chained. (i.loop-node.node - 1, below i, (bucket i key chained, m.if-nodes-s.true), c.if-nodes-s-2.true)
+    λ key chained. (i.loop.node - 1, below i, (bucket i key chained, m.if-nodes-s.true), c.if-nodes-s-2.true)
 
 pub overflow_add-result : goal.overflow_add-result
 overflow_add-result c = omega (arith, stored (goal.at.overflow_add-result c).In-loop-node)
@@ -80,7 +80,7 @@ overflow_cast-result c = let l = c.loop-node in
 pub returns-then-nodes-s : goal.returns-then-nodes-s
 returns-then-nodes-s c = let m = c in
     let i = m in
-    λ key chained. (i.loop-node.node - 1, below i, (bucket i key chained, m.if-nodes-s.true), refl)
+    λ key chained. (i.loop.node - 1, below i, (bucket i key chained, m.if-nodes-s.true), refl)
 
 pub offset_bounds-nodes-s-in-loop-node : goal.offset_bounds-nodes-s-in-loop-node
 offset_bounds-nodes-s-in-loop-node c = omega (arith, stored (goal.at.offset_bounds-nodes-s-in-loop-node c).In-loop-node)
@@ -97,7 +97,7 @@ loop-node-smaller c = let i = c in
     let s = i in
     let a = s.args in
     let back : link_of a.nodes.now (l.node - 1) ≤ l.node - 1 =
-    link-le s.requires.1.0 a.heads.now a.nodes.now a.count a.sought s.requires.1.1 (l.node - 1) (below (goal.at.loop-node-smaller c).In-loop-node) in
+    link-le s.pre.1.0 a.heads.now a.nodes.now a.count a.sought s.pre.1.1 (l.node - 1) (below (goal.at.loop-node-smaller c).In-loop-node) in
     omega arith
 
 pub loop-node-preserved : goal.loop-node-preserved

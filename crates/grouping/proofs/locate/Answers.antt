@@ -2,8 +2,6 @@
 -- Assumes nothing.
 use Prim.Native.Nat.{◌-◌}
 use native.Mathlib.Omega.{arith}
-use borrow.Author.Tests.{ltb-true}
-use lib.ListN.{length}
 use Rattle.grouping.proofs.Passing.{placed-start, placed-next}
 use borrow.Author.Rules.{rules}
 use Rattle.grouping.proofs.locate.Goals as goal
@@ -16,13 +14,13 @@ loop-n-init c = let s = c in
 
 pub next-at-requires : goal.next-at-requires
 next-at-requires c = let l = c in
-    (ltb-true l.loop-n.at (length l.args.words.now) c.if-at-words.true, l.loop-n.invariant.0.from.good)
+    (c.if-at-words.true, l.loop-n.invariant.0.from.good)
 
 pub loop-n-preserved : goal.loop-n-preserved
 loop-n-preserved c = let i = c in
     let l = i in
     let a = l.args in
-    (placed-next a.schema.now a.words.now l.loop-n.at c.next-at.result l.loop-n.n l.loop-n.invariant.0 c.next-at.ensures, search rules)
+    (placed-next a.schema.now a.words.now l.loop.at c.next-at.result l.loop.n l.loop.invariant.0 c.next-at.ensures, search rules)
 
 pub returns-else-at-words : goal.returns-else-at-words
 returns-else-at-words c = c.loop-n.invariant

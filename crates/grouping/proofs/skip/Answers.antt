@@ -34,14 +34,14 @@ skipped : (e : goal.After-loop-walk) (p : Position)
     e.args.d p
 skipped e p = let l = e in
     let a = l.args in
-    walked_end a.schema.now a.words.now a.d l.loop-walk.walk l.loop-walk.used l.loop-walk.nodes l.loop-walk.invariant.0 e.loop-walk-test.false p
+    walked_end a.schema.now a.words.now a.d l.loop.walk l.loop.used l.loop.nodes l.loop.invariant.0 e.loop-walk-test.false p
 
 seen : (e : goal.After-loop-walk) → e.loop-walk.walk.key ≡ true
     → Key (dependency_of e.args.d)
     (database_of e.args.schema.now e.args.words.now)
 seen e = let l = e in
     let a = l.args in
-    walked-key a.schema.now a.words.now a.d l.loop-walk.walk l.loop-walk.used l.loop-walk.nodes l.loop-walk.invariant.0 e.loop-walk-test.false
+    walked-key a.schema.now a.words.now a.d l.loop.walk l.loop.used l.loop.nodes l.loop.invariant.0 e.loop-walk-test.false
 
 pub returns-then-heads-eq0 : goal.returns-then-heads-eq0
 returns-then-heads-eq0 c = let s = c in
@@ -66,17 +66,17 @@ loop-walk-init c = let u = c.clear in
     let s = j in
     let a = s.args in
     let size : length u.new.0 ≡ j.if-heads-buckets.buckets = u.ensures.0 ∙ length-take-le j.if-heads-buckets.buckets a.heads.now (few (goal.at.loop-walk-init c).Joined-heads-buckets) in
-    (walked_start a.schema.now a.words.now a.d u.new.0 a.nodes-1.now s.requires.1 (omega (arith, some (goal.at.loop-walk-init c).Joined-heads-buckets)) u.ensures.1, refl, refl)
+    (walked_start a.schema.now a.words.now a.d u.new.0 a.nodes.now s.pre.1 (omega (arith, some (goal.at.loop-walk-init c).Joined-heads-buckets)) u.ensures.1, refl, refl)
 
 pub step-walk-requires : goal.step-walk-requires
 step-walk-requires c = let t = c in
     let l = t in
-    (l.pre.0, (t.loop-walk-test.true, l.loop-walk.invariant.0))
+    (l.pre.0, (t.loop-walk-test.true, l.loop.invariant.0))
 
 pub loop-walk-smaller : goal.loop-walk-smaller
 loop-walk-smaller c = let u = c in
     let t = u in
-    omega (arith, u.step-walk.ensures.1, u.step-walk.ensures.0.placed.from.inside, t.loop-walk-test.true)
+    omega (arith, u.step-walk.ensures.1, u.step-walk.ensures.0.placed.from.inside, t.if3.true)
 
 pub loop-walk-preserved : goal.loop-walk-preserved
 loop-walk-preserved c = let u = c in

@@ -34,7 +34,7 @@ next-requires c = let s = c in
 pub returns-then-words-at : goal.returns-then-words-at
 returns-then-words-at c = let s = c in
     let a = s.args in (
-      walked-other a.schema.now a.words.now a.d a.walk a.heads-1.now a.nodes-1.now s.requires.1.1 (after (goal.at.returns-then-words-at c).After-shared_slice_known-3-1) (next (goal.at.returns-then-words-at c).After-shared_slice_known-3-1)
+      walked-other a.schema.now a.words.now a.d a.walk a.heads.now a.nodes.now s.pre.1.1 (after (goal.at.returns-then-words-at c).After-shared_slice_known-3-1) (next (goal.at.returns-then-words-at c).After-shared_slice_known-3-1)
           c.if-words-at.true,
       on (goal.at.returns-then-words-at c).After-shared_slice_known-3-1,
     )
@@ -47,19 +47,19 @@ room : (c : goal.Else-words-at) → c.args.walk.row.at + 1 + get_or c.args.schem
     ≤ length c.args.words.now
 room c = let s = c in
     let a = s.args in
-    row_room a.schema.now a.words.now a.d a.walk a.heads-1.now a.nodes-1.now s.requires.1.1 (after c.before) (next c.before) (relation c)
+    row_room a.schema.now a.words.now a.d a.walk a.heads.now a.nodes.now s.pre.1.1 (after c.before) (next c.before) (relation c)
 
 abbrev key : goal.Else-words-at → ℕ → ℕ
 key c = let a = c.args in
-    key_of (dependency_of a.d) (database_of a.schema.now a.words.now) (length a.heads-1.now) a.nodes-1.now
+    key_of (dependency_of a.d) (database_of a.schema.now a.words.now) (length a.heads.now) a.nodes.now
 
 said : (c : goal.After-compare-found) (x : Beside) → c.compare-found.result ≡ x
     → BesideSays (key c.before.before.before) (c.before).args.nodes.now (c.before).args.walk.count
     c.sought_of-sought.result x
 said c x e = let s = c.before in
     let a = s.args in
-    subst (λ (y : Beside). BesideSays (key c.before.before.before) a.nodes-1.now a.walk.count c.sought_of-sought.result y) e
-    (c.compare-found.ensures (key c.before.before.before) s.requires.1.1.table.chained)
+    subst (λ (y : Beside). BesideSays (key c.before.before.before) a.nodes.now a.walk.count c.sought_of-sought.result y) e
+    (c.compare-found.ensures (key c.before.before.before) s.pre.1.1.table.chained)
 
 -- The leaders are in the nodes, and there may be room for one more
 stored : (c : goal.In-Alone) → 4 * (c.before).args.walk.count
@@ -99,7 +99,7 @@ pub enter-requires : goal.enter-requires
 enter-requires c = let t = c in
     let k = t in
     let more = free (goal.at.enter-requires c).Then-nodes-count-ge4 in
-    (k.sought_of-sought.ensures.1, ((omega arith, omega arith, more), (omega (arith, few (goal.at.enter-requires c).Then-number-lt4294967295), omega (arith, low (goal.at.enter-requires c).Then-number-lt4294967295))))
+    (k.sought-of.ensures.1, ((omega arith, omega arith, more), (omega (arith, few (goal.at.enter-requires c).Then-number-lt4294967295), omega (arith, low (goal.at.enter-requires c).Then-number-lt4294967295))))
 
 pub overflow_add-result : goal.overflow_add-result
 overflow_add-result c = omega (arith, few (goal.at.overflow_add-result c).Then-number-lt4294967295)
@@ -111,7 +111,7 @@ returns-then-number-lt4294967295 c = let u = c in
     let e = k in
     let s = e in
     let a = s.args in
-    let q = k.sought_of-sought in
+    let q = k.sought-of in
     let w : Walk = record {
       row = record { at = after e; number = a.walk.row.number + 1 };
       count = a.walk.count + 1;
@@ -119,10 +119,10 @@ returns-then-number-lt4294967295 c = let u = c in
       key = a.walk.key;
     } in (
       subst (λ (x : List ℕ). Walked a.schema.now a.words.now a.d w x u.enter.new.1.0) (sym u.enter.ensures.0)
-          (subst (λ (x : List ℕ). Walked a.schema.now a.words.now a.d w (set a.heads-1.now q.result.bucket (a.walk.count + 1)) x)
+          (subst (λ (x : List ℕ). Walked a.schema.now a.words.now a.d w (set a.heads.now q.result.bucket (a.walk.count + 1)) x)
           (sym u.enter.ensures.1)
-          (walked-new a.schema.now a.words.now a.d a.walk a.heads-1.now a.nodes-1.now s.requires.1.1 (after e) (next e)
-          (relation e) q.result q.ensures.0 (said k _ t.in-Alone.is) q.ensures.1 (free t))),
+          (walked-new a.schema.now a.words.now a.d a.walk a.heads.now a.nodes.now s.pre.1.1 (after e) (next e)
+          (relation e) q.result q.ensures.0 (said k _ t.enum-told2.given.1) q.ensures.1 (free t))),
       on e,
     )
 
@@ -133,7 +133,7 @@ returns-in-Same c = let k = c in
     let a = s.args in
     let q = k.sought_of-sought in
     let l = said (goal.at.returns-in-Same c).After-compare-found _ c.in-Same.is in (
-      walked_same a.schema.now a.words.now a.d a.walk a.heads-1.now a.nodes-1.now s.requires.1.1 (after e) (next e)
+      walked_same a.schema.now a.words.now a.d a.walk a.heads.now a.nodes.now s.pre.1.1 (after e) (next e)
           (relation e) q.result q.ensures.0 l.0 l.1 l.2 l.3,
       on e,
     )
@@ -144,9 +144,9 @@ returns-in-Differs c = let f = c in
     let e = k in
     let s = e in
     let a = s.args in
-    let q = k.sought_of-sought in
+    let q = k.sought-of in
     let l = said k _ f.in-Differs.is in (
-      walked-differ a.schema.now a.words.now a.d a.walk a.heads-1.now a.nodes-1.now s.requires.1.1 (after e) (next e)
+      walked-differ a.schema.now a.words.now a.d a.walk a.heads.now a.nodes.now s.pre.1.1 (after e) (next e)
           (relation e) q.result q.ensures.0 l.0 l.1 l.2 c.lesser.result c.lesser.ensures.0
           (omega (arith, c.lesser.ensures.1, l.3)),
       on e,
@@ -158,8 +158,8 @@ returns-else-nodes-count-ge4 c = let h = c in
     let e = k in
     let s = e in
     let a = s.args in
-    let q = k.sought_of-sought in (
-      walked-full a.schema.now a.words.now a.d a.walk a.heads-1.now a.nodes-1.now s.requires.1.1 (after e) (next e)
+    let q = k.sought-of in (
+      walked-full a.schema.now a.words.now a.d a.walk a.heads.now a.nodes.now s.pre.1.1 (after e) (next e)
           (relation e) q.result q.ensures.0 (said k _ h.in-Alone.is) c.lesser-in-Alone.result c.lesser-in-Alone.ensures.0 c.lesser-in-Alone.ensures.1,
       on e,
     )

@@ -4,7 +4,6 @@ use Prim.Native.Nat.{◌-◌}
 use native.Mathlib.Omega.{arith}
 use lib.ListN.{length}
 use borrow.Author.Rules.{rules}
-use borrow.Author.Tests.{not-true, not-false}
 use Rattle.lists.proofs.Loops.{mapped-length}
 use Rattle.join_search.proofs.Rows.{all_pass, all-fail, all_end}
 use Rattle.join_search.proofs.all_go.Goals as goal
@@ -24,7 +23,7 @@ returns-then-not-some_goes c =
     let l = c.loop-m in
     all-fail a.codes.now a.relations.now a.size a.j.relation a.j.count a.j.sets l.m a.chosen
     c.loop-m-test.true (omega (arith, s.requires.1, l.invariant.0))
-    (sym c.some_goes.ensures ∙ not-true _ c.if-not-some_goes.true)
+    (sym c.some_goes.ensures ∙ c.if-not-some_goes.true)
     ∙ sym l.invariant.1
 
 pub loop-m-preserved : goal.loop-m-preserved
@@ -36,7 +35,7 @@ loop-m-preserved c =
       l.invariant.1
           ∙ all_pass a.codes.now a.relations.now a.size a.j.relation a.j.count a.j.sets l.m a.chosen
           c.loop-m-test.true (omega (arith, s.requires.1, l.invariant.0))
-          (sym c.some_goes.ensures ∙ not-false _ c.if-not-some_goes.false),
+          (sym c.some_goes.ensures ∙ c.if-not-some_goes.false),
     )
 
 pub returns : goal.returns

@@ -13,7 +13,7 @@ use Rattle.join_search.specs.internal.Search.{is_first}
 use Rattle.join_search.proofs.firsts.Goals as goal
 
 abbrev Right : List ℕ → List ℕ → JoinDependency → ℕ → Bool → Type 0
-Right codes relations j t b = b ≡ is_first codes relations j.relation (get_or j.sets-1 (t / 24) 0) (t % 24)
+Right codes relations j t b = b ≡ is_first codes relations j.relation (get_or j.sets (t / 24) 0) (t % 24)
 
 pub loop-t-init : goal.loop-t-init
 loop-t-init c = (search rules, search rules, λ s less. absurd (omega arith))

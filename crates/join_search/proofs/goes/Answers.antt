@@ -29,12 +29,7 @@ loop-c-preserved c =
     let test = goes_at a.codes.now a.chosen a.i in (
       search rules,
       l.invariant.1
-          ∙ ⊎_elim
-          (λ w. columns-pass test l.c l.rest (search rules) w.0.taken (goes_same a.codes.now a.chosen a.i l.c w.3.left))
-          (⊎_elim
-          (λ w. columns-pass test l.c l.rest (search rules) w.0.taken (goes-free a.codes.now a.chosen a.i l.c w.1.left))
-          (λ w. columns-skip test l.c l.rest (search rules) w.left))
-          c.if-rest-eq1.branch,
+          ∙ ⊎_elim (λ w. columns-pass test l.c l.rest (search rules) w.if-rest-eq1.true (goes_same a.codes.now a.chosen a.i l.c w.if-chosen-c-2.false)) (⊎_elim (λ w. columns-pass test l.c l.rest (search rules) w.if-rest-eq1.true (goes-free a.codes.now a.chosen a.i l.c w.if-chosen-c.false)) (λ w. columns-skip test l.c l.rest (search rules) w.if-rest-eq1.false)) c.if-rest-eq1.branch-raw,
     )
 
 pub returns : goal.returns

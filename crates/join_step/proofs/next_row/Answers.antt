@@ -56,15 +56,15 @@ pub returns-then-missing : goal.returns-then-missing
 returns-then-missing c =
     let m = c in
     let i = m in
-    let l = i.loop-k in
+    let l = i.loop in
     let f = i in
     let s = f in
     let a = s.args in
-    let low = i.loop-k-test.true in
+    let low = i.loop-test.true in
     let enough : a.joined ≤ length a.joins = omega (arith, l.invariant.0, s.requires.joined-fits) in
     let four = four-sets a.joins (argument-shaped 4 a.joins _ s.well-formed.1.0) l.k (omega (arith, enough, low)) in
     λ schema narrow good good-joins.
-    next_one a.t a.joins a.joined _ f.codes_of-codes.ensures l.invariant.2 (cells-long s) enough past_join schema narrow good good-joins l.k low
+    next_one a.t a.joins a.joined _ f.codes-of.ensures l.invariant.2 (cells-long s) enough past_join schema narrow good good-joins l.k low
     l.invariant.4 four _ m.first_missing-missing.ensures c.if-missing.true _ c.Cells-of.ensures
 
 pub loop-k-preserved : goal.loop-k-preserved

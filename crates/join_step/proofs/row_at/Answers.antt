@@ -24,7 +24,7 @@ loop-c-preserved c =
     let long = stretch-length (8 * i) 8 cells (omega (arith, l.invariant.0, s.requires)) in (
       l.invariant.0,
       search rules,
-      filled-turn 8 no_cell (take 8 (drop (8 * i) cells)) l.row-1 l.c l.invariant.2 (get_or cells (8 * i + l.c) no_cell)
+      filled-turn 8 no_cell (take 8 (drop (8 * i) cells)) l.row l.c l.invariant.2 (get_or cells (8 * i + l.c) no_cell)
           (sym (stretch-get_or (8 * i) 8 cells l.c no_cell low)) (omega (arith, long, low)) low,
     )
 
@@ -34,5 +34,5 @@ returns c =
     let cells = s.args.cells in
     let i = s.args.i in
     let l = c.loop-c in
-    filled-end 8 no_cell (take 8 (drop (8 * i) cells)) l.row-1 l.c l.invariant.2 (stretch-length (8 * i) 8 cells (omega (arith, l.invariant.0, s.requires)))
+    filled-end 8 no_cell (take 8 (drop (8 * i) cells)) l.row l.c l.invariant.2 (stretch-length (8 * i) 8 cells (omega (arith, l.invariant.0, s.requires)))
     l.invariant.1 c.loop-c-test.false

@@ -29,7 +29,7 @@ loop-c-preserved c =
       l.invariant.0,
       search rules,
       search rules,
-      over-turn s.args.t.cells s.args.row l.cells-1 at l.c l.invariant.3 no_cell (omega (arith, l.invariant.0, low))
+      over-turn s.args.t.cells s.args.row l.cells at l.c l.invariant.3 no_cell (omega (arith, l.invariant.0, low))
           (omega (arith, l.invariant.1, low, s.requires)),
     )
 
@@ -47,4 +47,4 @@ returns c =
       relations = set a.t.relations a.t.size a.relation;
       cells = cells;
     })
-    (over-end a.t.cells a.row l.cells-1 (8 * a.t.size) l.c l.invariant.3 whole)
+    (over-end a.t.cells a.row l.cells (8 * a.t.size) l.c l.invariant.3 whole)

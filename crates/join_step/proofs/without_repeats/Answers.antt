@@ -17,7 +17,7 @@ use Rattle.join_step.proofs.Rows.{distinct-size, distinct-keeps, distinct-drops}
 use Rattle.join_step.proofs.without_repeats.Goals as goal
 
 abbrev whole : Tableau → ℕ → List ℕ → List Cell → Tableau
-whole kept size relations cells = record { arity = kept.arity; size = size; head = kept.head-1; relations = relations; cells = cells }
+whole kept size relations cells = record { arity = kept.arity; size = size; head = kept.head; relations = relations; cells = cells }
 
 pub loop-i-init : goal.loop-i-init
 unfolding distinct_to
@@ -48,16 +48,16 @@ loop-i-preserved c =
     let s = c in
     let t = s.args.t in
     let l = c.loop-i in
-    let row = take 8 (drop (8 * l.i) t.cells-1) in
+    let row = take 8 (drop (8 * l.i) t.cells) in
     let first = c.is_first.ensures
-    ∙ ap (λ (n : List ℕ). is_first n t.relations-1 (get_or t.relations-1 l.i 0) 255 l.i) l.invariant.3 in (
+    ∙ ap (λ (n : List ℕ). is_first n t.relations (get_or t.relations l.i 0) 255 l.i) l.invariant.3 in (
       search rules,
       l.invariant.1,
       l.invariant.2,
       l.invariant.3,
       ⊎_elim (λ w.
-          w.kept-is ∙ w.with_row-kept.ensures ∙ ap (λ (k : Tableau). with_row k (get_or t.relations-1 l.i 0) w.row_at-row.result) l.invariant.4
-          ∙ ap (with_row (distinct_to t l.i) (get_or t.relations-1 l.i 0)) w.row_at-row.ensures
+          w.kept-is ∙ w.with_row-kept.ensures ∙ ap (λ (k : Tableau). with_row k (get_or t.relations l.i 0) w.row_at-row.result) l.invariant.4
+          ∙ ap (with_row (distinct_to t l.i) (get_or t.relations l.i 0)) w.row_at-row.ensures
           ∙ sym (distinct-keeps t l.i (sym first ∙ w.if-is_first.true))) (λ w. w.kept-is ∙ l.invariant.4 ∙ sym (distinct-drops t l.i (sym first ∙ w.if-is_first.false))) c.if-is_first.branch-raw,
     )
 

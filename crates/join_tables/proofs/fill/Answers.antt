@@ -16,7 +16,7 @@ loop-k-init c = let d = c in
     let s = d in
     let a = s.args in
     let r = s.requires.1 in (
-      levelled-none a.schema.now a.words.now a.j a.x a.heads-1.now d.thread.new.1.1.0 d.thread.ensures.0
+      levelled-none a.schema.now a.words.now a.j a.x a.heads.now d.thread.new.1.1.0 d.thread.ensures.0
           (record { some = r.some; heads-room = r.heads-room; nodes-room = omega (arith, r.nodes-room, d.thread.ensures.1); short = r.short }),
       refl,
       refl,
@@ -24,22 +24,22 @@ loop-k-init c = let d = c in
 
 pub bounds-j-k : goal.bounds-j-k
 bounds-j-k c = let s = c in
-    omega (arith, c.loop-k-test.true, s.requires.0.0.few, s.requires.0.0.shaped)
+    omega (arith, c.loop-k-test.true, s.pre.0.0.few, s.pre.0.0.shaped)
 
 pub enter_set-requires : goal.enter_set-requires
 enter_set-requires c = let i = c in
     let s = i in
     let v = i.loop-k.invariant.0 in
-    ((s.requires.0.0.spelled, s.requires.0.1, omega (arith, i.loop-k-test.true, s.requires.0.0.few)), (v.room, v.thread))
+    ((s.pre.0.0.spelled, s.pre.0.1, omega (arith, i.loop-k-test.true, s.pre.0.0.few)), (v.room, v.thread))
 
 pub loop-k-preserved : goal.loop-k-preserved
 loop-k-preserved c = let u = c in
     let i = u in
-    let l = i.loop-k in
+    let l = i.loop in
     let s = i in
     let a = s.args in
     let e = u.enter_set.ensures in (
-      levelled-next a.schema.now a.words.now a.j a.x l.heads-1 l.nodes-1 l.filled l.k l.invariant.0 i.loop-k-test.true s.requires.0.0.few
+      levelled-next a.schema.now a.words.now a.j a.x l.heads l.nodes l.filled l.k l.invariant.0 i.loop-test.true s.pre.0.0.few
           u.enter_set.new.1.1.1.1.1.1.0 u.enter_set.new.1.1.1.1.1.1.1.0 e.0 e.1.0 e.1.1.0 e.1.1.1,
       c.heads-1.given ∙ l.invariant.1,
       c.nodes-in-loop-k-1.given ∙ l.invariant.2,
@@ -49,13 +49,13 @@ pub enter-requires : goal.enter-requires
 enter-requires c = let e = c in
     let s = e in
     let v = e.loop-k.invariant.0 in
-    ((s.requires.0.0.spelled, s.requires.0.1, omega arith), ((v.room, v.thread), λ some. absurd (some refl)))
+    ((s.pre.0.0.spelled, s.pre.0.1, omega arith), ((v.room, v.thread), λ some. absurd (some refl)))
 
 pub returns : goal.returns
 returns c = let u = c in
     let e = u in
-    let l = e.loop-k in
+    let l = e.loop in
     let s = e in
     let a = s.args in
-    levelled-all a.schema.now a.words.now a.j a.x l.heads-1 l.nodes-1 l.filled l.k l.invariant.0 e.loop-k-test.false s.requires.0.0.few
-    s.requires.0.1 s.requires.0.2 u.enter.new.1.1.1.1.1.1.0 u.enter.new.1.1.1.1.1.1.1.0 u.enter.ensures.0 u.enter.ensures.1
+    levelled-all a.schema.now a.words.now a.j a.x l.heads l.nodes l.filled l.k l.invariant.0 e.loop-test.false s.pre.0.0.few
+    s.pre.0.1 s.pre.0.2 u.enter.new.1.1.1.1.1.1.0 u.enter.new.1.1.1.1.1.1.1.0 u.enter.ensures.0 u.enter.ensures.1

@@ -6,7 +6,6 @@ use mathlib.Core.List.{List}
 use Prim.Native.Nat.{ℕ}
 use lib.Dec.{ltb}
 use lib.ListN.{take, get_or}
-use borrow.Author.Tests.{not-true, not-false}
 use Rattle.query.specs.declared.Dependency.{Dependency}
 use Rattle.query.specs.Rule.{good_dependency, good_set}
 use Rattle.limits.proofs.dependency_good.Goals as goal
@@ -25,10 +24,10 @@ goes schema d e q = rw (parts schema d, e, q)
 pub returns-then-not-set_good : goal.returns-then-not-set_good
 returns-then-not-set_good c =
     stops (take c.args.relations c.args.widths) c.args.d
-    (sym c.set_good.ensures ∙ not-true _ c.if-not-set_good.true)
+    (sym c.set_good.ensures ∙ c.if-not-set_good.true)
 
 pub returns : goal.returns
 returns c =
     goes (take c.args.relations c.args.widths)
-    c.args.d (sym c.set_good.ensures ∙ not-false _ c.if-not-set_good.false)
-    c.width_of_lem.ensures
+    c.args.d (sym c.set_good.ensures ∙ c.if-not-set_good.false)
+    c.width_of.ensures

@@ -18,8 +18,8 @@ loop-i-init c =
     let variables =
     row_variables (take c.args.relations c.args.widths) q
     in
-    let long : length q.head-1 ≡ 8 = search (mapped-length, rules) in
-    (search rules, long, every-start (safe_cell variables) 0 (take q.arity q.head-1))
+    let long : length q.head ≡ 8 = search (mapped-length, rules) in
+    (search rules, long, every-start (safe_cell variables) 0 (take q.arity q.head))
 
 pub returns-then-not-head_cell_safe : goal.returns-then-not-head_cell_safe
 returns-then-not-head_cell_safe c =
@@ -29,9 +29,9 @@ returns-then-not-head_cell_safe c =
     row_variables (take c.args.relations
     c.args.widths) q
     in
-    let inside : at < length (take q.arity q.head-1) = rw (length-take-le q.arity q.head-1 (omega arith)) (search rules) in
-    let seen : c.head_cell_safe.result ≡ safe_cell variables (get_or (take q.arity q.head-1) at no_cell) =
-    c.head_cell_safe.ensures ∙ ap (safe_cell variables) (sym (get_or-take q.arity q.head-1 at no_cell (search rules)))
+    let inside : at < length (take q.arity q.head) = rw (length-take-le q.arity q.head (omega arith)) (search rules) in
+    let seen : c.head_cell_safe.result ≡ safe_cell variables (get_or (take q.arity q.head) at no_cell) =
+    c.head_cell_safe.ensures ∙ ap (safe_cell variables) (sym (get_or-take q.arity q.head at no_cell (search rules)))
     in
     turn-fails c.loop-i.invariant.2 no_cell inside seen c.if-not-head_cell_safe.true ∙ sym
     (head-safe-is (take c.args.relations
@@ -45,9 +45,9 @@ loop-i-preserved c =
     row_variables (take c.args.relations
     c.args.widths) q
     in
-    let inside : at < length (take q.arity q.head-1) = rw (length-take-le q.arity q.head-1 (omega arith)) (search rules) in
-    let seen : c.head_cell_safe.result ≡ safe_cell variables (get_or (take q.arity q.head-1) at no_cell) =
-    c.head_cell_safe.ensures ∙ ap (safe_cell variables) (sym (get_or-take q.arity q.head-1 at no_cell (search rules)))
+    let inside : at < length (take q.arity q.head) = rw (length-take-le q.arity q.head (omega arith)) (search rules) in
+    let seen : c.head_cell_safe.result ≡ safe_cell variables (get_or (take q.arity q.head) at no_cell) =
+    c.head_cell_safe.ensures ∙ ap (safe_cell variables) (sym (get_or-take q.arity q.head at no_cell (search rules)))
     in
     (search rules, search rules, turn-passes c.loop-i.invariant.2 no_cell inside seen c.if-not-head_cell_safe.false)
 

@@ -8,7 +8,7 @@ use Rattle.query.specs.declared.JoinDependency.{JoinDependency}
 use Rattle.query.specs.Rule.{blank_join}
 use Rattle.limits.proofs.join_blank.Goals as goal
 
-last : (j : JoinDependency) {r : Bool} → j.relation ≡ 0 → j.count ≡ 0 → r ≡ every is_zero j.sets-1 → r ≡ blank_join j
+last : (j : JoinDependency) {r : Bool} → j.relation ≡ 0 → j.count ≡ 0 → r ≡ every is_zero j.sets → r ≡ blank_join j
 last j relation count e = rw (eq-eqb j.relation 0 relation, eq-eqb j.count 0 count) e
 
 pub returns-then-j-ne0 : goal.returns-then-j-ne0

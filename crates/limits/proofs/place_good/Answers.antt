@@ -5,7 +5,6 @@ use mathlib.Core.Bool.{true, false}
 use mathlib.Core.List.{List}
 use Prim.Native.Nat.{ℕ}
 use lib.ListN.{take}
-use borrow.Author.Tests.{not-true, not-false}
 use Rattle.query.specs.declared.Place.{Place}
 use Rattle.query.specs.Rule.{good_place, good_query, head_safe, blank_query}
 use Rattle.query.proofs.Good.{good-query}
@@ -24,13 +23,13 @@ module _ (schema : List ℕ) (p : Place) where
 pub returns-then-not-query_good : goal.returns-then-not-query_good
 returns-then-not-query_good c =
     stops (take c.args.relations c.args.widths)
-    c.args.p c.if-p.true (sym c.query_good.ensures ∙ not-true _ c.if-not-query_good.true)
+    c.args.p c.if-p.true (sym c.query_good.ensures ∙ c.if-not-query_good.true)
 
 pub head_safe-requires : goal.head_safe-requires
 head_safe-requires c =
     let good =
     good-query 12 (take c.args.relations c.args.widths)
-    c.args.p.query (sym c.query_good.ensures ∙ not-false _ c.if-not-query_good.false)
+    c.args.p.query (sym c.query_good.ensures ∙ c.if-not-query_good.false)
     in
     (c.requires, good.arity, good.size)
 
@@ -38,7 +37,7 @@ pub returns-else-not-query_good : goal.returns-else-not-query_good
 returns-else-not-query_good c =
     c.head_safe.ensures ∙ goes (take c.args.relations c.args.widths)
     c.args.p c.if-p.true
-    (sym c.query_good.ensures ∙ not-false _ c.if-not-query_good.false)
+    (sym c.query_good.ensures ∙ c.if-not-query_good.false)
 
 pub returns-else-p : goal.returns-else-p
 returns-else-p c =

@@ -5,14 +5,14 @@ use mathlib.Core.Bool.{Bool, true, false}
 use mathlib.Core.List.{List}
 use Prim.Native.Nat.{ℕ, ◌*◌, ◌≤◌, ◌<◌}
 use lib.ListN.{take, drop}
-use borrow.Author.Tests.{le-leb, lt-leb, not-true, not-false}
+use borrow.Author.Tests.{le-leb, lt-leb}
 use Rattle.query.specs.declared.Query.{Query}
 use Rattle.lists.specs.Tests.{every, in_use, is_zero}
 use Rattle.query.specs.Rule.{good_cell, blank_cell, good_rows, good_up_to, good_query, head_in_use}
 use Rattle.limits.proofs.query_good.Goals as goal
 
-head-by : (q : Query) {used : ℕ} {r t : Bool} → used ≡ head_in_use q → r ≡ in_use used good_cell blank_cell q.head-1 → r ≡ t
-    → in_use (head_in_use q) good_cell blank_cell q.head-1 ≡ t
+head-by : (q : Query) {used : ℕ} {r t : Bool} → used ≡ head_in_use q → r ≡ in_use used good_cell blank_cell q.head → r ≡ t
+    → in_use (head_in_use q) good_cell blank_cell q.head ≡ t
 head-by q e f g = rw (← e) (sym f ∙ g)
 
 module _ (schema : List ℕ) (q : Query) where
@@ -26,21 +26,21 @@ module _ (schema : List ℕ) (q : Query) where
     stops-2 size = rw (le-leb q.arity 8 arity, lt-leb q.size 12 size)
 
     module _ (size : q.size ≤ 12) where
-      stops-3 : in_use (head_in_use q) good_cell blank_cell q.head-1 ≡ false → false ≡ good_query schema q
+      stops-3 : in_use (head_in_use q) good_cell blank_cell q.head ≡ false → false ≡ good_query schema q
       unfolding good_up_to
       stops-3 head = rw (le-leb q.arity 8 arity, le-leb q.size 12 size, head)
 
-      module _ (head : in_use (head_in_use q) good_cell blank_cell q.head-1 ≡ true) where
-        stops-4 : good_rows schema (take q.size q.relations) q.cells-1 ≡ false → false ≡ good_query schema q
+      module _ (head : in_use (head_in_use q) good_cell blank_cell q.head ≡ true) where
+        stops-4 : good_rows schema (take q.size q.relations) q.cells ≡ false → false ≡ good_query schema q
         unfolding good_up_to
         stops-4 rows = rw (le-leb q.arity 8 arity, le-leb q.size 12 size, head, rows)
 
-        module _ (rows : good_rows schema (take q.size q.relations) q.cells-1 ≡ true) where
+        module _ (rows : good_rows schema (take q.size q.relations) q.cells ≡ true) where
           stops-5 : every is_zero (drop q.size q.relations) ≡ false → false ≡ good_query schema q
           unfolding good_up_to
           stops-5 named = rw (le-leb q.arity 8 arity, le-leb q.size 12 size, head, rows, named)
 
-          goes : every is_zero (drop q.size q.relations) ≡ true → every blank_cell (drop (8 * q.size) q.cells-1) ≡ good_query schema q
+          goes : every is_zero (drop q.size q.relations) ≡ true → every blank_cell (drop (8 * q.size) q.cells) ≡ good_query schema q
           unfolding good_up_to
           goes named = rw (le-leb q.arity 8 arity, le-leb q.size 12 size, head, rows, named)
 
@@ -61,7 +61,7 @@ returns-then-not-head_good c =
     c.args.q c.if-arity-gt8.false
     c.if-size-gt12.false
     (head-by c.args.q c.head_in_use.ensures
-    c.head_good.ensures (not-true _ c.if-not-head_good.true))
+    c.head_good.ensures c.if-not-head_good.true)
 
 pub returns-then-not-rows_good : goal.returns-then-not-rows_good
 returns-then-not-rows_good c =
@@ -70,8 +70,8 @@ returns-then-not-rows_good c =
     c.args.q c.if-arity-gt8.false
     c.if-size-gt12.false
     (head-by c.args.q
-    c.head_in_use.ensures c.head_good.ensures (not-false _ c.if-not-head_good.false))
-    (sym c.rows_good.ensures ∙ not-true _ c.if-not-rows_good.true)
+    c.head_in_use.ensures c.head_good.ensures c.if-not-head_good.false)
+    (sym c.rows_good.ensures ∙ c.if-not-rows_good.true)
 
 pub returns-then-not-named_blank : goal.returns-then-not-named_blank
 returns-then-not-named_blank c =
@@ -81,9 +81,9 @@ returns-then-not-named_blank c =
     c.if-arity-gt8.false c.if-size-gt12.false
     (head-by c.args.q
     c.head_in_use.ensures c.head_good.ensures
-    (not-false _ c.if-not-head_good.false))
-    (sym c.rows_good.ensures ∙ not-false _ c.if-not-rows_good.false)
-    (sym c.Named-Blank.ensures ∙ not-true _ c.if-not-named_blank.true)
+    c.if-not-head_good.false)
+    (sym c.rows_good.ensures ∙ c.if-not-rows_good.false)
+    (sym c.Named-Blank.ensures ∙ c.if-not-named_blank.true)
 
 pub returns : goal.returns
 returns c =
@@ -95,6 +95,6 @@ returns c =
     c.if-size-gt12.false
     (head-by c.args.q
     c.head_in_use.ensures c.head_good.ensures
-    (not-false _ c.if-not-head_good.false))
-    (sym c.rows_good.ensures ∙ not-false _ c.if-not-rows_good.false)
-    (sym c.Named-Blank.ensures ∙ not-false _ c.if-not-named_blank.false)
+    c.if-not-head_good.false)
+    (sym c.rows_good.ensures ∙ c.if-not-rows_good.false)
+    (sym c.Named-Blank.ensures ∙ c.if-not-named_blank.false)

@@ -64,7 +64,7 @@ returns-then-not-row_good c =
     c.if-relations-relation.false
     in
     let seen : c.row_good.result ≡ row_test schema cells row (get_or (take size named) row 0) =
-    known-row schema (get_or named row 0) (take 8 (drop (8 * row) cells)) known c.width_of_lem.ensures c.row_good.ensures
+    known-row schema (get_or named row 0) (take 8 (drop (8 * row) cells)) known c.width_of-width.ensures c.row_good.ensures
     ∙ ap (row_test schema cells row) (sym read)
     in
     turn-fails c.loop-row.invariant.4 0 inside seen c.if-not-row_good.true
@@ -84,7 +84,7 @@ loop-row-preserved c =
     c.if-relations-relation.false
     in
     let seen : c.row_good.result ≡ row_test schema cells row (get_or (take size named) row 0) =
-    known-row schema (get_or named row 0) (take 8 (drop (8 * row) cells)) known c.width_of_lem.ensures c.row_good.ensures
+    known-row schema (get_or named row 0) (take 8 (drop (8 * row) cells)) known c.width_of-width.ensures c.row_good.ensures
     ∙ ap (row_test schema cells row) (sym read)
     in
     (search rules, search rules, search rules, search rules, turn-passes c.loop-row.invariant.4 0 inside seen c.if-not-row_good.false)

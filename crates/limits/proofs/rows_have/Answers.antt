@@ -21,7 +21,7 @@ pub row_has-requires : goal.row_has-requires
 row_has-requires c =
     omega (
       arith,
-      c.width_of_lem.ensures,
+      c.width_of-width.ensures,
       width-le _ _ c.requires.0
           (get_or c.args.named c.loop-row.row 0),
     )
@@ -38,7 +38,7 @@ returns-then-row_has c =
     let read : get_or (take size named) row 0 ≡ get_or named row 0 = get_or-take size named row 0 (search rules) in
     let seen : c.row_has.result ≡ row_has schema cells v row (get_or (take size named) row 0) =
     c.row_has.ensures
-    ∙ ap (λ (w : ℕ). member v (variables_of (entries_of (take w (drop (8 * row) cells))))) c.width_of_lem.ensures
+    ∙ ap (λ (w : ℕ). member v (variables_of (entries_of (take w (drop (8 * row) cells))))) c.width_of-width.ensures
     ∙ ap (row_has schema cells v row) (sym read)
     in
     search-finds c.loop-row.invariant.2 0 inside seen c.if-row_has.true
@@ -55,7 +55,7 @@ loop-row-preserved c =
     let read : get_or (take size named) row 0 ≡ get_or named row 0 = get_or-take size named row 0 (search rules) in
     let seen : c.row_has.result ≡ row_has schema cells v row (get_or (take size named) row 0) =
     c.row_has.ensures
-    ∙ ap (λ (w : ℕ). member v (variables_of (entries_of (take w (drop (8 * row) cells))))) c.width_of_lem.ensures
+    ∙ ap (λ (w : ℕ). member v (variables_of (entries_of (take w (drop (8 * row) cells))))) c.width_of-width.ensures
     ∙ ap (row_has schema cells v row) (sym read)
     in
     (search rules, search rules, search-passes c.loop-row.invariant.2 0 inside seen c.if-row_has.false)

@@ -35,7 +35,7 @@ returns-then-left-eq0 c =
     )
 
 pub overflow_shl-result : goal.overflow_shl-result
-overflow_shl-result c = omega (arith, c.width_of_lem.ensures, width-le _ _ c.requires c.args.relation)
+overflow_shl-result c = omega (arith, c.width_of-width.ensures, width-le _ _ c.requires c.args.relation)
 
 pub returns : goal.returns
 returns c =
@@ -44,6 +44,6 @@ returns c =
     let relation = c.args.relation in
     let good = c.requires in
     let fits : length widths ≡ 8 = search rules in
-    within (take relations widths) relation c.args.left c.width_of_lem.result
+    within (take relations widths) relation c.args.left c.width_of-width.result
     (known-relation relations widths relation (omega (arith, (relations-bounds _ _ good).1)) c.if-relations-relation.false)
-    (ne_eqb _ 0 c.if-left-eq0.false) c.width_of_lem.ensures (width-le _ _ good relation)
+    (ne_eqb _ 0 c.if-left-eq0.false) c.width_of-width.ensures (width-le _ _ good relation)

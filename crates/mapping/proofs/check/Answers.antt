@@ -2,7 +2,6 @@
 -- Assumes nothing.
 -- The lengths of the arrays are the types'
 use borrow.Author.Rules.{rules}
-use borrow.Author.Tests.{not-true, not-false}
 use mathlib.Core.Path.{◌≡◌, sym, ◌∙◌}
 use mathlib.Core.Bool.{false≢true}
 use Prim.Native.Nat.{◌<◌}
@@ -68,10 +67,10 @@ returns-then-not-carries c =
     check-fails source target at12.args.images sizes sizes'
     (λ w.
     false≢true
-    (sym (not-true _ c.if-not-carries.true)
+    (sym c.if-not-carries.true
     ∙ c.carries.ensures.1
     (good-head source target at12.args.images sizes sizes' (storable-size source at12.requires.0) (storable-size target at12.requires.1)
-    at5.flat-from.result at4.flat-to.result at5.flat-from.ensures at4.flat-to.ensures w)))
+    at5.flat.result at4.flat-to.result at5.flat.ensures at4.flat-to.ensures w)))
 
 pub all_land-requires : goal.all_land-requires
 all_land-requires c =
@@ -90,10 +89,10 @@ returns-then-not-all_land c =
     check-fails source target at14.args.images sizes sizes'
     (λ w.
     false≢true
-    (sym (not-true _ c.if-not-all_land.true)
+    (sym c.if-not-all_land.true
     ∙ c.all_land.ensures.1
     (good-rows source target at14.args.images sizes sizes' (storable-size source at14.requires.0) (storable-size target at14.requires.1)
-    at7.flat-from.result at6.flat-to.result at7.flat-from.ensures at6.flat-to.ensures w)))
+    at7.flat.result at6.flat-to.result at7.flat.ensures at6.flat-to.ensures w)))
 
 pub returns : goal.returns
 returns c =
@@ -109,14 +108,14 @@ returns c =
     let images = at15.args.images in
     let long = images-long (at15) in
     let some : 0 < source.size = search rules in
-    check-tells source target images sizes sizes' c.rest_blank.result at10.if-source-target.false (
+    check-tells source target images sizes sizes' c.rest_blank.result at10.if1.false (
       (λ e.
           parts-good source target images sizes sizes' (storable-size source at15.requires.0) (storable-size target at15.requires.1)
-          at8.flat-from.result at7.flat-to.result at8.flat-from.ensures at7.flat-to.ensures long some
-          (at4.carries.ensures.0 (not-false _ c.if-not-carries.false))
-          (c.all_land.ensures.0 (not-false _ c.if-not-all_land.false)) (c.rest_blank.ensures.0 e)),
+          at8.flat.result at7.flat2.result at8.flat.ensures at7.flat2.ensures long some
+          (at4.carries.ensures.0 c.if-not-carries.false)
+          (c.all_land.ensures.0 c.if-not-all_land.false) (c.rest_blank.ensures.0 e)),
       (λ w.
           c.rest_blank.ensures.1
           (good-rest source target images sizes sizes' (storable-size source at15.requires.0) (storable-size target at15.requires.1)
-          at8.flat-from.result at7.flat-to.result at8.flat-from.ensures at7.flat-to.ensures w)),
+          at8.flat.result at7.flat2.result at8.flat.ensures at7.flat2.ensures w)),
     )

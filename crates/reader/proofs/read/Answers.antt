@@ -30,7 +30,7 @@ returns-in-Parts c =
     ap outcome_reply c.read_parts.ensures
     ∙ outcome-says (read_all (stretches after-n.in-Parts.n start.args.file.now (drop 2 start.args.file.now))) ∙ sym (ap read_outcome
     (ap (λ (o : Reply (List (List ℕ))). o >>= read_all)
-    (accepts start.args.file.now after-n.in-Parts.n (sym after-n.in-Parts.is ∙ after-read-directory.read_directory.ensures)).parts))
+    (accepts start.args.file.now after-n.in-Parts.n (sym after-n.in-Parts.is ∙ after-read-directory.read-directory.ensures)).parts))
 
 pub returns-in-Broken : goal.returns-in-Broken
 unfolding read_file ◌>>=◌
@@ -41,4 +41,4 @@ returns-in-Broken c =
     ap outcome_reply c.refusal.ensures ∙ sym (ap read_outcome
     (ap (λ (o : Reply (List (List ℕ))). o >>= read_all)
     (refuses (directory start.args.file.now) after-number.in-Broken.number
-    (sym after-number.in-Broken.is ∙ after-read-directory.read_directory.ensures))))
+    (sym after-number.in-Broken.is ∙ after-read-directory.read-directory.ensures))))

@@ -33,10 +33,10 @@ returns-then-chain c =
     let after-if2 = c in
     let after-word16 = after-if2 in
     let start = after-word16 in
-    let n = after-word16.word16-n.result in
+    let n = after-word16.word16.result in
     let file = start.args.file.now in
     ap Parts (sym (length-stretches n file (drop 2 file)))
-    ∙ sym (ap directory_read (full-table start.args.file.now after-word16.word16-n.result after-word16.word16-n.ensures.0 after-if2.if-n-lt2.false
+    ∙ sym (ap directory_read (full-table start.args.file.now after-word16.word16.result after-word16.word16.ensures.0 after-if2.if-n-lt2.false
     c.if-n-gt10.false c.if-file-n.false true (sym c.chain.ensures ∙ c.if-chain.true)))
 
 pub returns : goal.returns
@@ -44,5 +44,5 @@ returns c =
     let after-if2 = c in
     let after-word16 = after-if2 in
     let start = after-word16 in
-    sym (ap directory_read (full-table start.args.file.now after-word16.word16-n.result after-word16.word16-n.ensures.0 after-if2.if-n-lt2.false
+    sym (ap directory_read (full-table start.args.file.now after-word16.word16.result after-word16.word16.ensures.0 after-if2.if-n-lt2.false
     c.if-n-gt10.false c.if-file-n.false false (sym c.chain.ensures ∙ c.if-chain.false)))

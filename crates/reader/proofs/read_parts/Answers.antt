@@ -1,5 +1,5 @@
 -- ---- the parts
-use borrow.Author.Tests.{leb-true, not-true, not-false}
+use borrow.Author.Tests.{leb-true}
 use mathlib.Core.Path.{◌≡◌, sym, ap, refl, ◌∙◌}
 use mathlib.Core.Bool.{true, false}
 use mathlib.Core.List.{List, [], ◌∷◌}
@@ -47,8 +47,8 @@ relations-bad : (o : Reply (ℕ × List ℕ)) (r : RelationsRead) → r ≡ rela
 relations-bad (gives rs) r e g = let t : r.good ≡ true = ap (λ (r : RelationsRead). r.good) e in let z : ◌≡◌ {A = ℕ} 0 1 = cc in absurd (omega arith)
 relations-bad (refused n) r e g = (n, refl)
 
-relations-some : (o : Reply (ℕ × List ℕ)) (r : RelationsRead) → r ≡ relations_read o → r.good ≡ true → o ≡ gives (r.count, r.widths-1)
-relations-some (gives rs) r e g = ap (λ (r : RelationsRead). gives (r.count, r.widths-1)) (sym e)
+relations-some : (o : Reply (ℕ × List ℕ)) (r : RelationsRead) → r ≡ relations_read o → r.good ≡ true → o ≡ gives (r.count, r.widths)
+relations-some (gives rs) r e g = ap (λ (r : RelationsRead). gives (r.count, r.widths)) (sym e)
 relations-some (refused n) r e g = let t : r.good ≡ false = ap (λ (r : RelationsRead). r.good) e in let z : ◌≡◌ {A = ℕ} 0 1 = cc in absurd (omega arith)
 
 dependencies-bad : (o : Reading (ℕ × List Dependency)) (r : DependenciesRead) → r ≡ dependencies_read o → r.good ≡ false → o ≡ none
@@ -57,17 +57,17 @@ dependencies-bad (got ds rest) r e g =
     let t : r.good ≡ true = ap (λ (r : DependenciesRead). r.good) e in let z : ◌≡◌ {A = ℕ} 0 1 = cc in absurd (omega arith)
 
 dependencies-some : (o : Reading (ℕ × List Dependency)) (r : DependenciesRead) → r ≡ dependencies_read o → r.good ≡ true
-    → (rest : List ℕ) × (o ≡ got (r.held, r.dependencies-1) rest)
+    → (rest : List ℕ) × (o ≡ got (r.held, r.dependencies) rest)
 dependencies-some none r e g =
     let t : r.good ≡ false = ap (λ (r : DependenciesRead). r.good) e in let z : ◌≡◌ {A = ℕ} 0 1 = cc in absurd (omega arith)
-dependencies-some (got ds rest) r e g = (rest, ap (λ (r : DependenciesRead). got (r.held, r.dependencies-1) rest) (sym e))
+dependencies-some (got ds rest) r e g = (rest, ap (λ (r : DependenciesRead). got (r.held, r.dependencies) rest) (sym e))
 
 joins-bad : (o : Reply (ℕ × List JoinDependency)) (r : JoinsRead) → r ≡ joins_read o → r.good ≡ false → (n : ℕ) × (o ≡ refused n)
 joins-bad (gives js) r e g = let t : r.good ≡ true = ap (λ (r : JoinsRead). r.good) e in let z : ◌≡◌ {A = ℕ} 0 1 = cc in absurd (omega arith)
 joins-bad (refused n) r e g = (n, refl)
 
-joins-some : (o : Reply (ℕ × List JoinDependency)) (r : JoinsRead) → r ≡ joins_read o → r.good ≡ true → o ≡ gives (r.joined, r.joins-1)
-joins-some (gives js) r e g = ap (λ (r : JoinsRead). gives (r.joined, r.joins-1)) (sym e)
+joins-some : (o : Reply (ℕ × List JoinDependency)) (r : JoinsRead) → r ≡ joins_read o → r.good ≡ true → o ≡ gives (r.joined, r.joins)
+joins-some (gives js) r e g = ap (λ (r : JoinsRead). gives (r.joined, r.joins)) (sym e)
 joins-some (refused n) r e g = let t : r.good ≡ false = ap (λ (r : JoinsRead). r.good) e in let z : ◌≡◌ {A = ℕ} 0 1 = cc in absurd (omega arith)
 
 joins-refused : (schema bytes : List ℕ) (n : ℕ) → read_joins schema bytes ≡ refused n → read_joins schema bytes ≡ refused bad_join
@@ -133,16 +133,16 @@ module _ (file : List ℕ) (n : ℕ) (low : 2 ≤ n) (part0 : List ℕ) (e₀ : 
       sym (ap outcome_of (all file n low part0 (stretch file (table_at file 1)) e₀ refl
       ∙ bad-relations-part part0 (stretch file (table_at file 1)) (stretches (n - 2) file (drop 10 file)) w'))
 
-  good-count : Bytes file → rs.good ≡ true → good_relations rs.count rs.widths-1 ≡ true
+  good-count : Bytes file → rs.good ≡ true → good_relations rs.count rs.widths ≡ true
   good-count hb g =
       let w = relations-some (complete bad_relations (relations.get part0)) rs er g in
       let b : Bytes part0 = rw e₀ (stretch-bytes file (table_at file 0) hb) in
-      (good-relations (rs.count, rs.widths-1) (complete-get bad_relations relations relations-lawful part0 (rs.count, rs.widths-1) b w).0).1
+      (good-relations (rs.count, rs.widths) (complete-get bad_relations relations relations-lawful part0 (rs.count, rs.widths) b w).0).1
 
   module _ (part1 : List ℕ) (e₁ : part1 ≡ stretch file (table_at file 1)) (g₀ : rs.good ≡ true) (ds : DependenciesRead)
-      (ed : ds ≡ dependencies_read ((dependencies (take rs.count rs.widths-1)).get part1)) where
+      (ed : ds ≡ dependencies_read ((dependencies (take rs.count rs.widths)).get part1)) where
     schema : List ℕ
-    schema = take rs.count rs.widths-1
+    schema = take rs.count rs.widths
 
     refuses-dependencies : ds.good ≡ false → outcome_of (refused bad_dependency) ≡ outcome_of (read_all (stretches n file (drop 2 file)))
     unfolding schema
@@ -150,24 +150,24 @@ module _ (file : List ℕ) (n : ℕ) (low : 2 ≤ n) (part0 : List ℕ) (e₀ : 
         let w₀ = relations-some (complete bad_relations (relations.get part0)) rs er g₀ in
         let w₁ = dependencies-bad ((dependencies schema).get part1) ds ed g in
         sym (ap outcome_of (all file n low part0 part1 e₀ e₁
-        ∙ bad-dependencies-part part0 part1 (stretches (n - 2) file (drop 10 file)) (rs.count, rs.widths-1) w₀ w₁))
+        ∙ bad-dependencies-part part0 part1 (stretches (n - 2) file (drop 10 file)) (rs.count, rs.widths) w₀ w₁))
 
     module _ (hb : Bytes file) (g₁ : ds.good ≡ true) where
       -- the bytes after the functional dependencies
-      tail_of : (1 + 3 * ds.held ≤ length part1) × ((dependencies (take rs.count rs.widths-1)).get part1
-          ≡ got (ds.held, ds.dependencies-1) (drop (1 + 3 * ds.held) part1))
+      tail_of : (1 + 3 * ds.held ≤ length part1) × ((dependencies (take rs.count rs.widths)).get part1
+          ≡ got (ds.held, ds.dependencies) (drop (1 + 3 * ds.held) part1))
       unfolding schema
       tail_of =
           let (rest, w₁) = dependencies-some ((dependencies schema).get part1) ds ed g₁ in
           let b : Bytes part1 = rw e₁ (stretch-bytes file (table_at file 1) hb) in
-          let (room, is) = rest-starts schema part1 (ds.held, ds.dependencies-1) rest b w₁ in
-          (room, w₁ ∙ ap (λ (r : List ℕ). got (ds.held, ds.dependencies-1) r) is)
+          let (room, is) = rest-starts schema part1 (ds.held, ds.dependencies) rest b w₁ in
+          (room, w₁ ∙ ap (λ (r : List ℕ). got (ds.held, ds.dependencies) r) is)
 
-      module _ (js : JoinsRead) (ej : js ≡ joins_read (read_joins (take rs.count rs.widths-1) (take (length part1 - (1 + 3 * ds.held))
+      module _ (js : JoinsRead) (ej : js ≡ joins_read (read_joins (take rs.count rs.widths) (take (length part1 - (1 + 3 * ds.held))
           (drop (1 + 3 * ds.held) part1)))) where
-        tail-read : js ≡ joins_read (read_joins (take rs.count rs.widths-1) (drop (1 + 3 * ds.held) part1))
+        tail-read : js ≡ joins_read (read_joins (take rs.count rs.widths) (drop (1 + 3 * ds.held) part1))
         tail-read =
-            ej ∙ ap (λ (l : List ℕ). joins_read (read_joins (take rs.count rs.widths-1) l))
+            ej ∙ ap (λ (l : List ℕ). joins_read (read_joins (take rs.count rs.widths) l))
             (take_all (length part1 - (1 + 3 * ds.held)) (drop (1 + 3 * ds.held) part1) (omega (arith, length-drop (1 + 3 * ds.held) part1)))
 
         refuses-joins : js.good ≡ false → outcome_of (refused bad_join) ≡ outcome_of (read_all (stretches n file (drop 2 file)))
@@ -177,20 +177,20 @@ module _ (file : List ℕ) (n : ℕ) (low : 2 ≤ n) (part0 : List ℕ) (e₀ : 
             let (m, w) = joins-bad (read_joins schema (drop (1 + 3 * ds.held) part1)) js tail-read g in
             let w₂ = joins-refused schema (drop (1 + 3 * ds.held) part1) m w in
             sym (ap outcome_of (all file n low part0 part1 e₀ e₁
-            ∙ bad-joins-part part0 part1 (stretches (n - 2) file (drop 10 file)) (rs.count, rs.widths-1) w₀ (ds.held, ds.dependencies-1)
+            ∙ bad-joins-part part0 part1 (stretches (n - 2) file (drop 10 file)) (rs.count, rs.widths) w₀ (ds.held, ds.dependencies)
             (drop (1 + 3 * ds.held) part1) tail_of.1 w₂))
 
         reads-places : js.good ≡ true
-            → record_read (rs.count, rs.widths-1) (ds.held, ds.dependencies-1) (js.joined, js.joins-1)
-            (read_places (take rs.count rs.widths-1) (stretches (n - 2) file (drop 10 file)))
+            → record_read (rs.count, rs.widths) (ds.held, ds.dependencies) (js.joined, js.joins)
+            (read_places (take rs.count rs.widths) (stretches (n - 2) file (drop 10 file)))
             ≡ outcome_of (read_all (stretches n file (drop 2 file)))
         unfolding schema
         reads-places g =
             let w₀ = relations-some (complete bad_relations (relations.get part0)) rs er g₀ in
             let w₂ = joins-some (read_joins schema (drop (1 + 3 * ds.held) part1)) js tail-read g in
             sym (ap outcome_of (all file n low part0 part1 e₀ e₁)
-            ∙ parts-places part0 part1 (stretches (n - 2) file (drop 10 file)) (rs.count, rs.widths-1) w₀ (ds.held, ds.dependencies-1)
-            (drop (1 + 3 * ds.held) part1) tail_of.1 (js.joined, js.joins-1) w₂)
+            ∙ parts-places part0 part1 (stretches (n - 2) file (drop 10 file)) (rs.count, rs.widths) w₀ (ds.held, ds.dependencies)
+            (drop (1 + 3 * ds.held) part1) tail_of.1 (js.joined, js.joins) w₂)
 
 pub part-requires : goal.part-requires
 part-requires c = (
@@ -205,7 +205,7 @@ returns-then-not-first c =
     let start = after-part in
     c.refusal.ensures ∙ refuses-relations start.args.file.now start.args.n start.requires.0.0 after-part.part.result.now
     after-part.part.ensures after-read-relations.read_relations-first.result after-read-relations.read_relations-first.ensures
-    (not-true after-read-relations.read_relations-first.result.good c.if-not-first.true)
+    c.if-not-first.true
 
 pub part-second-requires : goal.part-second-requires
 part-second-requires c =
@@ -225,16 +225,16 @@ module _ (c : goal.Else-not-first) where
   abbrev start : tie.Start
   start = after-part
 
-  first_good : after-read-relations.read_relations-first.result.good ≡ true
-  first_good = not-false after-read-relations.read_relations-first.result.good c.if-not-first.false
+  first_good : after-read-relations.read-relations.result.good ≡ true
+  first_good = c.if-not-first.false
 
   file-bytes : Bytes start.args.file.now
-  file-bytes = bytes-known start.args.file.now (λ i. (after-part.type_inv.file i).fits)
+  file-bytes = bytes-known start.args.file.now (λ i. (after-part.shared-slice-known.given i).fits)
 
-  relations-known : good_relations after-read-relations.read_relations-first.result.count after-read-relations.read_relations-first.result.widths ≡ true
+  relations-known : good_relations after-read-relations.read-relations.result.count after-read-relations.read-relations.result.widths ≡ true
   relations-known =
-      good-count start.args.file.now start.args.n start.requires.0.0 after-part.part.result.now after-part.part.ensures
-      after-read-relations.read_relations-first.result after-read-relations.read_relations-first.ensures file-bytes first_good
+      good-count start.args.file.now start.args.n start.pre.0.0 after-part.part.result.now after-part.part.ensures
+      after-read-relations.read-relations.result after-read-relations.read-relations.ensures file-bytes first_good
 
 pub read_dependencies-functional-requires : goal.read_dependencies-functional-requires
 read_dependencies-functional-requires c = relations-known c
@@ -246,9 +246,9 @@ returns-then-not-functional c =
     let e = after-part2 in
     c.refusal-then-not-functional.ensures ∙ refuses-dependencies (start e).args.file.now (start e).args.n (start e).requires.0.0 (after-part e).part.result.now
     (after-part e).part.ensures (after-read-relations e).read-relations.result (after-read-relations e).read-relations.ensures
-    after-part2.part-second.result.now after-part2.part-second.ensures (first_good e)
+    after-part2.part2.result.now after-part2.part2.ensures (first_good e)
     after-read-dependencies.read_dependencies-functional.result after-read-dependencies.read_dependencies-functional.ensures
-    (not-true after-read-dependencies.read_dependencies-functional.result.good c.if-not-functional.true)
+    c.if-not-functional.true
 
 -- What is known where the functional dependencies are good too
 module _ (c : goal.After-dependencies-1) where
@@ -261,15 +261,15 @@ module _ (c : goal.After-dependencies-1) where
   abbrev first : tie.Else1
   first = after-part2
 
-  second-good : after-read-dependencies.read_dependencies-functional.result.good ≡ true
-  second-good = not-false after-read-dependencies.read_dependencies-functional.result.good c.if-not-functional.false
+  second-good : after-read-dependencies.read-dependencies.result.good ≡ true
+  second-good = c.if-not-functional.false
 
-  tail-fits : 1 + 3 * after-read-dependencies.read_dependencies-functional.result.held ≤ length after-part2.part-second.result.now
+  tail-fits : 1 + 3 * after-read-dependencies.read-dependencies.result.held ≤ length after-part2.part2.result.now
   tail-fits =
       (tail_of (start first).args.file.now (start first).args.n (start first).pre.0.0 (after-part first).part.result.now
       (after-part first).part.ensures (after-read-relations first).read-relations.result (after-read-relations first).read-relations.ensures
-      after-part2.part-second.result.now after-part2.part-second.ensures (first_good first)
-      after-read-dependencies.read_dependencies-functional.result after-read-dependencies.read_dependencies-functional.ensures (file-bytes first) second-good).0
+      after-part2.part2.result.now after-part2.part2.ensures (first_good first)
+      after-read-dependencies.read-dependencies.result after-read-dependencies.read-dependencies.ensures (file-bytes first) second-good).0
 
 pub slice_bounds-read_joins-count : goal.slice_bounds-read_joins-count
 slice_bounds-read_joins-count c = let room = tail-fits c in omega arith
@@ -293,7 +293,7 @@ returns-then-not-rest c =
     (after-part2 d).part2.result.now (after-part2 d).part2.ensures (first_good e)
     (after-read-dependencies d).read-dependencies.result (after-read-dependencies d).read-dependencies.ensures (file-bytes e) (second-good d)
     after-read-joins.read_joins-rest.result after-read-joins.read_joins-rest.ensures
-    (not-true after-read-joins.read_joins-rest.result.good c.if-not-rest.true)
+    c.if-not-rest.true
 
 pub read_places-requires : goal.read_places-requires
 read_places-requires c =
@@ -310,4 +310,4 @@ returns c =
     (after-part2 d).part2.result.now (after-part2 d).part2.ensures (first_good e)
     (after-read-dependencies d).read-dependencies.result (after-read-dependencies d).read-dependencies.ensures (file-bytes e) (second-good d)
     after-read-joins.read_joins-rest.result after-read-joins.read_joins-rest.ensures
-    (not-false after-read-joins.read_joins-rest.result.good c.if-not-rest.false)
+    c.if-not-rest.false

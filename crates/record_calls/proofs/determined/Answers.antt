@@ -6,7 +6,6 @@ use native.Mathlib.Nat.{lt_of_le_of_lt}
 use lib.Count.{ones-le}
 use lib.Dec.{lit<}
 use lib.ListN.{length}
-use borrow.Author.Tests.{not-true, not-false}
 use borrow.Author.Rules.{rules}
 use Rattle.record.specs.Rule.{good_record}
 use Rattle.lists.proofs.Loops.{mapped-length}
@@ -17,12 +16,12 @@ use Rattle.record_calls.proofs.determined.Goals as goal
 -- what the tests passed so far tell
 
 good : (c : goal.Else-not-is_good) → good_record c.args.given ≡ true
-good c = sym c.is_good.ensures ∙ not-false _ c.if-not-is_good.false
+good c = sym c.is_good.ensures ∙ c.if-not-is_good.false
 
 pub returns-then-not-is_good : goal.returns-then-not-is_good
 returns-then-not-is_good c =
     determined-broken c.args.given c.args.relation
-    c.args.left (sym c.is_good.ensures ∙ not-true _ c.if-not-is_good.true)
+    c.args.left (sym c.is_good.ensures ∙ c.if-not-is_good.true)
 
 pub set_good-requires : goal.set_good-requires
 set_good-requires c = (good-record c.args.given (good (goal.at.set_good-requires c).Else-not-is_good)).relations
@@ -30,7 +29,7 @@ set_good-requires c = (good-record c.args.given (good (goal.at.set_good-requires
 pub returns-then-not-set_good : goal.returns-then-not-set_good
 returns-then-not-set_good c =
     determined-unfit c.args.given c.args.relation
-    c.args.left (good (goal.at.returns-then-not-set_good c).Else-not-is_good) (sym c.set_good.ensures ∙ not-true _ c.if-not-set_good.true)
+    c.args.left (good (goal.at.returns-then-not-set_good c).Else-not-is_good) (sym c.set_good.ensures ∙ c.if-not-set_good.true)
 
 pub closed_columns-mask-requires : goal.closed_columns-mask-requires
 closed_columns-mask-requires c = (
@@ -45,8 +44,8 @@ overflow_cast-result c = record { fits = lt_of_le_of_lt (ones-le 8 _ (search rul
 pub returns : goal.returns
 returns c =
     let given = c.args.given in
-    let long : length given.dependencies-1 ≡ 32 = search (mapped-length, rules) in
+    let long : length given.dependencies ≡ 32 = search (mapped-length, rules) in
     determined-done c.args.given
     c.args.relation c.args.left
-    (good (goal.at.returns c).Else-not-is_good) (sym c.set_good.ensures ∙ not-false _ c.if-not-set_good.false) long
+    (good (goal.at.returns c).Else-not-is_good) (sym c.set_good.ensures ∙ c.if-not-set_good.false) long
     c.closed_columns-mask.result c.closed_columns-mask.ensures

@@ -5,7 +5,7 @@ use mathlib.Core.Bool.{true}
 use mathlib.Core.Option.{none, some}
 use Prim.Native.Nat.{ℕ}
 use native.Mathlib.Omega.{arith}
-use borrow.Author.Tests.{not-true, not-false}
+use borrow.Author.Tests.{not-false}
 use Rattle.record.specs.declared.Record.{Record}
 use Rattle.record.specs.declared.Lookup.TheVariants as lookup
 use Rattle.query.specs.Rule.{no_place}
@@ -19,14 +19,14 @@ use Rattle.record_calls.proofs.drop_query.Goals as goal
 pub returns-then-not-is_good : goal.returns-then-not-is_good
 returns-then-not-is_good c =
     c.refused.ensures ∙ drop-broken c.args.given c.args.place
-    (sym c.is_good.ensures ∙ not-true _ c.if-not-is_good.true)
+    (sym c.is_good.ensures ∙ c.if-not-is_good.true)
 
 pub returns-in_default : goal.returns-in_default
 returns-in_default c =
     let given = c.args.given in
     let place = c.args.place in
     let good : good_record given ≡ true =
-    sym c.is_good.ensures ∙ not-false _ c.if-not-is_good.false
+    sym c.is_good.ensures ∙ c.if-not-is_good.false
     in
     let told = c.enum_told-1.given in
     let number : c.number.result ≡ told.0.0 = c.number.ensures ∙ ap number_of told.1 in

@@ -3,7 +3,6 @@
 use mathlib.Core.Path.{sym, ap, ◌∙◌}
 use mathlib.Core.Option.{some}
 use lib.ListN.{length}
-use borrow.Author.Tests.{not-true, not-false}
 use Rattle.record.specs.declared.Record.{Record}
 use Rattle.query.specs.Rule.{good_relations}
 use Rattle.record_calls.specs.Calls.{empty_record}
@@ -22,13 +21,13 @@ returns-then-not-relations_good c =
     ∙ open-unfit c.args.widths.now
     (sym (c.relations_good.ensures ∙ ap
     (good_relations (length c.args.widths.now))
-    c.padded_widths-padded.ensures) ∙ not-true _ c.if-not-relations_good.true)
+    c.padded_widths-padded.ensures) ∙ c.if-not-relations_good.true)
 
 pub returns : goal.returns
 returns c =
     c.done.ensures ∙ open_done c.args.widths.now
     (sym (c.relations_good.ensures ∙ ap
     (good_relations (length c.args.widths.now))
-    c.padded_widths-padded.ensures) ∙ not-false _ c.if-not-relations_good.false) c.opened.result
+    c.padded_widths-padded.ensures) ∙ c.if-not-relations_good.false) c.opened.result
     (c.opened.ensures ∙ ap (empty_record (length c.args.widths.now))
     c.padded_widths-padded.ensures)

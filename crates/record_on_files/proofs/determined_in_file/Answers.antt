@@ -17,7 +17,7 @@ returns-in-Done c =
     let l = c.leave_columns.ensures in
     let p : columns_reply d.determined.result ≡ determined_in a.file.now a.relation a.left =
     d.determined.ensures
-    ∙ sym (read_done a.file.now o.read-outcome.result o.read-outcome.ensures (λ r. determined_columns r a.relation a.left) t.in-Done.is) in
+    ∙ sym (read_done a.file.now o.read.result o.read.ensures (λ r. determined_columns r a.relation a.left) t.enum_told.given.1) in
     (l.0 ∙ ap returned p, (l.1.0 ∙ leaves-same p (λ t. t.0) a.columns.now, l.1.1 ∙ leaves-same p (λ t. t.1) a.count.now))
 
 pub returns-in-Refused : goal.returns-in-Refused

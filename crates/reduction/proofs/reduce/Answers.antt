@@ -1,6 +1,5 @@
 -- `reduction::reduce` meets its contract, by `Results`: each answer follows the test that decides it. Assumes nothing.
 use Rattle.std.proofs.Common.{◌≡◌, ◌<◌, true, sym, ap, ◌∙◌}
-use borrow.Author.Tests.{not-true, not-false}
 use Rattle.record.specs.Rule.{good_record}
 use Rattle.record.specs.declared.Lookup.TheVariants as lookup
 use Rattle.record.specs.internal.Lookup.{number_of, filled_place, vacant_place}
@@ -12,12 +11,12 @@ use Rattle.reduction.proofs.reduce.Goals as goal
 pub returns-then-not-is_good : goal.returns-then-not-is_good
 returns-then-not-is_good c =
     let a = c.args in
-    reduce-broken a.given a.source a.target c.refused.result (sym c.is_good.ensures ∙ not-true _ c.if-not-is_good.true)
+    reduce-broken a.given a.source a.target c.refused.result (sym c.is_good.ensures ∙ c.if-not-is_good.true)
     c.refused.ensures
 
 -- what the tests passed so far tell
 good : (c : goal.Else-not-is_good) → good_record c.args.given ≡ true
-good c = sym c.is_good.ensures ∙ not-false _ c.if-not-is_good.false
+good c = sym c.is_good.ensures ∙ c.if-not-is_good.false
 
 low : (c : goal.In-At) → c.args.target < 8
 low c =
@@ -70,7 +69,7 @@ store_reduced-requires c =
     let found = found2 in
     let else1 = found in
     let a = else1.args in
-    able a.given a.source a.target found.in-At-found.from found2.in-At-found-2.to (good else1) (at_source found) (at_target (goal.at.store_reduced-requires c).In-At-found-2-2)
+    able a.given a.source a.target found.found.given.0.0 found2.in-At-found-2.to (good else1) (at_source found) (at_target (goal.at.store_reduced-requires c).In-At-found-2-2)
 
 pub returns : goal.returns
 returns c =
@@ -79,6 +78,6 @@ returns c =
     let told-target = found in
     let else1 = told-target in
     let a = else1.args in
-    reduce-done a.given a.source a.target c.store_reduced.result (good else1) (low told-target) found.in-At-found.from
+    reduce-done a.given a.source a.target c.store_reduced.result (good else1) (low told-target) found.found.given.0.0
     found2.in-At-found-2.to
     (at_source found) (at_target (goal.at.returns c).In-At-found-2-2) c.store_reduced.ensures

@@ -99,17 +99,17 @@ returns c =
     let is = chased after schema widths good in
     let p = pruned cored schema widths good in
     let long : 8 * q.size ≤ length q.cells = omega (arith, s.cells, (good-query 12 schema q good).size) in
-    let query-is = cored.to_query-query.ensures in
-    let tableau-is = again.from_query-2.ensures in
-    let same : q.arity ≡ again.from_query-2.result.arity =
+    let query-is = cored.to-query.ensures in
+    let tableau-is = again.from-query2.ensures in
+    let same : q.arity ≡ again.from-query2.result.arity =
     sym (ap (λ (t : Tableau). t.arity) tableau-is ∙ p.same-arity ∙ ap (λ (x : Query). x.arity) query-is ∙ is.same-arity)
     in
-    shortened schema _ q (stored_of after.chase-chased.result.query) cored.core_of-result.result after.chase-chased.result.count
+    shortened schema _ q (stored_of after.chase.result.query) cored.core-of.result after.chase.result.count
     found.find-mapped.result
     widths long good safe
-    (chased-query schema widths a.dependencies a.held q s good after.chase-chased.result is (roomy after))
-    (chased-counted schema widths a.dependencies a.held q s good after.chase-chased.result is (roomy after))
+    (chased-query schema widths a.dependencies a.held q s good after.chase.result is (roomy after))
+    (chased-counted schema widths a.dependencies a.held q s good after.chase.result is (roomy after))
     (rw query-is at p)
     (subst (λ (T : theory.Query). IsMapped (query_of schema q) T found.find-mapped.result)
-    (ap (λ (t : Tableau). query_of schema (as_query t)) tableau-is ∙ tableau-query schema cored.core_of-result.result (result-sized again) p.good narrow)
+    (ap (λ (t : Tableau). query_of schema (as_query t)) tableau-is ∙ tableau-query schema cored.core-of.result (result-sized again) p.good narrow)
     (found.find-mapped.ensures schema narrow good (result-good again schema widths good) same))

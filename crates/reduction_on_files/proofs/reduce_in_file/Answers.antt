@@ -15,7 +15,7 @@ store_reduction-requires c =
 pub returns-in-Done : goal.returns-in-Done
 returns-in-Done c =
     let a = c.args in
-    reduce-done a.file.now a.source a.target a.out-1.now a.size.now a.count.now a.mapping-1.now
+    reduce-done a.file.now a.source a.target a.out.now a.size.now a.count.now a.mapping.now
     c.read-outcome.result.«record»
     (outcome-done (read_file a.file.now)
     c.read-outcome.result
@@ -30,6 +30,6 @@ returns-in-Done c =
 pub returns-in-Refused : goal.returns-in-Refused
 returns-in-Refused c =
     let a = c.args in
-    reduce-refused a.file.now a.source a.target a.out-1.now a.size.now a.count.now a.mapping-1.now _
+    reduce-refused a.file.now a.source a.target a.out.now a.size.now a.count.now a.mapping.now _
     (outcome-refused (read_file a.file.now) c.read-outcome.result _ c.read-outcome.ensures
     c.in-Refused.is)

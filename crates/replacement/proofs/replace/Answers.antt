@@ -6,6 +6,6 @@ pub returns : goal.returns
 returns c =
     let t = c.args.t in
     ap₂
-    (λ head cells. record { arity = t.arity; size = t.size; head = head; relations = t.relations-1; cells = cells })
+    (λ head cells. record { arity = t.arity; size = t.size; head = head; relations = t.relations; cells = cells })
     c.substitute_head-new_head.ensures
     c.substitute_cells-new_cells.ensures

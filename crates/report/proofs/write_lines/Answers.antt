@@ -33,8 +33,8 @@ write_place-requires c =
     let single = source in
     let other = single in
     let s = other in
-    listable s.args.given s.args.place s.requires.2 s.requires.1 (eight s) s.requires.3 other.other_place-target.result other.other_place-target.ensures
-    single.alone-single.result single.alone-single.ensures reduced.reduce-reduced.result reduced.reduce-reduced.ensures source.stored-source.result source.stored-source.ensures
+    listable s.args.given s.args.place s.requires.2 s.requires.1 (eight s) s.requires.3 other.other_place.result other.other_place.ensures
+    single.alone.result single.alone.ensures reduced.reduce.result reduced.reduce.ensures source.stored.result source.stored.ensures
     result.stored-result.result result.stored-result.ensures s.args.buffer.now s.args.at s.requires.0.room
 
 pub returns : goal.returns
@@ -46,7 +46,7 @@ returns c =
     let single = source in
     let other = single in
     let s = other in
-    lines-written s.args.given s.args.place s.requires.2 s.requires.1 (eight s) s.requires.3 other.other_place-target.result other.other_place-target.ensures
-    single.alone-single.result single.alone-single.ensures reduced.reduce-reduced.result reduced.reduce-reduced.ensures source.stored-source.result source.stored-source.ensures
-    result.stored-result.result result.stored-result.ensures (source-long source) (result-long result) (count_small reduced) s.args.buffer.now s.args.at
+    lines-written s.args.given s.args.place s.requires.2 s.requires.1 (eight s) s.requires.3 other.other_place.result other.other_place.ensures
+    single.alone.result single.alone.ensures reduced.reduce.result reduced.reduce.ensures source.stored.result source.stored.ensures
+    result.stored2.result result.stored2.ensures (source-long source) (result-long result) (count_small reduced) s.args.buffer.now s.args.at
     written.write_place.new.0 written.write_place.result written.write_place.ensures

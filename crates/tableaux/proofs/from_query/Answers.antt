@@ -6,6 +6,6 @@ pub returns : goal.returns
 returns c =
     let q = c.args.q in
     ap₂
-    (λ relations cells. record { arity = q.arity; size = q.size; head = q.head-1; relations = relations; cells = cells })
+    (λ relations cells. record { arity = q.arity; size = q.size; head = q.head; relations = relations; cells = cells })
     c.more_relations-more_relations.ensures
     c.more_cells-more_cells.ensures

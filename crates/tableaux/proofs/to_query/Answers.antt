@@ -6,6 +6,6 @@ pub returns : goal.returns
 returns c =
     let t = c.args.t in
     ap₂
-    (λ relations cells. record { arity = t.arity; size = t.size; head = t.head-1; relations = relations; cells = cells })
+    (λ relations cells. record { arity = t.arity; size = t.size; head = t.head; relations = relations; cells = cells })
     c.fewer_relations-fewer_relations.ensures
     c.fewer_cells-fewer_cells.ensures

@@ -58,7 +58,7 @@ loop-at-init c = let s = c in
 pub skip-skipped-requires : goal.skip-skipped-requires
 skip-skipped-requires c = let l = c in
     let s = l in
-    (s.requires.0, subst (λ (Y : List ℕ). spells_rows s.args.schema.now Y ≡ true) (sym (rest_all s.args.words.now l.loop-at.at)) l.loop-at.invariant.0.good)
+    (s.pre.0, subst (λ (Y : List ℕ). spells_rows s.args.schema.now Y ≡ true) (sym (rest_all s.args.words.now l.loop-at.at)) l.loop-at.invariant.0.good)
 
 -- No row is left
 ended : (c : goal.Then-first-words) → pair.Absent
@@ -98,7 +98,7 @@ first_partner-second-requires c = let m = c in
     let S = a.schema.now in
     let place : m.next-after.result ≡ first q + 1 + get_or S a.d.relation 0 = (beyond (goal.at.first_partner-second-requires c).After-next-after).place ∙ ap (λ (r : ℕ). first q + 1 + get_or S r 0) c.if-words-first.true in
     let room : first q + 1 + get_or S a.d.relation 0 ≤ length a.words.now = omega (arith, (beyond (goal.at.first_partner-second-requires c).After-next-after).ranges) in
-    (s.requires.0, ((c.if-words-first.true, room), from-beyond (goal.at.first_partner-second-requires c).After-next-after))
+    (s.pre.0, ((c.if-words-first.true, room), from-beyond (goal.at.first_partner-second-requires c).After-next-after))
 
 pub returns-in-At : goal.returns-in-At
 returns-in-At c = let f = c.second-1.given in
@@ -106,7 +106,7 @@ returns-in-At c = let f = c.second-1.given in
     let m = k in
     let q = m in
     let a = (start q).args in (
-      sym (ap pair_of (skipped q).1 ∙ pair_found a.schema.now a.words.now (dependency_of a.d) (first q) m.next-after.result (number q) f.0.0
+      sym (ap pair_of (skipped q).1 ∙ pair_found a.schema.now a.words.now (dependency_of a.d) (first q) m.next.result (number q) f.0.0
           (beyond m) (sym f.1 ∙ k.first_partner-second.ensures)),
       λ t. absurd (false≢true t),
     )
@@ -122,8 +122,8 @@ loop-at-preserved c = let m = c in
       from-beyond (goal.at.loop-at-preserved c).After-next-after,
       (skipped q).1
           ∙ ⊎_elim (λ w. pair-later S X D (first q) m.next-after.result (number q) (beyond (goal.at.loop-at-preserved c).After-next-after) (sym w.3.given.1 ∙ w.first_partner-second.ensures)) (λ w. pair-other S X D (first q) m.next-after.result (number q) (beyond (goal.at.loop-at-preserved c).After-next-after) w.if-words-first.false) c.if-words-first.branch-raw,
-      q.heads-1.given ∙ l.invariant.2,
-      q.nodes-1.given ∙ l.invariant.3,
+      q.heads.given ∙ l.invariant.2,
+      q.nodes.given ∙ l.invariant.3,
     )
 
 pub returns : goal.returns

@@ -53,14 +53,14 @@ loop-k-init c = (search rules, refl, record { few = omega arith; hold = λ k low
 pub test-step-requires : goal.test-step-requires
 test-step-requires c = let i = c in
     let s = i in
-    (s.requires.1.0 i.loop-k.k i.loop-k-test.true, (s.requires.1.1, i.loop-k.invariant.2))
+    (s.pre.1.0 i.loop-k.k i.loop-k-test.true, (s.pre.1.1, i.loop-k.invariant.2))
 
 pub returns-in-At : goal.returns-in-At
 returns-in-At c = let f = c.found-1.given in
     let q = c in
     let i = q in
     let a = i.args in
-    let k = i.loop-k.k in
+    let k = i.loop.k in
     sym (ap violation_of (onward i)
     ∙ violation-found (database_of a.schema.now a.words.now) (dependency_of (get_or a.dependencies k no_dependency))
     (map dependency_of (drop (k + 1) (take a.held a.dependencies))) k f.0.0 f.0.1.0 (sym f.1 ∙ q.test-step.ensures.0))
@@ -68,7 +68,7 @@ returns-in-At c = let f = c.found-1.given in
 pub loop-k-preserved : goal.loop-k-preserved
 loop-k-preserved c = let q = c in
     let i = q in
-    let l = i.loop-k in
+    let l = i.loop in
     let a = i.args in (
       search rules,
       onward i

@@ -35,5 +35,5 @@ returns c =
     let images = c in
     let word = images in
     let s = word in
-    wrote-rest (wrote (wrote (started s.requires.0) _ refl word.put_bytes-next.ensures) _ refl images.put_images-next.ensures)
+    wrote-rest (wrote (wrote (started s.requires.0) _ refl word.put-bytes.ensures) _ refl images.put_images-next.ensures)
     c.put_byte.ensures

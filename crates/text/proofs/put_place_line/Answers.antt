@@ -25,7 +25,7 @@ put_field-next-requires-3 c =
     let second = c in
     let first = second in
     let s = first in
-    let left₁ = wrote (started s.requires) _ refl first.put_field-next.ensures in
+    let left₁ = wrote (started s.requires) _ refl first.put-field.ensures in
     let left₂ = wrote left₁ _ refl second.put_field-next-2.ensures in
     part-fits left₂ (field kept_word s.args.kept) _ refl
 
@@ -36,8 +36,8 @@ put_field-next-requires-4 c =
     let second = third in
     let first = second in
     let s = first in
-    let left₁ = wrote (started s.requires) _ refl first.put_field-next.ensures in
-    let left₂ = wrote left₁ _ refl second.put_field-next-2.ensures in
+    let left₁ = wrote (started s.requires) _ refl first.put-field.ensures in
+    let left₂ = wrote left₁ _ refl second.put-field2.ensures in
     let left₃ = wrote left₂ _ refl third.put_field-next-3.ensures in
     part-fits left₃ (field replaced_word s.args.count) _ refl
 
@@ -49,9 +49,9 @@ put_byte-requires c =
     let second = third in
     let first = second in
     let s = first in
-    let left₁ = wrote (started s.requires) _ refl first.put_field-next.ensures in
-    let left₂ = wrote left₁ _ refl second.put_field-next-2.ensures in
-    let left₃ = wrote left₂ _ refl third.put_field-next-3.ensures in
+    let left₁ = wrote (started s.requires) _ refl first.put-field.ensures in
+    let left₂ = wrote left₁ _ refl second.put-field2.ensures in
+    let left₃ = wrote left₂ _ refl third.put-field3.ensures in
     let left₄ = wrote left₃ _ refl fourth.put_field-next-4.ensures in
     rest-fits left₄
 
@@ -63,8 +63,8 @@ returns c =
     let second = third in
     let first = second in
     let s = first in
-    let left₁ = wrote (started s.requires) _ refl first.put_field-next.ensures in
-    let left₂ = wrote left₁ _ refl second.put_field-next-2.ensures in
-    let left₃ = wrote left₂ _ refl third.put_field-next-3.ensures in
+    let left₁ = wrote (started s.requires) _ refl first.put-field.ensures in
+    let left₂ = wrote left₁ _ refl second.put-field2.ensures in
+    let left₃ = wrote left₂ _ refl third.put-field3.ensures in
     let left₄ = wrote left₃ _ refl fourth.put_field-next-4.ensures in
     wrote-rest left₄ c.put_byte.ensures

@@ -18,7 +18,7 @@ loop-r-init c =
 pub put_row_line-next-requires : goal.put_row_line-next-requires
 put_row_line-next-requires c =
     let row = c.row_cells-row in
-    let width = c.width_of_lem in
+    let width = c.width_of-width in
     let l = c.loop-r in
     let low = c.loop-r-test.true in
     let s = c in
@@ -35,7 +35,7 @@ put_row_line-next-requires c =
 pub loop-r-preserved : goal.loop-r-preserved
 loop-r-preserved c =
     let row = c.row_cells-row in
-    let width = c.width_of_lem in
+    let width = c.width_of-width in
     let l = c.loop-r in
     let low = c.loop-r-test.true in
     let s = c in

@@ -102,7 +102,7 @@ pub put_head_line-next-requires : goal.put_head_line-next-requires
 put_head_line-next-requires c =
     let line = c in
     let chosen = line in
-    let left = wrote (lines_left chosen chosen.if-kept-eq0.false) _ refl line.put_place_line-next.ensures in
+    let left = wrote (lines_left chosen chosen.if1.false) _ refl line.put_place_line-next.ensures in
     (part-fits left _ _ refl, (good-query 12 _ _ chosen.requires.result-good).arity)
 
 pub put_rows-next-requires : goal.put_rows-next-requires
@@ -110,7 +110,7 @@ put_rows-next-requires c =
     let head = c in
     let line = head in
     let chosen = line in
-    let left = wrote (wrote (lines_left chosen chosen.if-kept-eq0.false) _ refl line.put_place_line-next.ensures) _ refl
+    let left = wrote (wrote (lines_left chosen chosen.if1.false) _ refl line.put-place-line.ensures) _ refl
     head.put_head_line-next.ensures in
     let s = chosen in
     (part-fits left _ _ refl, s.requires.relations-good, s.requires.result-good)
@@ -121,8 +121,8 @@ put_map_line-requires c =
     let head = rows in
     let line = head in
     let chosen = line in
-    let left = wrote (wrote (lines_left chosen chosen.if-kept-eq0.false) _ refl line.put_place_line-next.ensures) _ refl
-    head.put_head_line-next.ensures in
+    let left = wrote (wrote (lines_left chosen chosen.if1.false) _ refl line.put-place-line.ensures) _ refl
+    head.put-head-line.ensures in
     let s = chosen in
     (rest-fits (wrote left _ refl rows.put_rows-next.ensures), s.requires.relations-good, (good-query 12 _ _ s.requires.source-good).size)
 
@@ -133,6 +133,6 @@ returns c =
     let head = rows in
     let line = head in
     let chosen = line in
-    let left = wrote (wrote (lines_left chosen chosen.if-kept-eq0.false) _ refl line.put_place_line-next.ensures) _ refl
-    head.put_head_line-next.ensures in
-    wrote-rest (wrote left _ refl rows.put_rows-next.ensures) map.put_map_line.ensures
+    let left = wrote (wrote (lines_left chosen chosen.if1.false) _ refl line.put-place-line.ensures) _ refl
+    head.put-head-line.ensures in
+    wrote-rest (wrote left _ refl rows.put-rows.ensures) map.put_map_line.ensures

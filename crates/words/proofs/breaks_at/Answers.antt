@@ -3,7 +3,7 @@
 use mathlib.Core.Path.{◌≡◌, sym, ap, ◌∙◌}
 use mathlib.Core.Bool.{Bool, true, false, not, ◌&&◌}
 use Prim.Native.Nat.{◌+◌}
-use borrow.Author.Tests.{not-true, not-false}
+use borrow.Author.Tests.{not-false}
 use lib.Dec.{eqb}
 use lib.ListN.{get_or}
 use Rattle.query.specs.View.{dependency_of}
@@ -15,7 +15,7 @@ pub returns-then-not-agrees_at : goal.returns-then-not-agrees_at
 returns-then-not-agrees_at c = let s = c in
     let a = s.args in
     let e : agree_rows (dependency_of a.d) (span_at a.width a.words.now a.a) (span_at a.width a.words.now a.b) ≡ false =
-    sym c.agrees_at.ensures ∙ not-true c.agrees_at.result c.if-not-agrees_at.true in
+    sym c.agrees_at.ensures ∙ c.if-not-agrees_at.true in
     sym (breaks-spans a.width a.words.now a.a a.b a.d s.requires.0.0 s.requires.0.1 s.requires.1.1.2
     ∙ ap (λ (b : Bool). b && not (eqb (get_or a.words.now (a.a + 1 + a.d.right) 0) (get_or a.words.now (a.b + 1 + a.d.right) 0))) e)
 

@@ -1,15 +1,14 @@
 -- `write` refuses a record that breaks its rule, and writes a good one.
 -- Assumes nothing.
 use mathlib.Core.Path.{sym, ◌∙◌}
-use borrow.Author.Tests.{not-true, not-false}
 use Rattle.writer.proofs.Writing.{bad-refused}
 use Rattle.writer.proofs.write.Goals as goal
 
 pub returns-then-not-is_good : goal.returns-then-not-is_good
-returns-then-not-is_good c = bad-refused _ _ (sym c.is_good.ensures ∙ not-true _ c.if-not-is_good.true)
+returns-then-not-is_good c = bad-refused _ _ (sym c.is_good.ensures ∙ c.if-not-is_good.true)
 
 pub write_good-requires : goal.write_good-requires
-write_good-requires c = sym c.is_good.ensures ∙ not-false _ c.if-not-is_good.false
+write_good-requires c = sym c.is_good.ensures ∙ c.if-not-is_good.false
 
 pub returns : goal.returns
 returns c = c.write_good.ensures

@@ -72,7 +72,7 @@ lengths c =
     let start = lengths-start c in
     let n = c.up-to-filled.result in
     let l =
-    file-long start.args.given start.requires (widths-long start) (list-long start) n c.places_length-others.result
+    file-long start.args.given start.pre (widths-long start) (list-long start) n c.places_length-others.result
     c.up-to-filled.ensures.0 (held c.before.before) c.places_length-others.ensures.0 in
     (l.0, ap (λ (k : ℕ). file_length start n k c.places_length-others.result) (tail-is c) ∙ l.1)
 
@@ -83,7 +83,7 @@ parts c =
     let start = lengths-start c in
     omega (
       arith,
-      parts-long start.args.given start.requires (widths-long start) (list-long start) c.up-to-filled.result,
+      parts-long start.args.given start.pre (widths-long start) (list-long start) c.up-to-filled.result,
       c.places_length-others.ensures.0,
       tail-is c,
     )
@@ -101,7 +101,7 @@ first_run c =
     c.put_directory.ensures
     ∙ ap
     (λ (k : ℕ). over start.args.buffer.now 0 (directory_bytes n (1 + given.relations) (1 + 3 * given.held + k)
-    (map (put_place (schema_of given)) (take n given.places-1))))
+    (map (put_place (schema_of given)) (take n given.places))))
     (tail-is c.before.before.before) in
     run-turns (run-starts start.args.buffer.now 0) (directory start n) c.put_directory.new.0 (2 + 4 * (n + 2))
     (omega (arith, (lengths c.before.before.before).0, c.if-buffer-size.false)) written (omega (arith, (lengths c.before.before.before).0))
@@ -149,8 +149,8 @@ overflow_add-second c = omega (arith, few-held (goal.at.overflow_add-second c).S
 pub joins_length-requires : goal.joins_length-requires
 joins_length-requires c =
     let start = c in
-    let good = good-record start.args.given start.requires in
-    (good.joined, few-sets (schema_of start.args.given) start.args.given.joined start.args.given.joins good.joins-1)
+    let good = good-record start.args.given start.pre in
+    (good.joined, few-sets (schema_of start.args.given) start.args.given.joined start.args.given.joins good.joins)
 
 pub overflow_add-second-2 : goal.overflow_add-second-2
 overflow_add-second-2 c = omega (arith, few-held (goal.at.overflow_add-second-2 c).Start, c.joins_length.ensures.1)
@@ -158,8 +158,8 @@ overflow_add-second-2 c = omega (arith, few-held (goal.at.overflow_add-second-2 
 pub places_length-others-requires : goal.places_length-others-requires
 places_length-others-requires c =
     let start = c in
-    let good = good-record start.args.given start.requires in
-    (good.relations, (good.places-1, c.up_to_filled-n.ensures.1))
+    let good = good-record start.args.given start.pre in
+    (good.relations, (good.places, c.up_to_filled-n.ensures.1))
 
 pub overflow_add-size : goal.overflow_add-size
 overflow_add-size c = omega (arith, c.up-to-filled.ensures.1)
@@ -192,17 +192,17 @@ pub returns-then-buffer-size : goal.returns-then-buffer-size
 returns-then-buffer-size c =
     let l = c in
     let start = lengths-start (goal.at.returns-then-buffer-size c).After-places_length-others in
-    too_long start.args.given start.requires start.args.buffer.now
+    too_long start.args.given start.pre start.args.buffer.now
     (file_length start l.up-to-filled.result l.joins_length.result l.places_length-others.result) (lengths (goal.at.returns-then-buffer-size c).After-places_length-others).1 c.if-buffer-size.true
 
 pub put_directory-requires : goal.put_directory-requires
 put_directory-requires c =
     let l = c in
     let start = lengths-start (goal.at.put_directory-requires c).After-places_length-others in
-    let good = good-record start.args.given start.requires in (
+    let good = good-record start.args.given start.pre in (
       good.relations,
       (
-        good.places-1,
+        good.places,
         (
           (
             l.up-to-filled.ensures.1,
@@ -243,10 +243,10 @@ returns c =
     let l = second-run-lengths (goal.at.returns c).After-put_parts in
     let start = lengths-start l in
     let given = start.args.given in
-    let good = start.requires in
+    let good = start.pre in
     let buffer = start.args.buffer.now in
     let n = l.up-to-filled.result in
     let split = file-split given good (widths-long start) (list-long start) n l.up-to-filled.ensures.0 (held l) in
-    done given good buffer (file_length start n l.joins_length.result l.places_length-others.result) (lengths l).1
+    done given good buffer (file_length start n l.joins-length.result l.places-length.result) (lengths l).1
     after-put-parts.put_parts.new.0 after-put-parts.if-buffer-size.false
     ((second_run (goal.at.returns c).After-put_parts).written ∙ ap (over buffer 0) (sym split))

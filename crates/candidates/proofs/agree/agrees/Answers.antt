@@ -4,7 +4,7 @@ use borrow.Author.Rules.{rules}
 use borrow.Author.Count.{below_more}
 use mathlib.Core.Path.{sym, ◌∙◌}
 use mathlib.Core.Bool.{false≢true}
-use borrow.Author.Tests.{not-true, not-false}
+use borrow.Author.Tests.{not-false}
 use Prim.Native.Nat.{◌-◌}
 use native.Mathlib.Nat.{not-le_of_lt}
 use mathlib.Core.Logic.{⊎_elim}
@@ -16,7 +16,7 @@ pub returns-then-not-takes : goal.returns-then-not-takes
 returns-then-not-takes c =
     let large = (code-variable _ _ (sym c.decode-own.ensures ∙ c.in-Variable.is)).0 in
     let i = c.loop-i.i in
-    tells-false (λ p. false≢true (sym (not-true _ c.if-not-takes.true) ∙ c.takes.ensures.1 (p i (search rules) large)))
+    tells-false (λ p. false≢true (sym c.if-not-takes.true ∙ c.takes.ensures.1 (p i (search rules) large)))
 
 pub loop-i-preserved : goal.loop-i-preserved
 loop-i-preserved c = (

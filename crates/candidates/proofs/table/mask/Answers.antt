@@ -1,6 +1,5 @@
 -- `mask` has the candidates that go together: all of a row that shares no variable with the other.
 -- Assumes nothing.
-use borrow.Author.Tests.{not-true}
 use Rattle.candidates.proofs.Candidates.{apart_marks}
 use Rattle.candidates.proofs.table.mask.Goals as goal
 
@@ -10,4 +9,4 @@ returns-then-not-sharing c =
     let args = start.args in
     apart_marks args.source.now args.target.now args.size args.count args.r args.d args.q c.candidates.result
     c.all_below.result
-    c.candidates.ensures.0 (start.requires.1 (not-true _ c.if-not-sharing.true)) c.all_below.ensures
+    c.candidates.ensures.0 (start.requires.1 c.if-not-sharing.true) c.all_below.ensures

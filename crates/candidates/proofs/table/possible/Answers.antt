@@ -1,6 +1,5 @@
 -- `possible` tells whether a row can go to a candidate.
 -- Assumes nothing.
-use borrow.Author.Tests.{not-true, not-false}
 use mathlib.Core.Path.{sym, ◌∙◌}
 use mathlib.Core.Bool.{false≢true}
 use mathlib.Core.Logic.{⊎_elim}
@@ -19,7 +18,7 @@ pub returns-then-not-fixes : goal.returns-then-not-fixes
 returns-then-not-fixes c =
     tells-false
     (λ p. false≢true
-    (sym (not-true _ c.if-not-fixes.true)
+    (sym c.if-not-fixes.true
     ∙ c.fixes.ensures.1
     (possible-fixes _ _ _ _ _ _ _ _ _ c.row_at-row.ensures.0 c.image_at-image.ensures.0 p)))
 
@@ -28,5 +27,5 @@ returns c =
     possible-when _ _ _ _ _ _ _ _ _ c.row_at-row.ensures.0 c.image_at-image.ensures.0 _
     (⊎_elim (λ w h. w.if-named-r.false) (λ w h. absurd (not-le_of_lt h w.if-r-size.false)) c.if-r-size.branch-raw)
     (⊎_elim (λ w h again. false≢true (sym w.if-repeats.false ∙ w.repeats.ensures.1 again)) (λ w h. absurd (not-le_of_lt h w.if-r-size.false)) c.if-r-size.branch-raw)
-    (c.fixes.ensures.0 (not-false _ c.if-not-fixes.false))
+    (c.fixes.ensures.0 c.if-not-fixes.false)
     c.agrees.ensures

@@ -7,4 +7,4 @@ returns c =
     let k = c in
     let a = k.args in
     let e = k.evaluate_lent.ensures in
-    (evaluate-meets a.given a.place a.words.now a.buffer-1.now _ k.evaluate_lent.result e.0 e.1.0, e.1.1)
+    (evaluate-meets a.given a.place a.words.now a.buffer.now _ k.evaluate_lent.result e.0 e.1.0, e.1.1)

@@ -6,4 +6,4 @@ pub returns : goal.returns
 returns c =
     let k = c in
     let a = k.args in
-    write_meets a.given a.buffer-1.now _ k.write.result k.write.ensures.0 k.write.ensures.1
+    write_meets a.given a.buffer.now _ k.write.result k.write.ensures.0 k.write.ensures.1

@@ -19,8 +19,8 @@ offset_bounds-out-v c =
     let at6 = at4 in
     let at7 = at6 in
     let s = at7 in
-    let place : s.args.row + at6.loop-i.i < 104 = search rules in
-    let small = variable-small _ _ (s.requires.2 (s.args.row + at6.loop-i.i) place) (sym at4.decode-own.ensures ∙ c.in-Variable.is) in
+    let place : s.args.row + at6.loop.i < 104 = search rules in
+    let small = variable-small _ _ (s.requires.2 (s.args.row + at6.loop.i) place) (sym at4.decode-own.ensures ∙ c.in-Variable.is) in
     let low = small.0 in
     search rules
 
@@ -30,8 +30,8 @@ bounds-out-v c =
     let at6 = at4 in
     let at7 = at6 in
     let s = at7 in
-    let place : s.args.row + at6.loop-i.i < 104 = search rules in
-    let small = variable-small _ _ (s.requires.2 (s.args.row + at6.loop-i.i) place) (sym at4.decode-own.ensures ∙ c.in-Variable.is) in
+    let place : s.args.row + at6.loop.i < 104 = search rules in
+    let small = variable-small _ _ (s.requires.2 (s.args.row + at6.loop.i) place) (sym at4.decode-own.ensures ∙ c.in-Variable.is) in
     small.0
 
 pub loop-i-preserved : goal.loop-i-preserved
@@ -46,11 +46,11 @@ loop-i-preserved c =
       ⊎_elim (λ w. ap length w.2 ∙ l.invariant.1) (λ w. ap length w.4 ∙ simp length-set l.invariant.1) c.match-own.branch-raw,
       ⊎_elim (λ w.
           subst Next (sym w.2)
-          (row-skip args.images args.source args.target args.row args.image i l.out-1 l.invariant.2
+          (row-skip args.images args.source args.target args.row args.image i l.out l.invariant.2
           (code-constant _ _ (sym c.decode-own.ensures ∙ w.out-is.given.1)))) (λ w.
           let small = variable-small _ _ (s.requires.2 (args.row + i) place) (sym c.decode-own.ensures ∙ w.out-1.given.1) in
           subst Next (sym w.4)
-          (row-store args.images args.source args.target args.row args.image i l.out-1 l.invariant.2 w.out-1.given.0.0 small.0 l.invariant.1
+          (row-store args.images args.source args.target args.row args.image i l.out l.invariant.2 w.out-1.given.0.0 small.0 l.invariant.1
           small.1)) c.match-own.branch-raw,
     )
 

@@ -2,7 +2,6 @@
 -- Assumes nothing.
 use borrow.Author.Rules.{rules}
 use borrow.Author.Count.{below_none, below_more}
-use borrow.Author.Tests.{not-true, not-false}
 use mathlib.Core.Path.{sym, ◌∙◌}
 use Prim.Native.Nat.{◌-◌}
 use Rattle.theory.proofs.Entries.{same_entry-eq, same_entry-ne}
@@ -16,14 +15,14 @@ pub returns-then-not-same_entry : goal.returns-then-not-same_entry
 returns-then-not-same_entry c =
     let at6 = c in
     tells-false
-    (λ p. same_entry-ne _ _ (sym c.same_entry.ensures ∙ not-true _ c.if-not-same_entry.true)
+    (λ p. same_entry-ne _ _ (sym c.same_entry.ensures ∙ c.if-not-same_entry.true)
     (c.image_of.ensures ∙ p at6.loop-i.i (search rules)))
 
 pub loop-i-preserved : goal.loop-i-preserved
 loop-i-preserved c = (
   search rules,
   below_more _ _ c.loop-i.invariant.1
-      (sym c.image_of.ensures ∙ same_entry-eq _ _ (sym c.same_entry.ensures ∙ not-false _ c.if-not-same_entry.false)),
+      (sym c.image_of.ensures ∙ same_entry-eq _ _ (sym c.same_entry.ensures ∙ c.if-not-same_entry.false)),
 )
 
 pub returns : goal.returns

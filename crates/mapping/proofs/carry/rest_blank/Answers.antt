@@ -2,7 +2,6 @@
 -- Assumes nothing.
 use borrow.Author.Rules.{rules}
 use borrow.Author.Count.{below_none, below_more}
-use borrow.Author.Tests.{not-true, not-false}
 use mathlib.Core.Path.{sym, ◌∙◌}
 use mathlib.Core.Bool.{false≢true}
 use mathlib.Core.Logic.{⊎_elim}
@@ -18,15 +17,15 @@ pub returns-then-not-stands : goal.returns-then-not-stands
 returns-then-not-stands c =
     tells-false
     (λ p.
-    same_entry-ne _ _ (sym c.same_entry.ensures ∙ not-true _ c.if-not-same_entry.true)
+    same_entry-ne _ _ (sym c.same_entry.ensures ∙ c.if-not-same_entry.true)
     (p c.loop-v.v (search rules)
-    (λ s. false≢true (sym (not-true _ c.if-not-stands.true) ∙ c.stands.ensures.1 s))))
+    (λ s. false≢true (sym c.if-not-stands.true ∙ c.stands.ensures.1 s))))
 
 pub loop-v-preserved : goal.loop-v-preserved
 loop-v-preserved c = (
   search rules,
   below_more _ _ c.loop-v.invariant.1
-      (⊎_elim (λ w out. absurd (out (w.stands.ensures.0 (not-false _ w.if-not-stands.false)))) (λ w out. same_entry-eq _ _ (sym c.same_entry.ensures ∙ not-false _ w.if-not-same_entry.false)) c.if-not-same_entry.branch-raw),
+      (⊎_elim (λ w out. absurd (out (w.stands.ensures.0 w.if-not-stands.false))) (λ w out. same_entry-eq _ _ (sym c.same_entry.ensures ∙ w.if-not-same_entry.false)) c.if-not-same_entry.branch-raw),
 )
 
 pub returns : goal.returns

@@ -4,7 +4,6 @@ use mathlib.Core.Path.{sym, ap, ◌∙◌}
 use mathlib.Core.Option.{none}
 use Prim.Native.Nat.{◌≤◌}
 use native.Mathlib.Omega.{arith}
-use borrow.Author.Tests.{not-true, not-false}
 use Rattle.record.specs.declared.Record.{Record}
 use Rattle.record.specs.Calls.{concluded}
 use Rattle.record.proofs.Good.{good-record}
@@ -14,30 +13,30 @@ use Rattle.record.proofs.Record.add_dependency.Goals as goal
 pub returns-then-not-is_good : goal.returns-then-not-is_good
 returns-then-not-is_good c =
     c.refused.ensures ∙ add-broken c.args.self c.args.d
-    (sym c.is_good.ensures ∙ not-true _ c.if-not-is_good.true)
+    (sym c.is_good.ensures ∙ c.if-not-is_good.true)
 
 pub dependency_good-requires : goal.dependency_good-requires
-dependency_good-requires c = (good-record c.args.self (sym c.is_good.ensures ∙ not-false _ c.if-not-is_good.false)).relations
+dependency_good-requires c = (good-record c.args.self (sym c.is_good.ensures ∙ c.if-not-is_good.false)).relations
 
 pub returns-then-not-dependency_good : goal.returns-then-not-dependency_good
 returns-then-not-dependency_good c =
     c.refused-then-not-dependency_good.ensures ∙ add-unfit c.args.self
     c.args.d
-    (sym c.is_good.ensures ∙ not-false _ c.if-not-is_good.false)
-    (sym c.dependency_good.ensures ∙ not-true _ c.if-not-dependency_good.true)
+    (sym c.is_good.ensures ∙ c.if-not-is_good.false)
+    (sym c.dependency_good.ensures ∙ c.if-not-dependency_good.true)
 
 pub returns-then-held-eq32 : goal.returns-then-held-eq32
 returns-then-held-eq32 c =
     c.refused-then-held-eq32.ensures ∙ add-full c.args.self
     c.args.d
-    (sym c.is_good.ensures ∙ not-false _ c.if-not-is_good.false)
-    (sym c.dependency_good.ensures ∙ not-false _ c.if-not-dependency_good.false) c.if-held-eq32.true
+    (sym c.is_good.ensures ∙ c.if-not-is_good.false)
+    (sym c.dependency_good.ensures ∙ c.if-not-dependency_good.false) c.if-held-eq32.true
 
 pub with_dependency-requires : goal.with_dependency-requires
 with_dependency-requires c =
     let few : c.args.self.held ≤ 32 =
     (good-record c.args.self
-    (sym c.is_good.ensures ∙ not-false _ c.if-not-is_good.false)).held
+    (sym c.is_good.ensures ∙ c.if-not-is_good.false)).held
     in
     omega arith
 
@@ -46,5 +45,5 @@ returns c =
     c.done.ensures ∙ ap (λ (after : Record). concluded none after after) c.with_dependency.ensures
     ∙ add_done c.args.self
     c.args.d
-    (sym c.is_good.ensures ∙ not-false _ c.if-not-is_good.false)
-    (sym c.dependency_good.ensures ∙ not-false _ c.if-not-dependency_good.false) c.if-held-eq32.false
+    (sym c.is_good.ensures ∙ c.if-not-is_good.false)
+    (sym c.dependency_good.ensures ∙ c.if-not-dependency_good.false) c.if-held-eq32.false

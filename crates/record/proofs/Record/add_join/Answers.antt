@@ -4,7 +4,6 @@ use mathlib.Core.Path.{sym, ap, ◌∙◌}
 use mathlib.Core.Option.{none}
 use Prim.Native.Nat.{◌≤◌}
 use native.Mathlib.Omega.{arith}
-use borrow.Author.Tests.{not-true, not-false}
 use Rattle.record.specs.declared.Record.{Record}
 use Rattle.record.specs.Calls.{concluded}
 use Rattle.record.proofs.Good.{good-record}
@@ -14,30 +13,30 @@ use Rattle.record.proofs.Record.add_join.Goals as goal
 pub returns-then-not-is_good : goal.returns-then-not-is_good
 returns-then-not-is_good c =
     c.refused.ensures ∙ join-broken c.args.self c.args.j
-    (sym c.is_good.ensures ∙ not-true _ c.if-not-is_good.true)
+    (sym c.is_good.ensures ∙ c.if-not-is_good.true)
 
 pub join_good-requires : goal.join_good-requires
-join_good-requires c = (good-record c.args.self (sym c.is_good.ensures ∙ not-false _ c.if-not-is_good.false)).relations
+join_good-requires c = (good-record c.args.self (sym c.is_good.ensures ∙ c.if-not-is_good.false)).relations
 
 pub returns-then-not-join_good : goal.returns-then-not-join_good
 returns-then-not-join_good c =
     c.refused-then-not-join_good.ensures ∙ join-unfit c.args.self
     c.args.j
-    (sym c.is_good.ensures ∙ not-false _ c.if-not-is_good.false)
-    (sym c.join_good.ensures ∙ not-true _ c.if-not-join_good.true)
+    (sym c.is_good.ensures ∙ c.if-not-is_good.false)
+    (sym c.join_good.ensures ∙ c.if-not-join_good.true)
 
 pub returns-then-joined-eq4 : goal.returns-then-joined-eq4
 returns-then-joined-eq4 c =
     c.refused-then-joined-eq4.ensures ∙ join-full c.args.self
     c.args.j
-    (sym c.is_good.ensures ∙ not-false _ c.if-not-is_good.false)
-    (sym c.join_good.ensures ∙ not-false _ c.if-not-join_good.false) c.if-joined-eq4.true
+    (sym c.is_good.ensures ∙ c.if-not-is_good.false)
+    (sym c.join_good.ensures ∙ c.if-not-join_good.false) c.if-joined-eq4.true
 
 pub with_join-requires : goal.with_join-requires
 with_join-requires c =
     let few : c.args.self.joined ≤ 4 =
     (good-record c.args.self
-    (sym c.is_good.ensures ∙ not-false _ c.if-not-is_good.false)).joined
+    (sym c.is_good.ensures ∙ c.if-not-is_good.false)).joined
     in
     omega arith
 
@@ -46,5 +45,5 @@ returns c =
     c.done.ensures ∙ ap (λ (after : Record). concluded none after after) c.with_join.ensures
     ∙ join-done c.args.self
     c.args.j
-    (sym c.is_good.ensures ∙ not-false _ c.if-not-is_good.false)
-    (sym c.join_good.ensures ∙ not-false _ c.if-not-join_good.false) c.if-joined-eq4.false
+    (sym c.is_good.ensures ∙ c.if-not-is_good.false)
+    (sym c.join_good.ensures ∙ c.if-not-join_good.false) c.if-joined-eq4.false

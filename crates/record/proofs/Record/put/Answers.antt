@@ -5,7 +5,6 @@ use mathlib.Core.Bool.{true}
 use mathlib.Core.Option.{none, some}
 use Prim.Native.Nat.{ℕ, ◌<◌}
 use native.Mathlib.Omega.{arith}
-use borrow.Author.Tests.{not-true, not-false}
 use Rattle.record.specs.declared.Record.{Record}
 use Rattle.record.specs.declared.Lookup.TheVariants as lookup
 use Rattle.record.specs.View.{schema_of}
@@ -22,11 +21,11 @@ use Rattle.record.proofs.Record.put.Goals as goal
 pub returns-then-not-is_good : goal.returns-then-not-is_good
 returns-then-not-is_good c =
     c.refused.ensures ∙ put-broken c.args.self c.args.place
-    c.args.q (sym c.is_good.ensures ∙ not-true _ c.if-not-is_good.true)
+    c.args.q (sym c.is_good.ensures ∙ c.if-not-is_good.true)
 
 -- what the tests passed so far tell
 good : (c : goal.Else-not-is_good) → good_record c.args.self ≡ true
-good c = sym c.is_good.ensures ∙ not-false _ c.if-not-is_good.false
+good c = sym c.is_good.ensures ∙ c.if-not-is_good.false
 
 low : (c : goal.In-At) → c.args.place < 8
 low c =
@@ -36,12 +35,12 @@ low c =
 fit : (c : goal.Else-not-query_good)
     → good_query (schema_of c.args.self)
     c.args.q ≡ true
-fit c = sym c.query_good.ensures ∙ not-false _ c.if-not-query_good.false
+fit c = sym c.query_good.ensures ∙ c.if-not-query_good.false
 
 safe : (c : goal.Else-not-head_safe)
     → head_safe (schema_of c.args.self)
     c.args.q ≡ true
-safe c = sym c.head_safe.ensures ∙ not-false _ c.if-not-head_safe.false
+safe c = sym c.head_safe.ensures ∙ c.if-not-head_safe.false
 
 pub returns-in_default : goal.returns-in_default
 returns-in_default c =
@@ -63,7 +62,7 @@ returns-then-not-query_good c =
     ∙ put-unfit c.args.self
     c.args.place
     c.args.q (good (goal.at.returns-then-not-query_good c).Else-not-is_good)
-    (low (goal.at.returns-then-not-query_good c).In-At) (sym c.query_good.ensures ∙ not-true _ c.if-not-query_good.true)
+    (low (goal.at.returns-then-not-query_good c).In-At) (sym c.query_good.ensures ∙ c.if-not-query_good.true)
 
 pub head_safe-requires : goal.head_safe-requires
 head_safe-requires c =
@@ -85,7 +84,7 @@ returns-then-not-head_safe c =
     c.args.q
     (good (goal.at.returns-then-not-head_safe c).Else-not-is_good) (low (goal.at.returns-then-not-head_safe c).In-At)
     (fit (goal.at.returns-then-not-head_safe c).Else-not-query_good)
-    (sym c.head_safe.ensures ∙ not-true _ c.if-not-head_safe.true)
+    (sym c.head_safe.ensures ∙ c.if-not-head_safe.true)
 
 pub returns-in_default-found : goal.returns-in_default-found
 returns-in_default-found c =

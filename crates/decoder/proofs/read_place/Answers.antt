@@ -1,0 +1,165 @@
+-- ---- a query and the bytes after it
+use borrow.Author.Tests.{not-false, eqb-true}
+use mathlib.Core.Path.{◌≡◌, sym, ap, refl, ◌∙◌}
+use mathlib.Core.Bool.{Bool, true, false, cond}
+use mathlib.Core.List.{List, [], ◌∷◌}
+use Prim.Native.Nat.{ℕ, ◌≤◌}
+use native.Mathlib.Omega.{arith}
+use lib.Dec.{eqb}
+use lib.ListN.{length, take}
+use Rattle.refusals.specs.Refusals.{◌>>=◌, bad_query, gives, refused, unsafe_head}
+use Rattle.query.specs.declared.Query.{Query}
+use Rattle.record.specs.declared.Status.TheVariants.{Done}
+use Rattle.query.specs.Rule.{head_safe, no_place, place_with}
+use Rattle.query.proofs.Good as stored
+use Rattle.format.specs.Bytes.{Bytes}
+use Rattle.format.specs.Format.{Reading, none, got}
+use Rattle.format.specs.Parts.{query}
+use Rattle.format.specs.File.{complete, is_vacant, safe_query, read_place}
+use Rattle.format.proofs.Bytes.{bytes-known}
+use Rattle.format.proofs.Parts.{Narrow, query-lawful}
+use Rattle.format.proofs.Rules.{good-query, good-narrow}
+use Rattle.parsing.specs.declared.QueryRead.{QueryRead}
+use Rattle.parsing.specs.internal.Read.{query_read}
+use Rattle.decoder.specs.internal.Read.{place_read}
+use Rattle.decoder.proofs.read_place.Goals as goal
+
+complete-long : (q : Query) (rest : List ℕ) → eqb (length rest) 0 ≡ false → complete bad_query (got q rest) ≡ refused bad_query
+unfolding complete
+complete-long q [] w = let z : ◌≡◌ {A = ℕ} 0 1 = cc in absurd (omega arith)
+complete-long q (b ∷ rest) w = refl
+
+complete-whole : (q : Query) (rest : List ℕ) → eqb (length rest) 0 ≡ true → complete bad_query (got q rest) ≡ gives q
+unfolding complete
+complete-whole q [] w = refl
+complete-whole q (b ∷ rest) w = let l : length (b ∷ rest) ≡ 0 = eqb-true (length (b ∷ rest)) 0 w in absurd (omega arith)
+
+-- ---- the place by tests
+module _ (schema part : List ℕ) (last : Bool) where
+  vacant-last : is_vacant part ≡ true → last ≡ true → read_place schema last part ≡ refused bad_query
+  unfolding read_place
+  vacant-last v l = rw (v, l)
+
+  vacant-place : is_vacant part ≡ true → last ≡ false → read_place schema last part ≡ gives no_place
+  unfolding read_place
+  vacant-place v l = rw (v, l)
+
+  module _ (v : is_vacant part ≡ false) where
+    bad-query : (query schema).get part ≡ none → read_place schema last part ≡ refused bad_query
+    unfolding read_place ◌>>=◌ complete
+    bad-query e = rw (v, e)
+
+    module _ (q : Query) (rest : List ℕ) (e : (query schema).get part ≡ got q rest) where
+      long-query : eqb (length rest) 0 ≡ false → read_place schema last part ≡ refused bad_query
+      unfolding read_place ◌>>=◌
+      long-query w = rw (v, e, complete-long q rest w)
+
+      good-query-part : (t : Bool) → eqb (length rest) 0 ≡ true → head_safe schema q ≡ t
+          → read_place schema last part ≡ cond t (gives (place_with q)) (refused unsafe_head)
+      unfolding read_place ◌>>=◌ safe_query
+      good-query-part t w h = rw (v, e, complete-whole q rest w, h)
+
+-- ---- the query reader's answer
+query-bad : (o : Reading Query) (r : QueryRead) → r ≡ query_read o → r.good ≡ false → o ≡ none
+query-bad none r e g = refl
+query-bad (got q rest) r e g = let t : r.good ≡ true = ap (λ (r : QueryRead). r.good) e in let z : ◌≡◌ {A = ℕ} 0 1 = cc in absurd (omega arith)
+
+query-some : (o : Reading Query) (r : QueryRead) → r ≡ query_read o → r.good ≡ true
+    → (rest : List ℕ) × (o ≡ got r.query rest) × (r.whole ≡ eqb (length rest) 0)
+query-some none r e g = let t : r.good ≡ false = ap (λ (r : QueryRead). r.good) e in let z : ◌≡◌ {A = ℕ} 0 1 = cc in absurd (omega arith)
+query-some (got q rest) r e g = (rest, ap (λ (r : QueryRead). got r.query rest) (sym e), ap (λ (r : QueryRead). r.whole) e)
+
+-- a query that was read keeps the limits of its sizes
+read-sizes : (schema part : List ℕ) (q : Query) (rest : List ℕ) → Narrow schema → Bytes part → (query schema).get part ≡ got q rest
+    → (q.arity ≤ 8) × (q.size ≤ 12)
+read-sizes schema part q rest narrow hb e =
+    let (good, put) = (query-lawful 12 schema narrow).put-get part q rest hb e in
+    let g = stored.good-query 12 schema q (good-query 12 schema q good).1 in
+    (g.arity, g.size)
+
+pub returns-then-last : goal.returns-then-last
+returns-then-last c =
+    let start = c in
+    c.no_place_read.ensures ∙ sym (ap place_read
+    (vacant-last (take start.args.count start.args.widths) start.args.part.now start.args.last
+    (sym c.is_vacant.ensures ∙ c.if-is_vacant.true) c.if-last.true))
+
+pub returns-then-is_vacant : goal.returns-then-is_vacant
+returns-then-is_vacant c =
+    let start = c in
+    (λ i. record { answer = Done; place = c.no_place.ensures i })
+    ∙ sym (ap place_read (vacant-place (take start.args.count start.args.widths) start.args.part.now start.args.last
+    (sym c.is_vacant.ensures ∙ c.if-is_vacant.true) c.if-last.false))
+
+pub returns-then-not-read : goal.returns-then-not-read
+returns-then-not-read c =
+    let s = c in
+    let schema = take s.args.count s.args.widths in
+    let part = s.args.part.now in
+    let read = c.read_query-read in
+    let v = sym c.is_vacant.ensures ∙ c.if-is_vacant.false in
+    c.no_place_read-then-not-read.ensures
+    ∙ sym (ap place_read (bad-query schema part s.args.last v
+    (query-bad ((query schema).get part) read.result read.ensures c.if-not-read.true)))
+
+pub head_safe-safe-requires : goal.head_safe-safe-requires
+head_safe-safe-requires c =
+    let s = c in
+    let schema = take s.args.count s.args.widths in
+    let part = s.args.part.now in
+    let read = c.read_query-read in
+    let (rest, e, w) = query-some ((query schema).get part) read.result read.ensures c.if-not-read.false in
+    let bytes = bytes-known part (λ i. (c.type_inv.part i).fits) in
+    let (arity, size) = read-sizes schema part read.result.query rest (good-narrow s.args.count s.args.widths s.requires) bytes e in
+    (s.requires, arity, size)
+
+pub returns-then-not-read-2 : goal.returns-then-not-read-2
+returns-then-not-read-2 c =
+    let after-if3 = c in
+    let after-read-query = after-if3 in
+    let after-if1 = after-read-query in
+    let after-is-vacant = after-if1 in
+    let earlier = after-is-vacant in
+    let s = earlier in
+    let schema = take s.args.count s.args.widths in
+    let part = s.args.part.now in
+    let read = after-read-query.read-query in
+    let (rest, e, w) = query-some ((query schema).get part) read.result read.ensures after-if3.if-not-read.false in
+    let v = sym after-is-vacant.is-vacant.ensures ∙ after-if1.if1.false in
+    c.no_place_read-then-not-read-2.ensures
+    ∙ sym (ap place_read (long-query schema part s.args.last v read.result.query rest e
+    (sym w ∙ c.if-not-read-2.true)))
+
+pub returns-then-safe : goal.returns-then-safe
+returns-then-safe c =
+    let after-if3 = c in
+    let after-read-query = after-if3 in
+    let after-if1 = after-read-query in
+    let after-is-vacant = after-if1 in
+    let earlier = after-is-vacant in
+    let s = earlier in
+    let schema = take s.args.count s.args.widths in
+    let part = s.args.part.now in
+    let read = after-read-query.read-query in
+    let (rest, e, w) = query-some ((query schema).get part) read.result read.ensures after-if3.if-not-read.false in
+    let v = sym after-is-vacant.is-vacant.ensures ∙ after-if1.if1.false in
+    sym (ap place_read (good-query-part schema part s.args.last v read.result.query rest e true
+    (sym w ∙ c.if-not-read-2.false) (sym c.head_safe-safe.ensures ∙ c.if-safe.true)))
+
+pub returns : goal.returns
+returns c =
+    let after-head-safe = c in
+    let after-if3 = after-head-safe in
+    let after-read-query = after-if3 in
+    let after-if1 = after-read-query in
+    let after-is-vacant = after-if1 in
+    let earlier = after-is-vacant in
+    let s = earlier in
+    let schema = take s.args.count s.args.widths in
+    let part = s.args.part.now in
+    let read = after-read-query.read-query in
+    let (rest, e, w) = query-some ((query schema).get part) read.result read.ensures (not-false read.result.good after-if3.if3.false) in
+    let v = sym after-is-vacant.is-vacant.ensures ∙ after-if1.if1.false in
+    c.no_place_read-2.ensures
+    ∙ sym (ap place_read (good-query-part schema part s.args.last v read.result.query rest e false
+    (sym w ∙ c.if-not-read-2.false) (sym after-head-safe.head_safe-safe.ensures ∙ c.if-safe.false)))

@@ -1,0 +1,187 @@
+-- ---- the pieces of a query
+-- The head's bytes
+use borrow.Author.Rules.{rules}
+use mathlib.Core.Path.{◌≡◌, sym, ap, ◌∙◌}
+use mathlib.Core.Bool.{cond}
+use mathlib.Core.List.{List, [], ◌∷◌, ◌++◌, flat_map}
+use Prim.Native.Nat.{ℕ, ◌+◌, ◌*◌, ◌^◌, ◌≤◌, ◌<◌}
+use native.Mathlib.Omega.{arith}
+use lib.Dec.{eqb}
+use lib.ListN.{length, take, set, length-append, length-set}
+use lib.Seq.{length-take-le}
+use Rattle.query.specs.declared.Query.{Query}
+use Rattle.query.specs.View.{as_query}
+use Rattle.lists.specs.Over.{over}
+use Rattle.format.specs.Format.{byte, sequence, via, padded}
+use Rattle.format.specs.Parts.{entries, row, rows, chunk, query_for}
+use Rattle.lists.proofs.Over.{over-length, over-over}
+use Rattle.lists.proofs.Loops.{mapped-length}
+use Rattle.format.proofs.Parts.{head_fits}
+use Rattle.format.proofs.Lengths.{length-entries, length-query}
+use Rattle.encoder.proofs.Stores.{two-stores}
+use Rattle.encoder.proofs.put_query.Goals as goal
+
+abbrev head_bytes : ℕ → Query → List ℕ
+head_bytes used q = (entries used).put q.head
+
+-- The rows' bytes
+abbrev row_bytes : List ℕ → Query → List ℕ
+row_bytes schema q = flat_map (row schema).put (take q.size (chunk q.relations q.cells))
+
+-- The buffer after the first two bytes
+abbrev opened : List ℕ → ℕ → Query → List ℕ
+opened buffer at q = set (set buffer at q.arity) (at + 1) q.size
+
+module _ (schema buffer : List ℕ) (at : ℕ) (q : Query) (lh : length q.head ≡ 8) (ha : q.arity ≤ 8)
+    (room : at + length ((query_for 24 schema).put q) ≤ length buffer)
+    (used : ℕ) (eu : used ≡ cond (eqb q.size 0) 0 q.arity) where
+  used-fits : used ≤ 8
+  used-fits = rw eu (head_fits q.size q.arity ha)
+
+  head-long : length (head_bytes used q) ≡ 5 * used
+  head-long = length-entries used q.head ∙ ap (λ (n : ℕ). 5 * n) (length-take-le used q.head (omega (arith, used-fits)))
+
+  put-pieces : (query_for 24 schema).put q ≡ q.arity ∷ q.size ∷ ((head_bytes used q) ++ (row_bytes schema q))
+  unfolding query_for via sequence byte rows padded
+  put-pieces = rw eu
+
+  total : length ((query_for 24 schema).put q) ≡ 2 + (5 * used + length (row_bytes schema q))
+  total = ap length put-pieces ∙ omega (arith, length-append (head_bytes used q) (row_bytes schema q), head-long)
+
+  opened-long : length (opened buffer at q) ≡ length buffer
+  opened-long = simp length-set
+
+  opened-over : (opened buffer at q) ≡ over buffer at (q.arity ∷ q.size ∷ [])
+  opened-over = two-stores buffer at q.arity q.size (omega (arith, total))
+
+  room-head : at + 2 + 5 * used ≤ length (opened buffer at q)
+  room-head = omega (arith, total, opened-long)
+
+  module _ (second : List ℕ) (e₂ : second ≡ over (opened buffer at q) (at + 2) (head_bytes used q)) where
+    second-long : length second ≡ length buffer
+    second-long = ap length e₂ ∙ over-length (opened buffer at q) (head_bytes used q) (at + 2) (omega (arith, head-long, room-head)) ∙ opened-long
+
+    room-rows : at + 2 + 5 * used + length (row_bytes schema q) ≤ length second
+    room-rows = omega (arith, second-long, total)
+
+    second-over : second ≡ over buffer at (q.arity ∷ q.size ∷ (head_bytes used q))
+    second-over =
+        e₂ ∙ ap (λ (b : List ℕ). over b (at + 2) (head_bytes used q)) opened-over
+        ∙ over-over buffer at (q.arity ∷ q.size ∷ []) (head_bytes used q) (omega (arith, total, head-long))
+
+    module _ (third : List ℕ) (e₃ : third ≡ over second (at + 2 + 5 * used) (row_bytes schema q)) where
+      third-long : length third ≡ length buffer
+      third-long = ap length e₃ ∙ over-length second (row_bytes schema q) (at + 2 + 5 * used) room-rows ∙ second-long
+
+      third-over : third ≡ over buffer at ((query_for 24 schema).put q)
+      third-over =
+          let front : List ℕ = q.arity ∷ q.size ∷ (head_bytes used q) in
+          let n : at + 2 + 5 * used ≡ at + length front = omega (arith, head-long) in
+          e₃ ∙ ap (λ (b : List ℕ). over b (at + 2 + 5 * used) (row_bytes schema q)) second-over
+          ∙ ap (λ (m : ℕ). over (over buffer at front) m (row_bytes schema q)) n
+          ∙ over-over buffer at front (row_bytes schema q) (omega (arith, total, head-long)) ∙ ap (over buffer at) (sym put-pieces)
+
+-- ---- what holds at each place, proved where it first does
+head-cells : (c : goal.Start) → length c.args.t.head ≡ 8
+head-cells c = search (mapped-length, rules)
+
+short : (c : goal.Start) → length c.args.buffer.now < 2 ^ 63
+short c = search rules
+
+two : (c : goal.Start) → c.args.at + 2 ≤ length c.args.buffer.now
+two c = omega (arith, length-query 24 (take c.args.count c.args.widths) (as_query c.args.t), c.requires.1.1)
+
+used : (c : goal.After-head_in_use-used) → c.head_in_use-used.result ≤ 8
+used c =
+    let start = c in
+    used-fits (take start.args.count start.args.widths) start.args.buffer.now start.args.at (as_query start.args.t) (head-cells c.before.before)
+    start.requires.1.0.0 start.requires.1.1 c.head_in_use-used.result c.head_in_use-used.ensures
+
+rows_fit : (c : goal.After-put_entries)
+    → c.args.at + 2 + 5 * c.head_in_use-used.result
+    + length (row_bytes (take c.args.count c.args.widths) (as_query c.args.t)) ≤ length c.put_entries.new.0
+rows_fit c =
+    let after-head-in-use = c in
+    let start = after-head-in-use in
+    room-rows (take start.args.count start.args.widths) start.args.buffer.now start.args.at (as_query start.args.t) (head-cells start)
+    start.requires.1.0.0 start.requires.1.1 after-head-in-use.head_in_use-used.result after-head-in-use.head_in_use-used.ensures c.put_entries.new.0
+    c.put_entries.ensures
+
+rows_at : (c : goal.After-put_entries) → c.args.at + 2 + 5 * c.head_in_use-used.result < 2 ^ 63
+rows_at c =
+    let after-head-in-use = c in
+    let start = after-head-in-use in
+    omega (
+      arith,
+      rows_fit c,
+      second-long (take start.args.count start.args.widths) start.args.buffer.now start.args.at (as_query start.args.t)
+          (head-cells start) start.requires.1.0.0 start.requires.1.1 after-head-in-use.head_in_use-used.result after-head-in-use.head_in_use-used.ensures
+          c.put_entries.new.0 c.put_entries.ensures,
+      short start,
+    )
+
+-- ---- the needs
+pub bounds-buffer-at : goal.bounds-buffer-at
+bounds-buffer-at c = omega (arith, two (goal.at.bounds-buffer-at c).Start)
+
+pub overflow_add-buffer : goal.overflow_add-buffer
+overflow_add-buffer c = omega (arith, two (goal.at.overflow_add-buffer c).Start, short (goal.at.overflow_add-buffer c).Start)
+
+pub bounds-buffer-at-2 : goal.bounds-buffer-at-2
+bounds-buffer-at-2 c = simp length-set (omega (arith, two (goal.at.bounds-buffer-at-2 c).Start))
+
+pub overflow_add-at : goal.overflow_add-at
+overflow_add-at c = omega (arith, two (goal.at.overflow_add-at c).Start, short (goal.at.overflow_add-at c).Start)
+
+pub put_entries-requires : goal.put_entries-requires
+put_entries-requires c =
+    let after-head-in-use = c in
+    let start = after-head-in-use in (
+      used (goal.at.put_entries-requires c).After-head_in_use-used,
+      room-head (take start.args.count start.args.widths) start.args.buffer.now start.args.at (as_query start.args.t)
+          (head-cells start) start.requires.1.0.0 start.requires.1.1 after-head-in-use.head_in_use-used.result after-head-in-use.head_in_use-used.ensures,
+    )
+
+pub overflow_add-at-2 : goal.overflow_add-at-2
+overflow_add-at-2 c = omega (arith, rows_at (goal.at.overflow_add-at-2 c).After-put_entries)
+
+pub overflow_mul-used : goal.overflow_mul-used
+overflow_mul-used c = omega (arith, used (goal.at.overflow_mul-used c).After-head_in_use-used)
+
+pub overflow_add-at-3 : goal.overflow_add-at-3
+overflow_add-at-3 c = omega (arith, rows_at (goal.at.overflow_add-at-3 c).After-put_entries)
+
+pub put_rows-requires : goal.put_rows-requires
+put_rows-requires c =
+    let earlier = c in
+    let start = earlier in
+    (start.requires.0, (start.requires.1.0.1, rows_fit (goal.at.put_rows-requires c).After-put_entries))
+
+pub shape_of-buffer : goal.shape_of-buffer
+shape_of-buffer c =
+    let after-put-rows = c in
+    let after-put-entries = after-put-rows in
+    let after-head-in-use = after-put-entries in
+    let start = after-head-in-use in
+    third-long (take start.args.count start.args.widths) start.args.buffer.now start.args.at (as_query start.args.t) (head-cells start)
+    start.requires.1.0.0 start.requires.1.1 after-head-in-use.head-in-use.result after-head-in-use.head-in-use.ensures
+    after-put-entries.put_entries.new.0 after-put-entries.put_entries.ensures after-put-rows.put_rows.new.0
+    after-put-rows.put_rows.ensures.0
+
+pub returns : goal.returns
+returns c =
+    let after-put-rows = c in
+    let after-put-entries = after-put-rows in
+    let after-head-in-use = after-put-entries in
+    let start = after-head-in-use in (
+      third-over (take start.args.count start.args.widths) start.args.buffer.now start.args.at (as_query start.args.t) (head-cells start)
+          start.requires.1.0.0 start.requires.1.1 after-head-in-use.head-in-use.result after-head-in-use.head-in-use.ensures
+          after-put-entries.put_entries.new.0 after-put-entries.put_entries.ensures after-put-rows.put_rows.new.0
+          after-put-rows.put_rows.ensures.0,
+      omega (
+        arith,
+        after-put-rows.put_rows.ensures.1,
+        total (take start.args.count start.args.widths) start.args.buffer.now start.args.at (as_query start.args.t) (head-cells start)
+            start.requires.1.0.0 start.requires.1.1 after-head-in-use.head-in-use.result after-head-in-use.head-in-use.ensures,
+      ),
+    )

@@ -1,0 +1,26 @@
+use mathlib.Core.Path.{ap, refl, ◌∙◌}
+use Prim.Native.Nat.{ℕ}
+use native.Mathlib.Numerals.{add-one}
+use native.Mathlib.Omega.{arith}
+use lib.ListN.{set, length-set}
+use Rattle.lists.specs.Over.{over}
+use Rattle.format.specs.Parts.{entries}
+use Rattle.lists.proofs.Over.{over-set}
+use Rattle.encoder.proofs.put_row.Goals as goal
+
+pub shape_of-buffer : goal.shape_of-buffer
+shape_of-buffer c =
+    let start = c in
+    c.put_entries.auto.0 ∙ length-set start.args.buffer.now start.args.at start.args.relation
+
+pub returns : goal.returns
+returns c =
+    let start = c in
+    let buffer = start.args.buffer.now in
+    let at = start.args.at in
+    let relation = start.args.relation in
+    let bytes = (entries start.args.width).put start.args.cells in (
+      c.put_entries.ensures ∙ ap (λ (n : ℕ). over (set buffer at relation) n bytes) (add-one at)
+          ∙ over-set buffer at relation bytes (omega (arith, start.requires.1)),
+      refl,
+    )

@@ -1,0 +1,111 @@
+-- What has been read of the part
+use borrow.Author.Rules.{rules}
+use mathlib.Core.Path.{◌≡◌, sym, ap, refl, ◌∙◌}
+use mathlib.Core.Bool.{true}
+use mathlib.Core.List.{List}
+use Prim.Native.Nat.{ℕ, ◌+◌, ◌-◌, ◌≤◌, ◌<◌}
+use native.Mathlib.Omega.{arith}
+use lib.Dec.{leb}
+use lib.ListN.{length, drop, set, replicate, length-set}
+use borrow.Author.Tests.{leb-true}
+use Rattle.refusals.specs.Refusals.{bad_relations}
+use Rattle.lists.specs.Tests.{between, is_zero}
+use Rattle.format.specs.Format.{get_byte, byte}
+use Rattle.format.specs.Parts.{relations}
+use Rattle.format.specs.File.{complete}
+use Rattle.lists.proofs.Tests.{and-iff}
+use Rattle.parsing.specs.declared.ByteRead.{ByteRead}
+use Rattle.parsing.specs.declared.ByteRead.TheVariants.{Byte, NoByte}
+use Rattle.parsing.specs.internal.Read.{byte_read}
+use Rattle.parsing.specs.internal.Read.{no_relations, relations_read}
+use Rattle.parsing.proofs.Counted.{byte-read, byte-none, Counting, counting-starts, counting-turns, counting-fails, counting-ends, counting-long}
+use Rattle.parsing.proofs.Counted.{no-count}
+use Rattle.parsing.proofs.read_relations.Goals as goal
+
+abbrev At : List ℕ → ℕ → List ℕ → ℕ → Type 0
+At part n widths i = Counting (between 1 8) 8 0 is_zero (byte (between 1 8)) part n widths i (1 + i)
+
+module _ (part : List ℕ) where
+  begins : (n : ℕ) → Byte n ≡ byte_read (get_byte (between 1 8) part) → (n ≤ 8) × At part n (replicate 8 0) 0
+  begins n h =
+      let (t, e) = byte-read (between 1 8) part 0 n h in
+      let k : (leb 1 n ≡ true) × (leb n 8 ≡ true) = simp and-iff at t in
+      (leb-true n 8 k.1, counting-starts (between 1 8) 8 0 is_zero (byte (between 1 8)) part n e)
+
+  no-relations-read : (r : ByteRead) → r ≡ byte_read (get_byte (between 1 8) part) → r ≡ NoByte
+      → no_relations ≡ relations_read (complete bad_relations (relations.get part))
+  unfolding relations
+  no-relations-read r p q =
+      sym (ap relations_read (no-count (between 1 8) 8 0 is_zero (byte (between 1 8)) part bad_relations (byte-none (get_byte (between 1 8) part) (sym q ∙ p))))
+
+  module _ (n : ℕ) (widths : List ℕ) (i : ℕ) (f : At part n widths i) where
+    module _ (h : i < n) (r : ByteRead) (p : r ≡ byte_read (get_byte (between 1 8) (drop (1 + i) part))) where
+      goes_on : (w : ℕ) → i < length widths → r ≡ Byte w → At part n (set widths i w) (i + 1)
+      unfolding byte
+      goes_on w l q =
+          let (t, e) = byte-read (between 1 8) part (1 + i) w (sym q ∙ p) in
+          let k : 1 + i + 1 ≡ 1 + (i + 1) = omega arith in
+          counting-turns (between 1 8) 8 0 is_zero (byte (between 1 8)) part f w (1 + (i + 1)) h l (e ∙ rw k)
+
+      fails : r ≡ NoByte → no_relations ≡ relations_read (complete bad_relations (relations.get part))
+      unfolding relations byte
+      fails q =
+          sym (ap relations_read (counting-fails (between 1 8) 8 0 is_zero (byte (between 1 8)) part f bad_relations h
+          (byte-none (get_byte (between 1 8) (drop (1 + i) part)) (sym q ∙ p))))
+
+    module _ (high : i ≤ n) (l : n ≤ i) where
+      too_long : 1 + n < length part → no_relations ≡ relations_read (complete bad_relations (relations.get part))
+      unfolding relations
+      too_long t = sym (ap relations_read (counting-long (between 1 8) 8 0 is_zero (byte (between 1 8)) part f bad_relations l (omega arith)))
+
+      accepted : length part ≤ 1 + n → record { good = true; count = n; widths = widths } ≡ relations_read (complete bad_relations (relations.get part))
+      unfolding relations
+      accepted t = sym (ap relations_read (counting-ends (between 1 8) 8 0 is_zero (byte (between 1 8)) part f bad_relations l (omega arith)))
+
+pub returns-in_default : goal.returns-in_default
+returns-in_default c =
+    let after-read-byte = c in
+    let start = after-read-byte in
+    c.no_relations.ensures ∙ no-relations-read start.args.part.now after-read-byte.read_byte.result after-read-byte.read_byte.ensures
+    c.in_default.is
+
+pub loop-i-init : goal.loop-i-init
+loop-i-init c =
+    let start = c in
+    let (few, f) =
+    begins start.args.part.now c.in-Byte.count (sym c.in-Byte.is ∙ c.read_byte.ensures) in
+    (omega arith, few, refl, f)
+
+pub returns-in_default-read_byte : goal.returns-in_default-read_byte
+returns-in_default-read_byte c =
+    let after-read-byte2 = c in
+    let after-loop-test = after-read-byte2 in
+    let after-loop = after-loop-test in
+    c.no_relations-in_default-read_byte.ensures
+    ∙ fails _ _ after-loop.loop.widths after-loop.loop.i after-loop.loop.invariant.3 after-loop-test.loop-test.true
+    after-read-byte2.read_byte-in-loop-i.result after-read-byte2.read_byte-in-loop-i.ensures c.in_default-read_byte.is
+
+pub loop-i-preserved : goal.loop-i-preserved
+loop-i-preserved c =
+    let after-read-byte2 = c in
+    let after-loop-test = after-read-byte2 in
+    let after-loop = after-loop-test in (
+      search rules,
+      after-loop.loop.invariant.1,
+      length-set after-loop.loop.widths after-loop.loop.i c.in-Byte-read_byte.width ∙ after-loop.loop.invariant.2,
+      goes_on _ _ after-loop.loop.widths after-loop.loop.i after-loop.loop.invariant.3 after-loop-test.loop-test.true
+          after-read-byte2.read_byte-in-loop-i.result after-read-byte2.read_byte-in-loop-i.ensures c.in-Byte-read_byte.width (omega arith)
+          c.in-Byte-read_byte.is,
+    )
+
+pub returns-then-n-part : goal.returns-then-n-part
+returns-then-n-part c =
+    let after-loop = c in
+    c.no_relations-then-n-part.ensures ∙ too_long _ _ after-loop.loop-i.widths after-loop.loop-i.i after-loop.loop-i.invariant.3 after-loop.loop-i.invariant.0
+    c.loop-i-test.false c.if-n-part.true
+
+pub returns : goal.returns
+returns c =
+    let after-loop = c in
+    accepted _ _ after-loop.loop-i.widths after-loop.loop-i.i after-loop.loop-i.invariant.3 after-loop.loop-i.invariant.0
+    c.loop-i-test.false c.if-n-part.false

@@ -1,0 +1,184 @@
+-- The record with the places read so far and the others laid over what follows them
+use borrow.Author.Tests.{eq-eqb, ne_eqb}
+use mathlib.Core.Path.{◌≡◌, sym, ap, refl, ◌∙◌, subst}
+use mathlib.Core.Bool.{Bool, true, false}
+use mathlib.Core.List.{List, ◌∷◌}
+use Prim.Native.Nat.{ℕ, zero, suc, ◌+◌, ◌*◌, ◌-◌, ◌≤◌, ◌<◌}
+use native.Mathlib.Omega.{arith}
+use lib.Dec.{eqb}
+use lib.ListN.{length, take, drop, set, replicate, length-set}
+use Rattle.query.specs.declared.Dependency.{Dependency}
+use Rattle.query.specs.declared.JoinDependency.{JoinDependency}
+use Rattle.query.specs.declared.Place.{Place}
+use Rattle.record.specs.declared.Outcome.{Outcome}
+use Rattle.record.specs.declared.Status.TheVariants.{Done, Refused}
+use Rattle.query.specs.Rule.{no_place}
+use Rattle.lists.specs.Over.{over}
+use Rattle.refusals.specs.Refusals.{Reply, gives, refused, ◌>>=◌}
+use Rattle.decoder.proofs.Placed.{place-accepted, place-refused}
+use Rattle.format.specs.File.{stretch, stretches, read_place, none_left, read_places}
+use Rattle.lists.proofs.Over.{over-nil, over-set}
+use Rattle.lists.proofs.Over.{pad-over}
+use Rattle.decoder.specs.declared.PlaceRead.{PlaceRead}
+use Rattle.decoder.specs.internal.Read.{place_read}
+use Rattle.places.specs.internal.Read.{outcome_of, record_read}
+use Rattle.format.proofs.Stretches.{table_at, stretches-cons, stretch-fits}
+use Rattle.places.proofs.read_places.Goals as goal
+
+abbrev record_over : ℕ × List ℕ → ℕ × List Dependency → ℕ × List JoinDependency → List Place → ℕ → Reply (List Place) → Outcome
+record_over rs ds js places i (gives ps) =
+    record { answer = Done; «record» = record { relations = rs.0; widths = rs.1; held = ds.0; dependencies = ds.1; joined = js.0; joins = js.1; places = over places i ps } }
+record_over rs ds js places i (refused m) = outcome_of (refused m)
+
+-- What has been read of the query parts
+record At (rs : ℕ × List ℕ) (ds : ℕ × List Dependency) (js : ℕ × List JoinDependency) (schema file : List ℕ) (n : ℕ) (places : List Place) (k : ℕ) : Type 0 where
+  low : 2 ≤ k
+  high : k ≤ n
+  long : length places ≡ 8
+  rest : record_read rs ds js (read_places schema (stretches (n - 2) file (drop 10 file)))
+      ≡ record_over rs ds js places (k - 2) (read_places schema (stretches (n - k) file (table_at file k)))
+
+module _ (rs : ℕ × List ℕ) (ds : ℕ × List Dependency) (js : ℕ × List JoinDependency) where
+  starts : (o : Reply (List Place)) → record_read rs ds js o ≡ record_over rs ds js (replicate 8 no_place) 0 o
+  starts (gives ps) =
+      λ i. record {
+        answer =
+            Done;
+        «record» = record { relations = rs.0; widths = rs.1; held = ds.0; dependencies = ds.1; joined = js.0; joins = js.1; places = pad-over 8 no_place ps i };
+      }
+  starts (refused m) = refl
+
+  begins : (schema file : List ℕ) (n : ℕ) (p : Place) → p ≡ no_place → 2 ≤ n → At rs ds js schema file n (replicate 8 p) 2
+  begins schema file n p e h =
+      subst (λ (p : Place). At rs ds js schema file n (replicate 8 p) 2) (sym e)
+      (record { low = omega arith; high = h; long = refl; rest = starts (read_places schema (stretches (n - 2) file (drop 10 file))) })
+
+none-zero : (file table : List ℕ) → none_left (stretches 0 file table) ≡ true
+unfolding stretches none_left
+none-zero file table = refl
+
+none-suc : (m : ℕ) (file table : List ℕ) → none_left (stretches (suc m) file table) ≡ false
+unfolding stretches none_left
+none-suc m file table = refl
+
+-- whether the part is the last
+last-part : (n k : ℕ) (file table : List ℕ) → k < n → none_left (stretches (n - (k + 1)) file table) ≡ eqb (k + 1) n
+last-part n k file table h = go (n - (k + 1)) refl
+  where
+    go : (m : ℕ) → n - (k + 1) ≡ m → none_left (stretches m file table) ≡ eqb (k + 1) n
+    go zero e = none-zero file table ∙ sym (eq-eqb (k + 1) n (omega arith))
+    go (suc m) e = none-suc m file table ∙ sym (ne_eqb (k + 1) n (λ z. omega arith))
+
+-- one part more
+split : (schema : List ℕ) (p : List ℕ) (ps : List (List ℕ)) (place : Place) → read_place schema (none_left ps) p ≡ gives place
+    → read_places schema (p ∷ ps) ≡ (read_places schema ps >>= (λ places. gives (place ∷ places)))
+unfolding read_places ◌>>=◌
+split schema p ps place e = rw e
+
+split-refused : (schema : List ℕ) (p : List ℕ) (ps : List (List ℕ)) (m : ℕ) → read_place schema (none_left ps) p ≡ refused m
+    → read_places schema (p ∷ ps) ≡ refused m
+unfolding read_places ◌>>=◌
+split-refused schema p ps m e = rw e
+
+stored : (rs : ℕ × List ℕ) (ds : ℕ × List Dependency) (js : ℕ × List JoinDependency) (places : List Place) (i : ℕ) (place : Place) (o : Reply (List Place)) → i < length places
+    → record_over rs ds js places i (o >>= (λ ps. gives (place ∷ ps))) ≡ record_over rs ds js (set places i place) (suc i) o
+unfolding ◌>>=◌
+stored rs ds js places i place (gives ps) h =
+    λ j. record {
+      answer =
+          Done;
+      «record» = record { relations = rs.0; widths = rs.1; held = ds.0; dependencies = ds.1; joined = js.0; joins = js.1; places = sym (over-set places i place ps h) j };
+    }
+stored rs ds js places i place (refused m) h = refl
+
+module _ (rs : ℕ × List ℕ) (ds : ℕ × List Dependency) (js : ℕ × List JoinDependency) (schema file : List ℕ) (n : ℕ) (places : List Place) (k : ℕ) (f : At rs ds js schema file n places k)
+    (h : k < n) (few : n ≤ 10)
+    (p : List ℕ) (ep : p ≡ stretch file (table_at file k)) (r : PlaceRead) (er : r ≡ place_read (read_place schema (eqb (k + 1) n) p)) where
+  others : List (List ℕ)
+  others = stretches (n - (k + 1)) file (table_at file (k + 1))
+
+  this : read_places schema (stretches (n - k) file (table_at file k)) ≡ read_places schema (p ∷ others)
+  unfolding others
+  this = ap (read_places schema) (stretches-cons file n 0 k h ∙ ap {B = List (List ℕ)} (λ q. q ∷ stretches (n - (k + 1)) file (table_at file (k + 1))) (sym ep))
+
+  last : read_place schema (none_left others) p ≡ read_place schema (eqb (k + 1) n) p
+  unfolding others
+  last = ap (λ (t : Bool). read_place schema t p) (last-part n k file (table_at file (k + 1)) h)
+
+  goes_on : r.answer ≡ Done → At rs ds js schema file n (set places (k - 2) r.place) (k + 1)
+  unfolding others
+  goes_on g =
+      let low = f.low in
+      let long = f.long in
+      let o = place-accepted (read_place schema (eqb (k + 1) n) p) r er g in
+      let m : suc (k - 2) ≡ k + 1 - 2 = omega arith in
+      record {
+        low = omega arith;
+        high = omega arith;
+        long = length-set places (k - 2) r.place ∙ f.long;
+        rest = f.rest ∙ ap (record_over rs ds js places (k - 2)) (this ∙ split schema p others r.place (last ∙ o))
+            ∙ stored rs ds js places (k - 2) r.place (read_places schema others) (omega arith)
+            ∙ ap (λ (i : ℕ). record_over rs ds js (set places (k - 2) r.place) i (read_places schema others)) m;
+      }
+
+  stops : (m : ℕ) → r.answer ≡ Refused m → outcome_of (refused m) ≡ record_read rs ds js (read_places schema (stretches (n - 2) file (drop 10 file)))
+  stops m g =
+      let o = place-refused (read_place schema (eqb (k + 1) n) p) r m er g in
+      sym (f.rest ∙ ap (record_over rs ds js places (k - 2)) (this ∙ split-refused schema p others m (last ∙ o)))
+
+ended : (rs : ℕ × List ℕ) (ds : ℕ × List Dependency) (js : ℕ × List JoinDependency) (schema file : List ℕ) (n : ℕ) (places : List Place) (k : ℕ) → At rs ds js schema file n places k → n ≤ k
+    → record { answer = Done; «record» = record { relations = rs.0; widths = rs.1; held = ds.0; dependencies = ds.1; joined = js.0; joins = js.1; places = places } }
+    ≡ record_read rs ds js (read_places schema (stretches (n - 2) file (drop 10 file)))
+unfolding read_places stretches
+ended rs ds js schema file n places k f h =
+    let m : n - k ≡ 0 = omega arith in
+    sym (f.rest ∙ ap (λ (j : ℕ). record_over rs ds js places (k - 2) (read_places schema (stretches j file (table_at file k)))) m
+    ∙ (λ i. record {
+      answer =
+          Done;
+      «record» = record { relations = rs.0; widths = rs.1; held = ds.0; dependencies = ds.1; joined = js.0; joins = js.1; places = over-nil places (k - 2) i };
+    }))
+
+pub loop-k-init : goal.loop-k-init
+loop-k-init c =
+    let start = c in
+    begins (start.args.count, start.args.widths) (start.args.held, start.args.dependencies) (start.args.joined, start.args.joins) (take start.args.count start.args.widths)
+    start.args.file.now start.args.n c.no_place-blank.result c.no_place-blank.ensures start.requires.1.0.0
+
+pub part-requires : goal.part-requires
+part-requires c =
+    let start = c in (
+      omega (arith, start.requires.1.0.2),
+      stretch-fits start.args.file.now start.args.n (2 + 4 * start.args.n) c.loop-k.k c.loop-k-test.true start.requires.1.1,
+    )
+
+pub returns-in-Refused : goal.returns-in-Refused
+returns-in-Refused c =
+    let after-answer = c in
+    let after-read-place = after-answer in
+    let after-part = after-read-place in
+    let after-loop-test = after-part in
+    let after-loop = after-loop-test in
+    let start = after-loop in
+    c.refusal.ensures ∙ stops (start.args.count, start.args.widths) (start.args.held, start.args.dependencies) (start.args.joined, start.args.joins)
+    (take start.args.count start.args.widths) start.args.file.now start.args.n after-loop.loop.places after-loop.loop.k
+    after-loop.loop.invariant after-loop-test.loop-test.true start.requires.1.0.1 after-part.part.result.now after-part.part.ensures
+    after-read-place.read-place.result after-read-place.read-place.ensures after-answer.in-Refused.number after-answer.in-Refused.is
+
+pub loop-k-preserved : goal.loop-k-preserved
+loop-k-preserved c =
+    let after-read-place = c in
+    let after-part = after-read-place in
+    let after-loop-test = after-part in
+    let after-loop = after-loop-test in
+    let start = after-loop in
+    goes_on (start.args.count, start.args.widths) (start.args.held, start.args.dependencies) (start.args.joined, start.args.joins) (take start.args.count start.args.widths)
+    start.args.file.now start.args.n after-loop.loop.places after-loop.loop.k after-loop.loop.invariant after-loop-test.loop-test.true
+    start.requires.1.0.1 after-part.part.result.now after-part.part.ensures after-read-place.read_place-read.result
+    after-read-place.read_place-read.ensures c.in-Done.is
+
+pub returns : goal.returns
+returns c =
+    let start = c in
+    ended (start.args.count, start.args.widths) (start.args.held, start.args.dependencies) (start.args.joined, start.args.joins) (take start.args.count start.args.widths)
+    start.args.file.now start.args.n c.loop-k.places c.loop-k.k c.loop-k.invariant c.loop-k-test.false
