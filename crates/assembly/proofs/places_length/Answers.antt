@@ -33,14 +33,14 @@ pub place_length-sum-requires : goal.place_length-sum-requires
 place_length-sum-requires c =
     let l : length c.args.places ≡ 8 = search rules in
     let start = c in (
-      start.requires.0,
+      start.requires.widths_value,
       every-get_or (good_place (take start.args.count start.args.widths)) start.args.places c.loop-k.k past_place
-          start.requires.1.0 (omega (arith, start.requires.1.1)),
+          start.requires.places_value (omega (arith, start.requires.n_bound)),
     )
 
 pub overflow_add-sum : goal.overflow_add-sum
 overflow_add-sum c =
-    omega (arith, c.place_length-sum.ensures.1, c.requires.1.1)
+    omega (arith, c.place_length-sum.ensures.1, c.requires.n_bound)
 
 pub loop-k-preserved : goal.loop-k-preserved
 loop-k-preserved c =
@@ -57,6 +57,6 @@ returns c =
     let l : length c.args.places ≡ 8 = search rules in
     let start = c in
     let e =
-    none_left (take start.args.count start.args.widths) start.args.places start.args.n c.loop-k.k (omega (arith, start.requires.1.1))
+    none_left (take start.args.count start.args.widths) start.args.places start.args.n c.loop-k.k (omega (arith, start.requires.n_bound))
     c.loop-k-test.false in
-    (omega (arith, e, c.loop-k.invariant.2), omega (arith, start.requires.1.1))
+    (omega (arith, e, c.loop-k.invariant.2), omega (arith, start.requires.n_bound))

@@ -38,7 +38,7 @@ loop-i-init c =
     let l : length c.args.list ≡ 32 = search rules in (
       omega arith,
       begins (set c.args.buffer.now c.args.at c.args.held) c.args.at c.args.held
-          c.args.list (omega (arith, c.requires.0)) (rw length-set c.requires.1),
+          c.args.list (omega (arith, c.requires.held_bound)) (rw length-set c.requires.held_in_bounds),
     )
 
 pub overflow_add-at : goal.overflow_add-at
@@ -89,7 +89,7 @@ loop-i-preserved c =
       search rules,
       goes_on (set start.args.buffer.now start.args.at start.args.held) start.args.at start.args.held start.args.t4
           after-loop.loop.buffer after-loop.loop.i after-loop-test.loop-test.true (omega (arith, start.requires.0)) after-loop.loop.invariant.1
-          after-put-dependency.put_dependency.new.0 after-put-dependency.put_dependency.ensures,
+          after-put-dependency.put_dependency.new.buffer after-put-dependency.put_dependency.ensures,
     )
 
 pub shape_of-buffer : goal.shape_of-buffer
@@ -102,7 +102,7 @@ returns c =
     let l : length c.args.list ≡ 32 = search rules in
     let start = c in
     let k : length (take start.args.held start.args.list) ≡ start.args.held =
-    length-take-le start.args.held start.args.list (omega (arith, start.requires.0)) in
+    length-take-le start.args.held start.args.list (omega (arith, start.requires.held_bound)) in
     byte-and-run start.args.buffer.now start.args.at start.args.held (flat_map put_dependency (take start.args.held start.args.list))
-    c.loop-i.buffer (omega (arith, start.requires.1))
+    c.loop-i.buffer (omega (arith, start.requires.held_in_bounds))
     (writing-ends c.loop-i.invariant.1 (omega arith)).0

@@ -39,31 +39,31 @@ bytes_4 s = bytes-3 s ++ bytes_of 2 (2 + 4 * (s.args.n + 2) + s.args.first)
 abbrev bytes-5 : goal.Start → List ℕ
 bytes-5 s = bytes_4 s ++ bytes_of 2 s.args.second
 
-run-1 : (c : goal.After-put_word) → Run c.args.buffer.now 0 (bytes-1 c.before.before.before) c.put_word.new.0 2
+run-1 : (c : goal.After-put_word) → Run c.args.buffer.now 0 (bytes-1 c.before.before.before) c.put_word.new.buffer 2
 run-1 c =
-    word-run (run-starts c.args.buffer.now 0) (c.args.n + 2) c.put_word.new.0 (omega (arith, c.requires.1.1.1))
+    word-run (run-starts c.args.buffer.now 0) (c.args.n + 2) c.put_word.new.buffer (omega (arith, c.requires.1.1.1))
     c.put_word.ensures
 
-run-2 : (c : goal.After-put_word-2) → Run (start-2 c).args.buffer.now 0 (bytes_2 (start-2 c)) c.put_word-2.new.0 4
+run-2 : (c : goal.After-put_word-2) → Run (start-2 c).args.buffer.now 0 (bytes_2 (start-2 c)) c.put_word-2.new.buffer 4
 run-2 c =
     let earlier = c in
-    word-run (run-1 c.before.before.before.before) (2 + 4 * ((start-2 c).args.n + 2)) c.put_word-2.new.0 (omega (arith, (start-2 c).requires.1.1.1)) c.put_word-2.ensures
+    word-run (run-1 c.before.before.before.before) (2 + 4 * ((start-2 c).args.n + 2)) c.put_word-2.new.buffer (omega (arith, (start-2 c).requires.1.1.1)) c.put_word-2.ensures
 
-run-3 : (c : goal.After-put_word-3) → Run (start-3 c).args.buffer.now 0 (bytes-3 (start-3 c)) c.put_word-3.new.0 6
+run-3 : (c : goal.After-put_word-3) → Run (start-3 c).args.buffer.now 0 (bytes-3 (start-3 c)) c.put_word-3.new.buffer 6
 run-3 c =
     let earlier = c in
-    word-run (run-2 c.before.before.before.before) (start-3 c).args.first c.put_word-3.new.0 (omega (arith, (start-3 c).requires.1.1.1)) c.put_word-3.ensures
+    word-run (run-2 c.before.before.before.before) (start-3 c).args.first c.put_word-3.new.buffer (omega (arith, (start-3 c).requires.1.1.1)) c.put_word-3.ensures
 
-run-4 : (c : goal.After-put_word-4) → Run (start-4 c).args.buffer.now 0 (bytes_4 (start-4 c)) c.put_word-4.new.0 8
+run-4 : (c : goal.After-put_word-4) → Run (start-4 c).args.buffer.now 0 (bytes_4 (start-4 c)) c.put_word-4.new.buffer 8
 run-4 c =
     let earlier = c in
-    word-run (run-3 c.before.before.before.before) (2 + 4 * ((start-4 c).args.n + 2) + (start-4 c).args.first) c.put_word-4.new.0 (omega (arith, (start-4 c).requires.1.1.1))
+    word-run (run-3 c.before.before.before.before) (2 + 4 * ((start-4 c).args.n + 2) + (start-4 c).args.first) c.put_word-4.new.buffer (omega (arith, (start-4 c).requires.1.1.1))
     c.put_word-4.ensures
 
-run-5 : (c : goal.After-put_word-5) → Run (start-5 c).args.buffer.now 0 (bytes-5 (start-5 c)) c.put_word-5.new.0 10
+run-5 : (c : goal.After-put_word-5) → Run (start-5 c).args.buffer.now 0 (bytes-5 (start-5 c)) c.put_word-5.new.buffer 10
 run-5 c =
     let earlier = c in
-    word-run (run-4 c.before.before.before.before) (start-5 c).args.second c.put_word-5.new.0 (omega (arith, (start-5 c).requires.1.1.1)) c.put_word-5.ensures
+    word-run (run-4 c.before.before.before.before) (start-5 c).args.second c.put_word-5.new.buffer (omega (arith, (start-5 c).requires.1.1.1)) c.put_word-5.ensures
 
 -- The parts that the table lists, and where the first of them starts
 abbrev listed : goal.Start → List (List ℕ)
@@ -77,19 +77,19 @@ few c = rw (length-map (take c.args.n c.args.places) (put_place (take c.args.cou
 
 last-run : (c : goal.After-put_table) → Run (start-5 c.before.before.before.before).args.buffer.now 0
     (bytes-5 (start-5 c.before.before.before.before)
-    ++ table_of (begin (start-5 c.before.before.before.before)) (listed (start-5 c.before.before.before.before))) c.put_table.new.0
+    ++ table_of (begin (start-5 c.before.before.before.before)) (listed (start-5 c.before.before.before.before))) c.put_table.new.buffer
     (10 + length (table_of (begin (start-5 c.before.before.before.before)) (listed (start-5 c.before.before.before.before))))
 last-run c =
     let earlier = c in
     let start = start-5 c.before.before.before.before in
-    run-turns (run-5 c.before.before.before.before) (table_of (begin start) (listed start)) c.put_table.new.0 (10 + length (table_of (begin start) (listed start)))
+    run-turns (run-5 c.before.before.before.before) (table_of (begin start) (listed start)) c.put_table.new.buffer (10 + length (table_of (begin start) (listed start)))
     (omega (arith, length-table (begin start) (listed start), few start, start.pre.1.1.1)) c.put_table.ensures refl
 
 pub put_word-requires : goal.put_word-requires
-put_word-requires c = omega (arith, c.requires.1.1.1)
+put_word-requires c = omega (arith, c.requires.n_in_bounds)
 
 pub put_word-requires-2 : goal.put_word-requires-2
-put_word-requires-2 c = omega (arith, (run-1 (goal.at.put_word-requires-2 c).After-put_word).long, c.requires.1.1.1)
+put_word-requires-2 c = omega (arith, (run-1 (goal.at.put_word-requires-2 c).After-put_word).long, c.requires.n_in_bounds)
 
 pub put_word-requires-3 : goal.put_word-requires-3
 put_word-requires-3 c =

@@ -62,26 +62,26 @@ four : (c : goal.Start) → length c.args.j.sets ≡ 4
 four c = search (mapped-length, rules)
 
 long : (c : goal.Start) → length (put_join c.args.j) ≡ 2 + c.args.j.count
-long c = join-long c.args.j (four c) c.requires.0
+long c = join-long c.args.j (four c) c.requires.count_bound
 
 pub bounds-buffer-at : goal.bounds-buffer-at
-bounds-buffer-at c = let start = c in omega (arith, long (goal.at.bounds-buffer-at c).Start, start.requires.1)
+bounds-buffer-at c = let start = c in omega (arith, long (goal.at.bounds-buffer-at c).Start, start.requires.j_in_bounds)
 
 pub overflow_add-buffer : goal.overflow_add-buffer
-overflow_add-buffer c = let start = c in let l = long (goal.at.overflow_add-buffer c).Start in let room = start.requires.1 in search rules
+overflow_add-buffer c = let start = c in let l = long (goal.at.overflow_add-buffer c).Start in let room = start.requires.j_in_bounds in search rules
 
 pub bounds-buffer-at-2 : goal.bounds-buffer-at-2
 bounds-buffer-at-2 c =
     let start = c in
-    omega (arith, long (goal.at.bounds-buffer-at-2 c).Start, start.requires.1, length-set start.args.buffer.now start.args.at start.args.j.relation)
+    omega (arith, long (goal.at.bounds-buffer-at-2 c).Start, start.requires.j_in_bounds, length-set start.args.buffer.now start.args.at start.args.j.relation)
 
 pub loop-i-init : goal.loop-i-init
 loop-i-init c =
     let start = c in
     let a = start.args in (
       omega arith,
-      begins (begun a.buffer.now a.at a.j.relation a.j.count) a.at a.j.count a.j.sets (omega (arith, four (goal.at.loop-i-init c).Start, start.requires.0))
-          (omega (arith, long (goal.at.loop-i-init c).Start, start.requires.1, begun-long a.buffer.now a.at a.j.relation a.j.count)),
+      begins (begun a.buffer.now a.at a.j.relation a.j.count) a.at a.j.count a.j.sets (omega (arith, four (goal.at.loop-i-init c).Start, start.requires.count_bound))
+          (omega (arith, long (goal.at.loop-i-init c).Start, start.requires.j_in_bounds, begun-long a.buffer.now a.at a.j.relation a.j.count)),
     )
 
 -- There is room for the set at i
@@ -90,10 +90,10 @@ next-room c =
     let start = c in
     let a = start.args in
     room (begun a.buffer.now a.at a.j.relation a.j.count) a.at a.j.count a.j.sets c.loop-i.buffer c.loop-i.i
-    c.loop-i-test.true (omega (arith, four c.before.before.before.before, start.requires.0)) c.loop-i.invariant.1
+    c.loop-i-test.true (omega (arith, four c.before.before.before.before, start.requires.count_bound)) c.loop-i.invariant.1
 
 pub bounds-sets-i : goal.bounds-sets-i
-bounds-sets-i c = let few = c.requires.0 in search rules
+bounds-sets-i c = let few = c.requires.count_bound in search rules
 
 pub overflow_add-buffer-in-loop-i : goal.overflow_add-buffer-in-loop-i
 overflow_add-buffer-in-loop-i c = let r = next-room (goal.at.overflow_add-buffer-in-loop-i c).In-loop-i in search rules
@@ -110,14 +110,14 @@ loop-i-preserved c =
     let a = start.args in (
       search rules,
       goes_on (begun a.buffer.now a.at a.j.relation a.j.count) a.at a.j.count a.j.sets c.loop-i.buffer c.loop-i.i
-          c.loop-i-test.true (omega (arith, four (goal.at.loop-i-preserved c).Start, start.requires.0)) c.loop-i.invariant.1,
+          c.loop-i-test.true (omega (arith, four (goal.at.loop-i-preserved c).Start, start.requires.count_bound)) c.loop-i.invariant.1,
     )
 
 pub overflow_add-result : goal.overflow_add-result
-overflow_add-result c = let start = c in let l = long (goal.at.overflow_add-result c).Start in let room = start.requires.1 in search rules
+overflow_add-result c = let start = c in let l = long (goal.at.overflow_add-result c).Start in let room = start.requires.j_in_bounds in search rules
 
 pub overflow_add-result-2 : goal.overflow_add-result-2
-overflow_add-result-2 c = let start = c in let l = long (goal.at.overflow_add-result-2 c).Start in let room = start.requires.1 in search rules
+overflow_add-result-2 c = let start = c in let l = long (goal.at.overflow_add-result-2 c).Start in let room = start.requires.j_in_bounds in search rules
 
 pub shape_of-buffer : goal.shape_of-buffer
 shape_of-buffer c =
@@ -128,8 +128,8 @@ pub returns : goal.returns
 returns c =
     let start = c in
     let a = start.args in
-    let k : length (take a.j.count a.j.sets) ≡ a.j.count = length-take-le a.j.count a.j.sets (omega (arith, four (goal.at.returns c).Start, start.requires.0)) in (
+    let k : length (take a.j.count a.j.sets) ≡ a.j.count = length-take-le a.j.count a.j.sets (omega (arith, four (goal.at.returns c).Start, start.requires.count_bound)) in (
       ended a.buffer.now a.at a.j.relation a.j.count (take a.j.count a.j.sets) c.loop-i.buffer
-          (omega (arith, long (goal.at.returns c).Start, start.requires.1)) (writing-ends c.loop-i.invariant.1 (omega arith)).0,
+          (omega (arith, long (goal.at.returns c).Start, start.requires.j_in_bounds)) (writing-ends c.loop-i.invariant.1 (omega arith)).0,
       omega (arith, long (goal.at.returns c).Start),
     )

@@ -57,7 +57,7 @@ whole : (c : goal.Else-joined-eq0)
 whole c =
     let start = c in
     let all = ap length (joins-some start.args.joined start.args.list c.if-joined-eq0.false) in
-    omega (arith, all, start.requires.1)
+    omega (arith, all, start.requires.list_in_bounds)
 
 pub returns-then-joined-eq0 : goal.returns-then-joined-eq0
 returns-then-joined-eq0 c =
@@ -79,7 +79,7 @@ loop-i-init c =
     )
 
 pub bounds-list-i : goal.bounds-list-i
-bounds-list-i c = let few = c.requires.0.0 in search rules
+bounds-list-i c = let few = c.requires.joined_bound.0 in search rules
 
 pub put_join-next-requires : goal.put_join-next-requires
 put_join-next-requires c =
@@ -102,7 +102,7 @@ loop-i-preserved c =
     let a = start.args in (
       search rules,
       goes_on (set a.buffer.now a.at a.joined) a.at a.joined a.list at-loop.loop.buffer at-loop.loop.next at-loop.loop.i
-          in-loop.loop-test.true (omega (arith, four start, start.requires.0.0)) at-loop.loop.invariant.1 after-put-join.put_join-next.new.0
+          in-loop.loop-test.true (omega (arith, four start, start.requires.0.0)) at-loop.loop.invariant.1 after-put-join.put_join-next.new.buffer
           after-put-join.put_join-next.result after-put-join.put_join-next.ensures.0 after-put-join.put_join-next.ensures.1,
     )
 

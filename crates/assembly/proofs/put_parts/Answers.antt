@@ -48,23 +48,23 @@ abbrev fourth : goal.Start → ℕ
 fourth c = third c + length (tail_bytes c)
 
 relations-long : (c : goal.Start) → length (relation_bytes c) ≡ 1 + c.args.given.relations
-relations-long c = first-long c.args.given c.requires.0 (widths-long c) (list-long c)
+relations-long c = first-long c.args.given c.requires.given_value (widths-long c) (list-long c)
 
 dependencies-long : (c : goal.Start) → length (list_bytes c) ≡ 1 + 3 * c.args.given.held
-dependencies-long c = second-long c.args.given c.requires.0 (widths-long c) (list-long c)
+dependencies-long c = second-long c.args.given c.requires.given_value (widths-long c) (list-long c)
 
 room : (c : goal.Start) → fourth c + length (place_bytes c) ≤ length c.args.buffer.now
-room c = omega (arith, parts-long c.args.given c.requires.0 (widths-long c) (list-long c) c.args.n, c.requires.1.1)
+room c = omega (arith, parts-long c.args.given c.requires.given_value (widths-long c) (list-long c) c.args.n, c.requires.n_in_bounds)
 
 short : (c : goal.Start) → length c.args.buffer.now < 2 ^ 63
 short c = search rules
 
 first_run : (c : goal.After-put_relations)
-    → Run c.args.buffer.now c.args.start ([] ++ relation_bytes c.before.before.before.before.before.before.before) c.put_relations.new.0
+    → Run c.args.buffer.now c.args.start ([] ++ relation_bytes c.before.before.before.before.before.before.before) c.put_relations.new.buffer
     (second c.before.before.before.before.before.before.before)
 first_run c =
     let start' = c in
-    run-turns (run-starts start'.args.buffer.now start'.args.start) (relation_bytes c.before.before.before.before.before.before.before) c.put_relations.new.0 (second c.before.before.before.before.before.before.before)
+    run-turns (run-starts start'.args.buffer.now start'.args.start) (relation_bytes c.before.before.before.before.before.before.before) c.put_relations.new.buffer (second c.before.before.before.before.before.before.before)
     (omega (arith, relations-long c.before.before.before.before.before.before.before, room c.before.before.before.before.before.before.before)) c.put_relations.ensures (omega (arith, relations-long c.before.before.before.before.before.before.before))
 
 abbrev second-run-start : goal.After-put_dependencies → goal.Start
@@ -72,10 +72,10 @@ second-run-start c = c
 
 second_run : (c : goal.After-put_dependencies)
     → Run (second-run-start c).args.buffer.now (second-run-start c).args.start ([] ++ relation_bytes (second-run-start c) ++ list_bytes (second-run-start c))
-    c.put_dependencies.new.0 (third (second-run-start c))
+    c.put_dependencies.new.buffer (third (second-run-start c))
 second_run c =
     let start' = second-run-start c in
-    run-turns (first_run c.before.before.before.before) (list_bytes start') c.put_dependencies.new.0 (third start')
+    run-turns (first_run c.before.before.before.before) (list_bytes start') c.put_dependencies.new.buffer (third start')
     (omega (arith, dependencies-long start', room start')) c.put_dependencies.ensures (omega (arith, dependencies-long start'))
 
 abbrev third-run-start : goal.After-put_joins-third → goal.Start
@@ -83,11 +83,11 @@ third-run-start c = second-run-start c.before.before.before.before
 
 third-run : (c : goal.After-put_joins-third)
     → Run (third-run-start c).args.buffer.now (third-run-start c).args.start
-    ([] ++ relation_bytes (third-run-start c) ++ list_bytes (third-run-start c) ++ tail_bytes (third-run-start c)) c.put_joins-third.new.0
+    ([] ++ relation_bytes (third-run-start c) ++ list_bytes (third-run-start c) ++ tail_bytes (third-run-start c)) c.put_joins-third.new.buffer
     (fourth (third-run-start c))
 third-run c =
     let start' = third-run-start c in
-    run-turns (second_run c.before.before.before.before) (tail_bytes start') c.put_joins-third.new.0 (fourth start')
+    run-turns (second_run c.before.before.before.before) (tail_bytes start') c.put_joins-third.new.buffer (fourth start')
     (omega (arith, room start')) c.put_joins-third.ensures.0 refl
 
 abbrev fourth-run-start : goal.After-put_places → goal.Start
@@ -96,12 +96,12 @@ fourth-run-start c = third-run-start c.before.before.before.before
 fourth-run : (c : goal.After-put_places)
     → Run (fourth-run-start c).args.buffer.now (fourth-run-start c).args.start
     ([] ++ relation_bytes (fourth-run-start c) ++ list_bytes (fourth-run-start c) ++ tail_bytes (fourth-run-start c) ++ place_bytes (fourth-run-start c))
-    c.put_places.new.0 (fourth (fourth-run-start c) + length (place_bytes (fourth-run-start c)))
+    c.put_places.new.buffer (fourth (fourth-run-start c) + length (place_bytes (fourth-run-start c)))
 fourth-run c =
     let start' = fourth-run-start c in
     let after-put-joins = c in
-    run-turns (third-run c.before.before.before.before) (place_bytes start') c.put_places.new.0 (fourth start' + length (place_bytes start')) (room start')
-    (c.put_places.ensures ∙ ap (λ (k : ℕ). over after-put-joins.put_joins-third.new.0 k (place_bytes start')) after-put-joins.put_joins-third.ensures.1) refl
+    run-turns (third-run c.before.before.before.before) (place_bytes start') c.put_places.new.buffer (fourth start' + length (place_bytes start')) (room start')
+    (c.put_places.ensures ∙ ap (λ (k : ℕ). over after-put-joins.put_joins-third.new.buffer k (place_bytes start')) after-put-joins.put_joins-third.ensures.1) refl
 
 -- ---- the needs
 pub overflow_add-first : goal.overflow_add-first
@@ -122,7 +122,7 @@ overflow_add-second-2 c = omega (arith, room (goal.at.overflow_add-second-2 c).S
 pub put_relations-requires : goal.put_relations-requires
 put_relations-requires c =
     let start = c in (
-      (relations-bounds start.args.given.relations start.args.given.widths (good-record start.args.given start.requires.0).relations).1,
+      (relations-bounds start.args.given.relations start.args.given.widths (good-record start.args.given start.requires.given_value).relations).1,
       omega (arith, room (goal.at.put_relations-requires c).Start),
     )
 

@@ -38,7 +38,7 @@ loop-k-init c = (
   omega arith,
   writing-starts (put_place (take c.args.count c.args.widths)) c.args.buffer.now c.args.start
       (take c.args.n c.args.places) (rw (← joined (put_place (take c.args.count c.args.widths))
-      (take c.args.n c.args.places)) c.requires.1.1.1),
+      (take c.args.n c.args.places)) c.requires.places_in_bounds),
 )
 
 pub put_place-at-requires : goal.put_place-at-requires
@@ -66,7 +66,7 @@ loop-k-preserved c =
       search rules,
       goes_on (take start'.args.count start'.args.widths) start'.args.buffer.now start'.args.start start'.args.n
           start'.args.t3 after-loop.loop.buffer after-loop.loop.at after-loop.loop.k after-loop-test.loop-test.true
-          (omega (arith, start'.requires.1.1.0)) after-loop.loop.invariant.1 after-put-place.put_place-at.new.0 after-put-place.put_place-at.result
+          (omega (arith, start'.requires.1.1.0)) after-loop.loop.invariant.1 after-put-place.put_place-at.new.buffer after-put-place.put_place-at.result
           after-put-place.put_place-at.ensures.0 after-put-place.put_place-at.ensures.1,
     )
 
@@ -79,7 +79,7 @@ returns c =
     let l : length c.args.places ≡ 8 = search rules in
     let start' = c in
     let m : length (take start'.args.n start'.args.places) ≡ start'.args.n =
-    length-take-le start'.args.n start'.args.places (omega (arith, start'.requires.1.1.0)) in
+    length-take-le start'.args.n start'.args.places (omega (arith, start'.requires.n_bound)) in
     (writing-ends c.loop-k.invariant.1 (omega arith)).0
     ∙ ap (over start'.args.buffer.now start'.args.start)
     (sym (joined (put_place (take start'.args.count start'.args.widths)) (take start'.args.n start'.args.places)))

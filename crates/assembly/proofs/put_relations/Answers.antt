@@ -44,8 +44,8 @@ pub loop-i-init : goal.loop-i-init
 loop-i-init c =
     let l : length c.args.widths ≡ 8 = search rules in (
       omega arith,
-      begins (set c.args.buffer.now c.args.at c.args.count) c.args.at c.args.count c.args.widths (omega (arith, c.requires.0))
-          (rw length-set c.requires.1),
+      begins (set c.args.buffer.now c.args.at c.args.count) c.args.at c.args.count c.args.widths (omega (arith, c.requires.count_bound))
+          (rw length-set c.requires.count_in_bounds),
     )
 
 pub overflow_add-buffer : goal.overflow_add-buffer
@@ -54,7 +54,7 @@ overflow_add-buffer c =
     let start = c in
     let r =
     room (set start.args.buffer.now start.args.at start.args.count) start.args.at start.args.count start.args.widths
-    c.loop-i.buffer c.loop-i.i c.loop-i-test.true (omega (arith, start.requires.0)) c.loop-i.invariant.1 in
+    c.loop-i.buffer c.loop-i.i c.loop-i-test.true (omega (arith, start.requires.count_bound)) c.loop-i.invariant.1 in
     omega arith
 
 pub overflow_add-buffer-in-loop-i : goal.overflow_add-buffer-in-loop-i
@@ -63,7 +63,7 @@ overflow_add-buffer-in-loop-i c =
     let start = c in
     let r =
     room (set start.args.buffer.now start.args.at start.args.count) start.args.at start.args.count start.args.widths
-    c.loop-i.buffer c.loop-i.i c.loop-i-test.true (omega (arith, start.requires.0)) c.loop-i.invariant.1 in
+    c.loop-i.buffer c.loop-i.i c.loop-i-test.true (omega (arith, start.requires.count_bound)) c.loop-i.invariant.1 in
     omega arith
 
 pub bounds-buffer-at-in-loop-i : goal.bounds-buffer-at-in-loop-i
@@ -71,7 +71,7 @@ bounds-buffer-at-in-loop-i c =
     let l : length c.args.widths ≡ 8 = search rules in
     let start = c in
     room (set start.args.buffer.now start.args.at start.args.count) start.args.at start.args.count start.args.widths
-    c.loop-i.buffer c.loop-i.i c.loop-i-test.true (omega (arith, start.requires.0)) c.loop-i.invariant.1
+    c.loop-i.buffer c.loop-i.i c.loop-i-test.true (omega (arith, start.requires.count_bound)) c.loop-i.invariant.1
 
 pub loop-i-preserved : goal.loop-i-preserved
 loop-i-preserved c =
@@ -79,7 +79,7 @@ loop-i-preserved c =
     let start = c in (
       search rules,
       goes_on (set start.args.buffer.now start.args.at start.args.count) start.args.at start.args.count start.args.widths
-          c.loop-i.buffer c.loop-i.i c.loop-i-test.true (omega (arith, start.requires.0)) c.loop-i.invariant.1,
+          c.loop-i.buffer c.loop-i.i c.loop-i-test.true (omega (arith, start.requires.count_bound)) c.loop-i.invariant.1,
     )
 
 pub shape_of-buffer : goal.shape_of-buffer
@@ -92,7 +92,7 @@ returns c =
     let l : length c.args.widths ≡ 8 = search rules in
     let start = c in
     let k : length (take start.args.count start.args.widths) ≡ start.args.count =
-    length-take-le start.args.count start.args.widths (omega (arith, start.requires.0)) in
+    length-take-le start.args.count start.args.widths (omega (arith, start.requires.count_bound)) in
     byte-and-run start.args.buffer.now start.args.at start.args.count (flat_map one (take start.args.count start.args.widths))
-    c.loop-i.buffer (omega (arith, start.requires.1))
+    c.loop-i.buffer (omega (arith, start.requires.count_in_bounds))
     (writing-ends c.loop-i.invariant.1 (omega arith)).0

@@ -104,15 +104,15 @@ ended schema before at start n places buffer due k l f h =
 pub loop-k-init : goal.loop-k-init
 loop-k-init c =
     begins (take c.args.count c.args.widths) c.args.buffer.now c.args.at c.args.start
-    c.args.n c.args.places c.requires.1.1.0.1
+    c.args.n c.args.places c.requires.n_bound.1
 
 pub place_length-size-requires : goal.place_length-size-requires
 place_length-size-requires c =
     let l : length c.args.places ≡ 8 = search rules in
     let start = c in (
-      start.requires.0,
+      start.requires.widths_value,
       every-get_or (good_place (take start.args.count start.args.widths)) start.args.places c.loop-k.k past_place
-          start.requires.1.0 (omega (arith, start.requires.1.1.0.0)),
+          start.requires.places_value (omega (arith, start.requires.n_bound.0)),
     )
 
 pub overflow_mul-k : goal.overflow_mul-k
@@ -196,7 +196,7 @@ put_word-requires-in-loop-k c =
     let start' = after-loop in
     room-second (take start'.args.count start'.args.widths) start'.args.buffer.now start'.args.at start'.args.start start'.args.n
     start'.args.t4 after-loop.loop.buffer after-loop.loop.due after-loop.loop.k (omega (arith, start'.requires.1.1.0.0)) start'.requires.1.1.1
-    after-loop.loop.invariant after-loop-test.loop-test.true after-put-word.put_word.new.0 after-put-word.put_word.ensures
+    after-loop.loop.invariant after-loop-test.loop-test.true after-put-word.put_word.new.buffer after-put-word.put_word.ensures
 
 pub overflow_add-due : goal.overflow_add-due
 overflow_add-due c =
@@ -218,7 +218,7 @@ loop-k-preserved c =
     start'.args.t4 after-loop.loop.buffer after-loop.loop.due after-loop.loop.k (omega (arith, start'.requires.1.1.0.0)) start'.requires.1.1.1
     after-loop.loop.invariant after-loop-test.loop-test.true after-put-word.put_word.new.0 after-put-word.put_word.ensures
     after-place-length.place-length.result after-place-length.place-length.ensures.0 after-place-length.place-length.ensures.1
-    after-put-word2.put_word-in-loop-k.new.0 after-put-word2.put_word-in-loop-k.ensures
+    after-put-word2.put_word-in-loop-k.new.buffer after-put-word2.put_word-in-loop-k.ensures
 
 pub shape_of-buffer : goal.shape_of-buffer
 shape_of-buffer c =
@@ -229,5 +229,5 @@ returns c =
     let l : length c.args.places ≡ 8 = search rules in
     let start' = c in
     ended (take start'.args.count start'.args.widths) start'.args.buffer.now start'.args.at start'.args.start start'.args.n
-    start'.args.places c.loop-k.buffer c.loop-k.due c.loop-k.k (omega (arith, start'.requires.1.1.0.0)) c.loop-k.invariant
+    start'.args.places c.loop-k.buffer c.loop-k.due c.loop-k.k (omega (arith, start'.requires.n_bound.0)) c.loop-k.invariant
     c.loop-k-test.false

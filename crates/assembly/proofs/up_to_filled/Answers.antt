@@ -45,7 +45,7 @@ loop-k-preserved c =
     let k = c.loop-k.k in
     let l : length places ≡ 8 = search rules in
     let inv = c.loop-k.invariant in
-    ⊎_elim (λ w. (search rules, omega (arith, w.n-is), w.n-is ∙ sym (turn places k true (omega arith) w.if-place.true))) (λ w. (search rules, omega (arith, w.n-is, inv.1), w.n-is ∙ inv.2 ∙ sym (turn places k false (omega arith) w.if-place.false))) c.if-place.branch-raw
+    ⊎_elim (λ w. (search rules, omega (arith, w.if-place.1), w.if-place.1 ∙ sym (turn places k true (omega arith) w.if-place.0.taken))) (λ w. (search rules, omega (arith, w.if-place.1, inv.1), w.if-place.1 ∙ inv.2 ∙ sym (turn places k false (omega arith) w.if-place.0.left))) c.if-place.branch-raw
 
 pub returns : goal.returns
 returns c =

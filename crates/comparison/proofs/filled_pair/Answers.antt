@@ -10,6 +10,7 @@ use Rattle.record.specs.internal.Lookup.{number_of}
 use Rattle.record.proofs.Refusals.{place-at, filled_at}
 use Rattle.comparison.specs.declared.Pair.TheVariants.{Refused}
 use Rattle.comparison.proofs.Pairs.{pair-broken, first_above, second_above, first-vacant, second-vacant, found-differ, found-stand}
+use Rattle.std.proofs.Common.{not}
 use Rattle.comparison.proofs.filled_pair.Goals as goal
 
 pub returns-then-not-is_good : goal.returns-then-not-is_good
@@ -62,7 +63,7 @@ returns-in_default-found-3 c =
     let p = c.args.p in
     let q = c.args.q in
     let good : good_record given ≡ true = sym c.is_good.ensures ∙ not-false _
-    c.if-not-is_good.false in
+    (ap not c.if-not-is_good.false) in
     let low-p : p < 8 = (place-at p _ (sym c.place_at-found.ensures ∙ c.in-At.is)).1 in
     let low-q : q < 8 = (place-at q _ (sym c.place_at-found-2.ensures
     ∙ c.in-At-found.is)).1 in

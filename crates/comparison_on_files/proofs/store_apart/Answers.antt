@@ -12,7 +12,7 @@ use Rattle.comparison_on_files.proofs.store_apart.Goals as goal
 
 fits : (c : goal.Start) → (c.args.chased.arity ≤ 8) × (c.args.chased.size ≤ 24)
 fits c =
-    let parts = good-query 24 (take c.args.count c.args.widths) (as_query c.args.chased) c.requires.1 in
+    let parts = good-query 24 (take c.args.count c.args.widths) (as_query c.args.chased) c.requires.chased_value in
     (parts.arity, parts.size)
 
 pub returns-then-mapping-lt192 : goal.returns-then-mapping-lt192
@@ -22,7 +22,7 @@ returns-then-mapping-lt192 c =
     c.if-mapping-lt192.true
 
 pub query_length-n-requires : goal.query_length-n-requires
-query_length-n-requires c = (c.requires.0, fits (goal.at.query_length-n-requires c).Start)
+query_length-n-requires c = (c.requires.widths_value, fits (goal.at.query_length-n-requires c).Start)
 
 pub returns-then-part-n : goal.returns-then-part-n
 returns-then-part-n c =
@@ -37,7 +37,7 @@ pub put_query-requires : goal.put_query-requires
 put_query-requires c =
     let n = c.query_length-n.ensures.0 in
     let l : c.query_length-n.result ≤ length c.args.part.now = c.if-part-n.false in
-    (c.requires.0, (fits (goal.at.put_query-requires c).Start, omega arith))
+    (c.requires.widths_value, (fits (goal.at.put_query-requires c).Start, omega arith))
 
 pub returns : goal.returns
 returns c =

@@ -8,8 +8,8 @@ use Rattle.comparison_on_files.proofs.store_comparison.Goals as goal
 
 pub store_apart-requires : goal.store_apart-requires
 store_apart-requires c = (
-  c.requires.0,
-  c.requires.1
+  c.requires.widths_value,
+  c.requires.sound_comparison
       c.in-Apart.is,
 )
 

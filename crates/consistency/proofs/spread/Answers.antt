@@ -13,7 +13,7 @@ loop-q-init c = (search rules, settles-same _ _ _)
 pub loop-q-preserved : goal.loop-q-preserved
 loop-q-preserved c = (
   search rules,
-  ⊎_elim (λ w. subst⁻¹ (Settles _ _ _) w.next-is (settles-more _ _ _ _ _ c.loop-q.invariant.1 w.revised-next.ensures)) (λ w. subst⁻¹ (Settles _ _ _) w.next-is c.loop-q.invariant.1) c.if-near-q-eq1.branch-raw,
+  ⊎_elim (λ w. subst⁻¹ (Settles _ _ _) w.if-near-q-eq1.2 (settles-more _ _ _ _ _ c.loop-q.invariant.1 w.if-near-q-eq1.1.ensures)) (λ w. subst⁻¹ (Settles _ _ _) w.if-near-q-eq1.1 c.loop-q.invariant.1) c.if-near-q-eq1.branch-raw,
 )
 
 pub returns : goal.returns

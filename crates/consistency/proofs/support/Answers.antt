@@ -47,12 +47,12 @@ loop-d-preserved c =
     let goes = together args.table.now args.p loop.d args.q in (
       search rules,
       ⊎_elim (λ w.
-          subst⁻¹ (Supports args.table.now args.own args.p args.q (loop.d + 1)) w.mask-1
+          subst⁻¹ (Supports args.table.now args.own args.p args.q (loop.d + 1)) w.if-rest-eq1.2
           (more args.table.now args.own args.p args.q loop.d loop.mask (bit_or loop.mask goes) loop.invariant.1
           (λ e b. bit_or_left loop.mask goes e b) (λ h e b. bit_or_right loop.mask goes e b))) (λ w.
-          subst⁻¹ (Supports args.table.now args.own args.p args.q (loop.d + 1)) w.mask-is
+          subst⁻¹ (Supports args.table.now args.own args.p args.q (loop.d + 1)) w.if-rest-eq1.1
           (more args.table.now args.own args.p args.q loop.d loop.mask loop.mask loop.invariant.1
-          (λ e b. b) (λ h e b. absurd (w.if-rest-eq1.false h)))) c.if-rest-eq1.branch-raw,
+          (λ e b. b) (λ h e b. absurd (w.if-rest-eq1.0.left h)))) c.if-rest-eq1.branch-raw,
     )
 
 pub returns : goal.returns

@@ -23,7 +23,7 @@ of-record : (c : goal.After-count_lent-done)
 of-record c =
     let s = (start c).args in
     let o = c.read in
-    c.count_lent-done.ensures.0
+    c.count_lent-done.ensures.result_value
     ∙ sym (read_done s.file.now o.result o.ensures (λ r. counted r s.place s.words.now) c.in-Done.is)
 
 -- Working memory is as the call on its record leaves it

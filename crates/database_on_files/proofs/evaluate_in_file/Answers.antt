@@ -21,11 +21,11 @@ returns-in-Done c =
     let l = c.leave_count.ensures in
     let done = t.enum_told.given.1 in
     let p : count_reply d.evaluate-done.result ≡ evaluated_in a.file.now a.place a.words.now (length a.answers.now) =
-    d.evaluate-done.ensures.0
+    d.evaluate-done.ensures.result_value
     ∙ sym (read_done a.file.now o.read.result o.read.ensures (λ r. evaluated r a.place a.words.now (length a.answers.now)) done) in
     let w = done-leaves (outcome-done (read_file a.file.now) o.read.result o.read.ensures done)
     (λ r. buffer_then r a.place a.words.now a.answers.now) a.answers.now in
-    (l.0 ∙ ap returned p, (d.evaluate-done.ensures.1 ∙ w, l.1 ∙ leaves-same p (λ n. n) a.count.now))
+    (l.0 ∙ ap returned p, (d.evaluate-done.ensures.buffer_after ∙ w, l.1 ∙ leaves-same p (λ n. n) a.count.now))
 
 pub returns-in-Refused : goal.returns-in-Refused
 returns-in-Refused c =

@@ -26,7 +26,7 @@ of-record : (c : goal.After-evaluate_lent-done)
 of-record c =
     let s = (start c).args in
     let o = c.read in
-    c.evaluate_lent-done.ensures.0
+    c.evaluate_lent-done.ensures.result_value
     ∙ sym (read_done s.file.now o.result o.ensures (λ r. evaluated r s.place s.words.now (length s.answers.now)) c.in-Done.is)
 
 -- And the answers are those of its place
@@ -57,7 +57,7 @@ returns-in-Done c =
     let m = k.evaluate_lent-done.ensures.1.1 in (
       l.0 ∙ ap returned p,
       (
-        k.evaluate_lent-done.ensures.1.0 ∙ written (goal.at.returns-in-Done c).After-evaluate_lent-done,
+        k.evaluate_lent-done.ensures.buffer_after ∙ written (goal.at.returns-in-Done c).After-evaluate_lent-done,
         (
           l.1 ∙ ap (λ (x : Reply ℕ). leaves x (λ n. n) (start (goal.at.returns-in-Done c).After-evaluate_lent-done).args.count.now) p,
           (unused (goal.at.returns-in-Done c).After-evaluate_lent-done _ _ m.0, (unused (goal.at.returns-in-Done c).After-evaluate_lent-done _ _ m.1.0, (unused (goal.at.returns-in-Done c).After-evaluate_lent-done _ _ m.1.1.0, unused (goal.at.returns-in-Done c).After-evaluate_lent-done _ _ m.1.1.1))),

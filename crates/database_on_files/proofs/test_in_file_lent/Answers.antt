@@ -25,7 +25,7 @@ of-record c =
     let s = (start c).args in
     let o = c.read in
     let next : Violation → Reply TestNumbers = λ v. gives (test_numbers v) in
-    ap (λ (x : Reply Violation). x >>= next) c.test_lent-found.ensures.0
+    ap (λ (x : Reply Violation). x >>= next) c.test_lent-found.ensures.result_value
     ∙ sym (read_done s.file.now o.result o.ensures (λ r. tested r s.words.now >>= next) c.in-Done.is)
 
 -- Working memory is as the test on its record leaves it

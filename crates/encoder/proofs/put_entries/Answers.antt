@@ -45,8 +45,8 @@ pub loop-i-init : goal.loop-i-init
 loop-i-init c =
     let l : length c.args.cells ≡ 8 = search rules in (
       omega arith,
-      begins c.args.buffer.now c.args.at c.args.n c.args.cells (omega (arith, c.requires.0))
-          c.requires.1,
+      begins c.args.buffer.now c.args.at c.args.n c.args.cells (omega (arith, c.requires.n_bound))
+          c.requires.n_in_bounds,
     )
 
 pub overflow_mul-i : goal.overflow_mul-i
@@ -88,7 +88,7 @@ loop-i-preserved c =
     let start = after-loop in (
       search rules,
       goes_on start.args.buffer.now start.args.at start.args.n start.args.t3 after-loop.loop.buffer
-          after-put-entry.put_entry.new.0 after-loop.loop.i after-loop-test.loop-test.true (omega (arith, start.requires.0))
+          after-put-entry.put_entry.new.buffer after-loop.loop.i after-loop-test.loop-test.true (omega (arith, start.requires.0))
           after-loop.loop.invariant.1
           after-put-entry.put_entry.ensures,
     )
@@ -103,5 +103,5 @@ returns c =
     let l : length c.args.cells ≡ 8 = search rules in
     let start = c in
     let k : length (take start.args.n start.args.cells) ≡ start.args.n =
-    length-take-le start.args.n start.args.cells (omega (arith, start.requires.0)) in
+    length-take-le start.args.n start.args.cells (omega (arith, start.requires.n_bound)) in
     (writing-ends c.loop-i.invariant.1 (omega arith)).0

@@ -43,13 +43,13 @@ returns-then-place c = rw (part (goal.at.returns-then-place c).After-from_query)
 pub bounds-buffer-at : goal.bounds-buffer-at
 bounds-buffer-at c =
     let e = vacant-part (take c.args.count c.args.widths) c.args.place c.if-place.false in
-    let room = rw e at c.requires.1.1 in
+    let room = rw e at c.requires.place_in_bounds in
     omega arith
 
 pub overflow_add-result : goal.overflow_add-result
 overflow_add-result c =
     let e = vacant-part (take c.args.count c.args.widths) c.args.place c.if-place.false in
-    let room = rw e at c.requires.1.1 in
+    let room = rw e at c.requires.place_in_bounds in
     omega arith
 
 pub shape_of-buffer : goal.shape_of-buffer
@@ -59,5 +59,5 @@ shape_of-buffer c =
 pub returns : goal.returns
 returns c =
     let e = vacant-part (take c.args.count c.args.widths) c.args.place c.if-place.false in
-    let room = rw e at c.requires.1.1 in
+    let room = rw e at c.requires.place_in_bounds in
     rw e (sets-eq (255 ∷ []) c.args.buffer.now c.args.at room, refl)

@@ -89,22 +89,22 @@ short : (c : goal.Start) → length c.args.buffer.now < 2 ^ 63
 short c = search rules
 
 two : (c : goal.Start) → c.args.at + 2 ≤ length c.args.buffer.now
-two c = omega (arith, length-query 24 (take c.args.count c.args.widths) (as_query c.args.t), c.requires.1.1)
+two c = omega (arith, length-query 24 (take c.args.count c.args.widths) (as_query c.args.t), c.requires.t_in_bounds)
 
 used : (c : goal.After-head_in_use-used) → c.head_in_use-used.result ≤ 8
 used c =
     let start = c in
     used-fits (take start.args.count start.args.widths) start.args.buffer.now start.args.at (as_query start.args.t) (head-cells c.before.before)
-    start.requires.1.0.0 start.requires.1.1 c.head_in_use-used.result c.head_in_use-used.ensures
+    start.requires.arity_bound.0 start.requires.t_in_bounds c.head_in_use-used.result c.head_in_use-used.ensures
 
 rows_fit : (c : goal.After-put_entries)
     → c.args.at + 2 + 5 * c.head_in_use-used.result
-    + length (row_bytes (take c.args.count c.args.widths) (as_query c.args.t)) ≤ length c.put_entries.new.0
+    + length (row_bytes (take c.args.count c.args.widths) (as_query c.args.t)) ≤ length c.put_entries.new.buffer
 rows_fit c =
     let after-head-in-use = c in
     let start = after-head-in-use in
     room-rows (take start.args.count start.args.widths) start.args.buffer.now start.args.at (as_query start.args.t) (head-cells start)
-    start.requires.1.0.0 start.requires.1.1 after-head-in-use.head_in_use-used.result after-head-in-use.head_in_use-used.ensures c.put_entries.new.0
+    start.requires.1.0.0 start.requires.1.1 after-head-in-use.head_in_use-used.result after-head-in-use.head_in_use-used.ensures c.put_entries.new.buffer
     c.put_entries.ensures
 
 rows_at : (c : goal.After-put_entries) → c.args.at + 2 + 5 * c.head_in_use-used.result < 2 ^ 63
@@ -116,7 +116,7 @@ rows_at c =
       rows_fit c,
       second-long (take start.args.count start.args.widths) start.args.buffer.now start.args.at (as_query start.args.t)
           (head-cells start) start.requires.1.0.0 start.requires.1.1 after-head-in-use.head_in_use-used.result after-head-in-use.head_in_use-used.ensures
-          c.put_entries.new.0 c.put_entries.ensures,
+          c.put_entries.new.buffer c.put_entries.ensures,
       short start,
     )
 
@@ -165,7 +165,7 @@ shape_of-buffer c =
     let start = after-head-in-use in
     third-long (take start.args.count start.args.widths) start.args.buffer.now start.args.at (as_query start.args.t) (head-cells start)
     start.requires.1.0.0 start.requires.1.1 after-head-in-use.head-in-use.result after-head-in-use.head-in-use.ensures
-    after-put-entries.put_entries.new.0 after-put-entries.put_entries.ensures after-put-rows.put_rows.new.0
+    after-put-entries.put_entries.new.0 after-put-entries.put_entries.ensures after-put-rows.put_rows.new.buffer
     after-put-rows.put_rows.ensures.0
 
 pub returns : goal.returns
@@ -176,7 +176,7 @@ returns c =
     let start = after-head-in-use in (
       third-over (take start.args.count start.args.widths) start.args.buffer.now start.args.at (as_query start.args.t) (head-cells start)
           start.requires.1.0.0 start.requires.1.1 after-head-in-use.head-in-use.result after-head-in-use.head-in-use.ensures
-          after-put-entries.put_entries.new.0 after-put-entries.put_entries.ensures after-put-rows.put_rows.new.0
+          after-put-entries.put_entries.new.0 after-put-entries.put_entries.ensures after-put-rows.put_rows.new.buffer
           after-put-rows.put_rows.ensures.0,
       omega (
         arith,

@@ -21,6 +21,6 @@ returns c =
     let relation = start.args.relation in
     let bytes = (entries start.args.width).put start.args.cells in (
       c.put_entries.ensures ∙ ap (λ (n : ℕ). over (set buffer at relation) n bytes) (add-one at)
-          ∙ over-set buffer at relation bytes (omega (arith, start.requires.1)),
+          ∙ over-set buffer at relation bytes (omega (arith, start.requires.width_in_bounds)),
       refl,
     )

@@ -59,7 +59,7 @@ pub loop-r-init : goal.loop-r-init
 loop-r-init c = (
   omega arith,
   writing-starts (row (take c.args.count c.args.widths)).put c.args.buffer.now c.args.start
-      (take c.args.size (chunk c.args.named c.args.cells)) c.requires.1.1,
+      (take c.args.size (chunk c.args.named c.args.cells)) c.requires.cells_in_bounds,
 )
 
 pub put_row-at-requires : goal.put_row-at-requires
@@ -91,7 +91,7 @@ loop-r-preserved c =
       goes_on (take start'.args.count start'.args.widths) start'.args.buffer.now start'.args.start start'.args.size
           start'.args.t4 start'.args.cells after-loop.loop.buffer after-loop.loop.at after-loop.loop.r after-loop-test.loop-test.true
           start'.requires.1.0 ln lc after-loop.loop.invariant.1 after-width-of.width_of_lem.result after-width-of.width_of_lem.ensures.0
-          after-width-of.width_of_lem.ensures.1 after-row-of.row_of.result.cells after-put-row.put_row-at.new.0 after-put-row.put_row-at.result
+          after-width-of.width_of_lem.ensures.1 after-row-of.row_of.result.cells after-put-row.put_row-at.new.buffer after-put-row.put_row-at.result
           after-row-of.row_of.ensures after-put-row.put_row-at.ensures.0 after-put-row.put_row-at.ensures.1,
     )
 
@@ -105,5 +105,5 @@ returns c =
     let lc : length c.args.cells ≡ 192 = search rules in
     let start = c in
     let k : length (take start.args.size (chunk start.args.named start.args.cells)) ≡ start.args.size =
-    length-take-le start.args.size (chunk start.args.named start.args.cells) (rw length-chunk (omega (arith, start.requires.1.0))) in
+    length-take-le start.args.size (chunk start.args.named start.args.cells) (rw length-chunk (omega (arith, start.requires.size_bound))) in
     writing-ends c.loop-r.invariant.1 (omega arith)

@@ -16,10 +16,10 @@ sized c = record { head = search (mapped-length, rules); relations = search (map
 used : (c : goal.After-head_in_use-used) → c.head_in_use-used.result ≤ 8
 used c =
     let start = c in
-    rw c.head_in_use-used.ensures (head_fits start.args.t.size start.args.t.arity start.requires.1.0)
+    rw c.head_in_use-used.ensures (head_fits start.args.t.size start.args.t.arity start.requires.arity_bound.0)
 
 pub rows_length-rows-requires : goal.rows_length-rows-requires
-rows_length-rows-requires c = (c.requires.0, c.requires.1.1)
+rows_length-rows-requires c = (c.requires.widths_value, c.requires.arity_bound.1)
 
 pub overflow_mul-result : goal.overflow_mul-result
 overflow_mul-result c = omega (arith, used (goal.at.overflow_mul-result c).After-head_in_use-used)
@@ -28,14 +28,14 @@ pub overflow_add-result : goal.overflow_add-result
 overflow_add-result c = omega (arith, used (goal.at.overflow_add-result c).After-head_in_use-used)
 
 pub overflow_add-result-2 : goal.overflow_add-result-2
-overflow_add-result-2 c = omega (arith, used (goal.at.overflow_add-result-2 c).After-head_in_use-used, c.rows_length-rows.ensures.1, c.requires.1.1)
+overflow_add-result-2 c = omega (arith, used (goal.at.overflow_add-result-2 c).After-head_in_use-used, c.rows_length-rows.ensures.1, c.requires.arity_bound.1)
 
 pub returns : goal.returns
 returns c =
     let start = c in
     let schema = take start.args.count start.args.widths in
     let head = c.head_in_use-used in (
-      query-exact schema (good-narrow start.args.count start.args.widths start.requires.0) 24 (as_query start.args.t) head.result
+      query-exact schema (good-narrow start.args.count start.args.widths start.requires.widths_value) 24 (as_query start.args.t) head.result
           c.rows_length-rows.result (sized (goal.at.returns c).Start) head.ensures (used (goal.at.returns c).After-head_in_use-used) c.rows_length-rows.ensures.0,
       omega (arith, used (goal.at.returns c).After-head_in_use-used, c.rows_length-rows.ensures.1),
     )

@@ -43,5 +43,5 @@ returns c =
     let start = c in
     let e =
     none_left (take start.args.count start.args.widths) start.args.named start.args.size c.loop-r.r c.loop-r-test.false
-    (omega (arith, start.requires.1)) in
-    (omega (arith, e, c.loop-r.invariant.2), omega (arith, start.requires.1))
+    (omega (arith, start.requires.size_bound)) in
+    (omega (arith, e, c.loop-r.invariant.2), omega (arith, start.requires.size_bound))

@@ -7,10 +7,10 @@ pub returns : goal.returns
 returns c =
     let a = c.args in
     let all = c.among-narrowed in (
-      (λ e. among-solution a.domain.now a.pairs.now all.result a.size a.left all.ensures _ (c.solve_linked-outcome.ensures.0 e)),
+      (λ e. among-solution a.domain.now a.pairs.now all.result a.size a.left all.ensures _ (c.solve_linked-outcome.ensures.found e)),
       (λ w.
           bool_cases c.solve_linked-outcome.result.found (λ e. e)
           (λ e.
-          absurd (c.solve_linked-outcome.ensures.1 e w.0
+          absurd (c.solve_linked-outcome.ensures.none e w.0
           (solution-among a.domain.now a.pairs.now all.result a.size a.left all.ensures w)))),
     )

@@ -28,7 +28,7 @@ bucket c key chained = let l = c.loop-node in
     (l.invariant key chained).same (l.node - 1) (omega arith)
 
 pub bounds-heads-bucket : goal.bounds-heads-bucket
-bounds-heads-bucket c = omega (arith, c.requires.0.0)
+bounds-heads-bucket c = omega (arith, c.requires.bucket_in_bounds.0)
 
 pub overflow_cast-node : goal.overflow_cast-node
 overflow_cast-node c = omega (arith, c.type_inv.heads c.args.sought.bucket)
@@ -36,7 +36,7 @@ overflow_cast-node c = omega (arith, c.type_inv.heads c.args.sought.bucket)
 pub loop-node-init : goal.loop-node-init
 loop-node-init c = let s = c in
     let a = s.args in
-    λ key chained. follow-start key a.heads.now a.nodes.now a.count a.sought chained s.requires.0.0
+    λ key chained. follow-start key a.heads.now a.nodes.now a.count a.sought chained s.requires.bucket_in_bounds.0
 
 pub overflow_mul-s : goal.overflow_mul-s
 overflow_mul-s c = omega (arith, stored (goal.at.overflow_mul-s c).In-loop-node)

@@ -20,11 +20,11 @@ use Rattle.grouping.proofs.skip.Goals as goal
 
 -- The buckets that are used are buckets, and there is one
 few : (c : goal.Joined-heads-buckets) → c.if-heads-buckets.buckets ≤ length c.args.heads.now
-few c = ⊎_elim (λ w. omega (arith, w.buckets-is)) (λ w. omega (arith, w.if-heads-buckets.false, w.buckets-is)) c.if-heads-buckets.branch-raw
+few c = ⊎_elim (λ w. omega (arith, w.if-heads-buckets.1)) (λ w. omega (arith, w.if-heads-buckets.0.left, w.if-heads-buckets.1)) c.if-heads-buckets.branch-raw
 
 some : (c : goal.Joined-heads-buckets) → 0 < c.if-heads-buckets.buckets
 some c = let there : length c.args.heads.now ≡ 0 → ⊥ = c.if-heads-eq0.false in
-    ⊎_elim (λ w. omega (arith, w.buckets-is)) (λ w. omega (arith, w.buckets-is)) c.if-heads-buckets.branch-raw
+    ⊎_elim (λ w. omega (arith, w.if-heads-buckets.1)) (λ w. omega (arith, w.if-heads-buckets.1)) c.if-heads-buckets.branch-raw
 
 -- All rows are passed: what that says of a position that is not beyond the least, and of a key
 skipped : (e : goal.After-loop-walk) (p : Position)
@@ -45,10 +45,10 @@ seen e = let l = e in
 
 pub returns-then-heads-eq0 : goal.returns-then-heads-eq0
 returns-then-heads-eq0 c = let s = c in
-    (skips-none s.args.schema.now s.args.words.now s.args.d s.requires.1, λ t. absurd (false≢true t))
+    (skips-none s.args.schema.now s.args.words.now s.args.d s.requires.words_value, λ t. absurd (false≢true t))
 
 pub bounds-schema-d : goal.bounds-schema-d
-bounds-schema-d c = omega (arith, c.requires.0.known)
+bounds-schema-d c = omega (arith, c.requires.testable.known)
 
 pub overflow_add-buckets-2 : goal.overflow_add-buckets-2
 overflow_add-buckets-2 c = let s = c in
@@ -76,12 +76,12 @@ step-walk-requires c = let t = c in
 pub loop-walk-smaller : goal.loop-walk-smaller
 loop-walk-smaller c = let u = c in
     let t = u in
-    omega (arith, u.step-walk.ensures.1, u.step-walk.ensures.0.placed.from.inside, t.if3.true)
+    omega (arith, u.step-walk.ensures.at_lt_at, u.step-walk.ensures.walked_2.placed.from.inside, t.if3.true)
 
 pub loop-walk-preserved : goal.loop-walk-preserved
 loop-walk-preserved c = let u = c in
     let l = u.loop-walk in
-    (u.step-walk.ensures.0, c.used-in-loop-walk-2-1.given ∙ l.invariant.1, c.nodes-1.given ∙ l.invariant.2)
+    (u.step-walk.ensures.walked_2, c.used-in-loop-walk-2-1.given ∙ l.invariant.1, c.nodes-1.given ∙ l.invariant.2)
 
 pub returns-then-walk-words : goal.returns-then-walk-words
 returns-then-walk-words c = let e = c in

@@ -26,7 +26,7 @@ same {b} {b'} {t} {t'} {r} {r'} e f g = ap (λ (x : ℕ). made x t r) e ∙ ap (
 pub loop-left-init : goal.loop-left-init
 loop-left-init c = let s = c in
     let all : s.args.width - 0 ≡ s.args.width = omega arith in
-    (search rules, subst (λ (n : ℕ). s.args.d.left < 2 ^ n) (sym all) s.requires.1.1, search rules, search rules, refl, refl)
+    (search rules, subst (λ (n : ℕ). s.args.d.left < 2 ^ n) (sym all) s.requires.width_bound.1, search rules, search rules, refl, refl)
 
 -- A column of the left set is left
 inside : (c : goal.In-loop-left) → c.loop-left.c < c.args.width
@@ -34,7 +34,7 @@ inside c = let l = c.loop-left in
     omega (arith, mask-some (c.args.width - l.c) l.left l.invariant.1 c.loop-left-test.true)
 
 pub value-x-requires : goal.value-x-requires
-value-x-requires c = omega (arith, inside (goal.at.value-x-requires c).In-loop-left, c.requires.0)
+value-x-requires c = omega (arith, inside (goal.at.value-x-requires c).In-loop-left, c.requires.width_in_bounds)
 
 pub overflow_add-c : goal.overflow_add-c
 overflow_add-c c = omega (arith, inside (goal.at.overflow_add-c c).In-loop-left, c.ranges.width)
@@ -43,13 +43,13 @@ overflow_add-c c = omega (arith, inside (goal.at.overflow_add-c c).In-loop-left,
 mixed-h : (c : goal.Joined-left-eq1) → Mixed 1000003 c.args.width c.args.words.now
     c.args.a c.loop-left.c c.loop-left.false c.loop-left.h c.if-left-eq1.h
 mixed-h c = let l = c.loop-left in
-    ⊎_elim (λ w. inl (w.if-left-eq1.true, w.h-is ∙ ap (λ (x : ℕ). (l.h * 1000003 + x) % 4294967296) w.value-x.ensures)) (λ w. inr (w.if-left-eq1.false, w.h-is)) c.if-left-eq1.branch-raw
+    ⊎_elim (λ w. inl (w.if-left-eq1.0.taken, w.if-left-eq1.2 ∙ ap (λ (x : ℕ). (l.h * 1000003 + x) % 4294967296) w.if-left-eq1.1.ensures)) (λ w. inr (w.if-left-eq1.0.left, w.if-left-eq1.1)) c.if-left-eq1.branch-raw
 
 mixed-tag : (c : goal.Joined-left-eq1) → Mixed 2654435761 c.args.width
     c.args.words.now c.args.a c.loop-left.c
     c.loop-left.false c.loop-left.tag c.if-left-eq1.tag
 mixed-tag c = let l = c.loop-left in
-    ⊎_elim (λ w. inl (w.if-left-eq1.true, w.tag-is ∙ ap (λ (x : ℕ). (l.tag * 2654435761 + x) % 4294967296) w.value-x.ensures)) (λ w. inr (w.if-left-eq1.false, w.tag-is)) c.if-left-eq1.branch-raw
+    ⊎_elim (λ w. inl (w.if-left-eq1.0.taken, w.if-left-eq1.3 ∙ ap (λ (x : ℕ). (l.tag * 2654435761 + x) % 4294967296) w.if-left-eq1.1.ensures)) (λ w. inr (w.if-left-eq1.0.left, w.if-left-eq1.2)) c.if-left-eq1.branch-raw
 
 pub loop-left-preserved : goal.loop-left-preserved
 loop-left-preserved c = let a = c.args in

@@ -29,7 +29,7 @@ on c = omega (arith, (next c).place)
 
 pub next-requires : goal.next-requires
 next-requires c = let s = c in
-    (s.requires.1.0, s.requires.1.1.placed.from.good)
+    (s.requires.at_in_bounds, s.requires.walked.placed.from.good)
 
 pub returns-then-words-at : goal.returns-then-words-at
 returns-then-words-at c = let s = c in
@@ -80,7 +80,7 @@ sought_of-sought-requires c = let T = c.requires.0 in
 pub compare-found-requires : goal.compare-found-requires
 compare-found-requires c = let e = c in
     let h = e.requires.1.1 in
-    ((c.sought_of-sought.ensures.1, h.table.stored), (key (goal.at.compare-found-requires c).Else-words-at, h.table.chained))
+    ((c.sought_of-sought.ensures.bucket_lt_buckets, h.table.stored), (key (goal.at.compare-found-requires c).Else-words-at, h.table.chained))
 
 pub overflow_mul-count : goal.overflow_mul-count
 overflow_mul-count c = omega (arith, stored (goal.at.overflow_mul-count c).In-Alone, (c.before).well-formed.1.1.1.1.1.0)
@@ -118,9 +118,9 @@ returns-then-number-lt4294967295 c = let u = c in
       least = a.walk.least;
       key = a.walk.key;
     } in (
-      subst (λ (x : List ℕ). Walked a.schema.now a.words.now a.d w x u.enter.new.1.0) (sym u.enter.ensures.0)
+      subst (λ (x : List ℕ). Walked a.schema.now a.words.now a.d w x u.enter.new.nodes) (sym u.enter.ensures.heads_after)
           (subst (λ (x : List ℕ). Walked a.schema.now a.words.now a.d w (set a.heads.now q.result.bucket (a.walk.count + 1)) x)
-          (sym u.enter.ensures.1)
+          (sym u.enter.ensures.nodes_after)
           (walked-new a.schema.now a.words.now a.d a.walk a.heads.now a.nodes.now s.pre.1.1 (after e) (next e)
           (relation e) q.result q.ensures.0 (said k _ t.enum-told2.given.1) q.ensures.1 (free t))),
       on e,

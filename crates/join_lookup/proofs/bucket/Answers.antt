@@ -30,13 +30,13 @@ loop-c-preserved c = let s = c in
     let wide : a.width ≤ length xs = omega (arith, s.requires.0) in
     let x : ℕ = get_or xs l.c 0 in
     let low : c.if-left-eq1.h < 4294967296 =
-    ⊎_elim (λ w. let e : c.if-left-eq1.h ≡ (l.h * 2654435769 + x) % 4294967296 = w.h-is in omega (arith, mod-lt (l.h * 2654435769 + x) {m = 4294967296} (omega arith))) (λ w. let e : c.if-left-eq1.h ≡ l.h = w.h-is in omega arith) c.if-left-eq1.branch-raw in (
+    ⊎_elim (λ w. let e : c.if-left-eq1.h ≡ (l.h * 2654435769 + x) % 4294967296 = w.if-left-eq1.1 in omega (arith, mod-lt (l.h * 2654435769 + x) {m = 4294967296} (omega arith))) (λ w. let e : c.if-left-eq1.h ≡ l.h = w.if-left-eq1.1 in omega arith) c.if-left-eq1.branch-raw in (
       search rules,
       low,
       l.invariant.2
-          ∙ ⊎_elim (λ w. mixed-take xs a.width l.c l.left l.h (search rules) wide w.if-left-eq1.true
-          ∙ ap (mixed_at xs a.width (l.c + 1) (l.left / 2)) (sym w.h-is)) (λ w. mixed-skip xs a.width l.c l.left l.h (search rules) wide w.if-left-eq1.false
-          ∙ ap (mixed_at xs a.width (l.c + 1) (l.left / 2)) (sym w.h-is)) c.if-left-eq1.branch-raw,
+          ∙ ⊎_elim (λ w. mixed-take xs a.width l.c l.left l.h (search rules) wide w.if-left-eq1.0.taken
+          ∙ ap (mixed_at xs a.width (l.c + 1) (l.left / 2)) (sym w.if-left-eq1.1)) (λ w. mixed-skip xs a.width l.c l.left l.h (search rules) wide w.if-left-eq1.0.left
+          ∙ ap (mixed_at xs a.width (l.c + 1) (l.left / 2)) (sym w.if-left-eq1.1)) c.if-left-eq1.branch-raw,
     )
 
 -- What is spread stays below the number of buckets

@@ -10,12 +10,12 @@ use Rattle.join_lookup.proofs.find.Goals as goal
 
 pub start-at-requires : goal.start-at-requires
 start-at-requires c = let s = c in
-    ((s.requires.0.0, s.requires.0.1, omega arith), λ some. (s.requires.0.2 some).0)
+    ((s.requires.words_value.0, s.requires.words_value.1, omega arith), λ some. (s.requires.words_value.2 some).0)
 
 pub loop-at-init : goal.loop-at-init
 loop-at-init c = let s = c in
     let a = s.args in
-    (s.requires.0.0, s.requires.0.1, (0, c.start-at.ensures 0 a.nodes.now s.requires.1, λ p l. absurd (omega arith)))
+    (s.requires.words_value.0, s.requires.words_value.1, (0, c.start-at.ensures 0 a.nodes.now s.requires.tabled, λ p l. absurd (omega arith)))
 
 pub has-requires : goal.has-requires
 has-requires c = let s = c in
@@ -34,7 +34,7 @@ returns-then-has c = let s = c in
     let w = l.loop-at.invariant in
     let p = w.2 in
     pass-found a.schema.now a.words.now w.0 a.x w.1 a.columns a.values l.loop-at.at p
-    (h.has.ensures.0 w.2.1.row (pass-begins a.schema.now a.words.now w.0 a.x w.1 a.columns a.values l.loop-at.at p i.loop-at-test.true)
+    (h.has.ensures.by_index_2 w.2.1.row (pass-begins a.schema.now a.words.now w.0 a.x w.1 a.columns a.values l.loop-at.at p i.loop-at-test.true)
     c.if-has.true)
 
 pub following-at-requires : goal.following-at-requires
@@ -47,7 +47,7 @@ following-at-requires c = let s = c in
       (w.0, w.1, omega arith),
       (
         (w.2.1.row, pass-begins a.schema.now a.words.now w.0 a.x w.1 a.columns a.values l.loop-at.at p i.loop-at-test.true),
-        λ some. (s.requires.0.2 some).1,
+        λ some. (s.requires.words_value.2 some).1,
       ),
     )
 
@@ -60,7 +60,7 @@ onward c = let s = c in
     let l = c in
     let w = l.loop-at.invariant in
     let size : length a.values ≡ 8 = s.well-formed.1.1.1.1.0.1.0.1 in
-    c.following-at.ensures a.columns 0 w.2.0 a.values a.heads.now s.ranges.columns.fits (omega (arith, w.1.narrow)) s.requires.1 w.2.1
+    c.following-at.ensures a.columns 0 w.2.0 a.values a.heads.now s.ranges.columns.fits (omega (arith, w.1.narrow)) s.requires.tabled w.2.1
 
 pub loop-at-smaller : goal.loop-at-smaller
 loop-at-smaller c = let s = c in
@@ -84,7 +84,7 @@ loop-at-preserved c = let s = c in
     let w = l.loop-at.invariant in
     let p = w.2 in
     let n = pass-next a.schema.now a.words.now w.0 a.x w.1 a.columns a.values l.loop-at.at p
-    (h.has.ensures.1 w.2.1.row (pass-begins a.schema.now a.words.now w.0 a.x w.1 a.columns a.values l.loop-at.at p i.loop-at-test.true)
+    (h.has.ensures.by_index_3 w.2.1.row (pass-begins a.schema.now a.words.now w.0 a.x w.1 a.columns a.values l.loop-at.at p i.loop-at-test.true)
     e.if-has.false)
     c.following-at.result (onward (goal.at.loop-at-preserved c).After-following-at) in
     (w.0, w.1, n)

@@ -17,7 +17,7 @@ use Rattle.join_lookup.proofs.has.Goals as goal
 
 inside : (c : goal.Start) → c.args.at < length c.args.words.now
 inside c = let a = c.args in
-    begins-inside a.schema.now a.words.now c.requires.0.0 a.x c.requires.0.1 a.at c.requires.1.0 c.requires.1.1
+    begins-inside a.schema.now a.words.now c.requires.words_value.0 a.x c.requires.words_value.1 a.at c.requires.by_index.0 c.requires.by_index.1
 
 pub offset_bounds-words-at : goal.offset_bounds-words-at
 offset_bounds-words-at c = omega (arith, inside (goal.at.offset_bounds-words-at c).Start)
@@ -29,7 +29,7 @@ pub returns-then-words-at : goal.returns-then-words-at
 returns-then-words-at c = let s = c in
     let a = s.args in (
       (λ p b t. absurd (false≢true t)),
-      (λ p b t. other-relation a.schema.now a.words.now s.requires.0.0 a.x s.requires.0.1 a.at p b a.columns a.values c.if-words-at.true),
+      (λ p b t. other-relation a.schema.now a.words.now s.requires.words_value.0 a.x s.requires.words_value.1 a.at p b a.columns a.values c.if-words-at.true),
     )
 
 pub loop-c-init : goal.loop-c-init
@@ -44,13 +44,13 @@ value-requires c = let s = c in
     omega (
       arith,
       i.loop-c-test.true,
-      begins-room a.schema.now a.words.now s.requires.0.0 a.x s.requires.0.1 a.at s.requires.1.0 s.requires.1.1 e.if-words-at.false,
+      begins-room a.schema.now a.words.now s.requires.words_value.0 a.x s.requires.words_value.1 a.at s.requires.by_index.0 s.requires.by_index.1 e.if-words-at.false,
     )
 
 pub bounds-values-c : goal.bounds-values-c
 bounds-values-c c = let s = c in
     let i = c in
-    omega (arith, i.loop-c-test.true, s.requires.0.1.narrow)
+    omega (arith, i.loop-c-test.true, s.requires.words_value.1.narrow)
 
 pub returns-then-value-values : goal.returns-then-value-values
 returns-then-value-values c = let s = c in
@@ -60,7 +60,7 @@ returns-then-value-values c = let s = c in
     let t = c in
     let v = c in (
       (λ p b t. absurd (false≢true t)),
-      (λ p b w. other-column a.schema.now a.words.now s.requires.0.0 a.x s.requires.0.1 a.at p b a.columns a.values l.loop-c.c
+      (λ p b w. other-column a.schema.now a.words.now s.requires.words_value.0 a.x s.requires.words_value.1 a.at p b a.columns a.values l.loop-c.c
           s.ranges.columns.fits i.loop-c-test.true (ap (λ (n : ℕ). n % 2) (sym l.loop-c.invariant.1) ∙ t.if-left-eq1.true)
           (λ h. c.if-value-values.true (v.value.ensures ∙ h))),
     )
@@ -83,7 +83,7 @@ returns c = let s = c in
     let a = s.args in
     let l = c in
     let e = c in (
-      (λ p b t. made-has a.schema.now a.words.now s.requires.0.0 a.x s.requires.0.1 a.at p b e.if-words-at.false a.columns a.values
+      (λ p b t. made-has a.schema.now a.words.now s.requires.words_value.0 a.x s.requires.words_value.1 a.at p b e.if-words-at.false a.columns a.values
           s.ranges.columns.fits (λ d h bit. l.loop-c.invariant.2 d (omega (arith, c.loop-c-test.false)) bit)),
       (λ p b t. absurd (true≢false t)),
     )

@@ -22,7 +22,7 @@ before schema words p n at here e f h less =
 pub loop-here-init : goal.loop-here-init
 unfolding start_of
 loop-here-init c = let s = c in
-    (s.requires.0, s.requires.1.0, s.requires.1.1, s.requires.1.2, refl, omega arith)
+    (s.requires.words_value, s.requires.by_index.0, s.requires.by_index.1, s.requires.by_index.2, refl, omega arith)
 
 pub next-here-requires : goal.next-here-requires
 next-here-requires c = let s = c in

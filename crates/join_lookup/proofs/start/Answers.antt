@@ -13,15 +13,15 @@ some c = omega (arith, c.if-x-eq0.false)
 room : (c : goal.After-bucket-b) → 5 * c.bucket-b.result + c.args.t < length c.args.heads.now
 room c = let s = c in
     let e = c in
-    omega (arith, c.bucket-b.ensures.1, s.requires.1 (some c.before), s.requires.0.2)
+    omega (arith, c.bucket-b.ensures.1, s.requires.buckets_in_bounds (some c.before), s.requires.words_value.2)
 
 pub returns-then-x-eq0 : goal.returns-then-x-eq0
 returns-then-x-eq0 c = let s = c in
     let a = s.args in
-    λ set nodes table. reach-first a.schema.now a.words.now s.requires.0.0 a.x s.requires.0.1 a.t a.columns set a.values c.if-x-eq0.true
+    λ set nodes table. reach-first a.schema.now a.words.now s.requires.words_value.0 a.x s.requires.words_value.1 a.t a.columns set a.values c.if-x-eq0.true
 
 pub bucket-b-requires : goal.bucket-b-requires
-bucket-b-requires c = let s = c in (s.requires.0.1.narrow, some (goal.at.bucket-b-requires c).Else-x-eq0, s.requires.0.1.few)
+bucket-b-requires c = let s = c in (s.requires.words_value.1.narrow, some (goal.at.bucket-b-requires c).Else-x-eq0, s.requires.words_value.1.few)
 
 pub overflow_mul-result : goal.overflow_mul-result
 overflow_mul-result c = omega (arith, room (goal.at.overflow_mul-result c).After-bucket-b)
@@ -47,5 +47,5 @@ returns c = let s = c in
     let e = c in
     let size : length a.values ≡ 8 = s.well-formed.1.1.1.1.1.0.1.0.1 in
     λ set nodes table.
-    reach-head a.schema.now a.words.now s.requires.0.0 a.x s.requires.0.1 a.t a.columns set a.values s.ranges.columns.fits
-    (omega (arith, s.requires.0.1.narrow)) a.heads.now nodes b.bucket-b.result b.bucket-b.ensures.0 b.bucket-b.ensures.1 (table (some (goal.at.returns c).Else-x-eq0))
+    reach-head a.schema.now a.words.now s.requires.words_value.0 a.x s.requires.words_value.1 a.t a.columns set a.values s.ranges.columns.fits
+    (omega (arith, s.requires.words_value.1.narrow)) a.heads.now nodes b.bucket-b.result b.bucket-b.ensures.0 b.bucket-b.ensures.1 (table (some (goal.at.returns c).Else-x-eq0))

@@ -68,9 +68,9 @@ loop-c-preserved c = let s = c in
     let low : l.loop-c.c < 8 = omega (arith, i.loop-c-test.true, s.requires.1) in (
       search rules,
       ap (λ (n : ℕ). n / 2) l.loop-c.invariant.1 ∙ shifted a.set l.loop-c.c,
-      ⊎_elim (λ w. subst (λ (r : List ℕ). PutIn a.words.now a.at a.set a.values r (l.loop-c.c + 1)) (sym w.row-is) (put-here a.words.now a.at a.set a.values l.loop-c.row l.loop-c.c w.value.result l.loop-c.invariant.2 low
-          (ap (λ (n : ℕ). n % 2) (sym l.loop-c.invariant.1) ∙ w.if-left-eq1.true) w.value.ensures)) (λ w. subst (λ (r : List ℕ). PutIn a.words.now a.at a.set a.values r (l.loop-c.c + 1)) (sym w.row-is) (put-not a.words.now a.at a.set a.values l.loop-c.row l.loop-c.c l.loop-c.invariant.2
-          (λ b. w.if-left-eq1.false (ap (λ (n : ℕ). n % 2) l.loop-c.invariant.1 ∙ b)))) c.if-left-eq1.branch-raw,
+      ⊎_elim (λ w. subst (λ (r : List ℕ). PutIn a.words.now a.at a.set a.values r (l.loop-c.c + 1)) (sym w.if-left-eq1.2) (put-here a.words.now a.at a.set a.values l.loop-c.row l.loop-c.c w.if-left-eq1.1.result l.loop-c.invariant.2 low
+          (ap (λ (n : ℕ). n % 2) (sym l.loop-c.invariant.1) ∙ w.if-left-eq1.0.taken) w.if-left-eq1.1.ensures)) (λ w. subst (λ (r : List ℕ). PutIn a.words.now a.at a.set a.values r (l.loop-c.c + 1)) (sym w.if-left-eq1.1) (put-not a.words.now a.at a.set a.values l.loop-c.row l.loop-c.c l.loop-c.invariant.2
+          (λ b. w.if-left-eq1.0.left (ap (λ (n : ℕ). n % 2) l.loop-c.invariant.1 ∙ b)))) c.if-left-eq1.branch-raw,
     )
 
 pub returns : goal.returns

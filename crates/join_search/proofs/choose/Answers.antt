@@ -18,9 +18,9 @@ loop-c-preserved c =
     let a = c.args in
     let l = c.loop-c in
     let low = c.loop-c-test.true in
-    ⊎_elim (λ w. subst (λ (n : List ℕ). Choosing a.codes.now a.set a.chosen a.i n (l.rest / 2) (l.c + 1)) (sym w.next-is)
-    (choosing-takes a.codes.now a.set a.chosen a.i l.next l.rest l.c low l.invariant w.if-rest-eq1.true)) (λ w. subst (λ (n : List ℕ). Choosing a.codes.now a.set a.chosen a.i n (l.rest / 2) (l.c + 1)) (sym w.next-is)
-    (choosing-skips a.codes.now a.set a.chosen a.i l.next l.rest l.c low l.invariant w.if-rest-eq1.false)) c.if-rest-eq1.branch-raw
+    ⊎_elim (λ w. subst (λ (n : List ℕ). Choosing a.codes.now a.set a.chosen a.i n (l.rest / 2) (l.c + 1)) (sym w.if-rest-eq1.2)
+    (choosing-takes a.codes.now a.set a.chosen a.i l.next l.rest l.c low l.invariant w.if-rest-eq1.0.taken)) (λ w. subst (λ (n : List ℕ). Choosing a.codes.now a.set a.chosen a.i n (l.rest / 2) (l.c + 1)) (sym w.if-rest-eq1.1)
+    (choosing-skips a.codes.now a.set a.chosen a.i l.next l.rest l.c low l.invariant w.if-rest-eq1.0.left)) c.if-rest-eq1.branch-raw
 
 pub returns : goal.returns
 returns c =

@@ -65,7 +65,7 @@ returns-then-missing c =
     let four = four-sets a.joins (argument-shaped 4 a.joins _ s.well-formed.1.0) l.k (omega (arith, enough, low)) in
     λ schema narrow good good-joins.
     next_one a.t a.joins a.joined _ f.codes-of.ensures l.invariant.2 (cells-long s) enough past_join schema narrow good good-joins l.k low
-    l.invariant.4 four _ m.first_missing-missing.ensures c.if-missing.true _ c.Cells-of.ensures
+    l.invariant.4 four _ m.first_missing-missing.ensures c.if-missing.true _ c.cells_of.ensures
 
 pub loop-k-preserved : goal.loop-k-preserved
 loop-k-preserved c =

@@ -56,9 +56,9 @@ loop-i-preserved c =
       l.invariant.2,
       l.invariant.3,
       ⊎_elim (λ w.
-          w.kept-is ∙ w.with_row-kept.ensures ∙ ap (λ (k : Tableau). with_row k (get_or t.relations l.i 0) w.row_at-row.result) l.invariant.4
-          ∙ ap (with_row (distinct_to t l.i) (get_or t.relations l.i 0)) w.row_at-row.ensures
-          ∙ sym (distinct-keeps t l.i (sym first ∙ w.if-is_first.true))) (λ w. w.kept-is ∙ l.invariant.4 ∙ sym (distinct-drops t l.i (sym first ∙ w.if-is_first.false))) c.if-is_first.branch-raw,
+          w.if-is_first.3 ∙ w.if-is_first.2.ensures ∙ ap (λ (k : Tableau). with_row k (get_or t.relations l.i 0) w.if-is_first.1.result) l.invariant.4
+          ∙ ap (with_row (distinct_to t l.i) (get_or t.relations l.i 0)) w.if-is_first.1.ensures
+          ∙ sym (distinct-keeps t l.i (sym first ∙ w.if-is_first.0.taken))) (λ w. w.if-is_first.1 ∙ l.invariant.4 ∙ sym (distinct-drops t l.i (sym first ∙ w.if-is_first.0.left))) c.if-is_first.branch-raw,
     )
 
 pub returns : goal.returns

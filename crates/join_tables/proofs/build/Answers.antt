@@ -17,16 +17,16 @@ short c = c.if-words-gt4294967295.false
 
 -- There is room for the buckets, and there is one
 heads-room : (c : goal.Joined-heads-buckets) → 5 * c.if-heads-buckets.buckets ≤ length c.args.heads.now
-heads-room c = ⊎_elim (λ w. omega (arith, w.buckets-is)) (λ w. omega (arith, w.if-heads-buckets.false, w.buckets-is)) c.if-heads-buckets.branch-raw
+heads-room c = ⊎_elim (λ w. omega (arith, w.if-heads-buckets.1)) (λ w. omega (arith, w.if-heads-buckets.0.left, w.if-heads-buckets.1)) c.if-heads-buckets.branch-raw
 
 some : (c : goal.Joined-heads-buckets) → 0 < c.if-heads-buckets.buckets
 some c = let there : 5 ≤ length c.args.heads.now = c.then-heads-lt5.false in
-    ⊎_elim (λ w. omega (arith, w.buckets-is, there)) (λ w. omega (arith, w.buckets-is)) c.if-heads-buckets.branch-raw
+    ⊎_elim (λ w. omega (arith, w.if-heads-buckets.1, there)) (λ w. omega (arith, w.if-heads-buckets.1)) c.if-heads-buckets.branch-raw
 
 few : (c : goal.Joined-heads-buckets) → c.if-heads-buckets.buckets ≤ 4294967296
 few c = let a = c.args in
     let low = div-le_self (length a.words.now) (get_or a.schema.now a.j.relation 0 + 1) in
-    ⊎_elim (λ w. omega (arith, w.if-heads-buckets.true, w.buckets-is, short c.before, low)) (λ w. omega (arith, w.buckets-is, short c.before, low)) c.if-heads-buckets.branch-raw
+    ⊎_elim (λ w. omega (arith, w.if-heads-buckets.0.taken, w.if-heads-buckets.1, short c.before, low)) (λ w. omega (arith, w.if-heads-buckets.1, short c.before, low)) c.if-heads-buckets.branch-raw
 
 pub bounds-schema-index : goal.bounds-schema-index
 bounds-schema-index c = let s = c in omega (arith, s.requires.fits.known)

@@ -12,12 +12,12 @@ use Rattle.join_tables.proofs.enter.Goals as goal
 
 -- The clearing changes nothing but the table, nor does what is entered
 beside : (c : goal.After-clear)
-    → Beside c.args.t c.args.heads.now c.args.nodes.now c.clear.new.0 c.args.nodes.now
+    → Beside c.args.t c.args.heads.now c.args.nodes.now c.clear.new.heads c.args.nodes.now
 beside c =
     record {
-      heads-size = c.clear.ensures.0;
+      heads-size = c.clear.ensures.heads_len_unchanged;
       nodes-size = refl;
-      heads-kept = c.clear.ensures.1.1;
+      heads-kept = c.clear.ensures.by_index_2;
       nodes-kept = λ n u low other. refl;
     }
 
@@ -52,17 +52,17 @@ room c = let l = c.loop-at in
 
 pub overflow_cast-words : goal.overflow_cast-words
 overflow_cast-words c = let s = c in
-    omega (arith, s.requires.1.0.0.short)
+    omega (arith, s.requires.roomy.0.short)
 
 pub clear-requires : goal.clear-requires
 clear-requires c = let s = c in
-    (s.requires.0.2, s.requires.1.0.0.heads-room)
+    (s.requires.words_value.2, s.requires.roomy.0.heads-room)
 
 pub loop-at-init : goal.loop-at-init
 loop-at-init c = let d = c in
     let s = d in
     let a = s.args in
-    entered-none a.schema.now a.words.now s.pre.0.0 a.x a.t a.columns a.set d.clear.new.0 a.nodes.now d.clear.ensures.1.0
+    entered-none a.schema.now a.words.now s.pre.0.0 a.x a.t a.columns a.set d.clear.new.heads a.nodes.now d.clear.ensures.by_index
 
 pub overflow_sub-at : goal.overflow_sub-at
 overflow_sub-at c = let some : c.loop-at.at ≡ 0 → ⊥ = c.loop-at-test.true in omega (arith, some)
@@ -114,7 +114,7 @@ loop-at-preserved c = let u = c in
     let a = s.args in
     entered-next a.schema.now a.words.now s.pre.0.0 a.x a.t a.columns a.set d.clear.last.0 a.nodes.now
     l.heads l.nodes l.at l.invariant s.pre.0.2 s.pre.1.0.1 i.loop-test.true
-    u.enter_row.new.1.1.1.1.1.1.1.0 u.enter_row.new.1.1.1.1.1.1.1.1.0 u.enter_row.ensures.0 u.enter_row.ensures.1
+    u.enter_row.new.heads u.enter_row.new.nodes u.enter_row.ensures.beside u.enter_row.ensures.by_index_2
 
 pub shape_of-heads : goal.shape_of-heads
 shape_of-heads c = (beside-all (goal.at.shape_of-heads c).At-loop-at).heads-size

@@ -17,16 +17,16 @@ hashed c = c
 -- The row is there
 inside : (s : goal.Start) → s.args.at < length s.args.words.now
 inside s = let a = s.args in
-    let p = s.requires.1.1.0 in
-    omega (arith, p.1.0, start-inside a.schema.now a.words.now s.requires.0.0 p.0 p.1.1)
+    let p = s.requires.by_index in
+    omega (arith, p.1.0, start-inside a.schema.now a.words.now s.requires.words_value.0 p.0 p.1.1)
 
 -- Its link is in the slice
 link-room : (s : goal.Start) → 6 * s.args.at + 1 + s.args.t < length s.args.nodes.now
-link-room s = omega (arith, inside s, s.requires.1.0.nodes-room, s.requires.0.2)
+link-room s = omega (arith, inside s, s.requires.roomy.nodes-room, s.requires.words_value.2)
 
 -- at a word whose place is far below 64 bits
 link-low : (s : goal.Start) → 6 * s.args.at + 1 + s.args.t < 25769803776
-link-low s = omega (arith, inside s, s.requires.1.0.short, s.requires.0.2)
+link-low s = omega (arith, inside s, s.requires.roomy.short, s.requires.words_value.2)
 
 -- The head of its bucket is in the slice
 head-room : (c : goal.After-bucket-b) → 5 * c.bucket-b.result + (hashed c).args.t < length (hashed c).args.heads.now
@@ -55,7 +55,7 @@ bucketed c p b = let a = (hashed c).args in
     c.bucket-b.ensures.0 ∙ ap (λ (r : Row ℕ). bucket_of a.x.buckets a.columns r.values) (own c.before p b)
 
 pub offset_bounds-words-at : goal.offset_bounds-words-at
-offset_bounds-words-at c = let s = c in omega (arith, inside (goal.at.offset_bounds-words-at c).Start, s.requires.1.0.short)
+offset_bounds-words-at c = let s = c in omega (arith, inside (goal.at.offset_bounds-words-at c).Start, s.requires.roomy.short)
 
 pub bounds-words-at : goal.bounds-words-at
 bounds-words-at c = inside (goal.at.bounds-words-at c).Start
@@ -65,9 +65,9 @@ returns-then-words-at c = let s = c in
     let a = s.args in (
       beside_same a.t a.heads.now a.nodes.now,
       λ p b table.
-          table-other a.schema.now a.words.now s.requires.0.0 a.x s.requires.0.1 a.t a.columns a.set p b.1 a.heads.now a.nodes.now table
+          table-other a.schema.now a.words.now s.requires.words_value.0 a.x s.requires.words_value.1 a.t a.columns a.set p b.1 a.heads.now a.nodes.now table
           (λ is. c.if-words-at.true (ap (λ (n : ℕ). get_or a.words.now n 0) b.0
-          ∙ sym (start-relation a.schema.now a.words.now s.requires.0.0 p b.1) ∙ is)),
+          ∙ sym (start-relation a.schema.now a.words.now s.requires.words_value.0 p b.1) ∙ is)),
     )
 
 pub read_row-values-requires : goal.read_row-values-requires

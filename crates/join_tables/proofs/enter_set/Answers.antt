@@ -9,32 +9,32 @@ use Rattle.join_tables.proofs.Filling.{roomy-beside}
 use Rattle.join_tables.proofs.enter_set.Goals as goal
 
 -- There is still room, and the links to rows before are there
-roomy : (c : goal.After-enter) → Roomy c.args.words.now c.args.x c.enter.new.1.1.1.1.1.1.0 c.enter.new.1.1.1.1.1.1.1.0
-roomy c = let s = c in roomy-beside s.args.words.now s.args.x c.enter.ensures.0 s.pre.1.0
+roomy : (c : goal.After-enter) → Roomy c.args.words.now c.args.x c.enter.new.heads c.enter.new.nodes
+roomy c = let s = c in roomy-beside s.args.words.now s.args.x c.enter.ensures.beside s.pre.1.0
 
-threaded : (c : goal.After-enter) → Threaded c.args.schema.now c.args.words.now c.enter.new.1.1.1.1.1.1.1.0
-threaded c = thread-beside c.enter.ensures.0 (omega arith) c.requires.1.1
+threaded : (c : goal.After-enter) → Threaded c.args.schema.now c.args.words.now c.enter.new.nodes
+threaded c = thread-beside c.enter.ensures.beside (omega arith) c.requires.1.1
 
 pub enter-requires : goal.enter-requires
 enter-requires c = let s = c in
-    ((s.requires.0.0, s.requires.0.1, omega arith), (s.requires.1, λ some. absurd (some refl)))
+    ((s.requires.words_value.0, s.requires.words_value.1, omega arith), (s.requires.roomy, λ some. absurd (some refl)))
 
 pub enter-requires-2 : goal.enter-requires-2
 enter-requires-2 c = let d = c in
     let s = d in
-    ((s.pre.0.0, s.pre.0.1, omega (arith, s.pre.0.2)), ((roomy (goal.at.enter-requires-2 c).After-enter, threaded (goal.at.enter-requires-2 c).After-enter), λ some. d.enter.ensures.1))
+    ((s.pre.0.0, s.pre.0.1, omega (arith, s.pre.0.2)), ((roomy (goal.at.enter-requires-2 c).After-enter, threaded (goal.at.enter-requires-2 c).After-enter), λ some. d.enter.ensures.table_2))
 
 pub returns : goal.returns
 returns c = let u = c in
     let d = u in
     let s = d in (
-      thread-beside u.enter-2.ensures.0 (omega (arith, s.pre.0.2)) (threaded d),
+      thread-beside u.enter-2.ensures.beside (omega (arith, s.pre.0.2)) (threaded d),
       (
-        roomy-beside s.args.words.now s.args.x u.enter-2.ensures.0 (roomy d),
+        roomy-beside s.args.words.now s.args.x u.enter-2.ensures.beside (roomy d),
         (
-          u.enter-2.ensures.1,
+          u.enter-2.ensures.table_2,
           λ l columns mask low other table.
-              table_beside u.enter-2.ensures.0 (l + 1) columns mask 0 (omega arith) (λ same. other (omega arith))
+              table_beside u.enter-2.ensures.beside (l + 1) columns mask 0 (omega arith) (λ same. other (omega arith))
               (table_beside d.enter.ensures.0 (l + 1) columns mask 0 (omega arith) (λ same. omega arith) table),
         ),
       ),

@@ -9,15 +9,15 @@ use Rattle.join_tables.proofs.fill.Goals as goal
 
 pub thread-requires : goal.thread-requires
 thread-requires c = let s = c in
-    (s.requires.0.0.spelled, s.requires.1.nodes-room, s.requires.1.short)
+    (s.requires.searchable.0.spelled, s.requires.roomy.nodes-room, s.requires.roomy.short)
 
 pub loop-k-init : goal.loop-k-init
 loop-k-init c = let d = c in
     let s = d in
     let a = s.args in
     let r = s.requires.1 in (
-      levelled-none a.schema.now a.words.now a.j a.x a.heads.now d.thread.new.1.1.0 d.thread.ensures.0
-          (record { some = r.some; heads-room = r.heads-room; nodes-room = omega (arith, r.nodes-room, d.thread.ensures.1); short = r.short }),
+      levelled-none a.schema.now a.words.now a.j a.x a.heads.now d.thread.new.nodes d.thread.ensures.threaded
+          (record { some = r.some; heads-room = r.heads-room; nodes-room = omega (arith, r.nodes-room, d.thread.ensures.nodes_len_unchanged); short = r.short }),
       refl,
       refl,
     )
@@ -40,7 +40,7 @@ loop-k-preserved c = let u = c in
     let a = s.args in
     let e = u.enter_set.ensures in (
       levelled-next a.schema.now a.words.now a.j a.x l.heads l.nodes l.filled l.k l.invariant.0 i.loop-test.true s.pre.0.0.few
-          u.enter_set.new.1.1.1.1.1.1.0 u.enter_set.new.1.1.1.1.1.1.1.0 e.0 e.1.0 e.1.1.0 e.1.1.1,
+          u.enter_set.new.heads u.enter_set.new.nodes e.0 e.1.0 e.1.1.0 e.1.1.1,
       c.heads-1.given ∙ l.invariant.1,
       c.nodes-in-loop-k-1.given ∙ l.invariant.2,
     )
@@ -58,4 +58,4 @@ returns c = let u = c in
     let s = e in
     let a = s.args in
     levelled-all a.schema.now a.words.now a.j a.x l.heads l.nodes l.filled l.k l.invariant.0 e.loop-test.false s.pre.0.0.few
-    s.pre.0.1 s.pre.0.2 u.enter.new.1.1.1.1.1.1.0 u.enter.new.1.1.1.1.1.1.1.0 u.enter.ensures.0 u.enter.ensures.1
+    s.pre.0.1 s.pre.0.2 u.enter.new.heads u.enter.new.nodes u.enter.ensures.beside u.enter.ensures.table_2

@@ -11,6 +11,7 @@ use Rattle.query.specs.declared.Dependency.{Dependency}
 use Rattle.query.specs.Rule.{good_dependencies, good_dependency, blank_dependency, no_dependency}
 use Rattle.lists.specs.Tests.{in_use}
 use Rattle.lists.proofs.Loops.{turn-passes, turn-fails, turns-end, used_start}
+use Rattle.std.proofs.Common.{ap, not}
 use Rattle.limits.proofs.dependencies_good.Goals as goal
 
 many : (schema : List ℕ) (held : ℕ) (dependencies : List Dependency) → 32 < held → false ≡ good_dependencies schema held dependencies
@@ -38,14 +39,14 @@ loop-i-init c =
     )
 
 pub returns-then-not-dependency_fits : goal.returns-then-not-dependency_fits
-returns-then-not-dependency_fits c = turn-fails c.loop-i.invariant.2 no_dependency (search rules) c.dependency_fits.ensures c.if-not-dependency_fits.true
+returns-then-not-dependency_fits c = turn-fails c.loop-i.invariant.2 no_dependency (search rules) c.dependency_fits.ensures (ap not c.if-not-dependency_fits.true)
 
 pub loop-i-preserved : goal.loop-i-preserved
 loop-i-preserved c = (
   search rules,
   search rules,
   turn-passes c.loop-i.invariant.2 no_dependency (search rules) c.dependency_fits.ensures
-      c.if-not-dependency_fits.false,
+      (ap not c.if-not-dependency_fits.false),
 )
 
 pub returns : goal.returns

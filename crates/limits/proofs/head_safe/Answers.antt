@@ -10,6 +10,7 @@ use Rattle.limits.specs.internal.Entries.{safe_cell}
 use Rattle.query.specs.Rule.{no_cell}
 use Rattle.lists.proofs.Loops.{mapped-length, turn-passes, turn-fails, turns-end, every-start}
 use Rattle.limits.proofs.Variables.{row_variables, head-safe-is}
+use Rattle.std.proofs.Common.{not}
 use Rattle.limits.proofs.head_safe.Goals as goal
 
 pub loop-i-init : goal.loop-i-init
@@ -33,7 +34,7 @@ returns-then-not-head_cell_safe c =
     let seen : c.head_cell_safe.result ≡ safe_cell variables (get_or (take q.arity q.head) at no_cell) =
     c.head_cell_safe.ensures ∙ ap (safe_cell variables) (sym (get_or-take q.arity q.head at no_cell (search rules)))
     in
-    turn-fails c.loop-i.invariant.2 no_cell inside seen c.if-not-head_cell_safe.true ∙ sym
+    turn-fails c.loop-i.invariant.2 no_cell inside seen (ap not c.if-not-head_cell_safe.true) ∙ sym
     (head-safe-is (take c.args.relations
     c.args.widths) q)
 
@@ -49,7 +50,7 @@ loop-i-preserved c =
     let seen : c.head_cell_safe.result ≡ safe_cell variables (get_or (take q.arity q.head) at no_cell) =
     c.head_cell_safe.ensures ∙ ap (safe_cell variables) (sym (get_or-take q.arity q.head at no_cell (search rules)))
     in
-    (search rules, search rules, turn-passes c.loop-i.invariant.2 no_cell inside seen c.if-not-head_cell_safe.false)
+    (search rules, search rules, turn-passes c.loop-i.invariant.2 no_cell inside seen (ap not c.if-not-head_cell_safe.false))
 
 pub returns : goal.returns
 returns c =

@@ -12,6 +12,7 @@ use Rattle.query.specs.Rule.{good_joins, good_join, blank_join}
 use Rattle.lists.specs.Tests.{in_use}
 use Rattle.lists.proofs.Loops.{turn-passes, turn-fails, turns-end, used_start}
 use Rattle.limits.proofs.Sets.{past_join}
+use Rattle.std.proofs.Common.{ap, not}
 use Rattle.limits.proofs.joins_good.Goals as goal
 
 many : (schema : List ℕ) (joined : ℕ) (joins : List JoinDependency) → 4 < joined → false ≡ good_joins schema joined joins
@@ -39,14 +40,14 @@ loop-i-init c =
     )
 
 pub returns-then-not-join_fits : goal.returns-then-not-join_fits
-returns-then-not-join_fits c = turn-fails c.loop-i.invariant.2 past_join (search rules) c.join_fits.ensures c.if-not-join_fits.true
+returns-then-not-join_fits c = turn-fails c.loop-i.invariant.2 past_join (search rules) c.join_fits.ensures (ap not c.if-not-join_fits.true)
 
 pub loop-i-preserved : goal.loop-i-preserved
 loop-i-preserved c = (
   search rules,
   search rules,
   turn-passes c.loop-i.invariant.2 past_join (search rules) c.join_fits.ensures
-      c.if-not-join_fits.false,
+      (ap not c.if-not-join_fits.false),
 )
 
 pub returns : goal.returns

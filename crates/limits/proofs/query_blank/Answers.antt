@@ -49,11 +49,11 @@ returns-then-not-named_blank c =
     stops-4 c.args.q
     c.if-q-ne0.false c.if-q-ne0-2.false
     (sym c.head_good.ensures ∙ c.if-not-head_good.false)
-    (sym c.Named-Blank.ensures ∙ c.if-not-named_blank.true)
+    (sym c.named_blank.ensures ∙ c.if-not-named_blank.true)
 
 pub returns : goal.returns
 returns c =
     c.cells_blank.ensures ∙ goes c.args.q
     c.if-q-ne0.false c.if-q-ne0-2.false
     (sym c.head_good.ensures ∙ c.if-not-head_good.false)
-    (sym c.Named-Blank.ensures ∙ c.if-not-named_blank.false)
+    (sym c.named_blank.ensures ∙ c.if-not-named_blank.false)

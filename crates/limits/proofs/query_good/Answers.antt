@@ -83,7 +83,7 @@ returns-then-not-named_blank c =
     c.head_in_use.ensures c.head_good.ensures
     c.if-not-head_good.false)
     (sym c.rows_good.ensures ∙ c.if-not-rows_good.false)
-    (sym c.Named-Blank.ensures ∙ c.if-not-named_blank.true)
+    (sym c.named_blank.ensures ∙ c.if-not-named_blank.true)
 
 pub returns : goal.returns
 returns c =
@@ -97,4 +97,4 @@ returns c =
     c.head_in_use.ensures c.head_good.ensures
     c.if-not-head_good.false)
     (sym c.rows_good.ensures ∙ c.if-not-rows_good.false)
-    (sym c.Named-Blank.ensures ∙ c.if-not-named_blank.false)
+    (sym c.named_blank.ensures ∙ c.if-not-named_blank.false)

@@ -8,6 +8,7 @@ use borrow.Author.Rules.{rules}
 use Rattle.query.specs.Rule.{good_relations}
 use Rattle.lists.specs.Tests.{between, is_zero, in_use}
 use Rattle.lists.proofs.Loops.{turn-passes, turn-fails, turns-end, used_start}
+use Rattle.std.proofs.Common.{ap, not}
 use Rattle.limits.proofs.relations_good.Goals as goal
 
 starts : (relations : ℕ) (widths : List ℕ) → 1 ≤ relations → relations ≤ 8 → good_relations relations widths ≡ in_use relations (between 1 8) is_zero widths
@@ -32,11 +33,11 @@ loop-i-init c =
     )
 
 pub returns-then-not-width_fits : goal.returns-then-not-width_fits
-returns-then-not-width_fits c = turn-fails c.loop-i.invariant.2 0 (search rules) c.width_fits.ensures c.if-not-width_fits.true
+returns-then-not-width_fits c = turn-fails c.loop-i.invariant.2 0 (search rules) c.width_fits.ensures (ap not c.if-not-width_fits.true)
 
 pub loop-i-preserved : goal.loop-i-preserved
 loop-i-preserved c =
-    (search rules, search rules, turn-passes c.loop-i.invariant.2 0 (search rules) c.width_fits.ensures c.if-not-width_fits.false)
+    (search rules, search rules, turn-passes c.loop-i.invariant.2 0 (search rules) c.width_fits.ensures (ap not c.if-not-width_fits.false))
 
 pub returns : goal.returns
 returns c = turns-end c.loop-i.invariant.2 (search rules)

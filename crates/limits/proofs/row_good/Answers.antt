@@ -7,6 +7,7 @@ use lib.ListN.{length, take, drop, get_or}
 use borrow.Author.Rules.{rules}
 use Rattle.query.specs.Rule.{good_cell, blank_cell, no_cell}
 use Rattle.lists.proofs.Loops.{used_test, turn-passes, turn-fails, turns-end, used_start, stretch-length, stretch-get_or}
+use Rattle.std.proofs.Common.{not}
 use Rattle.limits.proofs.row_good.Goals as goal
 
 pub loop-i-init : goal.loop-i-init
@@ -25,7 +26,7 @@ returns-then-not-cell_fits c =
     c.cell_fits.ensures ∙ ap (used_test c.args.used good_cell blank_cell at)
     (sym (stretch-get_or start 8 cells at no_cell below))
     in
-    turn-fails c.loop-i.invariant.2 no_cell inside seen c.if-not-cell_fits.true
+    turn-fails c.loop-i.invariant.2 no_cell inside seen (ap not c.if-not-cell_fits.true)
 
 pub loop-i-preserved : goal.loop-i-preserved
 loop-i-preserved c =
@@ -40,7 +41,7 @@ loop-i-preserved c =
     c.cell_fits.ensures ∙ ap (used_test c.args.used good_cell blank_cell at)
     (sym (stretch-get_or start 8 cells at no_cell below))
     in
-    (search rules, search rules, turn-passes c.loop-i.invariant.2 no_cell inside seen c.if-not-cell_fits.false)
+    (search rules, search rules, turn-passes c.loop-i.invariant.2 no_cell inside seen (ap not c.if-not-cell_fits.false))
 
 pub returns : goal.returns
 returns c =

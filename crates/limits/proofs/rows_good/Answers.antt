@@ -15,6 +15,7 @@ use Rattle.query.specs.Rule.{good_row, good_cell, blank_cell}
 use Rattle.lists.proofs.Loops.{turn-passes, turn-fails, turns-end}
 use Rattle.limits.proofs.Rows.{row_test, rows_start}
 use Rattle.query.proofs.Relations.{known-relation, unknown-relation, relations-bounds}
+use Rattle.std.proofs.Common.{not}
 use Rattle.limits.proofs.rows_good.Goals as goal
 
 unknown-row : (schema : List ℕ) (relation : ℕ) (cells : List Cell) → ltb relation (length schema) ≡ false → false ≡ good_row schema relation cells
@@ -67,7 +68,7 @@ returns-then-not-row_good c =
     known-row schema (get_or named row 0) (take 8 (drop (8 * row) cells)) known c.width_of-width.ensures c.row_good.ensures
     ∙ ap (row_test schema cells row) (sym read)
     in
-    turn-fails c.loop-row.invariant.4 0 inside seen c.if-not-row_good.true
+    turn-fails c.loop-row.invariant.4 0 inside seen (ap not c.if-not-row_good.true)
 
 pub loop-row-preserved : goal.loop-row-preserved
 loop-row-preserved c =
@@ -87,7 +88,7 @@ loop-row-preserved c =
     known-row schema (get_or named row 0) (take 8 (drop (8 * row) cells)) known c.width_of-width.ensures c.row_good.ensures
     ∙ ap (row_test schema cells row) (sym read)
     in
-    (search rules, search rules, search rules, search rules, turn-passes c.loop-row.invariant.4 0 inside seen c.if-not-row_good.false)
+    (search rules, search rules, search rules, search rules, turn-passes c.loop-row.invariant.4 0 inside seen (ap not c.if-not-row_good.false))
 
 pub returns : goal.returns
 returns c = turns-end c.loop-row.invariant.4 (rw length-take (omega arith))

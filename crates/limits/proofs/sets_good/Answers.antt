@@ -6,6 +6,7 @@ use borrow.Author.Rules.{rules}
 use Rattle.query.specs.Rule.{good_set}
 use Rattle.lists.specs.Tests.{is_zero}
 use Rattle.lists.proofs.Loops.{turn-passes, turn-fails, turns-end, used_start}
+use Rattle.std.proofs.Common.{ap, not}
 use Rattle.limits.proofs.sets_good.Goals as goal
 
 pub loop-i-init : goal.loop-i-init
@@ -16,13 +17,13 @@ loop-i-init c = (
 )
 
 pub returns-then-not-set_fits : goal.returns-then-not-set_fits
-returns-then-not-set_fits c = turn-fails c.loop-i.invariant.2 0 (search rules) c.set_fits.ensures c.if-not-set_fits.true
+returns-then-not-set_fits c = turn-fails c.loop-i.invariant.2 0 (search rules) c.set_fits.ensures (ap not c.if-not-set_fits.true)
 
 pub loop-i-preserved : goal.loop-i-preserved
 loop-i-preserved c = (
   search rules,
   search rules,
-  turn-passes c.loop-i.invariant.2 0 (search rules) c.set_fits.ensures c.if-not-set_fits.false,
+  turn-passes c.loop-i.invariant.2 0 (search rules) c.set_fits.ensures (ap not c.if-not-set_fits.false),
 )
 
 pub returns : goal.returns

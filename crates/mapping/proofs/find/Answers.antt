@@ -132,7 +132,7 @@ chosen-below c found =
     solution-small source target (source-sizes at18) (target-sizes at18) at18.requires.0 at18.requires.1 at12.tableau-flat.result
     at12.codes.result at11.tableau-codes.result at6.domains-domain.result c.table-pairs.result (from_is at11)
     at12.tableau-flat.ensures (to_is at11) at6.domains-domain.ensures c.table-pairs.ensures
-    (choice_of c.solve-outcome.result.chosen) (c.solve-outcome.ensures.0 found)
+    (choice_of c.solve-outcome.result.chosen) (c.solve-outcome.ensures.found found)
 
 pub returns-then-size-eq0 : goal.returns-then-size-eq0
 returns-then-size-eq0 c =
@@ -161,7 +161,7 @@ returns-then-not-outcome c =
     (none-solution at21.args.source at21.args.target (source-sizes (at21)) (target-sizes (at21)) at21.requires.0 at21.requires.1
     at17.tableau-flat.result at15.codes.result at14.tableau-codes.result at9.domains.result at6.table-pairs.result
     (from_is (at14)) at17.tableau-flat.ensures (to_is (at14)) at9.domains.ensures at6.table-pairs.ensures
-    (c.solve-outcome.ensures.1 c.if-not-outcome.true))
+    (c.solve-outcome.ensures.none c.if-not-outcome.true))
 
 pub assign-images-requires : goal.assign-images-requires
 assign-images-requires c =
@@ -186,5 +186,5 @@ returns c =
     found-solution at22.args.source at22.args.target (source-sizes (at22)) (target-sizes (at22)) at22.requires.0 at22.requires.1
     at18.tableau-flat.result at16.codes.result at15.tableau-codes.result at10.domains.result at7.table.result
     (from_is (at15)) at18.tableau-flat.ensures (to_is (at15)) at10.domains.ensures at7.table.ensures
-    (choice_of at4.solve-outcome.result.chosen) c.assign-images.result some (at4.solve-outcome.ensures.0 c.if-not-outcome.false) (images-long c)
+    (choice_of at4.solve-outcome.result.chosen) c.assign-images.result some (at4.solve-outcome.ensures.found c.if-not-outcome.false) (images-long c)
     c.assign-images.ensures

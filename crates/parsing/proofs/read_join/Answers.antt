@@ -4,6 +4,7 @@ use mathlib.Core.List.{List}
 use Prim.Native.Nat.{ℕ, ◌+◌}
 use lib.ListN.{take, get_or}
 use Rattle.parsing.proofs.Joins.{join_on, join-two, join-cut, join-many, join-unfit, join-found}
+use Rattle.std.proofs.Common.{ap, not}
 use Rattle.parsing.proofs.read_join.Goals as goal
 
 with-sets : (s : List ℕ) (at : ℕ) (sets : List ℕ) → sets ≡ (join_on s at).sets
@@ -36,7 +37,7 @@ returns-then-not-join_good c =
     ∙ join-unfit (take start.args.count start.args.widths) part at
     (record { relation = get_or part at 0; count = get_or part (at + 1) 0; sets = after-read-sets.read-sets.result })
     (with-sets part at after-read-sets.read-sets.result after-read-sets.read-sets.ensures) after-join-good.join_good.result
-    after-join-good.join_good.ensures c.if-not-join_good.true
+    after-join-good.join_good.ensures (ap not c.if-not-join_good.true)
 
 pub returns : goal.returns
 returns c =
@@ -48,4 +49,4 @@ returns c =
     join-found (take start.args.count start.args.widths) part at
     (record { relation = get_or part at 0; count = get_or part (at + 1) 0; sets = after-read-sets.read-sets.result })
     (with-sets part at after-read-sets.read-sets.result after-read-sets.read-sets.ensures) after-join-good.join_good.result
-    after-join-good.join_good.ensures after-read-sets.if3.false c.if-not-join_good.false
+    after-join-good.join_good.ensures after-read-sets.if3.false (ap not c.if-not-join_good.false)

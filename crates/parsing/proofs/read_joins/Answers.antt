@@ -109,7 +109,7 @@ returns-then-not-read c =
     c.no_joins-then-not-read.ensures
     ∙ fails (take start.args.count start.args.widths) start.args.part.now after-if1.if1.false after-joined.joined.given.0.0
     at-loop.loop.joins at-loop.loop.i at-loop.loop.at at-loop.loop.invariant.4 in-loop.loop-test.true
-    after-read-join.read_join-read.result after-read-join.read_join-read.ensures c.if-not-read.true
+    after-read-join.read_join-read.result after-read-join.read_join-read.ensures (ap not c.if-not-read.true)
 
 pub overflow_add-at : goal.overflow_add-at
 overflow_add-at c =
@@ -118,7 +118,7 @@ overflow_add-at c =
     let start = at-loop in
     let inside =
     (join-read (take start.args.count start.args.widths) start.args.part.now at-loop.loop.at after-read-join.read_join-read.result
-    at-loop.loop.invariant.3 after-read-join.read_join-read.ensures c.if-not-read.false).1
+    at-loop.loop.invariant.3 after-read-join.read_join-read.ensures (ap not c.if-not-read.false)).1
     in
     search rules
 
@@ -129,7 +129,7 @@ overflow_add-at-in-loop-i c =
     let start = at-loop in
     let inside =
     (join-read (take start.args.count start.args.widths) start.args.part.now at-loop.loop.at after-read-join.read_join-read.result
-    at-loop.loop.invariant.3 after-read-join.read_join-read.ensures c.if-not-read.false).1
+    at-loop.loop.invariant.3 after-read-join.read_join-read.ensures (ap not c.if-not-read.false)).1
     in
     search rules
 
@@ -143,7 +143,7 @@ loop-i-preserved c =
     let start = after-if1 in
     let schema = take start.args.count start.args.widths in
     let read = after-read-join.read_join-read in
-    let good = c.if-not-read.false in (
+    let good = (ap not c.if-not-read.false) in (
       search rules,
       at-loop.loop.invariant.1,
       length-set at-loop.loop.joins at-loop.loop.i read.result.join ∙ at-loop.loop.invariant.2,

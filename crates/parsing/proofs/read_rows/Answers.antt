@@ -19,7 +19,7 @@ loop-r-init c =
     let a = s.args in
     let S = take a.count a.widths in
     let X = a.part.now in
-    begins S X a.start a.size s.requires.1.0
+    begins S X a.start a.size s.requires.start_in_bounds
 
 pub returns-then-part-at : goal.returns-then-part-at
 returns-then-part-at c =
@@ -61,7 +61,7 @@ bounds-widths-relation c =
     let S = take a.count a.widths in
     let X = a.part.now in
     let long : length a.widths ≡ 8 = s.well-formed.1.1.1.1.0.1.0.1 in
-    omega (arith, (relations-bounds a.count a.widths s.requires.0).1)
+    omega (arith, (relations-bounds a.count a.widths s.requires.widths_value).1)
 
 pub loop-i-init : goal.loop-i-init
 loop-i-init c =

@@ -143,13 +143,13 @@ pub loop-k-init : goal.loop-k-init
 loop-k-init c =
     let start = c in
     begins (start.args.count, start.args.widths) (start.args.held, start.args.dependencies) (start.args.joined, start.args.joins) (take start.args.count start.args.widths)
-    start.args.file.now start.args.n c.no_place-blank.result c.no_place-blank.ensures start.requires.1.0.0
+    start.args.file.now start.args.n c.no_place-blank.result c.no_place-blank.ensures start.requires.le_n.0
 
 pub part-requires : goal.part-requires
 part-requires c =
     let start = c in (
-      omega (arith, start.requires.1.0.2),
-      stretch-fits start.args.file.now start.args.n (2 + 4 * start.args.n) c.loop-k.k c.loop-k-test.true start.requires.1.1,
+      omega (arith, start.requires.le_n.2),
+      stretch-fits start.args.file.now start.args.n (2 + 4 * start.args.n) c.loop-k.k c.loop-k-test.true start.requires.file_value,
     )
 
 pub returns-in-Refused : goal.returns-in-Refused

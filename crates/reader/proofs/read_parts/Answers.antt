@@ -194,8 +194,8 @@ module _ (file : List ℕ) (n : ℕ) (low : 2 ≤ n) (part0 : List ℕ) (e₀ : 
 
 pub part-requires : goal.part-requires
 part-requires c = (
-  omega (arith, c.requires.0.2),
-  stretch-fits c.args.file.now c.args.n (2 + 4 * c.args.n) 0 (omega (arith, c.requires.0.0)) c.requires.1,
+  omega (arith, c.requires.le_n.2),
+  stretch-fits c.args.file.now c.args.n (2 + 4 * c.args.n) 0 (omega (arith, c.requires.le_n.0)) c.requires.file_value,
 )
 
 pub returns-then-not-first : goal.returns-then-not-first
@@ -210,8 +210,8 @@ returns-then-not-first c =
 pub part-second-requires : goal.part-second-requires
 part-second-requires c =
     let start = c in (
-      omega (arith, start.requires.0.2),
-      stretch-fits start.args.file.now start.args.n (2 + 4 * start.args.n) 1 (omega (arith, start.requires.0.0)) start.requires.1,
+      omega (arith, start.requires.le_n.2),
+      stretch-fits start.args.file.now start.args.n (2 + 4 * start.args.n) 1 (omega (arith, start.requires.le_n.0)) start.requires.file_value,
     )
 
 -- What is known where the relations are good

@@ -14,6 +14,7 @@ use Rattle.record.specs.Calls.{concluded, with_place}
 use Rattle.record.specs.internal.Lookup.{number_of, filled_place}
 use Rattle.record.proofs.Refusals.{filled_at}
 use Rattle.record_calls.proofs.Outcomes.{drop-broken, drop-refused, drop-done}
+use Rattle.std.proofs.Common.{not}
 use Rattle.record_calls.proofs.drop_query.Goals as goal
 
 pub returns-then-not-is_good : goal.returns-then-not-is_good
@@ -51,7 +52,7 @@ returns c =
     in
     let good : good_record given ≡ true =
     sym c.is_good.ensures ∙ not-false _
-    c.if-not-is_good.false
+    (ap not c.if-not-is_good.false)
     in
     let stored : with_place given at c.no_place.result ≡ with_place given at no_place =
     ap (with_place given at) c.no_place.ensures

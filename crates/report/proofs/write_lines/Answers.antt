@@ -49,4 +49,4 @@ returns c =
     lines-written s.args.given s.args.place s.requires.2 s.requires.1 (eight s) s.requires.3 other.other_place.result other.other_place.ensures
     single.alone.result single.alone.ensures reduced.reduce.result reduced.reduce.ensures source.stored.result source.stored.ensures
     result.stored2.result result.stored2.ensures (source-long source) (result-long result) (count_small reduced) s.args.buffer.now s.args.at
-    written.write_place.new.0 written.write_place.result written.write_place.ensures
+    written.write_place.new.buffer written.write_place.result written.write_place.ensures

@@ -10,7 +10,7 @@ write_lines-requires c =
 pub returns-then-is_filled : goal.returns-then-is_filled
 returns-then-is_filled c =
     let s = c in
-    part_filled s.args.given s.args.place s.args.buffer.now s.args.at c.write_lines.new.0
+    part_filled s.args.given s.args.place s.args.buffer.now s.args.at c.write_lines.new.buffer
     c.write_lines.result
     (sym c.is_filled.ensures ∙ c.if-is_filled.true)
     c.write_lines.ensures

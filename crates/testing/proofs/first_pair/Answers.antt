@@ -53,7 +53,7 @@ from-beyond c =
 
 pub loop-at-init : goal.loop-at-init
 loop-at-init c = let s = c in
-    (record { inside = omega arith; counted = omega arith; good = s.requires.1 }, refl, refl, refl)
+    (record { inside = omega arith; counted = omega arith; good = s.requires.words_value }, refl, refl, refl)
 
 pub skip-skipped-requires : goal.skip-skipped-requires
 skip-skipped-requires c = let l = c in
@@ -121,7 +121,7 @@ loop-at-preserved c = let m = c in
     let l = q.loop in (
       from-beyond (goal.at.loop-at-preserved c).After-next-after,
       (skipped q).1
-          ∙ ⊎_elim (λ w. pair-later S X D (first q) m.next-after.result (number q) (beyond (goal.at.loop-at-preserved c).After-next-after) (sym w.3.given.1 ∙ w.first_partner-second.ensures)) (λ w. pair-other S X D (first q) m.next-after.result (number q) (beyond (goal.at.loop-at-preserved c).After-next-after) w.if-words-first.false) c.if-words-first.branch-raw,
+          ∙ ⊎_elim (λ w. pair-later S X D (first q) m.next-after.result (number q) (beyond (goal.at.loop-at-preserved c).After-next-after) (sym w.in_default.is ∙ w.first_partner-second.ensures)) (λ w. pair-other S X D (first q) m.next-after.result (number q) (beyond (goal.at.loop-at-preserved c).After-next-after) w.if-words-first.false) c.if-words-first.branch-raw,
       q.heads.given ∙ l.invariant.2,
       q.nodes.given ∙ l.invariant.3,
     )

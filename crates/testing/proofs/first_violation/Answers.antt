@@ -23,7 +23,7 @@ use Rattle.testing.proofs.first_violation.Goals as goal
 
 -- The buckets that are used are buckets
 few : (c : goal.Joined-words-buckets) → c.if-words-buckets.buckets ≤ length c.args.heads.now
-few c = ⊎_elim (λ w. omega (arith, w.if-words-buckets.true, w.buckets-is)) (λ w. omega (arith, w.buckets-is)) c.if-words-buckets.branch-raw
+few c = ⊎_elim (λ w. omega (arith, w.if-words-buckets.0.taken, w.if-words-buckets.1)) (λ w. omega (arith, w.if-words-buckets.1)) c.if-words-buckets.branch-raw
 
 -- The search from dependency k on, by dependency k and the later ones
 onward : (c : goal.In-loop-k)
@@ -63,7 +63,7 @@ returns-in-At c = let f = c.found-1.given in
     let k = i.loop.k in
     sym (ap violation_of (onward i)
     ∙ violation-found (database_of a.schema.now a.words.now) (dependency_of (get_or a.dependencies k no_dependency))
-    (map dependency_of (drop (k + 1) (take a.held a.dependencies))) k f.0.0 f.0.1.0 (sym f.1 ∙ q.test-step.ensures.0))
+    (map dependency_of (drop (k + 1) (take a.held a.dependencies))) k f.0.0 f.0.1.0 (sym f.1 ∙ q.test-step.ensures.pair_value))
 
 pub loop-k-preserved : goal.loop-k-preserved
 loop-k-preserved c = let q = c in
@@ -73,8 +73,8 @@ loop-k-preserved c = let q = c in
       search rules,
       onward i
           ∙ violation-later (database_of a.schema.now a.words.now) (dependency_of (get_or a.dependencies l.k no_dependency))
-          (map dependency_of (drop (l.k + 1) (take a.held a.dependencies))) l.k (sym c.in_default.is ∙ q.test-step.ensures.0),
-      q.test-step.ensures.1,
+          (map dependency_of (drop (l.k + 1) (take a.held a.dependencies))) l.k (sym c.in_default.is ∙ q.test-step.ensures.pair_value),
+      q.test-step.ensures.keyed_2,
       c.nodes-1.given ∙ l.invariant.3,
       c.used-in-loop-k-2-1.given ∙ l.invariant.4,
     )

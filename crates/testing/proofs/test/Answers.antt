@@ -12,7 +12,7 @@ abbrev start : goal.After-slice_known-4-1 → goal.Start
 start c = c.before.before.before.before
 
 pub has_key-requires : goal.has_key-requires
-has_key-requires c = c.requires.1.1.few
+has_key-requires c = c.requires.keyed.few
 
 pub returns-then-has_key : goal.returns-then-has_key
 returns-then-has_key c = let s = c in

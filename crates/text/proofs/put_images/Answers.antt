@@ -36,7 +36,7 @@ loop-v-preserved c =
     let asked = sym c.rows_have.ensures in
     let low = c.loop-v-test.true in (
       search rules,
-      ⊎_elim (λ w. moved (wrote l.invariant.1 _ (images-passed (images_of s.images) test l.v low (asked ∙ w.if-rows_have.true)) w.put_image-next.ensures) w.buffer-is w.next-is) (λ w. moved (left_as l.invariant.1 (images-skipped (images_of s.images) test l.v low (asked ∙ w.if-rows_have.false))) w.buffer-is w.next-is) c.if-rows_have.branch-raw,
+      ⊎_elim (λ w. moved (wrote l.invariant.1 _ (images-passed (images_of s.images) test l.v low (asked ∙ w.if-rows_have.0.taken)) w.if-rows_have.3.ensures) w.if-rows_have.6 w.if-rows_have.7) (λ w. moved (left_as l.invariant.1 (images-skipped (images_of s.images) test l.v low (asked ∙ w.if-rows_have.0.left))) w.if-rows_have.1 w.if-rows_have.2) c.if-rows_have.branch-raw,
     )
 
 pub shape_of-buffer : goal.shape_of-buffer

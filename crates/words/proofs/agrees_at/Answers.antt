@@ -18,7 +18,7 @@ returns-then-value c = let s = c in
     let e : agree_from a.width a.words.now a.a a.b 0 a.d.left ≡ false =
     l.invariant.1 ∙ agree_differ a.width a.words.now a.a a.b l.c l.left (search rules) c.if-left-eq1.true
     (λ h. c.if-value.true (c.value.ensures ∙ h ∙ sym c.value-then-left-eq1.ensures)) in
-    sym (agree-start a.width a.words.now a.a a.b a.d.left s.requires.1.0 s.requires.1.1 ∙ e)
+    sym (agree-start a.width a.words.now a.a a.b a.d.left s.requires.width_bound.0 s.requires.width_bound.1 ∙ e)
 
 pub loop-c-preserved : goal.loop-c-preserved
 loop-c-preserved c = let a = c.args in
@@ -34,4 +34,4 @@ returns c = let s = c in
     let l = c.loop-c in
     let e : agree_from a.width a.words.now a.a a.b 0 a.d.left ≡ true =
     l.invariant.1 ∙ agree-end a.width a.words.now a.a a.b l.c l.left (search rules) in
-    sym (agree-start a.width a.words.now a.a a.b a.d.left s.requires.1.0 s.requires.1.1 ∙ e)
+    sym (agree-start a.width a.words.now a.a a.b a.d.left s.requires.width_bound.0 s.requires.width_bound.1 ∙ e)

@@ -16,7 +16,7 @@ returns-then-not-agrees_at c = let s = c in
     let a = s.args in
     let e : agree_rows (dependency_of a.d) (span_at a.width a.words.now a.a) (span_at a.width a.words.now a.b) ≡ false =
     sym c.agrees_at.ensures ∙ c.if-not-agrees_at.true in
-    sym (breaks-spans a.width a.words.now a.a a.b a.d s.requires.0.0 s.requires.0.1 s.requires.1.1.2
+    sym (breaks-spans a.width a.words.now a.a a.b a.d s.requires.a_value.0 s.requires.a_value.1 s.requires.width_bound.2
     ∙ ap (λ (b : Bool). b && not (eqb (get_or a.words.now (a.a + 1 + a.d.right) 0) (get_or a.words.now (a.b + 1 + a.d.right) 0))) e)
 
 pub returns : goal.returns
@@ -24,9 +24,9 @@ returns c = let s = c in
     let a = s.args in
     let e : agree_rows (dependency_of a.d) (span_at a.width a.words.now a.a) (span_at a.width a.words.now a.b) ≡ true =
     sym c.agrees_at.ensures ∙ not-false c.agrees_at.result
-    c.if-not-agrees_at.false in
+    (ap not c.if-not-agrees_at.false) in
     let same : not (eqb c.value.result c.value-2.result)
     ≡ not (eqb (get_or a.words.now (a.a + 1 + a.d.right) 0) (get_or a.words.now (a.b + 1 + a.d.right) 0)) =
     rw (c.value.ensures, c.value-2.ensures) in
-    same ∙ sym (breaks-spans a.width a.words.now a.a a.b a.d s.requires.0.0 s.requires.0.1 s.requires.1.1.2
+    same ∙ sym (breaks-spans a.width a.words.now a.a a.b a.d s.requires.a_value.0 s.requires.a_value.1 s.requires.width_bound.2
     ∙ ap (λ (b : Bool). b && not (eqb (get_or a.words.now (a.a + 1 + a.d.right) 0) (get_or a.words.now (a.b + 1 + a.d.right) 0))) e)

@@ -91,19 +91,19 @@ parts c =
 first_run : (c : goal.After-put_directory)
     → Run (lengths-start c.before.before.before).args.buffer.now 0
     ([] ++ directory (lengths-start c.before.before.before) c.up-to-filled.result)
-    c.put_directory.new.0 (2 + 4 * (c.up-to-filled.result + 2))
+    c.put_directory.new.buffer (2 + 4 * (c.up-to-filled.result + 2))
 first_run c =
     let earlier = c in
     let n = earlier.up-to-filled.result in
     let start = lengths-start c.before.before.before in
     let given = start.args.given in
-    let written : c.put_directory.new.0 ≡ over start.args.buffer.now 0 (directory start n) =
+    let written : c.put_directory.new.buffer ≡ over start.args.buffer.now 0 (directory start n) =
     c.put_directory.ensures
     ∙ ap
     (λ (k : ℕ). over start.args.buffer.now 0 (directory_bytes n (1 + given.relations) (1 + 3 * given.held + k)
     (map (put_place (schema_of given)) (take n given.places))))
     (tail-is c.before.before.before) in
-    run-turns (run-starts start.args.buffer.now 0) (directory start n) c.put_directory.new.0 (2 + 4 * (n + 2))
+    run-turns (run-starts start.args.buffer.now 0) (directory start n) c.put_directory.new.buffer (2 + 4 * (n + 2))
     (omega (arith, (lengths c.before.before.before).0, c.if-buffer-size.false)) written (omega (arith, (lengths c.before.before.before).0))
 
 abbrev second-run-lengths : goal.After-put_parts → goal.After-places_length-others
@@ -113,7 +113,7 @@ second_run : (c : goal.After-put_parts)
     → Run (lengths-start (second-run-lengths c)).args.buffer.now 0
     ([] ++ directory (lengths-start (second-run-lengths c)) (second-run-lengths c).up-to-filled.result
     ++ part_bytes (lengths-start (second-run-lengths c)).args.given (second-run-lengths c).up-to-filled.result)
-    c.put_parts.new.0
+    c.put_parts.new.buffer
     (2 + 4 * ((second-run-lengths c).up-to-filled.result + 2)
     + length (part_bytes (lengths-start (second-run-lengths c)).args.given (second-run-lengths c).up-to-filled.result))
 second_run c =
@@ -121,7 +121,7 @@ second_run c =
     let lengthened = earlier in
     let n = lengthened.up-to-filled.result in
     let start = lengths-start lengthened in
-    run-turns (first_run c.before.before.before.before) (part_bytes start.args.given n) c.put_parts.new.0 (2 + 4 * (n + 2) + length (part_bytes start.args.given n))
+    run-turns (first_run c.before.before.before.before) (part_bytes start.args.given n) c.put_parts.new.buffer (2 + 4 * (n + 2) + length (part_bytes start.args.given n))
     (omega (arith, parts lengthened, earlier.if-buffer-size.false)) c.put_parts.ensures refl
 
 -- ---- the needs
@@ -248,5 +248,5 @@ returns c =
     let n = l.up-to-filled.result in
     let split = file-split given good (widths-long start) (list-long start) n l.up-to-filled.ensures.0 (held l) in
     done given good buffer (file_length start n l.joins-length.result l.places-length.result) (lengths l).1
-    after-put-parts.put_parts.new.0 after-put-parts.if-buffer-size.false
+    after-put-parts.put_parts.new.buffer after-put-parts.if-buffer-size.false
     ((second_run (goal.at.returns c).After-put_parts).written ∙ ap (over buffer 0) (sym split))

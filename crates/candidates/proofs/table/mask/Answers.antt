@@ -9,4 +9,4 @@ returns-then-not-sharing c =
     let args = start.args in
     apart_marks args.source.now args.target.now args.size args.count args.r args.d args.q c.candidates.result
     c.all_below.result
-    c.candidates.ensures.0 (start.requires.1 c.if-not-sharing.true) c.all_below.ensures
+    c.candidates.ensures.0 (start.requires.fact c.if-not-sharing.true) c.all_below.ensures

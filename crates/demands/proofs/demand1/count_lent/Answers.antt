@@ -6,4 +6,4 @@ pub returns : goal.returns
 returns c =
     let k = c in
     let a = k.args in
-    (count_meets a.given a.place a.words.now k.count_lent.result k.count_lent.ensures.0, k.count_lent.ensures.1)
+    (count_meets a.given a.place a.words.now k.count_lent.result k.count_lent.ensures.result_value, k.count_lent.ensures.1)

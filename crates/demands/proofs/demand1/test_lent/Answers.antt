@@ -6,4 +6,4 @@ pub returns : goal.returns
 returns c =
     let k = c in
     let a = k.args in
-    (test-meets a.given a.words.now k.test_lent.result k.test_lent.ensures.0, k.test_lent.ensures.1)
+    (test-meets a.given a.words.now k.test_lent.result k.test_lent.ensures.result_value, k.test_lent.ensures.1)

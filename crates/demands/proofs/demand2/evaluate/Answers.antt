@@ -6,4 +6,4 @@ pub returns : goal.returns
 returns c =
     let k = c in
     let a = k.args in
-    evaluates a.given a.place a.words.now a.buffer.now _ k.evaluate.result k.evaluate.ensures.0 k.evaluate.ensures.1
+    evaluates a.given a.place a.words.now a.buffer.now _ k.evaluate.result k.evaluate.ensures.result_value k.evaluate.ensures.buffer_after

@@ -6,4 +6,4 @@ pub returns : goal.returns
 returns c =
     let k = c in
     let a = k.args in
-    evaluates a.given a.place a.words.now a.buffer.now _ k.evaluate_lent.result k.evaluate_lent.ensures.0 k.evaluate_lent.ensures.1.0
+    evaluates a.given a.place a.words.now a.buffer.now _ k.evaluate_lent.result k.evaluate_lent.ensures.result_value k.evaluate_lent.ensures.buffer_after

@@ -25,10 +25,10 @@ loop-k-preserved c =
     let long : k < length all = search rules in
     let same : ℕ → Cell → Type 0 = λ j x. x ≡ cell_at 12 q j in (
       search rules,
-      ⊎_elim (λ w. ap length w.all-is ∙ simp length-set c.loop-k.invariant.1) (λ w. ap length w.all-is ∙ simp length-set c.loop-k.invariant.1) c.if-k-lt96.branch-raw,
-      ⊎_elim (λ w. stored-into same all c.if-k-lt96.all k (get_or q.cells k no_cell) no_cell w.all-is long c.loop-k.invariant.2
-          (simp (lt-ltb _ _ w.if-k-lt96.true))) (λ w. stored-into same all c.if-k-lt96.all k (get_or q.head (k - 96) no_cell) no_cell w.all-is long c.loop-k.invariant.2
-          (simp (le-ltb _ _ w.if-k-lt96.false))) c.if-k-lt96.branch-raw,
+      ⊎_elim (λ w. ap length w.if-k-lt96.2 ∙ simp length-set c.loop-k.invariant.1) (λ w. ap length w.if-k-lt96.2 ∙ simp length-set c.loop-k.invariant.1) c.if-k-lt96.branch-raw,
+      ⊎_elim (λ w. stored-into same all c.if-k-lt96.all k (get_or q.cells k no_cell) no_cell w.if-k-lt96.2 long c.loop-k.invariant.2
+          (simp (lt-ltb _ _ w.if-k-lt96.0.taken))) (λ w. stored-into same all c.if-k-lt96.all k (get_or q.head (k - 96) no_cell) no_cell w.if-k-lt96.2 long c.loop-k.invariant.2
+          (simp (le-ltb _ _ w.if-k-lt96.0.left))) c.if-k-lt96.branch-raw,
     )
 
 pub returns : goal.returns

@@ -26,10 +26,10 @@ loop-k-preserved c =
     let long : k < length all = search rules in
     let same : ℕ → Cell → Type 0 = λ j x. x ≡ cell_at 24 q j in (
       search rules,
-      ⊎_elim (λ w. ap length w.all-is ∙ simp length-set c.loop-k.invariant.1) (λ w. ap length w.all-is ∙ simp length-set c.loop-k.invariant.1) c.if-k-lt192.branch-raw,
-      ⊎_elim (λ w. stored-into same all c.if-k-lt192.all k (get_or q.cells k no_cell) no_cell w.all-is long c.loop-k.invariant.2
-          (simp (lt-ltb _ _ w.if-k-lt192.true))) (λ w. stored-into same all c.if-k-lt192.all k (get_or q.head (k - 192) no_cell) no_cell w.all-is long c.loop-k.invariant.2
-          (simp (le-ltb _ _ w.if-k-lt192.false))) c.if-k-lt192.branch-raw,
+      ⊎_elim (λ w. ap length w.if-k-lt192.2 ∙ simp length-set c.loop-k.invariant.1) (λ w. ap length w.if-k-lt192.2 ∙ simp length-set c.loop-k.invariant.1) c.if-k-lt192.branch-raw,
+      ⊎_elim (λ w. stored-into same all c.if-k-lt192.all k (get_or q.cells k no_cell) no_cell w.if-k-lt192.2 long c.loop-k.invariant.2
+          (simp (lt-ltb _ _ w.if-k-lt192.0.taken))) (λ w. stored-into same all c.if-k-lt192.all k (get_or q.head (k - 192) no_cell) no_cell w.if-k-lt192.2 long c.loop-k.invariant.2
+          (simp (le-ltb _ _ w.if-k-lt192.0.left))) c.if-k-lt192.branch-raw,
     )
 
 pub returns : goal.returns
