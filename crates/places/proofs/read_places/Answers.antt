@@ -141,44 +141,31 @@ ended rs ds js schema file n places k f h =
 
 pub loop-k-init : goal.loop-k-init
 loop-k-init c =
-    let start = c in
-    begins (start.args.count, start.args.widths) (start.args.held, start.args.dependencies) (start.args.joined, start.args.joins) (take start.args.count start.args.widths)
-    start.args.file.now start.args.n c.no_place-blank.result c.no_place-blank.ensures start.requires.le_n.0
+    begins (c.args.count, c.args.widths) (c.args.held, c.args.dependencies) (c.args.joined, c.args.joins) (take c.args.count c.args.widths)
+    c.args.file.now c.args.n c.no_place-blank.result c.no_place-blank.ensures c.requires.le_n.0
 
 pub part-requires : goal.part-requires
 part-requires c =
-    let start = c in (
-      omega (arith, start.requires.le_n.2),
-      stretch-fits start.args.file.now start.args.n (2 + 4 * start.args.n) c.loop-k.k c.loop-k-test.true start.requires.file_value,
+    (
+      omega (arith, c.requires.le_n.2),
+      stretch-fits c.args.file.now c.args.n (2 + 4 * c.args.n) c.loop-k.k c.loop-k-test.true c.requires.file_value,
     )
 
 pub returns-in-Refused : goal.returns-in-Refused
 returns-in-Refused c =
-    let after-answer = c in
-    let after-read-place = after-answer in
-    let after-part = after-read-place in
-    let after-loop-test = after-part in
-    let after-loop = after-loop-test in
-    let start = after-loop in
-    c.refusal.ensures ∙ stops (start.args.count, start.args.widths) (start.args.held, start.args.dependencies) (start.args.joined, start.args.joins)
-    (take start.args.count start.args.widths) start.args.file.now start.args.n after-loop.loop.places after-loop.loop.k
-    after-loop.loop.invariant after-loop-test.loop-test.true start.requires.1.0.1 after-part.part.result.now after-part.part.ensures
-    after-read-place.read-place.result after-read-place.read-place.ensures after-answer.in-Refused.number after-answer.in-Refused.is
+    c.refusal.ensures ∙ stops (c.args.count, c.args.widths) (c.args.held, c.args.dependencies) (c.args.joined, c.args.joins)
+    (take c.args.count c.args.widths) c.args.file.now c.args.n c.loop.places c.loop.k
+    c.loop.invariant c.loop-test.true c.requires.1.0.1 c.part.result.now c.part.ensures
+    c.read-place.result c.read-place.ensures c.in-Refused.number c.in-Refused.is
 
 pub loop-k-preserved : goal.loop-k-preserved
 loop-k-preserved c =
-    let after-read-place = c in
-    let after-part = after-read-place in
-    let after-loop-test = after-part in
-    let after-loop = after-loop-test in
-    let start = after-loop in
-    goes_on (start.args.count, start.args.widths) (start.args.held, start.args.dependencies) (start.args.joined, start.args.joins) (take start.args.count start.args.widths)
-    start.args.file.now start.args.n after-loop.loop.places after-loop.loop.k after-loop.loop.invariant after-loop-test.loop-test.true
-    start.requires.1.0.1 after-part.part.result.now after-part.part.ensures after-read-place.read_place-read.result
-    after-read-place.read_place-read.ensures c.in-Done.is
+    goes_on (c.args.count, c.args.widths) (c.args.held, c.args.dependencies) (c.args.joined, c.args.joins) (take c.args.count c.args.widths)
+    c.args.file.now c.args.n c.loop.places c.loop.k c.loop.invariant c.loop-test.true
+    c.requires.1.0.1 c.part.result.now c.part.ensures c.read_place-read.result
+    c.read_place-read.ensures c.in-Done.is
 
 pub returns : goal.returns
 returns c =
-    let start = c in
-    ended (start.args.count, start.args.widths) (start.args.held, start.args.dependencies) (start.args.joined, start.args.joins) (take start.args.count start.args.widths)
-    start.args.file.now start.args.n c.loop-k.places c.loop-k.k c.loop-k.invariant c.loop-k-test.false
+    ended (c.args.count, c.args.widths) (c.args.held, c.args.dependencies) (c.args.joined, c.args.joins) (take c.args.count c.args.widths)
+    c.args.file.now c.args.n c.loop-k.places c.loop-k.k c.loop-k.invariant c.loop-k-test.false
