@@ -200,18 +200,15 @@ part-requires c = (
 
 pub returns-then-not-first : goal.returns-then-not-first
 returns-then-not-first c =
-    let after-read-relations = c in
-    let after-part = after-read-relations in
-    let start = after-part in
-    c.refusal.ensures ∙ refuses-relations start.args.file.now start.args.n start.requires.0.0 after-part.part.result.now
-    after-part.part.ensures after-read-relations.read_relations-first.result after-read-relations.read_relations-first.ensures
+    c.refusal.ensures ∙ refuses-relations c.args.file.now c.args.n c.requires.0.0 c.part.result.now
+    c.part.ensures c.read_relations-first.result c.read_relations-first.ensures
     c.if-not-first.true
 
 pub part-second-requires : goal.part-second-requires
 part-second-requires c =
-    let start = c in (
-      omega (arith, start.requires.le_n.2),
-      stretch-fits start.args.file.now start.args.n (2 + 4 * start.args.n) 1 (omega (arith, start.requires.le_n.0)) start.requires.file_value,
+    (
+      omega (arith, c.requires.le_n.2),
+      stretch-fits c.args.file.now c.args.n (2 + 4 * c.args.n) 1 (omega (arith, c.requires.le_n.0)) c.requires.file_value,
     )
 
 -- What is known where the relations are good
@@ -222,18 +219,18 @@ module _ (c : goal.Else-not-first) where
   abbrev after-part : tie.After-part
   after-part = after-read-relations
 
-  abbrev start : tie.Start
-  start = after-part
+  abbrev c : tie.Start
+  c = after-part
 
   first_good : after-read-relations.read-relations.result.good ≡ true
   first_good = c.if-not-first.false
 
-  file-bytes : Bytes start.args.file.now
-  file-bytes = bytes-known start.args.file.now (λ i. (after-part.shared-slice-known.given i).fits)
+  file-bytes : Bytes c.args.file.now
+  file-bytes = bytes-known c.args.file.now (λ i. (after-part.shared-slice-known.given i).fits)
 
   relations-known : good_relations after-read-relations.read-relations.result.count after-read-relations.read-relations.result.widths ≡ true
   relations-known =
-      good-count start.args.file.now start.args.n start.pre.0.0 after-part.part.result.now after-part.part.ensures
+      good-count c.args.file.now c.args.n c.pre.0.0 after-part.part.result.now after-part.part.ensures
       after-read-relations.read-relations.result after-read-relations.read-relations.ensures file-bytes first_good
 
 pub read_dependencies-functional-requires : goal.read_dependencies-functional-requires
@@ -241,35 +238,32 @@ read_dependencies-functional-requires c = relations-known c
 
 pub returns-then-not-functional : goal.returns-then-not-functional
 returns-then-not-functional c =
-    let after-read-dependencies = c in
-    let after-part2 = after-read-dependencies in
-    let e = after-part2 in
-    c.refusal-then-not-functional.ensures ∙ refuses-dependencies (start e).args.file.now (start e).args.n (start e).requires.0.0 (after-part e).part.result.now
-    (after-part e).part.ensures (after-read-relations e).read-relations.result (after-read-relations e).read-relations.ensures
-    after-part2.part2.result.now after-part2.part2.ensures (first_good e)
-    after-read-dependencies.read_dependencies-functional.result after-read-dependencies.read_dependencies-functional.ensures
+    c.refusal-then-not-functional.ensures ∙ refuses-dependencies (start c).args.file.now (start c).args.n (start c).requires.0.0 (after-part c).part.result.now
+    (after-part c).part.ensures (after-read-relations c).read-relations.result (after-read-relations c).read-relations.ensures
+    c.part2.result.now c.part2.ensures (first_good c)
+    c.read_dependencies-functional.result c.read_dependencies-functional.ensures
     c.if-not-functional.true
 
 -- What is known where the functional dependencies are good too
 module _ (c : goal.After-dependencies-1) where
-  abbrev after-read-dependencies : goal.After-read_dependencies-functional
-  after-read-dependencies = c
+  abbrev c : goal.After-read_dependencies-functional
+  c = c
 
-  abbrev after-part2 : tie.After-part2
-  after-part2 = after-read-dependencies
+  abbrev c : tie.After-part2
+  c = c
 
   abbrev first : tie.Else1
-  first = after-part2
+  first = c
 
-  second-good : after-read-dependencies.read-dependencies.result.good ≡ true
+  second-good : c.read-dependencies.result.good ≡ true
   second-good = c.if-not-functional.false
 
-  tail-fits : 1 + 3 * after-read-dependencies.read-dependencies.result.held ≤ length after-part2.part2.result.now
+  tail-fits : 1 + 3 * c.read-dependencies.result.held ≤ length c.part2.result.now
   tail-fits =
       (tail_of (start first).args.file.now (start first).args.n (start first).pre.0.0 (after-part first).part.result.now
       (after-part first).part.ensures (after-read-relations first).read-relations.result (after-read-relations first).read-relations.ensures
-      after-part2.part2.result.now after-part2.part2.ensures (first_good first)
-      after-read-dependencies.read-dependencies.result after-read-dependencies.read-dependencies.ensures (file-bytes first) second-good).0
+      c.part2.result.now c.part2.ensures (first_good first)
+      c.read-dependencies.result c.read-dependencies.ensures (file-bytes first) second-good).0
 
 pub slice_bounds-read_joins-count : goal.slice_bounds-read_joins-count
 slice_bounds-read_joins-count c = let room = tail-fits c in omega arith
@@ -285,14 +279,12 @@ read_joins-rest-requires c = relations-known (first c)
 
 pub returns-then-not-rest : goal.returns-then-not-rest
 returns-then-not-rest c =
-    let after-read-joins = c in
-    let d = after-read-joins in
-    let e = first d in
+    let e = first c in
     c.refusal-then-not-rest.ensures ∙ refuses-joins (start e).args.file.now (start e).args.n (start e).pre.0.0 (after-part e).part.result.now
     (after-part e).part.ensures (after-read-relations e).read-relations.result (after-read-relations e).read-relations.ensures
-    (after-part2 d).part2.result.now (after-part2 d).part2.ensures (first_good e)
-    (after-read-dependencies d).read-dependencies.result (after-read-dependencies d).read-dependencies.ensures (file-bytes e) (second-good d)
-    after-read-joins.read_joins-rest.result after-read-joins.read_joins-rest.ensures
+    (after-part2 c).part2.result.now (after-part2 c).part2.ensures (first_good e)
+    (after-read-dependencies c).read-dependencies.result (after-read-dependencies c).read-dependencies.ensures (file-bytes e) (second-good c)
+    c.read_joins-rest.result c.read_joins-rest.ensures
     c.if-not-rest.true
 
 pub read_places-requires : goal.read_places-requires
@@ -302,12 +294,10 @@ read_places-requires c =
 
 pub returns : goal.returns
 returns c =
-    let after-read-joins = c in
-    let d = after-read-joins in
-    let e = first d in
+    let e = first c in
     c.read_places.ensures ∙ reads-places (start e).args.file.now (start e).args.n (start e).pre.0.0 (after-part e).part.result.now
     (after-part e).part.ensures (after-read-relations e).read-relations.result (after-read-relations e).read-relations.ensures
-    (after-part2 d).part2.result.now (after-part2 d).part2.ensures (first_good e)
-    (after-read-dependencies d).read-dependencies.result (after-read-dependencies d).read-dependencies.ensures (file-bytes e) (second-good d)
-    after-read-joins.read_joins-rest.result after-read-joins.read_joins-rest.ensures
+    (after-part2 c).part2.result.now (after-part2 c).part2.ensures (first_good e)
+    (after-read-dependencies c).read-dependencies.result (after-read-dependencies c).read-dependencies.ensures (file-bytes e) (second-good c)
+    c.read_joins-rest.result c.read_joins-rest.ensures
     c.if-not-rest.false
