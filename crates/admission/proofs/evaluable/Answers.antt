@@ -12,6 +12,7 @@ use Rattle.record.specs.declared.Lookup.TheVariants as lookup
 use Rattle.record.specs.internal.Lookup.{filled_place}
 use Rattle.admission.proofs.Admitted.{wide, lookup-broken, lookup-elsewhere, lookup-unspelled, lookup-here}
 use Rattle.admission.proofs.evaluable.Goals as goal
+use Rattle.admission.proofs.evaluable.Goals.{Else-not-is_good, In-At}
 
 good : (c : goal.Else-not-is_good) → good_record c.args.given ≡ true
 good c = sym c.is_good.ensures ∙ c.if-not-is_good.false

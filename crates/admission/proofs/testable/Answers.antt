@@ -10,6 +10,7 @@ use lib.Seq.{length-take-le}
 use Rattle.record.specs.Rule.{good_record}
 use Rattle.admission.proofs.Admitted.{wide, test-broken, test-unspelled, test-goes}
 use Rattle.admission.proofs.testable.Goals as goal
+use Rattle.admission.proofs.testable.Goals.{Else-not-is_good}
 
 good : (c : goal.Else-not-is_good) → good_record c.args.given ≡ true
 good c = sym c.is_good.ensures ∙ c.if-not-is_good.false

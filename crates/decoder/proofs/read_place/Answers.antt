@@ -1,5 +1,5 @@
 -- ---- a query and the bytes after it
-use borrow.Author.Tests.{not-false, eqb-true}
+use borrow.Author.Tests.{not-true, not-false, eqb-true}
 use mathlib.Core.Path.{◌≡◌, sym, ap, refl, ◌∙◌}
 use mathlib.Core.Bool.{Bool, true, false, cond}
 use mathlib.Core.List.{List, [], ◌∷◌}
@@ -97,14 +97,14 @@ returns-then-not-read c =
     let v = sym c.is_vacant.ensures ∙ c.if-is_vacant.false in
     c.no_place_read-then-not-read.ensures
     ∙ sym (ap place_read (bad-query schema part c.args.last v
-    (query-bad ((query schema).get part) read.result read.ensures c.if-not-read.true)))
+    (query-bad ((query schema).get part) read.result read.ensures (not-true read.result.good c.if-not-read.true))))
 
 pub head_safe-safe-requires : goal.head_safe-safe-requires
 head_safe-safe-requires c =
     let schema = take c.args.count c.args.widths in
     let part = c.args.part.now in
     let read = c.read_query-read in
-    let (rest, e, w) = query-some ((query schema).get part) read.result read.ensures c.if-not-read.false in
+    let (rest, e, w) = query-some ((query schema).get part) read.result read.ensures (not-false read.result.good c.if-not-read.false) in
     let bytes = bytes-known part (λ i. (c.type_inv.part i).fits) in
     let (arity, size) = read-sizes schema part read.result.query rest (good-narrow c.args.count c.args.widths c.requires) bytes e in
     (c.requires, arity, size)
@@ -113,30 +113,30 @@ pub returns-then-not-read-2 : goal.returns-then-not-read-2
 returns-then-not-read-2 c =
     let schema = take c.args.count c.args.widths in
     let part = c.args.part.now in
-    let read = c.read-query in
-    let (rest, e, w) = query-some ((query schema).get part) read.result read.ensures c.if-not-read.false in
-    let v = sym c.is-vacant.ensures ∙ c.if1.false in
+    let read = c.read_query-read in
+    let (rest, e, w) = query-some ((query schema).get part) read.result read.ensures (not-false read.result.good c.if-not-read.false) in
+    let v = sym c.is_vacant.ensures ∙ c.if-is_vacant.false in
     c.no_place_read-then-not-read-2.ensures
     ∙ sym (ap place_read (long-query schema part c.args.last v read.result.query rest e
-    (sym w ∙ c.if-not-read-2.true)))
+    (sym w ∙ not-true read.result.whole c.if-not-read-2.true)))
 
 pub returns-then-safe : goal.returns-then-safe
 returns-then-safe c =
     let schema = take c.args.count c.args.widths in
     let part = c.args.part.now in
-    let read = c.read-query in
-    let (rest, e, w) = query-some ((query schema).get part) read.result read.ensures c.if-not-read.false in
-    let v = sym c.is-vacant.ensures ∙ c.if1.false in
+    let read = c.read_query-read in
+    let (rest, e, w) = query-some ((query schema).get part) read.result read.ensures (not-false read.result.good c.if-not-read.false) in
+    let v = sym c.is_vacant.ensures ∙ c.if-is_vacant.false in
     sym (ap place_read (good-query-part schema part c.args.last v read.result.query rest e true
-    (sym w ∙ c.if-not-read-2.false) (sym c.head_safe-safe.ensures ∙ c.if-safe.true)))
+    (sym w ∙ not-false read.result.whole c.if-not-read-2.false) (sym c.head_safe-safe.ensures ∙ c.if-safe.true)))
 
 pub returns : goal.returns
 returns c =
     let schema = take c.args.count c.args.widths in
     let part = c.args.part.now in
-    let read = c.read-query in
-    let (rest, e, w) = query-some ((query schema).get part) read.result read.ensures (not-false read.result.good c.if3.false) in
-    let v = sym c.is-vacant.ensures ∙ c.if1.false in
+    let read = c.read_query-read in
+    let (rest, e, w) = query-some ((query schema).get part) read.result read.ensures (not-false read.result.good c.if-not-read.false) in
+    let v = sym c.is_vacant.ensures ∙ c.if-is_vacant.false in
     c.no_place_read-2.ensures
     ∙ sym (ap place_read (good-query-part schema part c.args.last v read.result.query rest e false
-    (sym w ∙ c.if-not-read-2.false) (sym c.head_safe-safe.ensures ∙ c.if-safe.false)))
+    (sym w ∙ not-false read.result.whole c.if-not-read-2.false) (sym c.head_safe-safe.ensures ∙ c.if-safe.false)))

@@ -6,6 +6,7 @@ use Rattle.query.proofs.Shape.{SizedFor}
 use Rattle.lists.proofs.Loops.{mapped-length}
 use Rattle.encoder.proofs.PlaceParts.{filled-part, vacant-part, filled-sizes}
 use Rattle.encoder.proofs.place_length.Goals as goal
+use Rattle.encoder.proofs.place_length.Goals.{Start}
 
 sized : (c : goal.Start) → SizedFor 12 c.args.place.query
 sized c = record { head = search (mapped-length, rules); relations = search (mapped-length, rules); cells = search (mapped-length, rules) }

@@ -12,6 +12,7 @@ use Rattle.format.specs.Parts.{query_for}
 use Rattle.format.specs.File.{put_place}
 use Rattle.encoder.proofs.PlaceParts.{filled-part, vacant-part, filled-sizes}
 use Rattle.encoder.proofs.put_place.Goals as goal
+use Rattle.encoder.proofs.put_place.Goals.{After-from_query, Start}
 
 sized : (c : goal.Start) → SizedFor 12 c.args.place.query
 sized c = record { head = search (mapped-length, rules); relations = search (mapped-length, rules); cells = search (mapped-length, rules) }

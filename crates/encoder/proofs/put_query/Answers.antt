@@ -20,6 +20,7 @@ use Rattle.format.proofs.Parts.{head_fits}
 use Rattle.format.proofs.Lengths.{length-entries, length-query}
 use Rattle.encoder.proofs.Stores.{two-stores}
 use Rattle.encoder.proofs.put_query.Goals as goal
+use Rattle.encoder.proofs.put_query.Goals.{After-head_in_use-used, After-put_entries, Start}
 
 abbrev head_bytes : ℕ → Query → List ℕ
 head_bytes used q = (entries used).put q.head

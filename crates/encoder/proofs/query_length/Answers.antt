@@ -9,6 +9,7 @@ use Rattle.format.proofs.Rules.{good-narrow}
 use Rattle.lists.proofs.Loops.{mapped-length}
 use Rattle.encoder.proofs.PlaceParts.{query-exact}
 use Rattle.encoder.proofs.query_length.Goals as goal
+use Rattle.encoder.proofs.query_length.Goals.{After-head_in_use-used, Start}
 
 sized : (c : goal.Start) → SizedFor 24 (as_query c.args.t)
 sized c = record { head = search (mapped-length, rules); relations = search (mapped-length, rules); cells = search (mapped-length, rules) }
