@@ -1,6 +1,6 @@
 -- `join_step::next_row` meets its contract. The loop's invariant: nothing is found for the join dependencies before k. Assumes nothing.
 use mathlib.Core.Path.{◌≡◌}
-use Prim.Native.Nat.{◌-◌, ◌≤◌}
+use Prim.Native.Nat.{◌≤◌}
 use lib.ListN.{length}
 use Rattle.join_step.proofs.Next.{NothingBefore}
 use mathlib.Core.List.{[]}

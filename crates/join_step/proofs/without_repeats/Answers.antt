@@ -1,19 +1,16 @@
 -- `join_step::without_repeats` meets its contract. The loop's invariant: what is kept is the tableau with its first i rows only, and of those no repeated ones.
 -- Assumes nothing.
 use mathlib.Core.Path.{◌≡◌, refl, sym, ◌∙◌, ap}
-use mathlib.Core.Logic.{⊎_elim}
 use mathlib.Core.List.{List}
-use Prim.Native.Nat.{ℕ, ◌*◌, ◌-◌}
+use Prim.Native.Nat.{ℕ, ◌*◌}
 use native.Mathlib.Omega.{arith}
 use lib.ListN.{length, take, drop, get_or}
 use borrow.Author.Rules.{rules}
 use Rattle.lists.proofs.Loops.{mapped-length}
-use Rattle.query.specs.declared.Cell.{Cell}
 use Rattle.query.specs.declared.Tableau.{Tableau}
 use Rattle.join_search.specs.internal.Search.{is_first}
 use Rattle.join_step.specs.internal.Step.{with_row, distinct_to}
 use Rattle.join_step.proofs.Rows.{distinct-size, distinct-keeps, distinct-drops}
-use Rattle.join_step.proofs.without_repeats.Invariants.{whole}
 use Rattle.join_step.proofs.without_repeats.Goals as goal
 use Rattle.join_step.proofs.without_repeats.Goals.{then-is_first, else-is_first}
 
@@ -54,11 +51,11 @@ loop-i-preserved c =
       l.invariant.2,
       l.invariant.3,
       elim c.if-is_first.branch [
-        then-is_first w ↦
-          w.kept-is ∙ w.with_row-kept.ensures ∙ ap (λ (k : Tableau). with_row k (get_or t.relations l.i 0) w.row_at-row.result) l.invariant.4
-          ∙ ap (with_row (distinct_to t l.i) (get_or t.relations l.i 0)) w.row_at-row.ensures
-          ∙ sym (distinct-keeps t l.i (sym first ∙ w.if-is_first.true))
-      | else-is_first w ↦ w.kept-is ∙ l.invariant.4 ∙ sym (distinct-drops t l.i (sym first ∙ w.if-is_first.false))
+        | then-is_first w ↦
+            w.kept-is ∙ w.with_row-kept.ensures ∙ ap (λ (k : Tableau). with_row k (get_or t.relations l.i 0) w.row_at-row.result) l.invariant.4
+            ∙ ap (with_row (distinct_to t l.i) (get_or t.relations l.i 0)) w.row_at-row.ensures
+            ∙ sym (distinct-keeps t l.i (sym first ∙ w.if-is_first.true))
+        | else-is_first w ↦ w.kept-is ∙ l.invariant.4 ∙ sym (distinct-drops t l.i (sym first ∙ w.if-is_first.false))
       ],
     )
 
