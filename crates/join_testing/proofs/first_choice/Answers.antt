@@ -4,6 +4,7 @@ use mathlib.Core.List.{List}
 use Prim.Native.Nat.{ℕ, ◌+◌, ◌≤◌}
 use native.Mathlib.Omega.{arith}
 use lib.ListN.{get_or, replicate}
+use borrow.Author.Tests.{not-true, not-false}
 use Rattle.join_testing.specs.declared.ChosenRows.TheVariants as chosen-rows
 use Rattle.join_lookup.specs.internal.Starts.{start_of, row_count}
 use Rattle.join_tables.specs.internal.Indexed.{filled_to}
@@ -20,7 +21,7 @@ at c = c.choose-found.result.at
 -- The choice that is found
 first : (c : Else-not-found) → FirstFrom c.args.schema.now c.args.words.now c.args.j (plainly c.args.schema.now c.args.j) 0
     (replicate 8 0) (at c)
-first c = c.choose-found.ensures.some c.if-not-found.false
+first c = c.choose-found.ensures.some (not-false _ c.if-not-found.false)
 
 -- Word n of it is where a row begins
 placed : (c : Else-not-found) (n : ℕ) → get_or (at c) n 0 ≡ start_of c.args.schema.now c.args.words.now (get_or (first c).positions n 0)
@@ -45,7 +46,7 @@ choose-found-requires c = let s = c in (s.requires, some-sets s.requires, refl)
 pub returns-then-not-found : goal.returns-then-not-found
 returns-then-not-found c = let s = c in
     sym (ap rows_chosen (searched-none s.requires (plain-indexed s.args.j s.requires) (replicate 8 0) c.choose-found.result c.choose-found.ensures
-    c.if-not-found.true))
+    (not-true _ c.if-not-found.true)))
 
 pub position_of-a-requires : goal.position_of-a-requires
 position_of-a-requires c = let e = c in record { words_value = e.requires.spelled; by_index = begins (goal.at.position_of-a-requires c).Else-not-found 0 }
@@ -69,4 +70,4 @@ returns c = let e = c in
     let t = known (goal.at.returns c).Else-not-found 3 c.position_of-d.result c.position_of-d.ensures in
     (λ i. chosen-rows.At (p i) (q i) (r i) (t i))
     ∙ sym (ap rows_chosen (searched-some s.requires (plain-indexed s.args.j s.requires) (replicate 8 0) f.choose-found.result f.choose-found.ensures
-    e.if-not-found.false (first (goal.at.returns c).Else-not-found)))
+    (not-false _ e.if-not-found.false) (first (goal.at.returns c).Else-not-found)))
