@@ -2,7 +2,6 @@
 -- Assumes nothing.
 use mathlib.Core.Path.{refl, sym, ◌∙◌}
 use mathlib.Core.Logic.{⊎_elim}
-use Prim.Native.Nat.{◌-◌}
 use borrow.Author.Rules.{rules}
 use Rattle.join_search.specs.internal.Search.{goes_at, goes}
 use Rattle.join_search.proofs.Turns.{columns-skip, columns-pass, columns-fail, columns-end}

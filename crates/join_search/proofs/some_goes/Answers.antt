@@ -1,7 +1,6 @@
 -- `join_search::some_goes` meets its contract. The loop's invariant: whether some row goes is whether one from row i on does. Assumes nothing.
 use mathlib.Core.Path.{refl, sym, ◌∙◌, ap}
 use mathlib.Core.Logic.{⊎_elim}
-use Prim.Native.Nat.{◌-◌}
 use native.Mathlib.Nat.{sub-zero}
 use borrow.Author.Rules.{rules}
 use Rattle.join_search.specs.internal.Search.{row_goes, some_of}

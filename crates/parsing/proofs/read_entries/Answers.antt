@@ -2,7 +2,7 @@
 use borrow.Author.Rules.{rules}
 use mathlib.Core.Path.{◌≡◌, sym, ap, refl, ◌∙◌}
 use mathlib.Core.List.{List}
-use Prim.Native.Nat.{ℕ, ◌+◌, ◌*◌, ◌-◌, ◌<◌}
+use Prim.Native.Nat.{ℕ, ◌+◌, ◌*◌, ◌<◌}
 use native.Mathlib.Nat.{add-zero}
 use native.Mathlib.Omega.{arith}
 use lib.ListN.{length, drop, set, replicate, length-set}
@@ -49,14 +49,13 @@ returns-in-NoEntry c =
     c.read_entry.ensures c.in-NoEntry.is
 
 pub loop-i-preserved : goal.loop-i-preserved
-loop-i-preserved c =
-    (
-      search rules,
-      length-set c.loop-i.cells c.loop-i.i (record { entry = c.in-Read.e }) ∙ c.loop-i.invariant.1,
-      goes_on c.args.s.now c.args.at c.args.n c.loop-i.cells c.loop-i.i c.read_entry.result
-          c.in-Read.e c.loop-i.invariant.2 c.loop-i-test.true
-          (omega arith) c.read_entry.ensures c.in-Read.is,
-    )
+loop-i-preserved c = (
+  search rules,
+  length-set c.loop-i.cells c.loop-i.i (record { entry = c.in-Read.e }) ∙ c.loop-i.invariant.1,
+  goes_on c.args.s.now c.args.at c.args.n c.loop-i.cells c.loop-i.i c.read_entry.result
+      c.in-Read.e c.loop-i.invariant.2 c.loop-i-test.true
+      (omega arith) c.read_entry.ensures c.in-Read.is,
+)
 
 pub returns : goal.returns
 returns c =

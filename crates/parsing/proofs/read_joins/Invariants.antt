@@ -2,9 +2,8 @@
 -- Assumes nothing.
 -- What has been read of the part
 use mathlib.Core.Path.{◌≡◌}
-use Prim.Native.Nat.{◌-◌, ◌≤◌}
+use Prim.Native.Nat.{◌≤◌}
 use lib.ListN.{length, take}
-use Rattle.format.specs.Parts.{joins}
 use mathlib.Core.List.{List}
 use Prim.Native.Nat.{ℕ}
 use Rattle.lists.specs.Tests.{between}

@@ -18,7 +18,7 @@ outcome-says (refused n) = refl
 pub read_parts-requires : goal.read_parts-requires
 read_parts-requires c =
     let a = accepts c.args.file.now c.in-Parts.n (sym c.in-Parts.is ∙ c.read_directory.ensures) in
-    ((a.low, a.high, a.fits), a.chain)
+    record { le_n = (a.low, a.high, a.fits); file_value = a.chain }
 
 pub returns-in-Parts : goal.returns-in-Parts
 unfolding read_file ◌>>=◌
@@ -26,7 +26,7 @@ returns-in-Parts c =
     ap outcome_reply c.read_parts.ensures
     ∙ outcome-says (read_all (stretches c.in-Parts.n c.args.file.now (drop 2 c.args.file.now))) ∙ sym (ap read_outcome
     (ap (λ (o : Reply (List (List ℕ))). o >>= read_all)
-    (accepts c.args.file.now c.in-Parts.n (sym c.in-Parts.is ∙ c.read-directory.ensures)).parts))
+    (accepts c.args.file.now c.in-Parts.n (sym c.in-Parts.is ∙ c.read_directory.ensures)).parts))
 
 pub returns-in-Broken : goal.returns-in-Broken
 unfolding read_file ◌>>=◌
@@ -34,4 +34,4 @@ returns-in-Broken c =
     ap outcome_reply c.refusal.ensures ∙ sym (ap read_outcome
     (ap (λ (o : Reply (List (List ℕ))). o >>= read_all)
     (refuses (directory c.args.file.now) c.in-Broken.number
-    (sym c.in-Broken.is ∙ c.read-directory.ensures))))
+    (sym c.in-Broken.is ∙ c.read_directory.ensures))))

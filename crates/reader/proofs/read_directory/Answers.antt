@@ -25,13 +25,13 @@ returns-then-file-n c =
 
 pub returns-then-chain : goal.returns-then-chain
 returns-then-chain c =
-    let n = c.word16.result in
+    let n = c.word16-n.result in
     let file = c.args.file.now in
     ap Parts (sym (length-stretches n file (drop 2 file)))
-    ∙ sym (ap directory_read (full-table c.args.file.now c.word16.result c.word16.ensures.0 c.if-n-lt2.false
+    ∙ sym (ap directory_read (full-table c.args.file.now c.word16-n.result c.word16-n.ensures.0 c.if-n-lt2.false
     c.if-n-gt10.false c.if-file-n.false true (sym c.chain.ensures ∙ c.if-chain.true)))
 
 pub returns : goal.returns
 returns c =
-    sym (ap directory_read (full-table c.args.file.now c.word16.result c.word16.ensures.0 c.if-n-lt2.false
+    sym (ap directory_read (full-table c.args.file.now c.word16-n.result c.word16-n.ensures.0 c.if-n-lt2.false
     c.if-n-gt10.false c.if-file-n.false false (sym c.chain.ensures ∙ c.if-chain.false)))
