@@ -10,6 +10,7 @@ use Rattle.format.proofs.Directory.{length-table}
 use Rattle.format.proofs.Lengths.{take_short}
 use Rattle.encoder.proofs.Stores.{Run, run-starts, run-turns, word-run}
 use Rattle.assembly.proofs.put_directory.Goals as goal
+use Rattle.assembly.proofs.put_directory.Goals.{After-put_table, After-put_word, After-put_word-2, After-put_word-3, After-put_word-4, After-put_word-5, Start}
 
 abbrev start-2 : goal.After-put_word-2 → goal.Start
 start-2 c = c

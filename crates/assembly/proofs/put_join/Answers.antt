@@ -14,6 +14,7 @@ use Rattle.encoder.proofs.Stores.{Writing, writing-starts, writing-room, writing
 use Rattle.assembly.specs.internal.Pieces.{put_join}
 use Rattle.assembly.proofs.Joins.{join-long}
 use Rattle.assembly.proofs.put_join.Goals as goal
+use Rattle.assembly.proofs.put_join.Goals.{In-loop-i, Start}
 
 abbrev one : ℕ → List ℕ
 one b = b ∷ []

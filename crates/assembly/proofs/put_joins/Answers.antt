@@ -17,6 +17,7 @@ use Rattle.encoder.proofs.Stores.{Writing, writing-starts, writing-room, writing
 use Rattle.assembly.specs.internal.Pieces.{put_join, few_sets, joins_bytes}
 use Rattle.assembly.proofs.Joins.{joins-none, joins-some}
 use Rattle.assembly.proofs.put_joins.Goals as goal
+use Rattle.assembly.proofs.put_joins.Goals.{Else-joined-eq0, Start}
 
 nothing : (buffer : List ℕ) (at joined : ℕ) (list : List JoinDependency) → joined ≡ 0
     → (buffer ≡ over buffer at (joins_bytes joined list)) × (at ≡ at + length (joins_bytes joined list))

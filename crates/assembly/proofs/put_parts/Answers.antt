@@ -17,6 +17,7 @@ use Rattle.lists.specs.Over.{over}
 use Rattle.assembly.proofs.Joins.{few-sets}
 use Rattle.assembly.proofs.RecordParts.{first-long, second-long, parts-long}
 use Rattle.assembly.proofs.put_parts.Goals as goal
+use Rattle.assembly.proofs.put_parts.Goals.{After-put_dependencies, After-put_joins-third, After-put_places, After-put_relations, Start}
 
 widths-long : (c : goal.Start) → length c.args.given.widths ≡ 8
 widths-long c = search (mapped-length, rules)

@@ -21,6 +21,7 @@ use Rattle.writer.proofs.Writing.{long-refused, fits-written}
 use Rattle.assembly.proofs.Joins.{few-sets}
 use Rattle.assembly.proofs.RecordParts.{parts-long, file-split, file-long}
 use Rattle.writer.proofs.write_good.Goals as goal
+use Rattle.writer.proofs.write_good.Goals.{After-places_length-others, After-put_directory, After-put_parts, After-up_to_filled-n, Start}
 
 module _ (r : Record) (good : good_record r ≡ true) (buffer : List ℕ) (size : ℕ) (es : size ≡ length (file_of r)) where
   too_long : length buffer < size → (refused buffer_too_short ≡ written r buffer) × (buffer ≡ after_writing r buffer)
