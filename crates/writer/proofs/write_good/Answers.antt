@@ -94,8 +94,7 @@ first_run : (c : goal.After-put_directory)
     ([] ++ directory (lengths-start c.before.before.before) c.up-to-filled.result)
     c.put_directory.new.buffer (2 + 4 * (c.up-to-filled.result + 2))
 first_run c =
-    let earlier = c in
-    let n = earlier.up-to-filled.result in
+    let n = c.up-to-filled.result in
     let start = lengths-start c.before.before.before in
     let given = start.args.given in
     let written : c.put_directory.new.buffer ≡ over start.args.buffer.now 0 (directory start n) =
@@ -118,12 +117,10 @@ second_run : (c : goal.After-put_parts)
     (2 + 4 * ((second-run-lengths c).up-to-filled.result + 2)
     + length (part_bytes (lengths-start (second-run-lengths c)).args.given (second-run-lengths c).up-to-filled.result))
 second_run c =
-    let earlier = c in
-    let lengthened = earlier in
-    let n = lengthened.up-to-filled.result in
-    let start = lengths-start lengthened in
+    let n = c.up-to-filled.result in
+    let start = lengths-start c in
     run-turns (first_run c.before.before.before.before) (part_bytes start.args.given n) c.put_parts.new.buffer (2 + 4 * (n + 2) + length (part_bytes start.args.given n))
-    (omega (arith, parts lengthened, earlier.if-buffer-size.false)) c.put_parts.ensures refl
+    (omega (arith, parts c, c.if-buffer-size.false)) c.put_parts.ensures refl
 
 -- ---- the needs
 pub up_to_filled-n-requires : goal.up_to_filled-n-requires
@@ -149,17 +146,15 @@ overflow_add-second c = omega (arith, few-held (goal.at.overflow_add-second c).S
 
 pub joins_length-requires : goal.joins_length-requires
 joins_length-requires c =
-    let start = c in
-    let good = good-record start.args.given start.pre in
-    (good.joined, few-sets (schema_of start.args.given) start.args.given.joined start.args.given.joins good.joins)
+    let good = good-record c.args.given c.pre in
+    (good.joined, few-sets (schema_of c.args.given) c.args.given.joined c.args.given.joins good.joins)
 
 pub overflow_add-second-2 : goal.overflow_add-second-2
 overflow_add-second-2 c = omega (arith, few-held (goal.at.overflow_add-second-2 c).Start, c.joins_length.ensures.1)
 
 pub places_length-others-requires : goal.places_length-others-requires
 places_length-others-requires c =
-    let start = c in
-    let good = good-record start.args.given start.pre in
+    let good = good-record c.args.given c.pre in
     (good.relations, (good.places, c.up_to_filled-n.ensures.1))
 
 pub overflow_add-size : goal.overflow_add-size
@@ -191,14 +186,12 @@ overflow_add-size-5 c =
 
 pub returns-then-buffer-size : goal.returns-then-buffer-size
 returns-then-buffer-size c =
-    let l = c in
     let start = lengths-start (goal.at.returns-then-buffer-size c).After-places_length-others in
     too_long start.args.given start.pre start.args.buffer.now
-    (file_length start l.up-to-filled.result l.joins_length.result l.places_length-others.result) (lengths (goal.at.returns-then-buffer-size c).After-places_length-others).1 c.if-buffer-size.true
+    (file_length start c.up-to-filled.result c.joins_length.result c.places_length-others.result) (lengths (goal.at.returns-then-buffer-size c).After-places_length-others).1 c.if-buffer-size.true
 
 pub put_directory-requires : goal.put_directory-requires
 put_directory-requires c =
-    let l = c in
     let start = lengths-start (goal.at.put_directory-requires c).After-places_length-others in
     let good = good-record start.args.given start.pre in (
       good.relations,
@@ -206,9 +199,9 @@ put_directory-requires c =
         good.places,
         (
           (
-            l.up-to-filled.ensures.1,
+            c.up-to-filled.ensures.1,
             omega (arith, counts start),
-            omega (arith, few-held start, l.joins_length.ensures.1),
+            omega (arith, few-held start, c.joins_length.ensures.1),
           ),
           omega (arith, c.if-buffer-size.false),
         ),
@@ -226,12 +219,11 @@ overflow_add-n-2 c = omega (arith, c.up-to-filled.ensures.1)
 
 pub put_parts-requires : goal.put_parts-requires
 put_parts-requires c =
-    let earlier = c in
-    let l = earlier in (
-      (lengths-start l).pre,
+    (
+      (lengths-start c).pre,
       (
-        l.up-to-filled.ensures.1,
-        omega (arith, (first_run (goal.at.put_parts-requires c).After-put_directory).long, parts l, earlier.if-buffer-size.false),
+        c.up-to-filled.ensures.1,
+        omega (arith, (first_run (goal.at.put_parts-requires c).After-put_directory).long, parts c, c.if-buffer-size.false),
       ),
     )
 
@@ -240,7 +232,6 @@ shape_of-buffer c = (second_run (goal.at.shape_of-buffer c).After-put_parts).lon
 
 pub returns : goal.returns
 returns c =
-    let after-put-parts = c in
     let l = second-run-lengths (goal.at.returns c).After-put_parts in
     let start = lengths-start l in
     let given = start.args.given in
@@ -249,5 +240,5 @@ returns c =
     let n = l.up-to-filled.result in
     let split = file-split given good (widths-long start) (list-long start) n l.up-to-filled.ensures.0 (held l) in
     done given good buffer (file_length start n l.joins-length.result l.places-length.result) (lengths l).1
-    after-put-parts.put_parts.new.buffer after-put-parts.if-buffer-size.false
+    c.put_parts.new.buffer c.if-buffer-size.false
     ((second_run (goal.at.returns c).After-put_parts).written ∙ ap (over buffer 0) (sym split))
