@@ -1,9 +1,8 @@
--- What has been read of the part
 use borrow.Author.Rules.{rules}
 use mathlib.Core.Path.{◌≡◌, sym, ap, refl, ◌∙◌}
 use mathlib.Core.Bool.{true}
 use mathlib.Core.List.{List}
-use Prim.Native.Nat.{ℕ, ◌+◌, ◌*◌, ◌-◌, ◌≤◌, ◌<◌}
+use Prim.Native.Nat.{ℕ, ◌+◌, ◌*◌, ◌≤◌, ◌<◌}
 use native.Mathlib.Omega.{arith}
 use lib.Dec.{leb}
 use lib.ListN.{length, take, drop, set, replicate, length-set}
@@ -21,7 +20,7 @@ use Rattle.parsing.specs.declared.DependencyRead.TheVariants.{Found, NoDependenc
 use Rattle.parsing.specs.internal.Read.{byte_read}
 use Rattle.parsing.specs.internal.Read.{dependency_read, no_dependencies, dependencies_read}
 use Rattle.parsing.proofs.Dependencies.{dependency-read, dependency-none}
-use Rattle.parsing.proofs.Counted.{byte-read, byte-none, no-low, Counting, counting-starts, counting-turns, counting-fails-front}
+use Rattle.parsing.proofs.Counted.{byte-read, byte-none, no-low, counting-starts, counting-turns, counting-fails-front}
 use Rattle.parsing.proofs.Counted.{counting-ends-front, no-count-front}
 use Rattle.parsing.proofs.read_dependencies.Invariants.{At}
 use Rattle.parsing.proofs.read_dependencies.Goals as goal
@@ -82,15 +81,14 @@ returns-in_default-read_dependency c =
     c.read_dependency.ensures c.in_default-read_dependency.is
 
 pub loop-i-preserved : goal.loop-i-preserved
-loop-i-preserved c =
-    (
-      search rules,
-      c.loop-i.invariant.1,
-      length-set c.loop-i.dependencies c.loop-i.i c.in-Found.d ∙ c.loop-i.invariant.2,
-      goes_on _ _ _ c.loop-i.dependencies c.loop-i.i c.loop-i.invariant.3 c.loop-i-test.true
-          c.read_dependency.result c.read_dependency.ensures c.in-Found.d (omega arith)
-          c.in-Found.is,
-    )
+loop-i-preserved c = (
+  search rules,
+  c.loop-i.invariant.1,
+  length-set c.loop-i.dependencies c.loop-i.i c.in-Found.d ∙ c.loop-i.invariant.2,
+  goes_on _ _ _ c.loop-i.dependencies c.loop-i.i c.loop-i.invariant.3 c.loop-i-test.true
+      c.read_dependency.result c.read_dependency.ensures c.in-Found.d (omega arith)
+      c.in-Found.is,
+)
 
 pub returns : goal.returns
 returns c =

@@ -1,8 +1,7 @@
--- the invariant's reading, for any list
 use borrow.Author.Rules.{rules}
 use mathlib.Core.Path.{◌≡◌, sym, ap, refl, ◌∙◌}
 use mathlib.Core.List.{List}
-use Prim.Native.Nat.{ℕ, ◌+◌, ◌*◌, ◌-◌, ◌<◌}
+use Prim.Native.Nat.{ℕ, ◌+◌, ◌*◌, ◌<◌}
 use native.Mathlib.Nat.{add-zero}
 use native.Mathlib.Omega.{arith}
 use lib.ListN.{length, drop, set, replicate, length-set}
@@ -19,6 +18,7 @@ use Rattle.parsing.specs.internal.Read.{entry_read, cells_read}
 use Rattle.format.proofs.Filling.{Filling, filling-starts, filling-turns, filling-fails, filling-ends}
 use Rattle.parsing.proofs.read_entries.Goals as goal
 
+-- the invariant's reading, for any list
 abbrev At : List ℕ → ℕ → ℕ → List Cell → ℕ → Type 0
 At s at n cells i = Filling entry.get ((entries n).get (drop at s)) n cells i (drop (at + 5 * i) s)
 
@@ -49,14 +49,13 @@ returns-in-NoEntry c =
     c.read_entry.ensures c.in-NoEntry.is
 
 pub loop-i-preserved : goal.loop-i-preserved
-loop-i-preserved c =
-    (
-      search rules,
-      length-set c.loop-i.cells c.loop-i.i (record { entry = c.in-Read.e }) ∙ c.loop-i.invariant.1,
-      goes_on c.args.s.now c.args.at c.args.n c.loop-i.cells c.loop-i.i c.read_entry.result
-          c.in-Read.e c.loop-i.invariant.2 c.loop-i-test.true
-          (omega arith) c.read_entry.ensures c.in-Read.is,
-    )
+loop-i-preserved c = (
+  search rules,
+  length-set c.loop-i.cells c.loop-i.i (record { entry = c.in-Read.e }) ∙ c.loop-i.invariant.1,
+  goes_on c.args.s.now c.args.at c.args.n c.loop-i.cells c.loop-i.i c.read_entry.result
+      c.in-Read.e c.loop-i.invariant.2 c.loop-i-test.true
+      (omega arith) c.read_entry.ensures c.in-Read.is,
+)
 
 pub returns : goal.returns
 returns c =

@@ -1,10 +1,9 @@
 -- `parsing::read_joins` meets its contract. Invariant: what has been read of the bytes, and that the next join dependency starts within them.
 -- Assumes nothing.
--- What has been read of the part
 use mathlib.Core.Path.{◌≡◌, refl, sym, ap, ◌∙◌}
 use mathlib.Core.Bool.{true, false, not}
 use mathlib.Core.List.{List, [], ◌∷◌}
-use Prim.Native.Nat.{ℕ, ◌+◌, ◌-◌, ◌≤◌, ◌<◌}
+use Prim.Native.Nat.{ℕ, ◌+◌, ◌≤◌, ◌<◌}
 use native.Mathlib.Omega.{arith}
 use lib.ListN.{length, take, drop, set, replicate, length-set}
 use borrow.Author.Rules.{rules}
@@ -21,7 +20,7 @@ use Rattle.parsing.specs.declared.ByteRead.TheVariants.{Byte, NoByte}
 use Rattle.parsing.specs.declared.JoinRead.{JoinRead}
 use Rattle.parsing.specs.internal.Read.{byte_read, join_read, no_joins_read, joins_read}
 use Rattle.parsing.proofs.Joins.{join-none, join-read}
-use Rattle.parsing.proofs.Counted.{byte-read, byte-none, Counting, counting-starts, counting-turns, counting-fails, counting-ends}
+use Rattle.parsing.proofs.Counted.{byte-read, byte-none, counting-starts, counting-turns, counting-fails, counting-ends}
 use Rattle.parsing.proofs.Counted.{counting-long, no-count}
 use Rattle.parsing.proofs.read_joins.Invariants.{At}
 use Rattle.parsing.proofs.read_joins.Goals as goal

@@ -1,9 +1,8 @@
--- What has been read of the part
 use borrow.Author.Rules.{rules}
 use mathlib.Core.Path.{◌≡◌, sym, ap, refl, ◌∙◌}
 use mathlib.Core.Bool.{true}
 use mathlib.Core.List.{List}
-use Prim.Native.Nat.{ℕ, ◌+◌, ◌-◌, ◌≤◌, ◌<◌}
+use Prim.Native.Nat.{ℕ, ◌+◌, ◌≤◌, ◌<◌}
 use native.Mathlib.Omega.{arith}
 use lib.Dec.{leb}
 use lib.ListN.{length, drop, set, replicate, length-set}
@@ -18,7 +17,7 @@ use Rattle.parsing.specs.declared.ByteRead.{ByteRead}
 use Rattle.parsing.specs.declared.ByteRead.TheVariants.{Byte, NoByte}
 use Rattle.parsing.specs.internal.Read.{byte_read}
 use Rattle.parsing.specs.internal.Read.{no_relations, relations_read}
-use Rattle.parsing.proofs.Counted.{byte-read, byte-none, Counting, counting-starts, counting-turns, counting-fails, counting-ends, counting-long}
+use Rattle.parsing.proofs.Counted.{byte-read, byte-none, counting-starts, counting-turns, counting-fails, counting-ends, counting-long}
 use Rattle.parsing.proofs.Counted.{no-count}
 use Rattle.parsing.proofs.read_relations.Invariants.{At}
 use Rattle.parsing.proofs.read_relations.Goals as goal
@@ -78,15 +77,14 @@ returns-in_default-read_byte c =
     c.read_byte-in-loop-i.result c.read_byte-in-loop-i.ensures c.in_default-read_byte.is
 
 pub loop-i-preserved : goal.loop-i-preserved
-loop-i-preserved c =
-    (
-      search rules,
-      c.loop-i.invariant.1,
-      length-set c.loop-i.widths c.loop-i.i c.in-Byte-read_byte.width ∙ c.loop-i.invariant.2,
-      goes_on _ _ c.loop-i.widths c.loop-i.i c.loop-i.invariant.3 c.loop-i-test.true
-          c.read_byte-in-loop-i.result c.read_byte-in-loop-i.ensures c.in-Byte-read_byte.width (omega arith)
-          c.in-Byte-read_byte.is,
-    )
+loop-i-preserved c = (
+  search rules,
+  c.loop-i.invariant.1,
+  length-set c.loop-i.widths c.loop-i.i c.in-Byte-read_byte.width ∙ c.loop-i.invariant.2,
+  goes_on _ _ c.loop-i.widths c.loop-i.i c.loop-i.invariant.3 c.loop-i-test.true
+      c.read_byte-in-loop-i.result c.read_byte-in-loop-i.ensures c.in-Byte-read_byte.width (omega arith)
+      c.in-Byte-read_byte.is,
+)
 
 pub returns-then-n-part : goal.returns-then-n-part
 returns-then-n-part c =
