@@ -1,7 +1,6 @@
 -- `clear` writes zeros. Invariant: the first b heads are 0.
 -- Assumes nothing.
 use mathlib.Core.Path.{refl}
-use Prim.Native.Nat.{◌-◌}
 use native.Mathlib.Omega.{arith}
 use Rattle.grouping.proofs.Chains.{zero_more}
 use borrow.Author.Rules.{rules}
@@ -16,4 +15,4 @@ loop-b-preserved c = let l = c.loop-b in
 
 pub returns : goal.returns
 returns c = let l = c.loop-b in
-    (l.invariant.1, λ d h. l.invariant.2 d (omega (arith, c.loop-b-test.false)))
+    record { heads_len_unchanged = l.invariant.1; by_index = λ d h. l.invariant.2 d (omega (arith, c.loop-b-test.false)) }

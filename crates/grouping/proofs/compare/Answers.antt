@@ -8,20 +8,21 @@ use Rattle.grouping.specs.internal.Chains.{Chained}
 use Rattle.grouping.specs.internal.Leaders.{link_of}
 use Rattle.grouping.proofs.Following.{follow-start, link-le, follow-next}
 use Rattle.grouping.proofs.compare.Goals as goal
+use Rattle.grouping.proofs.compare.Goals.{In-loop-node}
 
 -- Where the call began
 
 -- The node is one of the leaders
-below : (c : goal.In-loop-node) → c.loop-node.node - 1 < c.args.count
-below c = let chains = c.pre.1 in
+below : (c : In-loop-node) → c.loop-node.node - 1 < c.args.count
+below c = let chains = c.requires.by_index in
     omega (arith, (c.loop-node.invariant chains.0 chains.1).low)
 
 -- Its words are in the slice
-stored : (c : goal.In-loop-node) → 4 * (c.loop-node.node - 1) + 3 < length c.args.nodes.now
-stored c = omega (arith, below c, c.pre.0.1)
+stored : (c : In-loop-node) → 4 * (c.loop-node.node - 1) + 3 < length c.args.nodes.now
+stored c = omega (arith, below c, c.requires.bucket_in_bounds.1)
 
 -- It is in the row's bucket
-bucket : (c : goal.In-loop-node) (key : ℕ → ℕ)
+bucket : (c : In-loop-node) (key : ℕ → ℕ)
     → Chained key c.args.heads.now (link_of c.args.nodes.now) c.args.count
     → key (c.loop-node.node - 1) ≡ c.args.sought.bucket
 bucket c key chained = let l = c.loop-node in
@@ -61,8 +62,8 @@ bounds-nodes-s-then-nodes-s c = omega (arith, stored (goal.at.bounds-nodes-s-the
 
 pub returns-then-nodes-s-2 : goal.returns-then-nodes-s-2
 returns-then-nodes-s-2 c = let m = c in
-    let i = m in
-    λ key chained. (i.loop.node - 1, below i, (bucket i key chained, m.if-nodes-s.true), c.if-nodes-s-2.true)
+    let i = (goal.at.returns-then-nodes-s-2 c).In-loop-node in
+    λ key chained. (i.loop-node.node - 1, below i, (bucket i key chained, m.if-nodes-s.true), c.if-nodes-s-2.true)
 
 pub overflow_add-result : goal.overflow_add-result
 overflow_add-result c = omega (arith, stored (goal.at.overflow_add-result c).In-loop-node)
@@ -79,8 +80,8 @@ overflow_cast-result c = let l = c.loop-node in
 
 pub returns-then-nodes-s : goal.returns-then-nodes-s
 returns-then-nodes-s c = let m = c in
-    let i = m in
-    λ key chained. (i.loop.node - 1, below i, (bucket i key chained, m.if-nodes-s.true), refl)
+    let i = (goal.at.returns-then-nodes-s c).In-loop-node in
+    λ key chained. (i.loop-node.node - 1, below i, (bucket i key chained, m.if-nodes-s.true), refl)
 
 pub offset_bounds-nodes-s-in-loop-node : goal.offset_bounds-nodes-s-in-loop-node
 offset_bounds-nodes-s-in-loop-node c = omega (arith, stored (goal.at.offset_bounds-nodes-s-in-loop-node c).In-loop-node)
@@ -97,7 +98,7 @@ loop-node-smaller c = let i = c in
     let s = i in
     let a = s.args in
     let back : link_of a.nodes.now (l.node - 1) ≤ l.node - 1 =
-    link-le s.pre.1.0 a.heads.now a.nodes.now a.count a.sought s.pre.1.1 (l.node - 1) (below (goal.at.loop-node-smaller c).In-loop-node) in
+    link-le s.requires.by_index.0 a.heads.now a.nodes.now a.count a.sought s.requires.by_index.1 (l.node - 1) (below (goal.at.loop-node-smaller c).In-loop-node) in
     omega arith
 
 pub loop-node-preserved : goal.loop-node-preserved

@@ -1,6 +1,6 @@
 -- `compare` finds the leader of a row's group and compares their right values. Invariant: no leader from the node on is that of the group.
 -- Assumes nothing.
-use Prim.Native.Nat.{ℕ, ◌-◌}
+use Prim.Native.Nat.{ℕ}
 use Rattle.grouping.specs.internal.Chains.{Chained}
 use Rattle.grouping.specs.internal.Leaders.{link_of}
 use Rattle.grouping.proofs.Following.{Following}

@@ -1,6 +1,5 @@
 -- `locate` walks to a position. Invariant: the walk stands at row n, and that is not beyond the position.
 -- Assumes nothing.
-use Prim.Native.Nat.{◌-◌}
 use native.Mathlib.Omega.{arith}
 use Rattle.grouping.proofs.Passing.{placed-start, placed-next}
 use borrow.Author.Rules.{rules}
@@ -20,7 +19,7 @@ pub loop-n-preserved : goal.loop-n-preserved
 loop-n-preserved c = let i = c in
     let l = i in
     let a = l.args in
-    (placed-next a.schema.now a.words.now l.loop.at c.next-at.result l.loop.n l.loop.invariant.0 c.next-at.ensures, search rules)
+    (placed-next a.schema.now a.words.now l.loop-n.at c.next-at.result l.loop-n.n l.loop-n.invariant.0 c.next-at.ensures, search rules)
 
 pub returns-else-at-words : goal.returns-else-at-words
 returns-else-at-words c = c.loop-n.invariant

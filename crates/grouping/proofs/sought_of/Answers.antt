@@ -14,6 +14,7 @@ use Rattle.grouping.specs.declared.Sought.{Sought}
 use Rattle.grouping.proofs.Hashes.{mask-some, mask-half, span_value, Mixed, hash-start, hash-on, hash-low, hash-end}
 use borrow.Author.Rules.{rules}
 use Rattle.grouping.proofs.sought_of.Goals as goal
+use Rattle.grouping.proofs.sought_of.Goals.{In-loop-left, Joined-left-eq1}
 
 -- Equal parts make equal wholes
 
@@ -29,7 +30,7 @@ loop-left-init c = let s = c in
     (search rules, subst (λ (n : ℕ). s.args.d.left < 2 ^ n) (sym all) s.requires.width_bound.1, search rules, search rules, refl, refl)
 
 -- A column of the left set is left
-inside : (c : goal.In-loop-left) → c.loop-left.c < c.args.width
+inside : (c : In-loop-left) → c.loop-left.c < c.args.width
 inside c = let l = c.loop-left in
     omega (arith, mask-some (c.args.width - l.c) l.left l.invariant.1 c.loop-left-test.true)
 
@@ -40,16 +41,16 @@ pub overflow_add-c : goal.overflow_add-c
 overflow_add-c c = omega (arith, inside (goal.at.overflow_add-c c).In-loop-left, c.ranges.width)
 
 -- What the passed column does to each hash
-mixed-h : (c : goal.Joined-left-eq1) → Mixed 1000003 c.args.width c.args.words.now
-    c.args.a c.loop-left.c c.loop-left.false c.loop-left.h c.if-left-eq1.h
+mixed-h : (c : Joined-left-eq1) → Mixed 1000003 c.args.width c.args.words.now
+    c.args.a c.loop-left.c c.loop-left.left c.loop-left.h c.if-left-eq1.h
 mixed-h c = let l = c.loop-left in
-    ⊎_elim (λ w. inl (w.if-left-eq1.0.taken, w.if-left-eq1.2 ∙ ap (λ (x : ℕ). (l.h * 1000003 + x) % 4294967296) w.if-left-eq1.1.ensures)) (λ w. inr (w.if-left-eq1.0.left, w.if-left-eq1.1)) c.if-left-eq1.branch-raw
+    ⊎_elim (λ w. inl (w.if-left-eq1.true, w.h-is ∙ ap (λ (x : ℕ). (l.h * 1000003 + x) % 4294967296) w.value-x.ensures)) (λ w. inr (w.if-left-eq1.false, w.h-is)) c.if-left-eq1.branch-raw
 
-mixed-tag : (c : goal.Joined-left-eq1) → Mixed 2654435761 c.args.width
+mixed-tag : (c : Joined-left-eq1) → Mixed 2654435761 c.args.width
     c.args.words.now c.args.a c.loop-left.c
-    c.loop-left.false c.loop-left.tag c.if-left-eq1.tag
+    c.loop-left.left c.loop-left.tag c.if-left-eq1.tag
 mixed-tag c = let l = c.loop-left in
-    ⊎_elim (λ w. inl (w.if-left-eq1.0.taken, w.if-left-eq1.3 ∙ ap (λ (x : ℕ). (l.tag * 2654435761 + x) % 4294967296) w.if-left-eq1.1.ensures)) (λ w. inr (w.if-left-eq1.0.left, w.if-left-eq1.2)) c.if-left-eq1.branch-raw
+    ⊎_elim (λ w. inl (w.if-left-eq1.true, w.tag-is ∙ ap (λ (x : ℕ). (l.tag * 2654435761 + x) % 4294967296) w.value-x.ensures)) (λ w. inr (w.if-left-eq1.false, w.tag-is)) c.if-left-eq1.branch-raw
 
 pub loop-left-preserved : goal.loop-left-preserved
 loop-left-preserved c = let a = c.args in
@@ -80,12 +81,13 @@ returns c = let e = c in
     let r = span_at a.width W a.a in
     let done : l.left ≡ 0 = e.loop-left-test.false in
     let h : hash_from 1000003 (columns_of a.d.left) 0 r ≡ l.h =
-    hash-start 1000003 a.width W a.a a.d.left s.requires.1.0 s.requires.1.1 ∙ l.invariant.4
+    hash-start 1000003 a.width W a.a a.d.left s.requires.width_bound.0 s.requires.width_bound.1 ∙ l.invariant.4
     ∙ hash-end 1000003 a.width W a.a l.c l.left l.h done in
     let tag : hash_from 2654435761 (columns_of a.d.left) 0 r ≡ l.tag =
-    hash-start 2654435761 a.width W a.a a.d.left s.requires.1.0 s.requires.1.1 ∙ l.invariant.5
+    hash-start 2654435761 a.width W a.a a.d.left s.requires.width_bound.0 s.requires.width_bound.1 ∙ l.invariant.5
     ∙ hash-end 2654435761 a.width W a.a l.c l.left l.tag done in
-    let right : column 0 r a.d.right ≡ c.value.result = span_value a.width W a.a a.d.right s.requires.1.2 ∙ sym c.value.ensures in (
-      sym (same (ap (spread a.buckets) h) tag right),
-      mod-lt (l.h + l.h / a.buckets * 2654435761) {m = a.buckets} s.requires.1.3,
-    )
+    let right : column 0 r a.d.right ≡ c.value.result = span_value a.width W a.a a.d.right s.requires.width_bound.2 ∙ sym c.value.ensures in
+    record {
+      value = sym (same (ap (spread a.buckets) h) tag right);
+      bucket_lt_buckets = mod-lt (l.h + l.h / a.buckets * 2654435761) {m = a.buckets} s.requires.width_bound.3;
+    }

@@ -3,7 +3,6 @@
 use mathlib.Core.Path.{◌≡◌, refl, sym, ◌∙◌}
 use mathlib.Core.Bool.{true, false}
 use mathlib.Core.Logic.{⊎_elim}
-use Prim.Native.Nat.{◌-◌}
 use Rattle.words.proofs.Columns.{agree_from, agree-skip, agree_same, agree_differ, agree-start, agree-end}
 use borrow.Author.Rules.{rules}
 use Rattle.words.proofs.agrees_at.Goals as goal

@@ -4,7 +4,7 @@
 use mathlib.Core.Path.{◌≡◌, refl, sym, ap, ap₂, ◌∙◌}
 use mathlib.Core.Bool.{Bool, true, false}
 use mathlib.Core.Logic.{⊎_elim}
-use Prim.Native.Nat.{ℕ, ◌≤◌, ◌-◌, ◌+◌}
+use Prim.Native.Nat.{ℕ, ◌≤◌, ◌+◌}
 use native.Mathlib.Omega.{arith}
 use lib.ListN.{length, get_or}
 use Rattle.theory.specs.Query.{Row}
@@ -38,7 +38,11 @@ breaks_at-requires c = let s = c in
     let place : c.next-after.result ≡ l.at + 1 + get_or S a.d.relation 0 = n.place ∙ ap (λ (r : ℕ). l.at + 1 + get_or S r 0) c.if-words-at.true in
     let room : l.at + 1 + get_or S a.d.relation 0 ≤ length W = omega (arith, n.fits) in
     let T = s.requires.testable in
-    ((s.requires.a_value.0, c.if-words-at.true), ((s.requires.a_value.1, room), (T.narrow, T.left-fits, T.right-fits)))
+    record {
+      a_value = (s.requires.a_value.0, c.if-words-at.true);
+      width_in_bounds = (s.requires.a_value.1, room);
+      width_bound = (T.narrow, T.left-fits, T.right-fits);
+    }
 
 pub returns-then-breaks_at : goal.returns-then-breaks_at
 returns-then-breaks_at c = let s = c in
