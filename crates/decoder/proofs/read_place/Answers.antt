@@ -1,4 +1,3 @@
--- ---- a query and the bytes after it
 use borrow.Author.Tests.{not-true, not-false, eqb-true}
 use mathlib.Core.Path.{◌≡◌, sym, ap, refl, ◌∙◌}
 use mathlib.Core.Bool.{Bool, true, false, cond}
@@ -23,6 +22,8 @@ use Rattle.parsing.specs.declared.QueryRead.{QueryRead}
 use Rattle.parsing.specs.internal.Read.{query_read}
 use Rattle.decoder.specs.internal.Read.{place_read}
 use Rattle.decoder.proofs.read_place.Goals as goal
+
+-- ---- a query and the bytes after it
 
 complete-long : (q : Query) (rest : List ℕ) → eqb (length rest) 0 ≡ false → complete bad_query (got q rest) ≡ refused bad_query
 unfolding complete

@@ -1,7 +1,6 @@
 -- `find` goes along table 0. Invariant: no row passed has the values. Assumes nothing.
 use mathlib.Core.Path.{◌≡◌}
-use Prim.Native.Nat.{suc, ◌-◌}
-use mathlib.Core.Bool.{true}
+use Prim.Native.Nat.{suc}
 use native.Mathlib.Omega.{arith}
 use lib.ListN.{length}
 use Rattle.join_lookup.specs.internal.Tables.{Reaches}

@@ -1,16 +1,12 @@
 -- `with_row` puts in the columns of a set one by one. Invariant: those before column c are put in, and nothing else is changed.
 -- Assumes nothing.
-use mathlib.Core.Path.{◌≡◌, refl, sym, ap, subst, ◌∙◌}
+use mathlib.Core.Path.{refl, sym, ap, subst, ◌∙◌}
 use mathlib.Core.Logic.{⊎_elim}
 use mathlib.Core.List.{List}
-use Prim.Native.Nat.{ℕ, ◌+◌, ◌-◌, ◌/◌, ◌%◌, ◌^◌, ◌<◌}
+use Prim.Native.Nat.{ℕ, ◌+◌, ◌/◌, ◌%◌, ◌<◌}
 use native.Mathlib.Nat.{div-one}
 use native.Mathlib.Omega.{arith}
-use lib.ListN.{length, get_or, set, length-set}
-use lib.Seq.{get_or-set_same, get_or-set_other}
-use Rattle.lists.proofs.Tests.{below-or-past}
 use Rattle.tables.proofs.Buckets.{shifted}
-use Rattle.join_lookup.proofs.Bits.{BitOf}
 use borrow.Author.Rules.{rules}
 use Rattle.join_lookup.proofs.Putting.{PutIn, put-here, put-not}
 use Rattle.join_lookup.proofs.with_row.Goals as goal

@@ -1,4 +1,3 @@
--- What has been read of the part
 use mathlib.Core.Path.{◌≡◌}
 use Prim.Native.Nat.{◌≤◌}
 use lib.ListN.{length, take}
@@ -11,6 +10,7 @@ use Rattle.format.specs.Parts.{dependency}
 use Rattle.parsing.proofs.Counted.{Counting}
 use Rattle.parsing.proofs.read_dependencies.Given as goal
 
+-- What has been read of the part
 abbrev pub At : List ℕ → List ℕ → ℕ → List Dependency → ℕ → Type 0
 At schema part n ds i = Counting (λ n. leb n 32) 32 no_dependency blank_dependency (dependency schema) part n ds i (1 + 3 * i)
 

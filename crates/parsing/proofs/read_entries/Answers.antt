@@ -1,4 +1,3 @@
--- the invariant's reading, for any list
 use borrow.Author.Rules.{rules}
 use mathlib.Core.Path.{◌≡◌, sym, ap, refl, ◌∙◌}
 use mathlib.Core.List.{List}
@@ -19,6 +18,7 @@ use Rattle.parsing.specs.internal.Read.{entry_read, cells_read}
 use Rattle.format.proofs.Filling.{Filling, filling-starts, filling-turns, filling-fails, filling-ends}
 use Rattle.parsing.proofs.read_entries.Goals as goal
 
+-- the invariant's reading, for any list
 abbrev At : List ℕ → ℕ → ℕ → List Cell → ℕ → Type 0
 At s at n cells i = Filling entry.get ((entries n).get (drop at s)) n cells i (drop (at + 5 * i) s)
 

@@ -1,6 +1,5 @@
 -- `parsing::read_joins` meets its contract. Invariant: what has been read of the bytes, and that the next join dependency starts within them.
 -- Assumes nothing.
--- What has been read of the part
 use mathlib.Core.Path.{◌≡◌, refl, sym, ap, ◌∙◌}
 use mathlib.Core.Bool.{true, false, not}
 use mathlib.Core.List.{List, [], ◌∷◌}

@@ -1,4 +1,3 @@
--- What the first two bytes say
 use borrow.Author.Tests.{not-true, not-false, leb-true}
 use mathlib.Core.Path.{◌≡◌, sym, ap, ◌∙◌}
 use mathlib.Core.Bool.{true, false, cond}
@@ -24,6 +23,7 @@ use Rattle.parsing.proofs.RowLaws.{byte-bounds, cells-bad, cells-good, entries-b
 use Rattle.parsing.proofs.QueryLaws.{map-none, no-arity, no_size, no-head, after-head, rows-bad, rows-some}
 use Rattle.parsing.proofs.read_query.Goals as goal
 
+-- What the first two bytes say
 record Sizes (part : List ℕ) (arity size : ℕ) : Type 0 where
   arity-read : get_byte (λ n. leb n 8) part ≡ got arity (drop 1 part)
   size-read : get_byte (λ n. leb n 12) (drop 1 part) ≡ got size (drop 2 part)

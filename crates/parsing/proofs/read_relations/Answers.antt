@@ -1,4 +1,3 @@
--- What has been read of the part
 use borrow.Author.Rules.{rules}
 use mathlib.Core.Path.{◌≡◌, sym, ap, refl, ◌∙◌}
 use mathlib.Core.Bool.{true}

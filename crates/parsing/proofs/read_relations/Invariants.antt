@@ -1,4 +1,3 @@
--- What has been read of the part
 use mathlib.Core.Path.{◌≡◌}
 use Prim.Native.Nat.{◌≤◌}
 use lib.ListN.{length}
@@ -9,6 +8,7 @@ use Rattle.format.specs.Format.{byte}
 use Rattle.parsing.proofs.Counted.{Counting}
 use Rattle.parsing.proofs.read_relations.Given as goal
 
+-- What has been read of the part
 abbrev pub At : List ℕ → ℕ → List ℕ → ℕ → Type 0
 At part n widths i = Counting (between 1 8) 8 0 is_zero (byte (between 1 8)) part n widths i (1 + i)
 

@@ -9,10 +9,8 @@ use lib.ListN.{length, take, drop, set, replicate, length-set}
 use Rattle.query.specs.declared.Dependency.{Dependency}
 use Rattle.query.specs.declared.JoinDependency.{JoinDependency}
 use Rattle.query.specs.declared.Place.{Place}
-use Rattle.record.specs.declared.Outcome.{Outcome}
 use Rattle.record.specs.declared.Status.TheVariants.{Done, Refused}
 use Rattle.query.specs.Rule.{no_place}
-use Rattle.lists.specs.Over.{over}
 use Rattle.refusals.specs.Refusals.{Reply, gives, refused, ◌>>=◌}
 use Rattle.decoder.proofs.Placed.{place-accepted, place-refused}
 use Rattle.format.specs.File.{stretch, stretches, read_place, none_left, read_places}

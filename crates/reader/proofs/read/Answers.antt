@@ -1,4 +1,3 @@
--- What the outcome of reading says
 use mathlib.Core.Path.{◌≡◌, refl, sym, ap, ◌∙◌}
 use mathlib.Core.List.{List}
 use Prim.Native.Nat.{ℕ}
@@ -11,6 +10,7 @@ use Rattle.places.specs.internal.Read.{outcome_of}
 use Rattle.reader.proofs.Directories.{accepts, refuses}
 use Rattle.reader.proofs.read.Goals as goal
 
+-- What the outcome of reading says
 outcome-says : (x : Reply Record) → outcome_reply (outcome_of x) ≡ read_outcome x
 outcome-says (gives r) = refl
 outcome-says (refused n) = refl

@@ -1,4 +1,3 @@
--- ---- the parts
 use borrow.Author.Tests.{not-true, not-false, leb-true}
 use mathlib.Core.Path.{◌≡◌, sym, ap, refl, ◌∙◌}
 use mathlib.Core.Bool.{true, false}
@@ -32,6 +31,8 @@ use Rattle.places.specs.internal.Read.{outcome_of, record_read}
 use Rattle.format.proofs.Stretches.{table_at, first_two, stretch-fits}
 use Rattle.reader.proofs.read_parts.Goals.{Else-not-first, Else-not-functional}
 use Rattle.reader.proofs.read_parts.Goals as goal
+
+-- ---- the parts
 
 stretch-bytes : (file table : List ℕ) → Bytes file → Bytes (stretch file table)
 stretch-bytes file table hb =
