@@ -1,12 +1,8 @@
 -- `clear` goes through the buckets of a table. Invariant: those before b are empty, and nothing else is changed. Assumes nothing.
-use mathlib.Core.Path.{◌≡◌, refl, ap, ◌∙◌}
-use mathlib.Core.Logic.{⊎_elim}
-use mathlib.Core.List.{List}
-use Prim.Native.Nat.{ℕ, ◌+◌, ◌*◌, ◌-◌, ◌<◌}
+use mathlib.Core.Path.{refl}
+use Prim.Native.Nat.{◌+◌, ◌*◌, ◌<◌}
 use native.Mathlib.Omega.{arith}
-use lib.ListN.{length, get_or, set, length-set}
-use lib.Seq.{get_or-set_same, get_or-set_other}
-use Rattle.lists.proofs.Tests.{below-or-past}
+use lib.ListN.{length}
 use borrow.Author.Rules.{rules}
 use Rattle.join_tables.proofs.Clearing.{clear-one}
 use Rattle.join_tables.proofs.clear.Goals as goal

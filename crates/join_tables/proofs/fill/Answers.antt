@@ -1,6 +1,5 @@
 -- `fill` makes the table of set after set, and last table 0 by all their columns. Invariant: the first k sets have their tables. Assumes nothing.
 use mathlib.Core.Path.{refl, ◌∙◌}
-use Prim.Native.Nat.{◌-◌}
 use native.Mathlib.Omega.{arith}
 use Rattle.join_tables.proofs.Filling.{levelled-none, levelled-next, levelled-all}
 use Rattle.join_tables.proofs.fill.Goals as goal

@@ -1,16 +1,12 @@
 -- `thread` walks over the rows. Invariant: the rows passed have their links. Assumes nothing.
-use mathlib.Core.Path.{◌≡◌, refl, sym, ap, subst, ◌∙◌}
+use mathlib.Core.Path.{◌≡◌, refl, sym, subst}
 use mathlib.Core.Bool.{true}
-use mathlib.Core.Logic.{⊎_elim}
-use mathlib.Core.List.{List}
-use Prim.Native.Nat.{ℕ, suc, ◌+◌, ◌*◌, ◌-◌, ◌≤◌, ◌<◌}
+use Prim.Native.Nat.{ℕ, ◌+◌, ◌*◌, ◌-◌, ◌≤◌}
 use native.Mathlib.Omega.{arith}
-use lib.ListN.{length, drop, get_or, set, length-set}
-use lib.Seq.{get_or-set_same, get_or-set_other}
-use Rattle.lists.proofs.Tests.{below-or-past}
+use lib.ListN.{length, drop}
 use Rattle.words.specs.Words.{spells_rows}
 use Rattle.join_lookup.specs.internal.Starts.{start_of, row_count}
-use Rattle.join_lookup.proofs.Starting.{start-less, begins, start-next, inside-start, outside-start}
+use Rattle.join_lookup.proofs.Starting.{begins, outside-start}
 use Rattle.join_tables.proofs.Threading.{linked-after, linked-next}
 use Rattle.join_tables.proofs.thread.Goals as goal
 use Rattle.join_tables.proofs.thread.Goals.{After-next-after}

@@ -1,13 +1,12 @@
 -- The choice from a set on, set by set: with the sets after it arranged the first row for it is found, and the call for the next set finds the others. The
 -- measure is the sets left. Assumes nothing.
 use mathlib.Core.Path.{◌≡◌, refl, sym, ap, subst, ◌∙◌}
-use Prim.Native.Nat.{ℕ, suc, ◌+◌, ◌-◌, ◌<◌}
+use Prim.Native.Nat.{ℕ, suc, ◌+◌}
 use native.Mathlib.Numerals.{add-one}
 use native.Mathlib.Omega.{arith}
 use lib.Bits.{bit_or}
 use lib.ListN.{get_or}
 use borrow.Author.Tests.{not-true, not-false}
-use Rattle.query.specs.declared.JoinDependency.{JoinDependency}
 use Rattle.join_lookup.specs.internal.Starts.{BeginsAt}
 use Rattle.join_tables.specs.internal.Indexed.{filled_to, Searchable}
 use Rattle.join_testing.specs.internal.Search.{plainly}

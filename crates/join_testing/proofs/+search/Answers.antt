@@ -2,7 +2,7 @@
 -- the join dependency. The measures are the sets left and the words left. Assumes nothing.
 use mathlib.Core.Path.{◌≡◌, sym, ap, subst, ◌∙◌}
 use mathlib.Core.Bool.{true}
-use Prim.Native.Nat.{ℕ, suc, ◌+◌, ◌-◌, ◌<◌}
+use Prim.Native.Nat.{ℕ, suc, ◌+◌, ◌<◌}
 use native.Mathlib.Omega.{arith}
 use lib.Bits.{bit_and, bit_or}
 use lib.ListN.{length, get_or}
@@ -143,14 +143,14 @@ loop-at-preserved t c = let p = goal.at.loop-at-preserved t c in
     let s = shared-is t p.Start in
     let none : NoneBelow v.0 v.1 a.k v.2 a.values (suc v.3.1.row) =
     elim c.if-has.branch [
-      then-has+else-found w ↦
-        going-nothing v.0 v.1 a.k v.2 a.values c.loop-at.at v.3 w.with_row-row.result w.search-found.result
-        (made-joins v.0 v.1 a.k v.2 a.values c.loop-at.at v.3.1.row b (word t p.After-has s b w.if-has.true)
-        w.with_row-row.result w.with_row-row.ensures.by_index w.with_row-row.ensures.by_index_2) w.search-found.ensures w.if-found.false
-    | else-has w ↦
-        going-other v.0 v.1 a.k v.2 a.values c.loop-at.at v.3
-        (λ has. c.has.ensures.by_index_3 v.3.1.row b w.if-has.false
-        (subst (λ (n : ℕ). Has a.schema.now a.words.now a.x n a.values v.3.1.row) (sym s) has))
+      | then-has+else-found w ↦
+          going-nothing v.0 v.1 a.k v.2 a.values c.loop-at.at v.3 w.with_row-row.result w.search-found.result
+          (made-joins v.0 v.1 a.k v.2 a.values c.loop-at.at v.3.1.row b (word t p.After-has s b w.if-has.true)
+          w.with_row-row.result w.with_row-row.ensures.by_index w.with_row-row.ensures.by_index_2) w.search-found.ensures w.if-found.false
+      | else-has w ↦
+          going-other v.0 v.1 a.k v.2 a.values c.loop-at.at v.3
+          (λ has. c.has.ensures.by_index_3 v.3.1.row b w.if-has.false
+          (subst (λ (n : ℕ). Has a.schema.now a.words.now a.x n a.values v.3.1.row) (sym s) has))
     ] in
     (v.0, v.1, v.2, going_next v.0 v.1 a.k v.2 a.values c.loop-at.at v.3 none c.following-at.result (onward t p.After-following-at))
 
