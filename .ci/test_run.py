@@ -11,15 +11,12 @@ import unittest
 from pathlib import Path
 
 HERE = Path(__file__).resolve().parent
-TOOLS = ["bash", "sh", "dirname", "nice", "mktemp", "rm", "cat", "sleep", "gcc"]
+TOOLS = ["bash", "sh", "dirname", "nice", "nproc", "df", "awk", "chmod", "mktemp", "rm", "cat", "sleep", "gcc"]
 
 # Each stand-in says that it was called, and then does what its variable says.
 RT = """#!/bin/sh
-echo "called rt $*${RT_JOBS:+ with RT_JOBS=$RT_JOBS}" >>"$CALLS"
-case $1 in
-fmt) eval "${FMT:-:}" ;;
-ci) eval "${CI:-echo rt: must-fail a/b: refused; echo rt: ok; echo 12 passed, 0 failed}" ;;
-esac
+echo "called rt $*" >>"$CALLS"
+eval "${CI:-echo rt: must-fail a/b: refused; echo rt: ok; echo 12 passed, 0 failed}"
 """
 STAND_IN = """#!/bin/sh
 [ "$1" = --version ] && exit 0
@@ -69,36 +66,35 @@ class Gate(unittest.TestCase):
         self.assertEqual((status, lines[-1]), (0, "12 passed, 0 failed"))
         self.assertEqual(lines.count("12 passed, 0 failed"), 1)
         self.assertNotIn("NOT RUN", "\n".join(lines))
-        wanted = ["rt fmt --check", "citations", "cargo test", "rt ci", "python/test"]
+        wanted = ["citations", "cargo test", "rt ci", "python/test"]
         called = calls.splitlines()
         self.assertEqual(sorted(called), sorted(f"called {call}" for call in wanted))
-        self.assertEqual(called[:2], ["called rt fmt --check", "called citations"])
+        self.assertEqual(called[0], "called citations")
         self.assertLess(called.index("called rt ci"), called.index("called python/test"))
 
-    def test_python_beside_the_edits(self):
-        """The Python tests begin when the first edit is done, and the gate waits for them."""
+    def test_python_after_rt(self):
+        """The Python tests begin when rt ci has passed."""
         ci = 'echo rt: must-fail a/b: refused; sleep 2; echo "edits done" >>"$CALLS"; echo 12 passed, 0 failed'
-        status, lines, calls = self.run_gate(CI=ci, PYTHON='sleep 3; echo "python done" >>"$CALLS"; echo said')
+        status, lines, calls = self.run_gate(CI=ci, PYTHON='echo "python done" >>"$CALLS"; echo said')
         self.assertEqual((status, lines[-1]), (0, "12 passed, 0 failed"))
-        self.assertLess(calls.index("called python/test"), calls.index("edits done"))
-        self.assertIn("python done", calls)
+        self.assertLess(calls.index("edits done"), calls.index("called python/test"))
         self.assertIn("said", lines)
-
-    def test_no_edit(self):
-        """Without an edit the Python tests begin at the end."""
-        status, lines, calls = self.run_gate(CI="echo rt: ok; echo 12 passed, 0 failed")
-        self.assertEqual((status, lines[-1]), (0, "12 passed, 0 failed"))
-        self.assertIn("called python/test", calls)
 
     def test_not_proved(self):
         """Where a crate is not proved the Python tests are not run, and the gate says so."""
-        ci = "echo 'rt: record NOT PROVED (exit 1, 2 s)'; echo rt: must-fail a/b: refused; echo 11 passed, 1 failed; exit 1"
+        ci = "echo 'rt: record NOT PROVED'; echo rt: must-fail a/b: refused; echo 11 passed, 1 failed; exit 1"
         lines, calls = self.fails("rt ci, with status 1", CI=ci)
-        self.assertIn("NOT RUN: the Python tests, since not every crate is proved", lines)
+        self.assertIn("NOT RUN: the Python tests, since rt ci did not pass", lines)
         self.assertNotIn("python/test", calls)
 
-    def test_jobs(self):
-        self.assertIn("called rt ci with RT_JOBS=7\n", self.run_gate(RT_JOBS="7")[2])
+    def test_bad_edits(self):
+        """An edit that cannot be tried fails the gate, though rt ci passes."""
+        ok = "rt: ok; handles allowed: none; must-fail edits: 12 refused"
+        said = "rt ci, which counts must-fail edits that are bad"
+        _, calls = self.fails(said, CI=f"echo '{ok}, 1 bad; every proof and must-fail edit was done in this run'; echo 12 passed, 0 failed")
+        self.assertNotIn("python/test", calls)
+        status, lines, _ = self.run_gate(CI=f"echo '{ok}; every proof and must-fail edit was done in this run'; echo 12 passed, 0 failed")
+        self.assertEqual((status, lines[-1]), (0, "12 passed, 0 failed"))
 
     def test_rt_fails(self):
         lines, calls = self.fails("rt ci, with status 1", CI="echo rt: FAILED: record; echo 11 passed, 1 failed; exit 1")
@@ -127,14 +123,8 @@ class Gate(unittest.TestCase):
         self.assertIn("called python/test", calls)
 
     def test_cheap_checks_fail(self):
-        for said, variables in (
-            ("the layout (rt fmt --check)", {"FMT": "exit 1"}),
-            ("what the documents cite (.ci/citations)", {"CITATIONS": "exit 1"}),
-            ("the layout (rt fmt --check), what the documents cite (.ci/citations)", {"FMT": "exit 1", "CITATIONS": "exit 1"}),
-        ):
-            with self.subTest(said=said):
-                _, calls = self.fails(said, **variables)
-                self.assertNotIn("rt ci", calls)
+        _, calls = self.fails("what the documents cite (.ci/citations)", CITATIONS="exit 1")
+        self.assertNotIn("rt ci", calls)
 
     def test_missing(self):
         for tool, wanted, kept in (
@@ -159,7 +149,7 @@ class Gate(unittest.TestCase):
 
     def test_no_rt(self):
         (self.bin / "rt").unlink()
-        self.fails("the layout (rt fmt --check)")
+        self.fails("rt ci, with status 127")
 
     def test_output_as_it_comes(self):
         ci = "echo first; sleep 2; echo last, without a newline; printf '3 passed, 0 failed'"

@@ -1,7 +1,7 @@
 #!/usr/bin/env python3
 """Times the listing program on saved queries whose mapping search is hard.
 
-usage: bench/hard_queries.py [LISTING]    (default: target/bin/listing; build it with `rt check listing`)
+usage: bench/hard_queries.py [LISTING]    (default: crates/listing/out/listing; build it with `rt run` in crates/listing)
 
 Each query is written as a file with one filled place; the whole program is timed, start included: best of 5 runs.
 """
@@ -56,7 +56,7 @@ def cases():
 
 
 def main():
-    listing = sys.argv[1] if len(sys.argv) > 1 else 'target/bin/listing'
+    listing = sys.argv[1] if len(sys.argv) > 1 else 'crates/listing/out/listing'
     worst_random = (0.0, '')
     for name, rows in cases():
         data = archive([2, 2], [], [part(rows, [])])

@@ -1,7 +1,7 @@
 #!/usr/bin/env python3
 """Counts the instructions of reductions beside the plain implementation, by valgrind's callgrind.
 
-usage: bench/reductions.py [LISTING [PLAIN]]    (default: target/bin/listing, which `rt check listing` makes, and
+usage: bench/reductions.py [LISTING [PLAIN]]    (default: crates/listing/out/listing, which `rt run` in crates/listing makes, and
 reference/target/release/spernevan-reference, which `cargo build --offline --release` makes in reference/)
 
 Each query is written as a file with one filled place, and both programs list it: read, reduce, write. Their start is included.
@@ -37,7 +37,7 @@ def instructions(command, data):
 
 
 def main():
-    listing = sys.argv[1] if len(sys.argv) > 1 else 'target/bin/listing'
+    listing = sys.argv[1] if len(sys.argv) > 1 else 'crates/listing/out/listing'
     plain = sys.argv[2] if len(sys.argv) > 2 else 'reference/target/release/spernevan-reference'
     for name, widths, rows, head in cases():
         data = archive(widths, [], [part(rows, head)])

@@ -1,4 +1,4 @@
-//! Links the proved engine into `bench` if SPERNEVAN_ARCHIVE names its archive, made by `rt staticlib interface`.
+//! Links the proved engine into `bench` if SPERNEVAN_ARCHIVE names its archive, made by `rt lib` in crates/interface.
 fn main() {
     println!("cargo:rerun-if-env-changed=SPERNEVAN_ARCHIVE");
     println!("cargo:rustc-check-cfg=cfg(engine)");

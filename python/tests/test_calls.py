@@ -594,9 +594,9 @@ class Listing(Calls):
         return "".join(f"{line}\n" for line in lines)
 
     def test_listing(self):
-        program = context.ROOT / "target" / "bin" / "listing"
+        program = context.ROOT / "crates" / "listing" / "out" / "listing"
         if not program.exists() and not context.ALL:
-            self.skipTest("target/bin/listing is not there; rt check listing makes it")
+            self.skipTest("crates/listing/out/listing is not there; rt run makes it in crates/listing")
         rng = random.Random(11)
         for _ in range(20 * MANY):
             record = random_record(rng, 4, 3, 4, most_rows=7, most_head=3)

@@ -113,7 +113,7 @@ class FromC(unittest.TestCase):
     """The header compiles without a warning, and a program over it links and runs."""
 
     def test_program(self):
-        archive = context.ROOT / "target" / "staticlib" / "libinterface.a"
+        archive = context.ROOT / "crates" / "interface" / "out" / "libinterface.a"
         if not (archive.exists() and shutil.which("gcc")):
             if context.ALL:
                 self.fail("no archive, or no gcc")

@@ -9,7 +9,7 @@ import unittest
 
 import context
 
-PROGRAM = context.ROOT / "target" / "bin" / "listing"
+PROGRAM = context.ROOT / "crates" / "listing" / "out" / "listing"
 SECONDS = 60  # for a run that should take milliseconds
 MOST = 65536  # the bytes of its input that the program reads
 
@@ -55,8 +55,8 @@ class Program(unittest.TestCase):
     def setUp(self):
         if not PROGRAM.exists():
             if context.ALL:
-                self.fail("target/bin/listing is not there; rt check listing makes it")
-            self.skipTest("target/bin/listing is not there; rt check listing makes it")
+                self.fail("crates/listing/out/listing is not there; rt run makes it in crates/listing")
+            self.skipTest("crates/listing/out/listing is not there; rt run makes it in crates/listing")
 
     def listed(self, data):
         """What the program writes on this input."""

@@ -1,48 +1,40 @@
 // How answers are written.
 use query::{Cell, Entry};
+use std::io;
 
 // Writes a number after a text.
-pub fn number(text: &[u8], n: u8) {
-    io::write_all(1, text);
-    io::print_decimal(1, n as u64);
+pub fn number(rt: &impl Print, text: &str, n: u8) -> io::Result<()> {
+    print!(rt; "{text}{n}")
 }
 
 // Writes a call and the number of its case.
-pub fn case(call: &[u8], n: u8) {
-    number(call, n);
-    io::write_all(1, b": ");
+pub fn case(rt: &impl Print, call: &str, n: u8) -> io::Result<()> {
+    print!(rt; "{call}{n}: ")
 }
 
 // Writes a call and its two places.
-pub fn places(call: &[u8], p: u8, q: u8) {
-    number(call, p);
-    number(b" ", q);
-    io::write_all(1, b":");
+pub fn places(rt: &impl Print, call: &str, p: u8, q: u8) -> io::Result<()> {
+    print!(rt; "{call}{p} {q}:")
 }
 
 // Writes the end of a line.
-pub fn end() {
-    io::write_all(1, b"\n");
+pub fn end(rt: &impl Print) -> io::Result<()> {
+    println!(rt;)
 }
 
 // Writes the entry of a cell after a blank.
-pub fn cell(c: Cell) {
+pub fn cell(rt: &impl Print, c: Cell) -> io::Result<()> {
     let e = c.entry;
     match e {
-        Entry::Constant(n) => {
-            io::write_all(1, b" ");
-            io::print_decimal(1, n as u64);
-        }
-        Entry::Variable(v) => {
-            number(b" v", v);
-        }
+        Entry::Constant(n) => print!(rt; " {n}"),
+        Entry::Variable(v) => number(rt, " v", v),
     }
 }
 
 // Writes the images of v0, v1, v2.
-pub fn images(cells: [Cell; 96]) {
-    io::write_all(1, b" images");
-    cell(cells[0]);
-    cell(cells[1]);
-    cell(cells[2]);
+pub fn images(rt: &impl Print, cells: [Cell; 96]) -> io::Result<()> {
+    print!(rt; " images")?;
+    cell(rt, cells[0])?;
+    cell(rt, cells[1])?;
+    cell(rt, cells[2])
 }

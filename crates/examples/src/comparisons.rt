@@ -6,48 +6,39 @@ use example_parts::queries::{pair, put};
 use example_parts::{queries, show};
 use query::{Cell, Entry, Query};
 use record::Record;
+use std::io;
 
 // Writes a comparison.
-fn comparison(c: Comparison) {
+fn comparison(rt: &impl Print, c: Comparison) -> io::Result<()> {
     let verdict = c.verdict;
     let images = c.images;
     let query = c.query;
     let cells = query.cells;
     match verdict {
-        Verdict::Never => {
-            io::write_all(1, b" contained, never");
-        }
+        Verdict::Never => print!(rt; " contained, never")?,
         Verdict::Mapped => {
-            io::write_all(1, b" contained,");
-            show::images(images);
+            print!(rt; " contained,")?;
+            show::images(rt, images)?;
         }
         Verdict::Apart => {
-            show::number(b" not contained, rows ", query.size);
-            io::write_all(1, b", first");
-            show::cell(cells[0]);
-            show::cell(cells[1]);
+            show::number(rt, " not contained, rows ", query.size)?;
+            print!(rt; ", first")?;
+            show::cell(rt, cells[0])?;
+            show::cell(rt, cells[1])?;
         }
-        Verdict::Refused(n) => {
-            show::number(b" ", n);
-        }
+        Verdict::Refused(n) => show::number(rt, " ", n)?,
     }
-    show::end();
+    show::end(rt)
 }
 
 // Writes what the checking of a mapping says.
-fn checked(answer: Checked) {
+fn checked(rt: &impl Print, answer: Checked) -> io::Result<()> {
     match answer {
-        Checked::Yes => {
-            io::write_all(1, b" yes");
-        }
-        Checked::No => {
-            io::write_all(1, b" no");
-        }
-        Checked::Refused(n) => {
-            show::number(b" ", n);
-        }
+        Checked::Yes => print!(rt; " yes")?,
+        Checked::No => print!(rt; " no")?,
+        Checked::Refused(n) => show::number(rt, " ", n)?,
     }
-    show::end();
+    show::end(rt)
 }
 
 // R(v0, v0) at 0, R(v0, v1) at 1, never at 2, R(v0, 3), R(v0, 4) at 3, all with an empty head; R(v0, v1), R(v0, v2) with head v0 at 4, R(v0, 3) with that head at 5.
@@ -107,37 +98,39 @@ fn crossed(r: Record) -> Record {
 }
 
 // The comparison of two places.
-fn compare_two(r: Record, p: u8, q: u8) {
-    show::places(b"compare ", p, q);
-    comparison(comparison::compare(r, p as usize, q as usize));
+fn compare_two(rt: &impl Print, r: Record, p: u8, q: u8) -> io::Result<()> {
+    show::places(rt, "compare ", p, q)?;
+    comparison(rt, comparison::compare(r, p as usize, q as usize))
 }
 
 // Each pair in which the join dependency tells: a row that it asks for, 16 rows from 4, and a 25th row.
-fn compare_joined(r: Record) {
-    compare_two(r, 0, 1);
-    compare_two(r, 1, 0);
-    compare_two(r, 2, 4);
-    compare_two(r, 3, 4);
-    compare_two(r, 4, 3);
+fn compare_joined(rt: &impl Print, r: Record) -> io::Result<()> {
+    compare_two(rt, r, 0, 1)?;
+    compare_two(rt, r, 1, 0)?;
+    compare_two(rt, r, 2, 4)?;
+    compare_two(rt, r, 3, 4)?;
+    compare_two(rt, r, 4, 3)
 }
 
 // The comparison of place p with each of the places 0 to 8.
-fn compare_with(r: Record, p: u8) {
+fn compare_with(rt: &impl Print, r: Record, p: u8) -> io::Result<()> {
     for q in 0..9u8 {
-        show::places(b"compare ", p, q);
-        comparison(comparison::compare(r, p as usize, q as usize));
+        show::places(rt, "compare ", p, q)?;
+        comparison(rt, comparison::compare(r, p as usize, q as usize))?;
     }
+    Ok(())
 }
 
 // The comparison of each of the places 0 to 8 with each.
-fn compare_all(r: Record) {
+fn compare_all(rt: &impl Print, r: Record) -> io::Result<()> {
     for p in 0..9u8 {
-        compare_with(r, p);
+        compare_with(rt, r, p)?;
     }
+    Ok(())
 }
 
 // The checking, for each of the places 0 to 8 and place q, of the images of v0, v1, v2.
-fn check_with(r: Record, q: u8, a: Entry, b: Entry, c: Entry) {
+fn check_with(rt: &impl Print, r: Record, q: u8, a: Entry, b: Entry, c: Entry) -> io::Result<()> {
     let blank = Cell {
         entry: Entry::Constant(0),
     };
@@ -146,24 +139,28 @@ fn check_with(r: Record, q: u8, a: Entry, b: Entry, c: Entry) {
     images[1] = Cell { entry: b };
     images[2] = Cell { entry: c };
     for p in 0..9u8 {
-        show::places(b"check ", p, q);
-        checked(comparison::check_mapping(r, p as usize, q as usize, images));
+        show::places(rt, "check ", p, q)?;
+        checked(
+            rt,
+            comparison::check_mapping(r, p as usize, q as usize, images),
+        )?;
     }
+    Ok(())
 }
 
-pub fn all() {
+pub fn all(rt: &impl Print) -> io::Result<()> {
     let zero = Entry::Constant(0);
     let v0 = Entry::Variable(0);
     let opened = record_calls::open(&[2]);
     let r = filled(opened.record);
-    compare_all(r);
-    check_with(r, 1, v0, v0, zero);
-    check_with(r, 1, v0, v0, v0);
-    check_with(r, 1, v0, Entry::Constant(3), zero);
-    check_with(r, 2, zero, zero, zero);
-    compare_all(queries::dependent(r));
-    compare_with(queries::spoilt(r), 8);
+    compare_all(rt, r)?;
+    check_with(rt, r, 1, v0, v0, zero)?;
+    check_with(rt, r, 1, v0, v0, v0)?;
+    check_with(rt, r, 1, v0, Entry::Constant(3), zero)?;
+    check_with(rt, r, 2, zero, zero, zero)?;
+    compare_all(rt, queries::dependent(r))?;
+    compare_with(rt, queries::spoilt(r), 8)?;
     let pairs = crossed(opened.record);
-    compare_joined(pairs);
-    compare_joined(queries::joined(pairs));
+    compare_joined(rt, pairs)?;
+    compare_joined(rt, queries::joined(pairs))
 }

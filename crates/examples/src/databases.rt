@@ -6,52 +6,32 @@ use example_parts::{queries, show};
 use query::Entry;
 use record::Record;
 use replies::{Answered, Conformance};
+use std::io;
 use writer::Written;
 
 // Tests a database.
-fn test(r: Record, words: &[u32]) {
-    io::write_all(1, b"test:");
+fn test(rt: &impl Print, r: Record, words: &[u32]) -> io::Result<()> {
+    print!(rt; "test:")?;
     let found = database::test(r, words);
     match found {
-        Conformance::Obeys => {
-            io::write_all(1, b" obeys");
-        }
-        Conformance::Broken(k, i, j) => {
-            io::write_all(1, b" breaks ");
-            io::print_decimal(1, k as u64);
-            io::write_all(1, b" in rows ");
-            io::print_decimal(1, i as u64);
-            io::write_all(1, b" ");
-            io::print_decimal(1, j as u64);
-        }
+        Conformance::Obeys => print!(rt; " obeys")?,
+        Conformance::Broken(k, i, j) => print!(rt; " breaks {k} in rows {i} {j}")?,
         Conformance::BrokenJoin(k, a, b, c, d) => {
-            io::write_all(1, b" breaks join ");
-            io::print_decimal(1, k as u64);
-            io::write_all(1, b" in rows ");
-            io::print_decimal(1, a as u64);
-            io::write_all(1, b" ");
-            io::print_decimal(1, b as u64);
-            io::write_all(1, b" ");
-            io::print_decimal(1, c as u64);
-            io::write_all(1, b" ");
-            io::print_decimal(1, d as u64);
+            print!(rt; " breaks join {k} in rows {a} {b} {c} {d}")?;
         }
-        Conformance::Refused(n) => {
-            show::number(b" ", n);
-        }
+        Conformance::Refused(n) => show::number(rt, " ", n)?,
     }
-    show::end();
+    show::end(rt)
 }
 
 // Writes a word after a text.
-fn word(text: &[u8], n: u32) {
-    io::write_all(1, text);
-    io::print_decimal(1, n as u64);
+fn word(rt: &impl Print, text: &str, n: u32) -> io::Result<()> {
+    print!(rt; "{text}{n}")
 }
 
 // Evaluates a place.
-fn evaluate(r: Record, place: u8, words: &[u32], room: bool) {
-    show::case(b"evaluate ", place);
+fn evaluate(rt: &impl Print, r: Record, place: u8, words: &[u32], room: bool) -> io::Result<()> {
+    show::case(rt, "evaluate ", place)?;
     let mut answers = [9u32; 2];
     let done = if room {
         database::evaluate(r, place as usize, words, &mut answers)
@@ -59,65 +39,56 @@ fn evaluate(r: Record, place: u8, words: &[u32], room: bool) {
         database::evaluate(r, place as usize, words, &mut answers[..1])
     };
     match done {
-        Answered::Count(n) => {
-            io::write_all(1, b"answers ");
-            io::print_decimal(1, n as u64);
-        }
-        Answered::Refused(n) => {
-            show::number(b"", n);
-        }
+        Answered::Count(n) => print!(rt; "answers {n}")?,
+        Answered::Refused(n) => show::number(rt, "", n)?,
     }
-    word(b", buffer ", answers[0]);
-    word(b" ", answers[1]);
-    show::end();
+    word(rt, ", buffer ", answers[0])?;
+    word(rt, " ", answers[1])?;
+    show::end(rt)
 }
 
 // Writes a record into a buffer of 64 bytes.
-fn write(r: Record) {
-    io::write_all(1, b"write: ");
+fn write(rt: &impl Print, r: Record) -> io::Result<()> {
+    print!(rt; "write: ")?;
     let mut buffer = [0u8; 64];
     let written = file::write(r, &mut buffer);
     match written {
-        Written::Length(n) => {
-            io::print_decimal(1, n as u64);
-        }
-        Written::Refused(n) => {
-            show::number(b"", n);
-        }
+        Written::Length(n) => print!(rt; "{n}")?,
+        Written::Refused(n) => show::number(rt, "", n)?,
     }
-    show::end();
+    show::end(rt)
 }
 
-pub fn all() {
+pub fn all(rt: &impl Print) -> io::Result<()> {
     let opened = record_calls::open(&[2]);
     let empty = opened.record;
-    write(empty);
+    write(rt, empty)?;
     let v1 = Entry::Variable(1);
     let r = put(
         queries::dependent(empty),
         0,
         pair(1, v1, 2, v1, Entry::Constant(5)),
     );
-    write(r);
-    write(queries::spoilt(empty));
+    write(rt, r)?;
+    write(rt, queries::spoilt(empty))?;
     let good = [0, 3, 5, 0, 1, 5];
     let broken = [0, 1, 5, 0, 3, 5, 0, 1, 6];
     let cut = [0, 1, 5, 0, 1];
-    test(r, &good);
-    test(r, &broken);
-    test(r, &cut);
-    test(queries::spoilt(r), &cut);
+    test(rt, r, &good)?;
+    test(rt, r, &broken)?;
+    test(rt, r, &cut)?;
+    test(rt, queries::spoilt(r), &cut)?;
     let cross = queries::joined(empty);
     let missing = [0, 1, 5, 0, 3, 6];
-    write(cross);
-    test(cross, &good);
-    test(cross, &missing);
-    test(queries::joined(r), &missing);
-    test(queries::joined(r), &broken);
-    evaluate(r, 0, &good, true);
-    evaluate(r, 0, &good, false);
-    evaluate(r, 0, &cut, false);
-    evaluate(r, 1, &cut, false);
-    evaluate(r, 8, &cut, false);
-    evaluate(queries::spoilt(r), 8, &cut, false);
+    write(rt, cross)?;
+    test(rt, cross, &good)?;
+    test(rt, cross, &missing)?;
+    test(rt, queries::joined(r), &missing)?;
+    test(rt, queries::joined(r), &broken)?;
+    evaluate(rt, r, 0, &good, true)?;
+    evaluate(rt, r, 0, &good, false)?;
+    evaluate(rt, r, 0, &cut, false)?;
+    evaluate(rt, r, 1, &cut, false)?;
+    evaluate(rt, r, 8, &cut, false)?;
+    evaluate(rt, queries::spoilt(r), 8, &cut, false)
 }

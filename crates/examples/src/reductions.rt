@@ -6,31 +6,30 @@ use example_parts::{queries, show};
 use query::{Entry, Query};
 use record::{Record, Status};
 use reduction::Reduced;
+use std::io;
 
 // Writes a query: never, or its number of rows, its first row and its head.
-fn result(q: Query) {
+fn result(rt: &impl Print, q: Query) -> io::Result<()> {
     let cells = q.cells;
     let head = q.head;
     if q.size == 0 {
-        show::number(b" never, head length ", q.arity);
-        return;
+        return show::number(rt, " never, head length ", q.arity);
     }
-    show::number(b" rows ", q.size);
-    io::write_all(1, b", first");
-    show::cell(cells[0]);
-    show::cell(cells[1]);
-    show::number(b", head length ", q.arity);
-    show::cell(head[0]);
-    show::cell(head[1]);
+    show::number(rt, " rows ", q.size)?;
+    print!(rt; ", first")?;
+    show::cell(rt, cells[0])?;
+    show::cell(rt, cells[1])?;
+    show::number(rt, ", head length ", q.arity)?;
+    show::cell(rt, head[0])?;
+    show::cell(rt, head[1])
 }
 
 // Writes a reduction into a place.
-fn reduced(o: Reduced, target: usize) {
+fn reduced(rt: &impl Print, o: Reduced, target: usize) -> io::Result<()> {
     let answer = o.answer;
     if let Status::Refused(n) = answer {
-        show::number(b" ", n);
-        show::end();
-        return;
+        show::number(rt, " ", n)?;
+        return show::end(rt);
     }
     let after = o.record;
     let places = after.places;
@@ -38,12 +37,12 @@ fn reduced(o: Reduced, target: usize) {
     if target < 8 {
         let place = places[target];
         let q = place.query;
-        result(q);
+        result(rt, q)?;
     }
-    io::write_all(1, b",");
-    show::images(images);
-    show::number(b", replaced ", o.count);
-    show::end();
+    print!(rt; ",")?;
+    show::images(rt, images)?;
+    show::number(rt, ", replaced ", o.count)?;
+    show::end(rt)
 }
 
 // R(v0, v1), R(v0, v2) with head v0 at 0, and with head v0, v2 at 1; R(v0, 3), R(v0, 4) with a head of length 3 at 2; R(v0, v1) twice with head v0, v1 at 3;
@@ -62,27 +61,29 @@ fn filled(r: Record) -> Record {
 }
 
 // The reduction of one place into another.
-fn reduce(r: Record, source: u8, target: u8) {
-    show::places(b"reduce ", source, target);
+fn reduce(rt: &impl Print, r: Record, source: u8, target: u8) -> io::Result<()> {
+    show::places(rt, "reduce ", source, target)?;
     reduced(
+        rt,
         reduction::reduce(r, source as usize, target as usize),
         target as usize,
-    );
+    )
 }
 
 // The reduction of each of the places 0 to 8 into the vacant place 7, into itself and into a place above 7.
-fn reduce_all(r: Record) {
+fn reduce_all(rt: &impl Print, r: Record) -> io::Result<()> {
     for source in 0..9u8 {
-        reduce(r, source, 7);
-        reduce(r, source, source);
-        reduce(r, source, 8);
+        reduce(rt, r, source, 7)?;
+        reduce(rt, r, source, source)?;
+        reduce(rt, r, source, 8)?;
     }
+    Ok(())
 }
 
-pub fn all() {
+pub fn all(rt: &impl Print) -> io::Result<()> {
     let opened = record_calls::open(&[2]);
     let r = filled(opened.record);
-    reduce_all(r);
-    reduce_all(queries::dependent(r));
-    reduce(queries::spoilt(r), 8, 8);
+    reduce_all(rt, r)?;
+    reduce_all(rt, queries::dependent(r))?;
+    reduce(rt, queries::spoilt(r), 8, 8)
 }

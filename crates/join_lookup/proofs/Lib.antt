@@ -3,3 +3,4 @@ pub mod Starting
 pub mod Bits
 pub mod Having
 pub mod Reaching
+pub mod Putting

@@ -8,9 +8,8 @@ use mir.Val.{Val}
 use denote.Array.{Array, each}
 use denote.Laws.{Is}
 use denote.Shadow.{shadow}
-use denote.Struct.Field.{u8-field, array_field}
+use denote.Struct.Field.{array_field}
 use Rattle.lists.specs.Tests.{every}
-use Rattle.lists.proofs.Loops.{mapped-length}
 use Rattle.query.specs.declared.JoinDependency.{JoinDependency}
 use Rattle.query.specs.contracts.JoinDependency as dependency
 use Rattle.query.specs.Rule.{shaped_join}
@@ -18,7 +17,7 @@ use Rattle.query.specs.Rule.{shaped_join}
 -- One of them
 join-shaped : (j : JoinDependency) (vs : List Val) → Is dependency.the_row j vs → shaped_join j ≡ true
 join-shaped j vs p =
-    let four : length j.sets ≡ 4 = mapped-length ℕ u8-field.row.Denot u8-field.into j.sets 4 p.1.1.1.1.0.1.0.1 in rw four
+    let four : length j.sets ≡ 4 = p.1.1.1.1.0.1.0.1 in rw four
 
 elements-shaped : (joins : List JoinDependency) (us : List Val)
     → shadow (each (dependency.the_field).row.Denot (dependency.the_field).row.own_val (map (dependency.the_field).into joins) us)

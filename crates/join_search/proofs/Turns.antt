@@ -43,6 +43,7 @@ columns-end test c rest h = let none : 8 - c ≡ 0 = omega arith in rw none
 -- The columns of n bits of a mask are the n from the start on
 pub columns-range : (start n mask : ℕ) {c : ℕ} → c ∈ columns_from start n mask → (start ≤ c) × (c < start + n)
 unfolding columns_from
+columns-range start Prim.Native.Nat.zero mask {c = c} at = elim at [ ]
 columns-range start (suc n) mask {c} at = go (eqb (mask % 2) 1) at (columns-range (suc start) n (mask / 2))
   where
     go : (t : Bool) → c ∈ cond t (start ∷ columns_from (suc start) n (mask / 2)) (columns_from (suc start) n (mask / 2))

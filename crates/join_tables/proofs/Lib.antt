@@ -2,3 +2,5 @@
 pub mod Entering
 pub mod Filling
 pub mod Ruled
+pub mod Clearing
+pub mod Threading

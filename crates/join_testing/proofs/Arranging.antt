@@ -103,6 +103,8 @@ module _ (schema words : List ℕ) (j r : JoinDependency) (first : ℕ) (a : Arr
 -- Rows go with a row exactly where there is one for each set
 goes-each : (D : Database) (r : Row ℕ) (l : List (List ℕ)) (ps : List ℕ) → GoWith l D r ps → (s : List ℕ) → s ∈ l
     → (p : ℕ) × (p < length D) × ((nth_row D p).relation ≡ r.relation) × Agree 0 s (nth_row D p) r
+goes-each D r [] (p ∷ ps) g s at = elim g [ ]
+goes-each D r (t ∷ l) [] g s at = elim g [ ]
 goes-each D r [] [] g s at = absurd (Memᴰ.not-nil at)
 goes-each D r (t ∷ l) (p ∷ ps) g s at =
     mem-cases at (λ here. (p, g.0, g.1, subst (λ (x : List ℕ). Agree 0 x (nth_row D p) r) (sym here) g.2)) (goes-each D r l ps g.3 s)

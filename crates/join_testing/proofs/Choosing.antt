@@ -48,6 +48,8 @@ constants D = map (map_row constant) D
 -- The rows at positions inside are a choice
 pub chosen_of : (D : Database) (sets : List (List ℕ)) (ps : List ℕ) → Inside sets (length D) ps → ChoiceOf sets (constants D) (chosen_at sets D ps)
 unfolding chosen_at
+chosen_of D [] (p ∷ ps) in-range = elim in-range [ ]
+chosen_of D (set ∷ sets) [] in-range = elim in-range [ ]
 chosen_of D [] [] in-range = record { for-sets = refl; of-rows = λ p at. absurd (Memᴰ.not-nil at) }
 chosen_of D (set ∷ sets) (p ∷ ps) in-range =
     let rest = chosen_of D sets ps in-range.1 in
@@ -81,6 +83,8 @@ choice-at D (set ∷ sets) (x ∷ choice) of =
 
 -- Positions whose rows go with a row are inside
 pub goes-inside : (D : Database) (r : Row ℕ) (sets : List (List ℕ)) (ps : List ℕ) → GoWith sets D r ps → Inside sets (length D) ps
+goes-inside D r [] (p ∷ ps) g = elim g [ ]
+goes-inside D r (set ∷ sets) [] g = elim g [ ]
 goes-inside D r [] [] g = tt
 goes-inside D r (set ∷ sets) (p ∷ ps) g = (g.0, goes-inside D r sets ps g.3)
 
@@ -93,6 +97,8 @@ goes : (D : Database) (y : Row Entry) (n : Row ℕ) → ((c : ℕ) → column 0 
     → (sets : List (List ℕ)) (ps : List ℕ) → Inside sets (length D) ps
     → ((p : List ℕ × Row Entry) → p ∈ chosen_at sets D ps → (p.1.relation ≡ n.relation) × Agree (constant 0) p.0 p.1 y) → GoWith sets D n ps
 unfolding chosen_at
+goes D y n reads [] (p ∷ ps) in-range fits = elim in-range [ ]
+goes D y n reads (set ∷ sets) [] in-range fits = elim in-range [ ]
 goes D y n reads [] [] in-range fits = tt
 goes D y n reads (set ∷ sets) (p ∷ ps) in-range fits =
     let here = fits (set, map_row constant (nth_row D p)) (Memᴰ.head refl) in (
@@ -106,6 +112,8 @@ goes D y n reads (set ∷ sets) (p ∷ ps) in-range fits =
 goes-read : (D : Database) (r : Row ℕ) (sets : List (List ℕ)) (ps : List ℕ) → GoWith sets D r ps → (p : List ℕ × Row Entry) → p ∈ chosen_at sets D ps
     → (p.1.relation ≡ r.relation) × ((c : ℕ) → c ∈ p.0 → value_of itself itself (column (constant 0) p.1 c) ≡ column 0 r c)
 unfolding chosen_at
+goes-read D r [] (q ∷ ps) g p at = elim g [ ]
+goes-read D r (set ∷ sets) [] g p at = elim g [ ]
 goes-read D r [] [] g p at = absurd (Memᴰ.not-nil at)
 goes-read D r (set ∷ sets) (q ∷ ps) g p at =
     mem-cases at
@@ -119,6 +127,8 @@ goes-read D r (set ∷ sets) (q ∷ ps) g p at =
 -- Positions inside are among those that are tried
 in-picks : (sets : List (List ℕ)) (n : ℕ) (ps : List ℕ) → Inside sets n ps → ps ∈ picks (positions_for sets n)
 unfolding picks
+in-picks [] n (p ∷ ps) h = elim h [ ]
+in-picks (set ∷ sets) n [] h = elim h [ ]
 in-picks [] n [] h = Memᴰ.head refl
 in-picks (set ∷ sets) n (p ∷ ps) h =
     before-has (numbers_where (λ p. true) 0 n) (picks (positions_for sets n)) (where-of (λ p. true) 0 n p (omega arith) (omega (arith, h.0)) refl)
@@ -153,6 +163,9 @@ range-before start (suc n) (w ∷ earlier) later x e y low less =
 -- No positions before the first pass
 pick-before : (test : List ℕ → Bool) (sets : List (List ℕ)) (n : ℕ) (ps : List ℕ) → FirstPick test (positions_for sets n) ps
     → (qs : List ℕ) → Inside sets n qs → Earlier qs ps → test qs ≡ false
+pick-before test [] n ps first (q ∷ qs) h less = elim h [ ]
+pick-before test (set ∷ sets) n [] first [] h less = elim h [ ]
+pick-before test (set ∷ sets) n (p ∷ ps) first [] h less = elim h [ ]
 pick-before test [] n ps first [] h less = absurd less
 pick-before test (set ∷ sets) n [] first (q ∷ qs) h less = absurd less
 pick-before test (set ∷ sets) n (p ∷ ps) first (q ∷ qs) h less =
@@ -173,6 +186,10 @@ pick-before test (set ∷ sets) n (p ∷ ps) first (q ∷ qs) h less =
 -- Of two lists of positions for the same sets one comes before the other, or they are the same
 pub earlier-or-same : {C : Type 0} (sets : List (List ℕ)) (n : ℕ) (ps qs : List ℕ) → Inside sets n ps → Inside sets n qs
     → (Earlier ps qs → C) → (Earlier qs ps → C) → (ps ≡ qs → C) → C
+earlier-or-same {C = C} [] n [] (q ∷ qs) h k low high same = elim k [ ]
+earlier-or-same {C = C} [] n (p ∷ ps) qs h k low high same = elim h [ ]
+earlier-or-same {C = C} (set ∷ sets) n [] qs h k low high same = elim h [ ]
+earlier-or-same {C = C} (set ∷ sets) n (p ∷ ps) [] h k low high same = elim k [ ]
 earlier-or-same [] n [] [] h k low high same = same refl
 earlier-or-same (set ∷ sets) n (p ∷ ps) (q ∷ qs) h k low high same =
     ⊎_elim (λ l. low (inl l))

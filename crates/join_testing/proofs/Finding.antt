@@ -66,6 +66,8 @@ module _ {schema words : List ℕ} {j : stored.JoinDependency} {x : Index} {head
       low (join_of j).sets f.positions (goes-inside D f.breaks.row (join_of j).sets f.positions f.breaks.chosen) n
     where
       low : (sets : List (List ℕ)) (ps : List ℕ) → Inside sets (row_count schema words) ps → (n : ℕ) → get_or ps n 0 ≤ row_count schema words
+      low [] (p ∷ ps) h n = elim h [ ]
+      low (set ∷ sets) [] h n = elim h [ ]
       low [] [] h n = omega arith
       low (set ∷ sets) (p ∷ ps) h zero = omega (arith, h.0)
       low (set ∷ sets) (p ∷ ps) h (suc n) = low sets ps h.1 n

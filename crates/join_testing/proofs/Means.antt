@@ -158,6 +158,8 @@ second-names (some found) w k a b c d e = absurd (let z : ◌≡◌ {A = ℕ} 0 
 
 -- As many positions as sets
 inside-length : (sets : List (List ℕ)) (n : ℕ) (ps : List ℕ) → Inside sets n ps → length ps ≡ length sets
+inside-length [] n (p ∷ ps) h = elim h [ ]
+inside-length (set ∷ sets) n [] h = elim h [ ]
 inside-length [] n [] h = refl
 inside-length (set ∷ sets) n (p ∷ ps) h = let e : length ps ≡ length sets = inside-length sets n ps h.1 in omega arith
 

@@ -1,15 +1,33 @@
 // Lists a file: reads standard input, its first 65,536 bytes if it is longer, and writes its listing to standard output.
 #![tactic(auto)]
 
-use libc::{STDIN_FILENO, STDOUT_FILENO};
+ghost use Rattle.std.specs.Prelude.{◌≤◌, length, IfOk};
 
-// It has no `ensures`, since there is nothing that one could name: the language has no input and no output of its own. `io::read_full` promises how many
-// bytes it has put into the buffer, not that they are the input's, and `io::write_all` nothing of what it has written. Between them stands `report::report`,
-// which promises `IsReport` of these bytes.
-fn main() {
-    let mut file = io::large_buffer();
-    let n = io::read_full(STDIN_FILENO, &mut file);
-    let mut listing = io::large_buffer();
+use std::io;
+use std::io::Read;
+
+// Reads until the buffer is full or the input ends, and returns how many bytes it has read.
+fn read_full(input: &mut impl Read, buffer: &mut [u8]) -> io::Result<usize>
+    ensures { IfOk result (λ n. n ≤ length buffer.new) }
+{
+    let mut n = 0;
+    while n < buffer.len() {
+        let more = input.read(&mut buffer[n..])?;
+        if more == 0 {
+            break;
+        }
+        n += more;
+    }
+    Ok(n)
+}
+
+// It has no `ensures`, since there is nothing that one could name: no clause says which bytes reach or leave the system. `read_full` promises how many bytes
+// it has put into the buffer, not that they are the input's, and `write_all` nothing of what it has written. Between them stands `report::report`, which
+// promises `IsReport` of these bytes.
+fn main(rt: HostRuntime) -> io::Result<()> {
+    let mut file = [0u8; 65536];
+    let n = read_full(&mut rt.stdin(), &mut file)?;
+    let mut listing = [0u8; 65536];
     let end = report::report(&file[..n], &mut listing);
-    io::write_all(STDOUT_FILENO, &listing[..end]);
+    rt.write_all(&listing[..end])
 }

@@ -35,6 +35,7 @@ dependency-fits schema d e =
 held-fit : (schema : List ℕ) (ds : List Dependency) {d : database.Dependency} → every (good_dependency schema) ds ≡ true → d ∈ map dependency_of ds
     → FitsColumns schema d
 unfolding every
+held-fit schema mathlib.Core.List.[] {d = d} e x'' = elim x'' [ ]
 held-fit schema (k ∷ ds) e (Memᴰ.head p) =
     subst (FitsColumns schema) (sym p) (dependency-fits schema k (and_left (good_dependency schema k) (every (good_dependency schema) ds) e))
 held-fit schema (k ∷ ds) e (Memᴰ.tail at) = held-fit schema ds (and_right (good_dependency schema k) (every (good_dependency schema) ds) e) at

@@ -1,6 +1,5 @@
 -- The meaning of the record's fields: its schema and its dependencies of both kinds.
 use Rattle.std.specs.Prelude.{List, ℕ, take}
-use Rattle.query.specs.declared.Dependency.{Dependency}
 use Rattle.record.specs.declared.Record.{Record}
 use Rattle.theory.specs.Database as database
 use Rattle.query.specs.View.{held_of, held_joins}

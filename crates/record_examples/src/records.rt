@@ -5,51 +5,48 @@ use example_parts::{queries, show};
 use query::{Cell, Dependency, Entry, JoinDependency, Query};
 use record::{Outcome, Record, Status};
 use record_calls::Columns;
+use std::io;
 
 // Writes an answer, and hands on the record.
-fn answer(outcome: Outcome) -> Record {
+fn answer(rt: &impl Print, outcome: Outcome) -> io::Result<Record> {
     let answer = outcome.answer;
     match answer {
-        Status::Done => {
-            io::write_all(1, b"done");
-        }
-        Status::Refused(n) => {
-            show::number(b"", n);
-        }
+        Status::Done => print!(rt; "done")?,
+        Status::Refused(n) => show::number(rt, "", n)?,
     }
-    show::end();
-    outcome.record
+    show::end(rt)?;
+    Ok(outcome.record)
 }
 
 // Writes an answer about columns.
-fn columns(answer: Columns) {
+fn columns(rt: &impl Print, answer: Columns) -> io::Result<()> {
     match answer {
         Columns::Determined(mask, count) => {
-            show::number(b"set ", mask);
-            show::number(b", columns ", count);
+            show::number(rt, "set ", mask)?;
+            show::number(rt, ", columns ", count)?;
         }
-        Columns::Refused(n) => {
-            show::number(b"", n);
-        }
+        Columns::Refused(n) => show::number(rt, "", n)?,
     }
-    show::end();
+    show::end(rt)
 }
 
 // Open with 0 to 9 widths.
-fn open_counts() {
+fn open_counts(rt: &impl Print) -> io::Result<()> {
     let widths = [1u8; 9];
     for n in 0..10usize {
-        show::case(b"open, widths ", n as u8);
-        answer(record_calls::open(&widths[..n]));
+        show::case(rt, "open, widths ", n as u8)?;
+        answer(rt, record_calls::open(&widths[..n]))?;
     }
+    Ok(())
 }
 
 // Open with a width of 0 to 9.
-fn open_widths() {
+fn open_widths(rt: &impl Print) -> io::Result<()> {
     for w in 0..10u8 {
-        show::case(b"open, width ", w);
-        answer(record_calls::open(&[2, w]));
+        show::case(rt, "open, width ", w)?;
+        answer(rt, record_calls::open(&[2, w]))?;
     }
+    Ok(())
 }
 
 // A query with an empty head and that many rows, the first R(e, 0), the others R(0, 0).
@@ -140,19 +137,21 @@ fn query(case: u8) -> Query {
 }
 
 // Put the query of each case at a place. Where the record is good and the place vacant, 5 is given for 1, 3, 5, 7 to 12 and 15, and 6 for 13.
-fn puts(r: Record, place: usize) {
+fn puts(rt: &impl Print, r: Record, place: usize) -> io::Result<()> {
     for case in 0..16u8 {
-        show::case(b"put ", case);
-        answer(r.put(place, query(case)));
+        show::case(rt, "put ", case)?;
+        answer(rt, r.put(place, query(case)))?;
     }
+    Ok(())
 }
 
 // Drop places 0 to 9.
-fn drops(r: Record) {
+fn drops(rt: &impl Print, r: Record) -> io::Result<()> {
     for place in 0..10usize {
-        show::case(b"drop ", place as u8);
-        answer(record_calls::drop_query(r, place));
+        show::case(rt, "drop ", place as u8)?;
+        answer(rt, record_calls::drop_query(r, place))?;
     }
+    Ok(())
 }
 
 // a to b of S, b to c of S, and dependencies that are refused.
@@ -190,21 +189,22 @@ fn dependency(case: u8) -> Dependency {
 }
 
 // Add the dependency of each case.
-fn adds(r: Record) {
+fn adds(rt: &impl Print, r: Record) -> io::Result<()> {
     for case in 0..6u8 {
-        show::case(b"add ", case);
-        answer(r.add_dependency(dependency(case)));
+        show::case(rt, "add ", case)?;
+        answer(rt, r.add_dependency(dependency(case)))?;
     }
+    Ok(())
 }
 
 // The record with b to c and a to b added 16 times each, so that 32 are held.
-fn full(r: Record) -> Record {
+fn full(rt: &impl Print, r: Record) -> io::Result<Record> {
     let mut grown = r;
     for case in 0..32u8 {
-        show::case(b"add to ", case);
-        grown = answer(grown.add_dependency(dependency(1 - case % 2)));
+        show::case(rt, "add to ", case)?;
+        grown = answer(rt, grown.add_dependency(dependency(1 - case % 2)))?;
     }
-    grown
+    Ok(grown)
 }
 
 // a b and b c of S, the same with two sets more, and join dependencies that are refused.
@@ -257,56 +257,58 @@ fn join(case: u8) -> JoinDependency {
 }
 
 // Add the join dependency of each case. Where the record is good and holds fewer than 4, 15 is given for 2 to 8.
-fn joins(r: Record) {
+fn joins(rt: &impl Print, r: Record) -> io::Result<()> {
     for case in 0..9u8 {
-        show::case(b"join ", case);
-        answer(r.add_join(join(case)));
+        show::case(rt, "join ", case)?;
+        answer(rt, r.add_join(join(case)))?;
     }
+    Ok(())
 }
 
 // The record with the first two join dependencies added twice each, so that 4 are held.
-fn joined(r: Record) -> Record {
+fn joined(rt: &impl Print, r: Record) -> io::Result<Record> {
     let mut grown = r;
     for case in 0..4u8 {
-        show::case(b"join to ", case);
-        grown = answer(grown.add_join(join(case % 2)));
+        show::case(rt, "join to ", case)?;
+        grown = answer(rt, grown.add_join(join(case % 2)))?;
     }
-    grown
+    Ok(grown)
 }
 
 // The columns of a relation that each of its sets, and the empty one, determines.
-fn determined(r: Record, relation: u8) {
+fn determined(rt: &impl Print, r: Record, relation: u8) -> io::Result<()> {
     for left in 0..9u8 {
-        show::case(b"determined by ", left);
-        columns(record_calls::determined(r, relation, left));
+        show::case(rt, "determined by ", left)?;
+        columns(rt, record_calls::determined(r, relation, left))?;
     }
+    Ok(())
 }
 
-pub fn all() {
-    open_counts();
-    open_widths();
+pub fn all(rt: &impl Print) -> io::Result<()> {
+    open_counts(rt)?;
+    open_widths(rt)?;
     let opened = record_calls::open(&[2, 3]);
     let r = opened.record;
-    puts(r, 0);
-    puts(r, 8);
-    adds(r);
-    joins(r);
+    puts(rt, r, 0)?;
+    puts(rt, r, 8)?;
+    adds(rt, r)?;
+    joins(rt, r)?;
     let filled = queries::put(r, 7, query(0));
-    puts(filled, 7);
-    drops(filled);
-    let grown = full(r);
-    adds(grown);
-    determined(grown, 1);
-    determined(grown, 0);
-    determined(grown, 2);
-    let four = joined(grown);
-    joins(four);
-    adds(four);
-    determined(four, 1);
+    puts(rt, filled, 7)?;
+    drops(rt, filled)?;
+    let grown = full(rt, r)?;
+    adds(rt, grown)?;
+    determined(rt, grown, 1)?;
+    determined(rt, grown, 0)?;
+    determined(rt, grown, 2)?;
+    let four = joined(rt, grown)?;
+    joins(rt, four)?;
+    adds(rt, four)?;
+    determined(rt, four, 1)?;
     let broken = queries::spoilt(r);
-    puts(broken, 8);
-    drops(broken);
-    adds(broken);
-    joins(broken);
-    determined(broken, 1);
+    puts(rt, broken, 8)?;
+    drops(rt, broken)?;
+    adds(rt, broken)?;
+    joins(rt, broken)?;
+    determined(rt, broken, 1)
 }

@@ -44,7 +44,7 @@ use Rattle.mapping.specs.declared.Mapped.{Mapped}
 use Rattle.reduction.specs.declared.Shortened.{Shortened}
 use Rattle.reduction.specs.declared.Reduced.{Reduced}
 use Rattle.mapping.specs.internal.Mapped.{IsMapped}
-use Rattle.std.specs.internal.CoreOf.{IsCoreOf}
+use Rattle.query_core.specs.internal.CoreOf.{IsCoreOf}
 use Rattle.reduction.specs.Reduced.{reduced_reply, refused_reduction, reduction_refusal, ReducesTo, IsReduced, ShortFormStored}
 use Rattle.reduction.specs.internal.Steps.{Shortenable, IsShortened, Reducible}
 

@@ -29,6 +29,7 @@ least-above (n ∷ ns) k below =
 -- And above each of the list
 above-all : (ns : List ℕ) {v : ℕ} → v ∈ ns → v < least_above ns
 unfolding least_above
+above-all [] {v = v} x' = elim x' [ ]
 above-all (n ∷ ns) (Memᴰ.head p) = omega arith
 above-all (n ∷ ns) (Memᴰ.tail at) = let rest = above-all ns at in omega arith
 

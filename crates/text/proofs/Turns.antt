@@ -59,6 +59,10 @@ rows_end widths relations cells n r h =
 
 -- ---- images
 
+-- Whether a variable stands in one of the first rows
+abbrev pub in_row : List ℕ → ℕ → List ℕ → List Cell → ℕ → Bool
+in_row schema size named cells v = theory.member v (theory.variables_of (theory.row_entries (rows_of schema (take size named) cells)))
+
 -- From variable v on, its image comes first if it passes, and else the next one's
 module _ (image : ℕ → theory.Entry) (test : ℕ → Bool) (v : ℕ) (h : v < 96) where
   left : 96 - v ≡ suc (96 - (v + 1))

@@ -1,6 +1,5 @@
 -- `evaluable` refuses in order, and then gives the place.
 -- Assumes nothing.
--- Where the call began, and where its record was found good
 use mathlib.Core.Path.{◌≡◌, sym, ◌∙◌}
 use mathlib.Core.Bool.{true}
 use Prim.Native.Nat.{◌≤◌}
@@ -12,6 +11,7 @@ use Rattle.record.specs.declared.Lookup.TheVariants as lookup
 use Rattle.record.specs.internal.Lookup.{filled_place}
 use Rattle.admission.proofs.Admitted.{wide, lookup-broken, lookup-elsewhere, lookup-unspelled, lookup-here}
 use Rattle.admission.proofs.evaluable.Goals as goal
+use Rattle.admission.proofs.evaluable.Goals.{Else-not-is_good, In-At}
 
 good : (c : goal.Else-not-is_good) → good_record c.args.given ≡ true
 good c = sym c.is_good.ensures ∙ c.if-not-is_good.false
@@ -21,7 +21,7 @@ placed : (c : goal.In-At)
 placed c = sym c.filled_place-found.ensures ∙ c.in-At.is
 
 widths : (c : goal.In-At) → c.args.given.relations ≤ length c.args.given.widths
-widths c = wide c.args.given (good c.before.before.before.before) (search rules)
+widths c = wide c.args.given (sym c.is_good.ensures ∙ c.if-not-is_good.false) (search rules)
 
 pub returns-then-not-is_good : goal.returns-then-not-is_good
 returns-then-not-is_good c =
@@ -30,31 +30,27 @@ returns-then-not-is_good c =
 
 pub returns-in_default : goal.returns-in_default
 returns-in_default c =
-    let p = c in
-    let a = p.args in
-    let looked = c.filled_place-found.ensures in
-    let told = c.enum_told-1.given in
-    told.1 ∙ lookup-elsewhere a.given a.place a.words.now told.0.0 (good (goal.at.returns-in_default c).Else-not-is_good) (sym looked ∙ told.1)
+    let a = c.args in
+    let told = c.in_default in
+    told.is ∙ lookup-elsewhere a.given a.place a.words.now told.field-0 (good (goal.at.returns-in_default c).Else-not-is_good)
+    (sym c.filled_place-found.ensures ∙ told.is)
 
 pub slice_bounds-widths-end : goal.slice_bounds-widths-end
 slice_bounds-widths-end c = widths (goal.at.slice_bounds-widths-end c).In-At
 
 pub slice_bounds-spelled-end : goal.slice_bounds-spelled-end
 slice_bounds-spelled-end c =
-    let p = c in
-    let r = p.args.given in
+    let r = c.args.given in
     sym (length-take-le r.relations r.widths (widths (goal.at.slice_bounds-spelled-end c).In-At))
 
 pub returns-then-not-spelled : goal.returns-then-not-spelled
 returns-then-not-spelled c =
-    let p = c in
-    let a = p.args in
-    lookup-unspelled a.given a.place a.words.now p.in-At.at (good (goal.at.returns-then-not-spelled c).Else-not-is_good) (placed (goal.at.returns-then-not-spelled c).In-At)
+    let a = c.args in
+    lookup-unspelled a.given a.place a.words.now c.in-At.at (good (goal.at.returns-then-not-spelled c).Else-not-is_good) (placed (goal.at.returns-then-not-spelled c).In-At)
     (sym c.spelled.ensures ∙ c.if-not-spelled.true)
 
 pub returns : goal.returns
 returns c =
-    let p = c in
-    let a = p.args in
-    lookup-here a.given a.place a.words.now p.in-At.at (good (goal.at.returns c).Else-not-is_good) (placed (goal.at.returns c).In-At)
+    let a = c.args in
+    lookup-here a.given a.place a.words.now c.in-At.at (good (goal.at.returns c).Else-not-is_good) (placed (goal.at.returns c).In-At)
     (sym c.spelled.ensures ∙ c.if-not-spelled.false)

@@ -1,6 +1,5 @@
 -- `testable` refuses in order.
 -- Assumes nothing.
--- Where the call began, and where its record was found good
 use mathlib.Core.Path.{◌≡◌, sym, ◌∙◌}
 use mathlib.Core.Bool.{true}
 use Prim.Native.Nat.{◌≤◌}
@@ -10,6 +9,7 @@ use lib.Seq.{length-take-le}
 use Rattle.record.specs.Rule.{good_record}
 use Rattle.admission.proofs.Admitted.{wide, test-broken, test-unspelled, test-goes}
 use Rattle.admission.proofs.testable.Goals as goal
+use Rattle.admission.proofs.testable.Goals.{Else-not-is_good}
 
 good : (c : goal.Else-not-is_good) → good_record c.args.given ≡ true
 good c = sym c.is_good.ensures ∙ c.if-not-is_good.false
@@ -28,18 +28,15 @@ slice_bounds-widths-end c = widths (goal.at.slice_bounds-widths-end c).Else-not-
 
 pub slice_bounds-spelled-end : goal.slice_bounds-spelled-end
 slice_bounds-spelled-end c =
-    let p = c in
-    let r = p.args.given in
+    let r = c.args.given in
     sym (length-take-le r.relations r.widths (widths (goal.at.slice_bounds-spelled-end c).Else-not-is_good))
 
 pub returns-then-not-spelled : goal.returns-then-not-spelled
 returns-then-not-spelled c =
-    let p = c in
-    let a = p.args in
+    let a = c.args in
     test-unspelled a.given a.words.now (good (goal.at.returns-then-not-spelled c).Else-not-is_good) (sym c.spelled.ensures ∙ c.if-not-spelled.true)
 
 pub returns : goal.returns
 returns c =
-    let p = c in
-    let a = p.args in
+    let a = c.args in
     test-goes a.given a.words.now (good (goal.at.returns c).Else-not-is_good) (sym c.spelled.ensures ∙ c.if-not-spelled.false)

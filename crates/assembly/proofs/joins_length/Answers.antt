@@ -1,7 +1,6 @@
 -- `assembly::joins_length` meets its contract. Invariant: the whole length is the sum with the length of the join dependencies from i on.
 -- Assumes nothing.
 use mathlib.Core.Path.{◌≡◌, sym, ap}
-use Prim.Native.Nat.{◌-◌}
 use native.Mathlib.Omega.{arith}
 use lib.ListN.{length}
 use borrow.Author.Tests.{leb-true}
@@ -20,27 +19,22 @@ loop-i-init c = (omega arith, omega arith, omega arith)
 
 pub join_length-sum-requires : goal.join_length-sum-requires
 join_length-sum-requires c =
-    let start = c in
-    let l : length start.args.list ≡ 4 = search rules in
-    leb-true _ 4 (every-get_or few_sets start.args.list c.loop-i.i past_join start.requires.1 (omega (arith, start.requires.0)))
+    let l : length c.args.list ≡ 4 = search rules in
+    leb-true _ 4 (every-get_or few_sets c.args.list c.loop-i.i past_join c.requires.1 (omega (arith, c.requires.0)))
 
 pub overflow_add-sum : goal.overflow_add-sum
 overflow_add-sum c = omega (arith, c.join_length-sum.ensures.1, c.requires.0)
 
 pub loop-i-preserved : goal.loop-i-preserved
 loop-i-preserved c =
-    let at-loop = c in
-    let start = at-loop in
-    let l : length start.args.t2 ≡ 4 = search rules in
+    let l : length c.args.list ≡ 4 = search rules in
     let e =
-    joins-next start.args.joined start.args.t2 at-loop.loop-i.i (omega (arith, start.requires.0)) c.loop-i-test.true in
-    (search rules, omega (arith, c.join_length-sum.ensures.1), omega (arith, e, c.join_length-sum.ensures.0, at-loop.loop-i.invariant.2))
+    joins-next c.args.joined c.args.list c.loop-i.i (omega (arith, c.requires.0)) c.loop-i-test.true in
+    (search rules, omega (arith, c.join_length-sum.ensures.1), omega (arith, e, c.join_length-sum.ensures.0, c.loop-i.invariant.2))
 
 pub returns : goal.returns
 returns c =
-    let after-if1 = c in
-    let start = after-if1 in
-    let l : length start.args.t2 ≡ 4 = search rules in
-    let e = joins-end start.args.joined start.args.t2 c.loop-i.i (omega (arith, start.requires.0)) c.loop-i-test.false in
-    let all = ap length (joins-some start.args.joined start.args.t2 after-if1.if-joined-eq0.false) in
-    (omega (arith, e, all, c.loop-i.invariant.2), omega (arith, start.requires.0))
+    let l : length c.args.list ≡ 4 = search rules in
+    let e = joins-end c.args.joined c.args.list c.loop-i.i (omega (arith, c.requires.0)) c.loop-i-test.false in
+    let all = ap length (joins-some c.args.joined c.args.list c.if-joined-eq0.false) in
+    (omega (arith, e, all, c.loop-i.invariant.2), omega (arith, c.requires.0))

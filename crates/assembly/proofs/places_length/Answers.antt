@@ -1,7 +1,7 @@
 use borrow.Author.Rules.{rules}
 use mathlib.Core.Path.{◌≡◌, ap, ◌∙◌}
 use mathlib.Core.List.{List, map, flatten}
-use Prim.Native.Nat.{ℕ, ◌+◌, ◌-◌, ◌≤◌, ◌<◌}
+use Prim.Native.Nat.{ℕ, ◌+◌, ◌≤◌, ◌<◌}
 use native.Mathlib.Nat.{zero-add}
 use native.Mathlib.Omega.{arith}
 use lib.ListN.{length, take, drop, get_or, length-append}
@@ -32,11 +32,12 @@ loop-k-init c =
 pub place_length-sum-requires : goal.place_length-sum-requires
 place_length-sum-requires c =
     let l : length c.args.places ≡ 8 = search rules in
-    let start = c in (
-      start.requires.widths_value,
-      every-get_or (good_place (take start.args.count start.args.widths)) start.args.places c.loop-k.k past_place
-          start.requires.places_value (omega (arith, start.requires.n_bound)),
-    )
+    record {
+      widths_value = c.requires.widths_value;
+      place_value =
+          every-get_or (good_place (take c.args.count c.args.widths)) c.args.places c.loop-k.k past_place
+          c.requires.places_value (omega (arith, c.requires.n_bound));
+    }
 
 pub overflow_add-sum : goal.overflow_add-sum
 overflow_add-sum c =
@@ -45,18 +46,15 @@ overflow_add-sum c =
 pub loop-k-preserved : goal.loop-k-preserved
 loop-k-preserved c =
     let l : length c.args.places ≡ 8 = search rules in
-    let after-loop = c in
-    let start = after-loop in
     let e =
-    next (take start.args.count start.args.widths) start.args.t1 start.args.n after-loop.loop-k.k (omega (arith, start.requires.1.1))
+    next (take c.args.count c.args.widths) c.args.places c.args.n c.loop-k.k (omega (arith, c.requires.n_bound))
     c.loop-k-test.true in
-    (search rules, omega (arith, c.place_length-sum.ensures.1), omega (arith, e, c.place_length-sum.ensures.0, after-loop.loop-k.invariant.2))
+    (search rules, omega (arith, c.place_length-sum.ensures.1), omega (arith, e, c.place_length-sum.ensures.0, c.loop-k.invariant.2))
 
 pub returns : goal.returns
 returns c =
     let l : length c.args.places ≡ 8 = search rules in
-    let start = c in
     let e =
-    none_left (take start.args.count start.args.widths) start.args.places start.args.n c.loop-k.k (omega (arith, start.requires.n_bound))
+    none_left (take c.args.count c.args.widths) c.args.places c.args.n c.loop-k.k (omega (arith, c.requires.n_bound))
     c.loop-k-test.false in
-    (omega (arith, e, c.loop-k.invariant.2), omega (arith, start.requires.n_bound))
+    (omega (arith, e, c.loop-k.invariant.2), omega (arith, c.requires.n_bound))

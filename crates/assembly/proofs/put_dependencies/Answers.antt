@@ -1,7 +1,7 @@
 use borrow.Author.Rules.{rules}
 use mathlib.Core.Path.{◌≡◌, refl, ◌∙◌}
 use mathlib.Core.List.{List, flat_map}
-use Prim.Native.Nat.{ℕ, ◌+◌, ◌*◌, ◌-◌, ◌≤◌, ◌<◌}
+use Prim.Native.Nat.{ℕ, ◌+◌, ◌*◌, ◌≤◌, ◌<◌}
 use native.Mathlib.Nat.{add-zero}
 use native.Mathlib.Omega.{arith}
 use lib.ListN.{length, take, get_or, set, length-set}
@@ -44,65 +44,51 @@ loop-i-init c =
 pub overflow_add-at : goal.overflow_add-at
 overflow_add-at c =
     let l : length c.args.list ≡ 32 = search rules in
-    let after-loop = c in
-    let start = after-loop in
     let r =
-    room (set start.args.buffer.now start.args.at start.args.held) start.args.at start.args.held start.args.t4
-    after-loop.loop-i.buffer after-loop.loop-i.i c.loop-i-test.true (omega (arith, start.requires.0)) after-loop.loop-i.invariant.1 in
+    room (set c.args.buffer.now c.args.at c.args.held) c.args.at c.args.held c.args.list
+    c.loop-i.buffer c.loop-i.i c.loop-i-test.true (omega (arith, c.requires.held_bound)) c.loop-i.invariant.1 in
     omega (arith, r)
 
 pub overflow_mul-i : goal.overflow_mul-i
 overflow_mul-i c =
     let l : length c.args.list ≡ 32 = search rules in
-    let after-loop = c in
-    let start = after-loop in
     let r =
-    room (set start.args.buffer.now start.args.at start.args.held) start.args.at start.args.held start.args.t4
-    after-loop.loop-i.buffer after-loop.loop-i.i c.loop-i-test.true (omega (arith, start.requires.0)) after-loop.loop-i.invariant.1 in
+    room (set c.args.buffer.now c.args.at c.args.held) c.args.at c.args.held c.args.list
+    c.loop-i.buffer c.loop-i.i c.loop-i-test.true (omega (arith, c.requires.held_bound)) c.loop-i.invariant.1 in
     omega (arith, r)
 
 pub overflow_add-at-in-loop-i : goal.overflow_add-at-in-loop-i
 overflow_add-at-in-loop-i c =
     let l : length c.args.list ≡ 32 = search rules in
-    let after-loop = c in
-    let start = after-loop in
     let r =
-    room (set start.args.buffer.now start.args.at start.args.held) start.args.at start.args.held start.args.t4
-    after-loop.loop-i.buffer after-loop.loop-i.i c.loop-i-test.true (omega (arith, start.requires.0)) after-loop.loop-i.invariant.1 in
+    room (set c.args.buffer.now c.args.at c.args.held) c.args.at c.args.held c.args.list
+    c.loop-i.buffer c.loop-i.i c.loop-i-test.true (omega (arith, c.requires.held_bound)) c.loop-i.invariant.1 in
     omega (arith, r)
 
 pub put_dependency-requires : goal.put_dependency-requires
 put_dependency-requires c =
     let l : length c.args.list ≡ 32 = search rules in
-    let after-loop = c in
-    let start = after-loop in
-    room (set start.args.buffer.now start.args.at start.args.held) start.args.at start.args.held start.args.t4
-    after-loop.loop-i.buffer after-loop.loop-i.i c.loop-i-test.true (omega (arith, start.requires.0)) after-loop.loop-i.invariant.1
+    room (set c.args.buffer.now c.args.at c.args.held) c.args.at c.args.held c.args.list
+    c.loop-i.buffer c.loop-i.i c.loop-i-test.true (omega (arith, c.requires.held_bound)) c.loop-i.invariant.1
 
 pub loop-i-preserved : goal.loop-i-preserved
 loop-i-preserved c =
-    let l : length c.args.list ≡ 32 = search rules in
-    let after-put-dependency = c in
-    let after-loop-test = after-put-dependency in
-    let after-loop = after-loop-test in
-    let start = after-loop in (
+    let l : length c.args.list ≡ 32 = search rules in (
       search rules,
-      goes_on (set start.args.buffer.now start.args.at start.args.held) start.args.at start.args.held start.args.t4
-          after-loop.loop.buffer after-loop.loop.i after-loop-test.loop-test.true (omega (arith, start.requires.0)) after-loop.loop.invariant.1
-          after-put-dependency.put_dependency.new.buffer after-put-dependency.put_dependency.ensures,
+      goes_on (set c.args.buffer.now c.args.at c.args.held) c.args.at c.args.held c.args.list
+          c.loop-i.buffer c.loop-i.i c.loop-i-test.true (omega (arith, c.requires.held_bound)) c.loop-i.invariant.1
+          c.put_dependency.new.buffer c.put_dependency.ensures,
     )
 
 pub shape_of-buffer : goal.shape_of-buffer
 shape_of-buffer c =
-    let start = c in
-    c.loop-i.invariant.1.long ∙ length-set start.args.buffer.now start.args.at start.args.held
+    c.loop-i.invariant.1.long ∙ length-set c.args.buffer.now c.args.at c.args.held
 
 pub returns : goal.returns
 returns c =
     let l : length c.args.list ≡ 32 = search rules in
-    let start = c in
-    let k : length (take start.args.held start.args.list) ≡ start.args.held =
-    length-take-le start.args.held start.args.list (omega (arith, start.requires.held_bound)) in
-    byte-and-run start.args.buffer.now start.args.at start.args.held (flat_map put_dependency (take start.args.held start.args.list))
-    c.loop-i.buffer (omega (arith, start.requires.held_in_bounds))
+    let k : length (take c.args.held c.args.list) ≡ c.args.held =
+    length-take-le c.args.held c.args.list (omega (arith, c.requires.held_bound)) in
+    byte-and-run c.args.buffer.now c.args.at c.args.held (flat_map put_dependency (take c.args.held c.args.list))
+    c.loop-i.buffer (omega (arith, c.requires.held_in_bounds))
     (writing-ends c.loop-i.invariant.1 (omega arith)).0

@@ -1,4 +1,4 @@
-use Prim.Native.Nat.{◌+◌, ◌*◌, ◌-◌, ◌≤◌}
+use Prim.Native.Nat.{◌+◌, ◌*◌, ◌≤◌}
 use lib.ListN.{take}
 use Rattle.assembly.specs.internal.Pieces.{put_dependency}
 use Rattle.encoder.proofs.Stores.{Writing}

@@ -1,138 +1,140 @@
--- ---- the run after each store
-use mathlib.Core.Path.{refl}
+use mathlib.Core.Path.{◌≡◌, refl}
 use mathlib.Core.List.{List, [], ◌++◌, map}
 use Prim.Native.Nat.{ℕ, ◌+◌, ◌*◌, ◌≤◌}
 use native.Mathlib.Omega.{arith}
 use lib.ListN.{length, take, length-map}
+use Rattle.query.specs.declared.Place.{Place}
+use Rattle.lists.specs.Over.{over}
 use Rattle.format.specs.Bytes.{bytes_of}
 use Rattle.format.specs.File.{table_of, put_place}
 use Rattle.format.proofs.Directory.{length-table}
 use Rattle.format.proofs.Lengths.{take_short}
 use Rattle.encoder.proofs.Stores.{Run, run-starts, run-turns, word-run}
 use Rattle.assembly.proofs.put_directory.Goals as goal
+use Rattle.assembly.proofs.put_directory.Goals.{After-put_table}
 
-abbrev start-2 : goal.After-put_word-2 → goal.Start
-start-2 c = c
+-- ---- the run after each store
+module _ (before : List ℕ) (n first second : ℕ) (parts : List (List ℕ)) (room : 10 + 4 * n ≤ length before) where
+  -- what has been written after each
+  abbrev bytes-1 : List ℕ
+  bytes-1 = [] ++ bytes_of 2 (n + 2)
 
-abbrev start-3 : goal.After-put_word-3 → goal.Start
-start-3 c = start-2 c.before.before.before.before
+  abbrev bytes_2 : List ℕ
+  bytes_2 = bytes-1 ++ bytes_of 2 (2 + 4 * (n + 2))
 
-abbrev start-4 : goal.After-put_word-4 → goal.Start
-start-4 c = start-3 c.before.before.before.before
+  abbrev bytes-3 : List ℕ
+  bytes-3 = bytes_2 ++ bytes_of 2 first
 
-abbrev start-5 : goal.After-put_word-5 → goal.Start
-start-5 c = start-4 c.before.before.before.before
+  abbrev bytes_4 : List ℕ
+  bytes_4 = bytes-3 ++ bytes_of 2 (2 + 4 * (n + 2) + first)
 
--- what has been written after each
-abbrev bytes-1 : goal.Start → List ℕ
-bytes-1 s = [] ++ bytes_of 2 (s.args.n + 2)
+  abbrev bytes-5 : List ℕ
+  bytes-5 = bytes_4 ++ bytes_of 2 second
 
-abbrev bytes_2 : goal.Start → List ℕ
-bytes_2 s = bytes-1 s ++ bytes_of 2 (2 + 4 * (s.args.n + 2))
+  -- where the first of the parts that the table lists starts
+  abbrev begin : ℕ
+  begin = 2 + 4 * (n + 2) + first + second
 
-abbrev bytes-3 : goal.Start → List ℕ
-bytes-3 s = bytes_2 s ++ bytes_of 2 s.args.first
+  module _ (one : List ℕ) (e₁ : one ≡ over before 0 (bytes_of 2 (n + 2))) where
+    run-1 : Run before 0 bytes-1 one 2
+    run-1 = word-run (run-starts before 0) (n + 2) one (omega arith) e₁
 
-abbrev bytes_4 : goal.Start → List ℕ
-bytes_4 s = bytes-3 s ++ bytes_of 2 (2 + 4 * (s.args.n + 2) + s.args.first)
+    module _ (two : List ℕ) (e₂ : two ≡ over one 2 (bytes_of 2 (2 + 4 * (n + 2)))) where
+      run-2 : Run before 0 bytes_2 two 4
+      run-2 = word-run run-1 (2 + 4 * (n + 2)) two (omega arith) e₂
 
-abbrev bytes-5 : goal.Start → List ℕ
-bytes-5 s = bytes_4 s ++ bytes_of 2 s.args.second
+      module _ (three : List ℕ) (e₃ : three ≡ over two 4 (bytes_of 2 first)) where
+        run-3 : Run before 0 bytes-3 three 6
+        run-3 = word-run run-2 first three (omega arith) e₃
 
-run-1 : (c : goal.After-put_word) → Run c.args.buffer.now 0 (bytes-1 c.before.before.before) c.put_word.new.buffer 2
-run-1 c =
-    word-run (run-starts c.args.buffer.now 0) (c.args.n + 2) c.put_word.new.buffer (omega (arith, c.requires.1.1.1))
-    c.put_word.ensures
+        module _ (four : List ℕ) (e₄ : four ≡ over three 6 (bytes_of 2 (2 + 4 * (n + 2) + first))) where
+          run-4 : Run before 0 bytes_4 four 8
+          run-4 = word-run run-3 (2 + 4 * (n + 2) + first) four (omega arith) e₄
 
-run-2 : (c : goal.After-put_word-2) → Run (start-2 c).args.buffer.now 0 (bytes_2 (start-2 c)) c.put_word-2.new.buffer 4
-run-2 c =
-    let earlier = c in
-    word-run (run-1 c.before.before.before.before) (2 + 4 * ((start-2 c).args.n + 2)) c.put_word-2.new.buffer (omega (arith, (start-2 c).requires.1.1.1)) c.put_word-2.ensures
+          module _ (five : List ℕ) (e₅ : five ≡ over four 8 (bytes_of 2 second)) where
+            run-5 : Run before 0 bytes-5 five 10
+            run-5 = word-run run-4 second five (omega arith) e₅
 
-run-3 : (c : goal.After-put_word-3) → Run (start-3 c).args.buffer.now 0 (bytes-3 (start-3 c)) c.put_word-3.new.buffer 6
-run-3 c =
-    let earlier = c in
-    word-run (run-2 c.before.before.before.before) (start-3 c).args.first c.put_word-3.new.buffer (omega (arith, (start-3 c).requires.1.1.1)) c.put_word-3.ensures
+            last-run : (after : List ℕ) → length parts ≤ n → after ≡ over five 10 (table_of begin parts)
+                → Run before 0 (bytes-5 ++ table_of begin parts) after (10 + length (table_of begin parts))
+            last-run after few e =
+                run-turns run-5 (table_of begin parts) after (10 + length (table_of begin parts)) (omega (arith, length-table begin parts)) e refl
 
-run-4 : (c : goal.After-put_word-4) → Run (start-4 c).args.buffer.now 0 (bytes_4 (start-4 c)) c.put_word-4.new.buffer 8
-run-4 c =
-    let earlier = c in
-    word-run (run-3 c.before.before.before.before) (2 + 4 * ((start-4 c).args.n + 2) + (start-4 c).args.first) c.put_word-4.new.buffer (omega (arith, (start-4 c).requires.1.1.1))
-    c.put_word-4.ensures
+-- The parts that the table lists
+abbrev listed : List ℕ → ℕ → List Place → List (List ℕ)
+listed schema n places = map (put_place schema) (take n places)
 
-run-5 : (c : goal.After-put_word-5) → Run (start-5 c).args.buffer.now 0 (bytes-5 (start-5 c)) c.put_word-5.new.buffer 10
-run-5 c =
-    let earlier = c in
-    word-run (run-4 c.before.before.before.before) (start-5 c).args.second c.put_word-5.new.buffer (omega (arith, (start-5 c).requires.1.1.1)) c.put_word-5.ensures
-
--- The parts that the table lists, and where the first of them starts
-abbrev listed : goal.Start → List (List ℕ)
-listed c = map (put_place (take c.args.count c.args.widths)) (take c.args.n c.args.places)
-
-abbrev begin : goal.Start → ℕ
-begin c = 2 + 4 * (c.args.n + 2) + c.args.first + c.args.second
-
-few : (c : goal.Start) → length (listed c) ≤ c.args.n
-few c = rw (length-map (take c.args.n c.args.places) (put_place (take c.args.count c.args.widths))) (take_short c.args.n c.args.places)
-
-last-run : (c : goal.After-put_table) → Run (start-5 c.before.before.before.before).args.buffer.now 0
-    (bytes-5 (start-5 c.before.before.before.before)
-    ++ table_of (begin (start-5 c.before.before.before.before)) (listed (start-5 c.before.before.before.before))) c.put_table.new.buffer
-    (10 + length (table_of (begin (start-5 c.before.before.before.before)) (listed (start-5 c.before.before.before.before))))
-last-run c =
-    let earlier = c in
-    let start = start-5 c.before.before.before.before in
-    run-turns (run-5 c.before.before.before.before) (table_of (begin start) (listed start)) c.put_table.new.buffer (10 + length (table_of (begin start) (listed start)))
-    (omega (arith, length-table (begin start) (listed start), few start, start.pre.1.1.1)) c.put_table.ensures refl
+few : (schema : List ℕ) (n : ℕ) (places : List Place) → length (listed schema n places) ≤ n
+few schema n places = rw (length-map (take n places) (put_place schema)) (take_short n places)
 
 pub put_word-requires : goal.put_word-requires
 put_word-requires c = omega (arith, c.requires.n_in_bounds)
 
 pub put_word-requires-2 : goal.put_word-requires-2
-put_word-requires-2 c = omega (arith, (run-1 (goal.at.put_word-requires-2 c).After-put_word).long, c.requires.n_in_bounds)
+put_word-requires-2 c =
+    let a = c.args in
+    let run = run-1 a.buffer.now a.n a.first a.second [] c.requires.n_in_bounds c.put_word.new.buffer c.put_word.ensures in
+    omega (arith, run.long, c.requires.n_in_bounds)
 
 pub put_word-requires-3 : goal.put_word-requires-3
 put_word-requires-3 c =
-    let start = start-2 (goal.at.put_word-requires-3 c).After-put_word-2 in
-    omega (arith, (run-2 (goal.at.put_word-requires-3 c).After-put_word-2).long, start.pre.1.1.1)
+    let a = c.args in
+    let run =
+    run-2 a.buffer.now a.n a.first a.second [] c.requires.n_in_bounds c.put_word.new.buffer c.put_word.ensures c.put_word-2.new.buffer c.put_word-2.ensures in
+    omega (arith, run.long, c.requires.n_in_bounds)
 
 pub overflow_add-start-3 : goal.overflow_add-start-3
-overflow_add-start-3 c =
-    let start = start-3 (goal.at.overflow_add-start-3 c).After-put_word-3 in
-    omega (arith, start.pre.1.1.0)
+overflow_add-start-3 c = omega (arith, c.requires.n_bound)
 
 pub put_word-requires-4 : goal.put_word-requires-4
 put_word-requires-4 c =
-    let start = start-3 (goal.at.put_word-requires-4 c).After-put_word-3 in
-    omega (arith, (run-3 (goal.at.put_word-requires-4 c).After-put_word-3).long, start.pre.1.1.1)
+    let a = c.args in
+    let run =
+    run-3 a.buffer.now a.n a.first a.second [] c.requires.n_in_bounds c.put_word.new.buffer c.put_word.ensures c.put_word-2.new.buffer c.put_word-2.ensures
+    c.put_word-3.new.buffer c.put_word-3.ensures in
+    omega (arith, run.long, c.requires.n_in_bounds)
 
 pub put_word-requires-5 : goal.put_word-requires-5
 put_word-requires-5 c =
-    let start = start-4 (goal.at.put_word-requires-5 c).After-put_word-4 in
-    omega (arith, (run-4 (goal.at.put_word-requires-5 c).After-put_word-4).long, start.pre.1.1.1)
+    let a = c.args in
+    let run =
+    run-4 a.buffer.now a.n a.first a.second [] c.requires.n_in_bounds c.put_word.new.buffer c.put_word.ensures c.put_word-2.new.buffer c.put_word-2.ensures
+    c.put_word-3.new.buffer c.put_word-3.ensures c.put_word-4.new.buffer c.put_word-4.ensures in
+    omega (arith, run.long, c.requires.n_in_bounds)
 
 pub overflow_add-start-4 : goal.overflow_add-start-4
-overflow_add-start-4 c =
-    let start = start-5 (goal.at.overflow_add-start-4 c).After-put_word-5 in
-    omega (arith, start.pre.1.1.0)
+overflow_add-start-4 c = omega (arith, c.requires.n_bound)
 
 pub overflow_add-start-5 : goal.overflow_add-start-5
-overflow_add-start-5 c =
-    let start = start-5 (goal.at.overflow_add-start-5 c).After-put_word-5 in
-    omega (arith, start.pre.1.1.0)
+overflow_add-start-5 c = omega (arith, c.requires.n_bound)
 
 pub put_table-requires : goal.put_table-requires
 put_table-requires c =
-    let start = start-5 (goal.at.put_table-requires c).After-put_word-5 in (
-      start.pre.0,
-      (
-        start.pre.1.0,
-        ((start.pre.1.1.0.0, omega (arith, start.pre.1.1.0)), omega (arith, (run-5 (goal.at.put_table-requires c).After-put_word-5).long, start.pre.1.1.1)),
-      ),
-    )
+    let a = c.args in
+    let run =
+    run-5 a.buffer.now a.n a.first a.second [] c.requires.n_in_bounds c.put_word.new.buffer c.put_word.ensures c.put_word-2.new.buffer c.put_word-2.ensures
+    c.put_word-3.new.buffer c.put_word-3.ensures c.put_word-4.new.buffer c.put_word-4.ensures c.put_word-5.new.buffer c.put_word-5.ensures in
+    record {
+      widths_value = c.requires.widths_value;
+      places_value = c.requires.places_value;
+      n_bound = (c.requires.n_bound.0, omega (arith, c.requires.n_bound));
+      n_in_bounds = omega (arith, run.long, c.requires.n_in_bounds);
+    }
+
+-- The whole directory
+whole : (c : goal.After-put_table) → Run c.args.buffer.now 0
+    (bytes-5 c.args.buffer.now c.args.n c.args.first c.args.second (listed (take c.args.count c.args.widths) c.args.n c.args.places) c.requires.n_in_bounds
+    ++ table_of (2 + 4 * (c.args.n + 2) + c.args.first + c.args.second) (listed (take c.args.count c.args.widths) c.args.n c.args.places)) c.put_table.new.buffer
+    (10 + length (table_of (2 + 4 * (c.args.n + 2) + c.args.first + c.args.second) (listed (take c.args.count c.args.widths) c.args.n c.args.places)))
+whole c =
+    let a = c.args in
+    let schema = take a.count a.widths in
+    last-run a.buffer.now a.n a.first a.second (listed schema a.n a.places) c.requires.n_in_bounds c.put_word.new.buffer c.put_word.ensures
+    c.put_word-2.new.buffer c.put_word-2.ensures c.put_word-3.new.buffer c.put_word-3.ensures c.put_word-4.new.buffer c.put_word-4.ensures
+    c.put_word-5.new.buffer c.put_word-5.ensures c.put_table.new.buffer (few schema a.n a.places) c.put_table.ensures
 
 pub shape_of-buffer : goal.shape_of-buffer
-shape_of-buffer c = (last-run (goal.at.shape_of-buffer c).After-put_table).long
+shape_of-buffer c = (whole (goal.at.shape_of-buffer c).After-put_table).long
 
 pub returns : goal.returns
-returns c = (last-run (goal.at.returns c).After-put_table).written
+returns c = (whole (goal.at.returns c).After-put_table).written

@@ -1,8 +1,7 @@
 -- `assembly::put_join` meets its contract. Invariant: the sets from i on are still to be written. Assumes nothing.
--- The bytes of a set
 use mathlib.Core.Path.{◌≡◌, refl, sym, ap, ◌∙◌}
 use mathlib.Core.List.{List, [], ◌∷◌, flat_map}
-use Prim.Native.Nat.{ℕ, ◌+◌, ◌-◌, ◌≤◌, ◌<◌}
+use Prim.Native.Nat.{ℕ, ◌+◌, ◌≤◌, ◌<◌}
 use native.Mathlib.Nat.{add-zero}
 use native.Mathlib.Omega.{arith}
 use lib.ListN.{length, take, get_or, set, length-set}
@@ -14,7 +13,9 @@ use Rattle.encoder.proofs.Stores.{Writing, writing-starts, writing-room, writing
 use Rattle.assembly.specs.internal.Pieces.{put_join}
 use Rattle.assembly.proofs.Joins.{join-long}
 use Rattle.assembly.proofs.put_join.Goals as goal
+use Rattle.assembly.proofs.put_join.Goals.{In-loop-i, Start}
 
+-- The bytes of a set
 abbrev one : ℕ → List ℕ
 one b = b ∷ []
 
@@ -65,32 +66,30 @@ long : (c : goal.Start) → length (put_join c.args.j) ≡ 2 + c.args.j.count
 long c = join-long c.args.j (four c) c.requires.count_bound
 
 pub bounds-buffer-at : goal.bounds-buffer-at
-bounds-buffer-at c = let start = c in omega (arith, long (goal.at.bounds-buffer-at c).Start, start.requires.j_in_bounds)
+bounds-buffer-at c = omega (arith, long (goal.at.bounds-buffer-at c).Start, c.requires.j_in_bounds)
 
 pub overflow_add-buffer : goal.overflow_add-buffer
-overflow_add-buffer c = let start = c in let l = long (goal.at.overflow_add-buffer c).Start in let room = start.requires.j_in_bounds in search rules
+overflow_add-buffer c = let l = long (goal.at.overflow_add-buffer c).Start in let room = c.requires.j_in_bounds in search rules
 
 pub bounds-buffer-at-2 : goal.bounds-buffer-at-2
 bounds-buffer-at-2 c =
-    let start = c in
-    omega (arith, long (goal.at.bounds-buffer-at-2 c).Start, start.requires.j_in_bounds, length-set start.args.buffer.now start.args.at start.args.j.relation)
+    omega (arith, long (goal.at.bounds-buffer-at-2 c).Start, c.requires.j_in_bounds, length-set c.args.buffer.now c.args.at c.args.j.relation)
 
 pub loop-i-init : goal.loop-i-init
 loop-i-init c =
-    let start = c in
-    let a = start.args in (
+    let a = c.args in (
       omega arith,
-      begins (begun a.buffer.now a.at a.j.relation a.j.count) a.at a.j.count a.j.sets (omega (arith, four (goal.at.loop-i-init c).Start, start.requires.count_bound))
-          (omega (arith, long (goal.at.loop-i-init c).Start, start.requires.j_in_bounds, begun-long a.buffer.now a.at a.j.relation a.j.count)),
+      begins (begun a.buffer.now a.at a.j.relation a.j.count) a.at a.j.count a.j.sets (omega (arith, four (goal.at.loop-i-init c).Start, c.requires.count_bound))
+          (omega (arith, long (goal.at.loop-i-init c).Start, c.requires.j_in_bounds, begun-long a.buffer.now a.at a.j.relation a.j.count)),
     )
 
 -- There is room for the set at i
 next-room : (c : goal.In-loop-i) → c.args.at + 2 + c.loop-i.i < length c.loop-i.buffer
 next-room c =
-    let start = c in
-    let a = start.args in
+    let four : length c.args.j.sets ≡ 4 = search (mapped-length, rules) in
+    let a = c.args in
     room (begun a.buffer.now a.at a.j.relation a.j.count) a.at a.j.count a.j.sets c.loop-i.buffer c.loop-i.i
-    c.loop-i-test.true (omega (arith, four c.before.before.before.before, start.requires.count_bound)) c.loop-i.invariant.1
+    c.loop-i-test.true (omega (arith, four, c.requires.count_bound)) c.loop-i.invariant.1
 
 pub bounds-sets-i : goal.bounds-sets-i
 bounds-sets-i c = let few = c.requires.count_bound in search rules
@@ -106,30 +105,27 @@ bounds-buffer-at-in-loop-i c = next-room (goal.at.bounds-buffer-at-in-loop-i c).
 
 pub loop-i-preserved : goal.loop-i-preserved
 loop-i-preserved c =
-    let start = c in
-    let a = start.args in (
+    let a = c.args in (
       search rules,
       goes_on (begun a.buffer.now a.at a.j.relation a.j.count) a.at a.j.count a.j.sets c.loop-i.buffer c.loop-i.i
-          c.loop-i-test.true (omega (arith, four (goal.at.loop-i-preserved c).Start, start.requires.count_bound)) c.loop-i.invariant.1,
+          c.loop-i-test.true (omega (arith, four (goal.at.loop-i-preserved c).Start, c.requires.count_bound)) c.loop-i.invariant.1,
     )
 
 pub overflow_add-result : goal.overflow_add-result
-overflow_add-result c = let start = c in let l = long (goal.at.overflow_add-result c).Start in let room = start.requires.j_in_bounds in search rules
+overflow_add-result c = let l = long (goal.at.overflow_add-result c).Start in let room = c.requires.j_in_bounds in search rules
 
 pub overflow_add-result-2 : goal.overflow_add-result-2
-overflow_add-result-2 c = let start = c in let l = long (goal.at.overflow_add-result-2 c).Start in let room = start.requires.j_in_bounds in search rules
+overflow_add-result-2 c = let l = long (goal.at.overflow_add-result-2 c).Start in let room = c.requires.j_in_bounds in search rules
 
 pub shape_of-buffer : goal.shape_of-buffer
 shape_of-buffer c =
-    let start = c in
-    c.loop-i.invariant.1.long ∙ begun-long start.args.buffer.now start.args.at start.args.j.relation start.args.j.count
+    c.loop-i.invariant.1.long ∙ begun-long c.args.buffer.now c.args.at c.args.j.relation c.args.j.count
 
 pub returns : goal.returns
 returns c =
-    let start = c in
-    let a = start.args in
-    let k : length (take a.j.count a.j.sets) ≡ a.j.count = length-take-le a.j.count a.j.sets (omega (arith, four (goal.at.returns c).Start, start.requires.count_bound)) in (
+    let a = c.args in
+    let k : length (take a.j.count a.j.sets) ≡ a.j.count = length-take-le a.j.count a.j.sets (omega (arith, four (goal.at.returns c).Start, c.requires.count_bound)) in (
       ended a.buffer.now a.at a.j.relation a.j.count (take a.j.count a.j.sets) c.loop-i.buffer
-          (omega (arith, long (goal.at.returns c).Start, start.requires.j_in_bounds)) (writing-ends c.loop-i.invariant.1 (omega arith)).0,
+          (omega (arith, long (goal.at.returns c).Start, c.requires.j_in_bounds)) (writing-ends c.loop-i.invariant.1 (omega arith)).0,
       omega (arith, long (goal.at.returns c).Start),
     )

@@ -1,8 +1,7 @@
 -- `assembly::put_joins` meets its contract. Invariant: the join dependencies from i on are still to be written. Assumes nothing.
--- Nothing is written where none is held
 use mathlib.Core.Path.{◌≡◌, sym, ap, ◌∙◌}
 use mathlib.Core.List.{List, [], ◌∷◌, flat_map}
-use Prim.Native.Nat.{ℕ, ◌+◌, ◌-◌, ◌≤◌, ◌<◌}
+use Prim.Native.Nat.{ℕ, ◌+◌, ◌≤◌, ◌<◌}
 use native.Mathlib.Omega.{arith}
 use lib.ListN.{length, take, get_or, set, length-set}
 use lib.Seq.{length-take-le, get_or-take}
@@ -17,7 +16,9 @@ use Rattle.encoder.proofs.Stores.{Writing, writing-starts, writing-room, writing
 use Rattle.assembly.specs.internal.Pieces.{put_join, few_sets, joins_bytes}
 use Rattle.assembly.proofs.Joins.{joins-none, joins-some}
 use Rattle.assembly.proofs.put_joins.Goals as goal
+use Rattle.assembly.proofs.put_joins.Goals.{Else-joined-eq0, Start}
 
+-- Nothing is written where none is held
 nothing : (buffer : List ℕ) (at joined : ℕ) (list : List JoinDependency) → joined ≡ 0
     → (buffer ≡ over buffer at (joins_bytes joined list)) × (at ≡ at + length (joins_bytes joined list))
 nothing buffer at joined list e =
@@ -47,22 +48,17 @@ ended buffer at joined list after next some h e =
       omega (arith, ap length all, e.1),
     )
 
-four : (c : goal.Start) → length c.args.list ≡ 4
-four c = search rules
-
 -- There is room for the count and each join dependency
 whole : (c : goal.Else-joined-eq0)
     → c.args.at + 1 + length (flat_map put_join (take c.args.joined c.args.list))
     ≤ length c.args.buffer.now
 whole c =
-    let start = c in
-    let all = ap length (joins-some start.args.joined start.args.list c.if-joined-eq0.false) in
-    omega (arith, all, start.requires.list_in_bounds)
+    let all = ap length (joins-some c.args.joined c.args.list c.if-joined-eq0.false) in
+    omega (arith, all, c.requires.list_in_bounds)
 
 pub returns-then-joined-eq0 : goal.returns-then-joined-eq0
 returns-then-joined-eq0 c =
-    let start = c in
-    nothing start.args.buffer.now start.args.at start.args.joined start.args.list c.if-joined-eq0.true
+    nothing c.args.buffer.now c.args.at c.args.joined c.args.list c.if-joined-eq0.true
 
 pub bounds-buffer-at : goal.bounds-buffer-at
 bounds-buffer-at c = omega (arith, whole (goal.at.bounds-buffer-at c).Else-joined-eq0)
@@ -83,27 +79,23 @@ bounds-list-i c = let few = c.requires.joined_bound.0 in search rules
 
 pub put_join-next-requires : goal.put_join-next-requires
 put_join-next-requires c =
-    let in-loop = c in
-    let at-loop = in-loop in
-    let start = at-loop in
-    let a = start.args in (
-      leb-true _ 4
-          (every-get_or few_sets a.list at-loop.loop.i past_join start.requires.0.1 (omega (arith, four start, start.requires.0.0, in-loop.loop-i-test.true))),
-      room (set a.buffer.now a.at a.joined) a.at a.joined a.list at-loop.loop.buffer at-loop.loop.next at-loop.loop.i
-          in-loop.loop-i-test.true (omega (arith, four start, start.requires.0.0)) at-loop.loop.invariant.1,
-    )
+    let four : length c.args.list ≡ 4 = search rules in
+    let a = c.args in
+    record {
+      count_bound = leb-true _ 4
+          (every-get_or few_sets a.list c.loop-i.i past_join c.requires.joined_bound.1 (omega (arith, four, c.requires.joined_bound.0, c.loop-i-test.true)));
+      j_in_bounds = room (set a.buffer.now a.at a.joined) a.at a.joined a.list c.loop-i.buffer c.loop-i.next c.loop-i.i
+          c.loop-i-test.true (omega (arith, four, c.requires.joined_bound.0)) c.loop-i.invariant.1;
+    }
 
 pub loop-i-preserved : goal.loop-i-preserved
 loop-i-preserved c =
-    let after-put-join = c in
-    let in-loop = after-put-join in
-    let at-loop = in-loop in
-    let start = at-loop in
-    let a = start.args in (
+    let four : length c.args.list ≡ 4 = search rules in
+    let a = c.args in (
       search rules,
-      goes_on (set a.buffer.now a.at a.joined) a.at a.joined a.list at-loop.loop.buffer at-loop.loop.next at-loop.loop.i
-          in-loop.loop-test.true (omega (arith, four start, start.requires.0.0)) at-loop.loop.invariant.1 after-put-join.put_join-next.new.buffer
-          after-put-join.put_join-next.result after-put-join.put_join-next.ensures.0 after-put-join.put_join-next.ensures.1,
+      goes_on (set a.buffer.now a.at a.joined) a.at a.joined a.list c.loop-i.buffer c.loop-i.next c.loop-i.i
+          c.loop-i-test.true (omega (arith, four, c.requires.joined_bound.0)) c.loop-i.invariant.1 c.put_join-next.new.buffer
+          c.put_join-next.result c.put_join-next.ensures.0 c.put_join-next.ensures.1,
     )
 
 pub shape_of-buffer : goal.shape_of-buffer
@@ -113,9 +105,8 @@ shape_of-buffer c =
 
 pub returns : goal.returns
 returns c =
-    let after-if1 = c in
-    let start = after-if1 in
-    let a = start.args in
-    let k : length (take a.joined a.list) ≡ a.joined = length-take-le a.joined a.list (omega (arith, four start, start.requires.0.0)) in
-    ended a.buffer.now a.at a.joined a.list c.loop-i.buffer c.loop-i.next after-if1.if-joined-eq0.false
+    let four : length c.args.list ≡ 4 = search rules in
+    let a = c.args in
+    let k : length (take a.joined a.list) ≡ a.joined = length-take-le a.joined a.list (omega (arith, four, c.requires.joined_bound.0)) in
+    ended a.buffer.now a.at a.joined a.list c.loop-i.buffer c.loop-i.next c.if-joined-eq0.false
     (omega (arith, whole (goal.at.returns c).Else-joined-eq0)) (writing-ends c.loop-i.invariant.1 (omega (arith, c.loop-i-test.false)))

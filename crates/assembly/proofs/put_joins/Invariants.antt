@@ -1,6 +1,5 @@
 -- `assembly::put_joins` meets its contract. Invariant: the join dependencies from i on are still to be written. Assumes nothing.
--- Nothing is written where none is held
-use Prim.Native.Nat.{◌+◌, ◌-◌, ◌≤◌}
+use Prim.Native.Nat.{◌+◌, ◌≤◌}
 use lib.ListN.{take}
 use Rattle.encoder.proofs.Stores.{Writing}
 use Rattle.assembly.specs.internal.Pieces.{put_join}

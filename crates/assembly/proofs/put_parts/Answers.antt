@@ -1,14 +1,16 @@
--- ---- what holds at each place, proved where it first does
 use borrow.Author.Rules.{rules}
+use mathlib.Core.Bool.{true}
 use mathlib.Core.Path.{◌≡◌, refl, ap, ◌∙◌}
 use mathlib.Core.List.{List, [], ◌++◌, map, flatten}
 use Prim.Native.Nat.{ℕ, ◌+◌, ◌*◌, ◌^◌, ◌≤◌, ◌<◌}
 use native.Mathlib.Omega.{arith}
 use lib.ListN.{length, take}
+use Rattle.record.specs.declared.Record.{Record}
+use Rattle.record.specs.Rule.{good_record}
 use Rattle.record.specs.View.{schema_of}
 use Rattle.format.specs.Parts.{relations}
 use Rattle.format.specs.File.{put_place}
-use Rattle.assembly.specs.internal.Pieces.{dependency_bytes, joins_bytes}
+use Rattle.assembly.specs.internal.Pieces.{dependency_bytes, joins_bytes, part_bytes}
 use Rattle.lists.proofs.Loops.{mapped-length}
 use Rattle.record.proofs.Good.{good-record}
 use Rattle.query.proofs.Relations.{relations-bounds}
@@ -17,139 +19,153 @@ use Rattle.lists.specs.Over.{over}
 use Rattle.assembly.proofs.Joins.{few-sets}
 use Rattle.assembly.proofs.RecordParts.{first-long, second-long, parts-long}
 use Rattle.assembly.proofs.put_parts.Goals as goal
+use Rattle.assembly.proofs.put_parts.Goals.{After-put_places, Start}
 
+-- The bytes of each part
+abbrev relation_bytes : Record → List ℕ
+relation_bytes r = relations.put (r.relations, r.widths)
+
+abbrev list_bytes : Record → List ℕ
+list_bytes r = dependency_bytes r.held r.dependencies
+
+abbrev tail_bytes : Record → List ℕ
+tail_bytes r = joins_bytes r.joined r.joins
+
+abbrev place_bytes : Record → ℕ → List ℕ
+place_bytes r n = flatten (map (put_place (schema_of r)) (take n r.places))
+
+-- Where the dependencies of each kind start, and the places
+abbrev second : ℕ → Record → ℕ
+second start r = start + 1 + r.relations
+
+abbrev third : ℕ → Record → ℕ
+third start r = second start r + 1 + 3 * r.held
+
+abbrev fourth : ℕ → Record → ℕ
+fourth start r = third start r + length (tail_bytes r)
+
+-- ---- the runs, one after the other
+module _ (before : List ℕ) (start : ℕ) (r : Record) (n : ℕ) (good : good_record r ≡ true) (lw : length r.widths ≡ 8) (ld : length r.dependencies ≡ 32)
+    (fits : start + length (part_bytes r n) ≤ length before) where
+  relations-long : length (relation_bytes r) ≡ 1 + r.relations
+  relations-long = first-long r good lw ld
+
+  dependencies-long : length (list_bytes r) ≡ 1 + 3 * r.held
+  dependencies-long = second-long r good lw ld
+
+  room : fourth start r + length (place_bytes r n) ≤ length before
+  room = omega (arith, parts-long r good lw ld n, fits)
+
+  module _ (one : List ℕ) (e₁ : one ≡ over before start (relation_bytes r)) where
+    first_run : Run before start ([] ++ relation_bytes r) one (second start r)
+    first_run =
+        run-turns (run-starts before start) (relation_bytes r) one (second start r) (omega (arith, relations-long, room)) e₁ (omega (arith, relations-long))
+
+    module _ (two : List ℕ) (e₂ : two ≡ over one (second start r) (list_bytes r)) where
+      second_run : Run before start ([] ++ relation_bytes r ++ list_bytes r) two (third start r)
+      second_run =
+          run-turns first_run (list_bytes r) two (third start r) (omega (arith, dependencies-long, room)) e₂ (omega (arith, dependencies-long))
+
+      module _ (three : List ℕ) (e₃ : three ≡ over two (third start r) (tail_bytes r)) where
+        third-run : Run before start ([] ++ relation_bytes r ++ list_bytes r ++ tail_bytes r) three (fourth start r)
+        third-run = run-turns second_run (tail_bytes r) three (fourth start r) (omega (arith, room)) e₃ refl
+
+        fourth-run : (after : List ℕ) (to : ℕ) → to ≡ fourth start r → after ≡ over three to (place_bytes r n)
+            → Run before start ([] ++ relation_bytes r ++ list_bytes r ++ tail_bytes r ++ place_bytes r n) after (fourth start r + length (place_bytes r n))
+        fourth-run after to et e =
+            run-turns third-run (place_bytes r n) after (fourth start r + length (place_bytes r n)) room
+            (e ∙ ap (λ (k : ℕ). over three k (place_bytes r n)) et) refl
+
+-- ---- what holds at each place
 widths-long : (c : goal.Start) → length c.args.given.widths ≡ 8
 widths-long c = search (mapped-length, rules)
 
 list-long : (c : goal.Start) → length c.args.given.dependencies ≡ 32
 list-long c = search (mapped-length, rules)
 
--- The bytes of each part
-abbrev relation_bytes : goal.Start → List ℕ
-relation_bytes c = relations.put (c.args.given.relations, c.args.given.widths)
-
-abbrev list_bytes : goal.Start → List ℕ
-list_bytes c = dependency_bytes c.args.given.held c.args.given.dependencies
-
-abbrev tail_bytes : goal.Start → List ℕ
-tail_bytes c = joins_bytes c.args.given.joined c.args.given.joins
-
-abbrev place_bytes : goal.Start → List ℕ
-place_bytes c = flatten (map (put_place (schema_of c.args.given)) (take c.args.n c.args.given.places))
-
--- Where the dependencies of each kind start, and the places
-abbrev second : goal.Start → ℕ
-second c = c.args.start + 1 + c.args.given.relations
-
-abbrev third : goal.Start → ℕ
-third c = second c + 1 + 3 * c.args.given.held
-
-abbrev fourth : goal.Start → ℕ
-fourth c = third c + length (tail_bytes c)
-
-relations-long : (c : goal.Start) → length (relation_bytes c) ≡ 1 + c.args.given.relations
-relations-long c = first-long c.args.given c.requires.given_value (widths-long c) (list-long c)
-
-dependencies-long : (c : goal.Start) → length (list_bytes c) ≡ 1 + 3 * c.args.given.held
-dependencies-long c = second-long c.args.given c.requires.given_value (widths-long c) (list-long c)
-
-room : (c : goal.Start) → fourth c + length (place_bytes c) ≤ length c.args.buffer.now
-room c = omega (arith, parts-long c.args.given c.requires.given_value (widths-long c) (list-long c) c.args.n, c.requires.n_in_bounds)
+fits : (c : goal.Start) → fourth c.args.start c.args.given + length (place_bytes c.args.given c.args.n) ≤ length c.args.buffer.now
+fits c = room c.args.buffer.now c.args.start c.args.given c.args.n c.requires.given_value (widths-long c) (list-long c) c.requires.n_in_bounds
 
 short : (c : goal.Start) → length c.args.buffer.now < 2 ^ 63
 short c = search rules
 
-first_run : (c : goal.After-put_relations)
-    → Run c.args.buffer.now c.args.start ([] ++ relation_bytes c.before.before.before.before.before.before.before) c.put_relations.new.buffer
-    (second c.before.before.before.before.before.before.before)
-first_run c =
-    let start' = c in
-    run-turns (run-starts start'.args.buffer.now start'.args.start) (relation_bytes c.before.before.before.before.before.before.before) c.put_relations.new.buffer (second c.before.before.before.before.before.before.before)
-    (omega (arith, relations-long c.before.before.before.before.before.before.before, room c.before.before.before.before.before.before.before)) c.put_relations.ensures (omega (arith, relations-long c.before.before.before.before.before.before.before))
-
-abbrev second-run-start : goal.After-put_dependencies → goal.Start
-second-run-start c = c
-
-second_run : (c : goal.After-put_dependencies)
-    → Run (second-run-start c).args.buffer.now (second-run-start c).args.start ([] ++ relation_bytes (second-run-start c) ++ list_bytes (second-run-start c))
-    c.put_dependencies.new.buffer (third (second-run-start c))
-second_run c =
-    let start' = second-run-start c in
-    run-turns (first_run c.before.before.before.before) (list_bytes start') c.put_dependencies.new.buffer (third start')
-    (omega (arith, dependencies-long start', room start')) c.put_dependencies.ensures (omega (arith, dependencies-long start'))
-
-abbrev third-run-start : goal.After-put_joins-third → goal.Start
-third-run-start c = second-run-start c.before.before.before.before
-
-third-run : (c : goal.After-put_joins-third)
-    → Run (third-run-start c).args.buffer.now (third-run-start c).args.start
-    ([] ++ relation_bytes (third-run-start c) ++ list_bytes (third-run-start c) ++ tail_bytes (third-run-start c)) c.put_joins-third.new.buffer
-    (fourth (third-run-start c))
-third-run c =
-    let start' = third-run-start c in
-    run-turns (second_run c.before.before.before.before) (tail_bytes start') c.put_joins-third.new.buffer (fourth start')
-    (omega (arith, room start')) c.put_joins-third.ensures.0 refl
-
-abbrev fourth-run-start : goal.After-put_places → goal.Start
-fourth-run-start c = third-run-start c.before.before.before.before
-
-fourth-run : (c : goal.After-put_places)
-    → Run (fourth-run-start c).args.buffer.now (fourth-run-start c).args.start
-    ([] ++ relation_bytes (fourth-run-start c) ++ list_bytes (fourth-run-start c) ++ tail_bytes (fourth-run-start c) ++ place_bytes (fourth-run-start c))
-    c.put_places.new.buffer (fourth (fourth-run-start c) + length (place_bytes (fourth-run-start c)))
-fourth-run c =
-    let start' = fourth-run-start c in
-    let after-put-joins = c in
-    run-turns (third-run c.before.before.before.before) (place_bytes start') c.put_places.new.buffer (fourth start' + length (place_bytes start')) (room start')
-    (c.put_places.ensures ∙ ap (λ (k : ℕ). over after-put-joins.put_joins-third.new.buffer k (place_bytes start')) after-put-joins.put_joins-third.ensures.1) refl
-
 -- ---- the needs
 pub overflow_add-first : goal.overflow_add-first
-overflow_add-first c = omega (arith, room (goal.at.overflow_add-first c).Start, short (goal.at.overflow_add-first c).Start)
+overflow_add-first c = omega (arith, fits (goal.at.overflow_add-first c).Start, short (goal.at.overflow_add-first c).Start)
 
 pub overflow_add-first-2 : goal.overflow_add-first-2
-overflow_add-first-2 c = omega (arith, room (goal.at.overflow_add-first-2 c).Start, short (goal.at.overflow_add-first-2 c).Start)
+overflow_add-first-2 c = omega (arith, fits (goal.at.overflow_add-first-2 c).Start, short (goal.at.overflow_add-first-2 c).Start)
 
 pub overflow_add-second : goal.overflow_add-second
-overflow_add-second c = omega (arith, room (goal.at.overflow_add-second c).Start, short (goal.at.overflow_add-second c).Start)
+overflow_add-second c = omega (arith, fits (goal.at.overflow_add-second c).Start, short (goal.at.overflow_add-second c).Start)
 
 pub overflow_mul-second : goal.overflow_mul-second
-overflow_mul-second c = omega (arith, room (goal.at.overflow_mul-second c).Start, short (goal.at.overflow_mul-second c).Start)
+overflow_mul-second c = omega (arith, fits (goal.at.overflow_mul-second c).Start, short (goal.at.overflow_mul-second c).Start)
 
 pub overflow_add-second-2 : goal.overflow_add-second-2
-overflow_add-second-2 c = omega (arith, room (goal.at.overflow_add-second-2 c).Start, short (goal.at.overflow_add-second-2 c).Start)
+overflow_add-second-2 c = omega (arith, fits (goal.at.overflow_add-second-2 c).Start, short (goal.at.overflow_add-second-2 c).Start)
 
 pub put_relations-requires : goal.put_relations-requires
 put_relations-requires c =
-    let start = c in (
-      (relations-bounds start.args.given.relations start.args.given.widths (good-record start.args.given start.requires.given_value).relations).1,
-      omega (arith, room (goal.at.put_relations-requires c).Start),
-    )
+    let r = c.args.given in
+    record {
+      count_bound = (relations-bounds r.relations r.widths (good-record r c.requires.given_value).relations).1;
+      count_in_bounds = omega (arith, fits (goal.at.put_relations-requires c).Start);
+    }
 
 pub put_dependencies-requires : goal.put_dependencies-requires
 put_dependencies-requires c =
-    let after-put-relations = c in
-    let start = after-put-relations in
-    ((good-record start.args.given start.pre.0).held, omega (arith, (first_run (goal.at.put_dependencies-requires c).After-put_relations).long, room start))
+    let a = c.args in
+    let start' = (goal.at.put_dependencies-requires c).Start in
+    let run =
+    first_run a.buffer.now a.start a.given a.n c.requires.given_value (widths-long start') (list-long start') c.requires.n_in_bounds
+    c.put_relations.new.buffer c.put_relations.ensures in
+    record { held_bound = (good-record a.given c.requires.given_value).held; held_in_bounds = omega (arith, run.long, fits start') }
 
 pub put_joins-third-requires : goal.put_joins-third-requires
 put_joins-third-requires c =
-    let after-put-dependencies = c in
-    let start = second-run-start (goal.at.put_joins-third-requires c).After-put_dependencies in
-    let parts = good-record start.args.given start.pre.0 in (
-      (parts.joined, few-sets (schema_of start.args.given) start.args.given.joined start.args.given.joins parts.joins),
-      omega (arith, (second_run (goal.at.put_joins-third-requires c).After-put_dependencies).long, room start),
-    )
+    let a = c.args in
+    let start' = (goal.at.put_joins-third-requires c).Start in
+    let parts = good-record a.given c.requires.given_value in
+    let run =
+    second_run a.buffer.now a.start a.given a.n c.requires.given_value (widths-long start') (list-long start') c.requires.n_in_bounds
+    c.put_relations.new.buffer c.put_relations.ensures c.put_dependencies.new.buffer c.put_dependencies.ensures in
+    record {
+      joined_bound = (parts.joined, few-sets (schema_of a.given) a.given.joined a.given.joins parts.joins);
+      list_in_bounds = omega (arith, run.long, fits start');
+    }
 
 pub put_places-requires : goal.put_places-requires
 put_places-requires c =
-    let after-put-joins = c in
-    let start = third-run-start (goal.at.put_places-requires c).After-put_joins-third in
-    let parts = good-record start.args.given start.pre.0 in
-    (parts.relations, (parts.places, (start.pre.1.0, omega (arith, (third-run (goal.at.put_places-requires c).After-put_joins-third).long, after-put-joins.put_joins-third.ensures.1, room start))))
+    let a = c.args in
+    let start' = (goal.at.put_places-requires c).Start in
+    let parts = good-record a.given c.requires.given_value in
+    let run =
+    third-run a.buffer.now a.start a.given a.n c.requires.given_value (widths-long start') (list-long start') c.requires.n_in_bounds
+    c.put_relations.new.buffer c.put_relations.ensures c.put_dependencies.new.buffer c.put_dependencies.ensures c.put_joins-third.new.buffer
+    c.put_joins-third.ensures.0 in
+    record {
+      widths_value = parts.relations;
+      places_value = parts.places;
+      n_bound = c.requires.n_bound;
+      places_in_bounds = omega (arith, run.long, c.put_joins-third.ensures.1, fits start');
+    }
+
+-- All parts are written
+whole : (c : goal.After-put_places)
+    → Run c.args.buffer.now c.args.start
+    ([] ++ relation_bytes c.args.given ++ list_bytes c.args.given ++ tail_bytes c.args.given ++ place_bytes c.args.given c.args.n)
+    c.put_places.new.buffer (fourth c.args.start c.args.given + length (place_bytes c.args.given c.args.n))
+whole c =
+    let a = c.args in
+    let lw : length a.given.widths ≡ 8 = search (mapped-length, rules) in
+    let ld : length a.given.dependencies ≡ 32 = search (mapped-length, rules) in
+    fourth-run a.buffer.now a.start a.given a.n c.requires.given_value lw ld c.requires.n_in_bounds c.put_relations.new.buffer c.put_relations.ensures
+    c.put_dependencies.new.buffer c.put_dependencies.ensures c.put_joins-third.new.buffer c.put_joins-third.ensures.0 c.put_places.new.buffer
+    c.put_joins-third.result c.put_joins-third.ensures.1 c.put_places.ensures
 
 pub shape_of-buffer : goal.shape_of-buffer
-shape_of-buffer c = (fourth-run (goal.at.shape_of-buffer c).After-put_places).long
+shape_of-buffer c = (whole (goal.at.shape_of-buffer c).After-put_places).long
 
 pub returns : goal.returns
-returns c = (fourth-run (goal.at.returns c).After-put_places).written
+returns c = (whole (goal.at.returns c).After-put_places).written

@@ -1,7 +1,7 @@
 use borrow.Author.Rules.{rules}
 use mathlib.Core.Path.{◌≡◌, sym, ap, refl, ◌∙◌}
 use mathlib.Core.List.{List, [], ◌∷◌, ◌++◌, map, flat_map, flatten}
-use Prim.Native.Nat.{ℕ, ◌+◌, ◌-◌, ◌≤◌, ◌<◌}
+use Prim.Native.Nat.{ℕ, ◌+◌, ◌≤◌, ◌<◌}
 use native.Mathlib.Omega.{arith}
 use lib.ListN.{length, take, get_or}
 use lib.Seq.{length-take-le, get_or-take}
@@ -44,30 +44,25 @@ loop-k-init c = (
 pub put_place-at-requires : goal.put_place-at-requires
 put_place-at-requires c =
     let l : length c.args.places ≡ 8 = search rules in
-    let after-loop = c in
-    let start' = after-loop in (
-      start'.requires.0,
-      (
-        every-get_or (good_place (take start'.args.count start'.args.widths)) start'.args.t3 after-loop.loop-k.k past_place
-            start'.requires.1.0 (omega (arith, start'.requires.1.1.0)),
-        room (take start'.args.count start'.args.widths) start'.args.buffer.now start'.args.start start'.args.n start'.args.t3
-            after-loop.loop-k.buffer after-loop.loop-k.at after-loop.loop-k.k c.loop-k-test.true (omega (arith, start'.requires.1.1.0))
-            after-loop.loop-k.invariant.1,
-      ),
-    )
+    record {
+      widths_value = c.requires.widths_value;
+      place_value =
+          every-get_or (good_place (take c.args.count c.args.widths)) c.args.places c.loop-k.k past_place
+          c.requires.places_value (omega (arith, c.requires.n_bound));
+      place_in_bounds =
+          room (take c.args.count c.args.widths) c.args.buffer.now c.args.start c.args.n c.args.places
+          c.loop-k.buffer c.loop-k.at c.loop-k.k c.loop-k-test.true (omega (arith, c.requires.n_bound))
+          c.loop-k.invariant.1;
+    }
 
 pub loop-k-preserved : goal.loop-k-preserved
 loop-k-preserved c =
-    let l : length c.args.places ≡ 8 = search rules in
-    let after-put-place = c in
-    let after-loop-test = after-put-place in
-    let after-loop = after-loop-test in
-    let start' = after-loop in (
+    let l : length c.args.places ≡ 8 = search rules in (
       search rules,
-      goes_on (take start'.args.count start'.args.widths) start'.args.buffer.now start'.args.start start'.args.n
-          start'.args.t3 after-loop.loop.buffer after-loop.loop.at after-loop.loop.k after-loop-test.loop-test.true
-          (omega (arith, start'.requires.1.1.0)) after-loop.loop.invariant.1 after-put-place.put_place-at.new.buffer after-put-place.put_place-at.result
-          after-put-place.put_place-at.ensures.0 after-put-place.put_place-at.ensures.1,
+      goes_on (take c.args.count c.args.widths) c.args.buffer.now c.args.start c.args.n
+          c.args.places c.loop-k.buffer c.loop-k.at c.loop-k.k c.loop-k-test.true
+          (omega (arith, c.requires.n_bound)) c.loop-k.invariant.1 c.put_place-at.new.buffer c.put_place-at.result
+          c.put_place-at.ensures.0 c.put_place-at.ensures.1,
     )
 
 pub shape_of-buffer : goal.shape_of-buffer
@@ -77,9 +72,8 @@ shape_of-buffer c =
 pub returns : goal.returns
 returns c =
     let l : length c.args.places ≡ 8 = search rules in
-    let start' = c in
-    let m : length (take start'.args.n start'.args.places) ≡ start'.args.n =
-    length-take-le start'.args.n start'.args.places (omega (arith, start'.requires.n_bound)) in
+    let m : length (take c.args.n c.args.places) ≡ c.args.n =
+    length-take-le c.args.n c.args.places (omega (arith, c.requires.n_bound)) in
     (writing-ends c.loop-k.invariant.1 (omega arith)).0
-    ∙ ap (over start'.args.buffer.now start'.args.start)
-    (sym (joined (put_place (take start'.args.count start'.args.widths)) (take start'.args.n start'.args.places)))
+    ∙ ap (over c.args.buffer.now c.args.start)
+    (sym (joined (put_place (take c.args.count c.args.widths)) (take c.args.n c.args.places)))

@@ -1,4 +1,4 @@
-use Prim.Native.Nat.{◌-◌, ◌≤◌}
+use Prim.Native.Nat.{◌≤◌}
 use lib.ListN.{take}
 use Rattle.format.specs.File.{put_place}
 use Rattle.encoder.proofs.Stores.{Writing}

@@ -1,8 +1,7 @@
--- The bytes of a width
 use borrow.Author.Rules.{rules}
 use mathlib.Core.Path.{◌≡◌, refl, ◌∙◌}
 use mathlib.Core.List.{List, [], ◌∷◌, flat_map}
-use Prim.Native.Nat.{ℕ, ◌+◌, ◌*◌, ◌-◌, ◌≤◌, ◌<◌}
+use Prim.Native.Nat.{ℕ, ◌+◌, ◌*◌, ◌≤◌, ◌<◌}
 use native.Mathlib.Nat.{add-zero}
 use native.Mathlib.Omega.{arith}
 use lib.ListN.{length, take, get_or, set, length-set}
@@ -13,6 +12,7 @@ use Rattle.format.proofs.Lengths.{length-flat_map}
 use Rattle.encoder.proofs.Stores.{Writing, writing-starts, writing-room, writing-turns, writing-ends, byte-and-run}
 use Rattle.assembly.proofs.put_relations.Goals as goal
 
+-- The bytes of a width
 abbrev one : ℕ → List ℕ
 one b = b ∷ []
 
@@ -51,35 +51,31 @@ loop-i-init c =
 pub overflow_add-buffer : goal.overflow_add-buffer
 overflow_add-buffer c =
     let l : length c.args.widths ≡ 8 = search rules in
-    let start = c in
     let r =
-    room (set start.args.buffer.now start.args.at start.args.count) start.args.at start.args.count start.args.widths
-    c.loop-i.buffer c.loop-i.i c.loop-i-test.true (omega (arith, start.requires.count_bound)) c.loop-i.invariant.1 in
+    room (set c.args.buffer.now c.args.at c.args.count) c.args.at c.args.count c.args.widths
+    c.loop-i.buffer c.loop-i.i c.loop-i-test.true (omega (arith, c.requires.count_bound)) c.loop-i.invariant.1 in
     omega arith
 
 pub overflow_add-buffer-in-loop-i : goal.overflow_add-buffer-in-loop-i
 overflow_add-buffer-in-loop-i c =
     let l : length c.args.widths ≡ 8 = search rules in
-    let start = c in
     let r =
-    room (set start.args.buffer.now start.args.at start.args.count) start.args.at start.args.count start.args.widths
-    c.loop-i.buffer c.loop-i.i c.loop-i-test.true (omega (arith, start.requires.count_bound)) c.loop-i.invariant.1 in
+    room (set c.args.buffer.now c.args.at c.args.count) c.args.at c.args.count c.args.widths
+    c.loop-i.buffer c.loop-i.i c.loop-i-test.true (omega (arith, c.requires.count_bound)) c.loop-i.invariant.1 in
     omega arith
 
 pub bounds-buffer-at-in-loop-i : goal.bounds-buffer-at-in-loop-i
 bounds-buffer-at-in-loop-i c =
     let l : length c.args.widths ≡ 8 = search rules in
-    let start = c in
-    room (set start.args.buffer.now start.args.at start.args.count) start.args.at start.args.count start.args.widths
-    c.loop-i.buffer c.loop-i.i c.loop-i-test.true (omega (arith, start.requires.count_bound)) c.loop-i.invariant.1
+    room (set c.args.buffer.now c.args.at c.args.count) c.args.at c.args.count c.args.widths
+    c.loop-i.buffer c.loop-i.i c.loop-i-test.true (omega (arith, c.requires.count_bound)) c.loop-i.invariant.1
 
 pub loop-i-preserved : goal.loop-i-preserved
 loop-i-preserved c =
-    let l : length c.args.widths ≡ 8 = search rules in
-    let start = c in (
+    let l : length c.args.widths ≡ 8 = search rules in (
       search rules,
-      goes_on (set start.args.buffer.now start.args.at start.args.count) start.args.at start.args.count start.args.widths
-          c.loop-i.buffer c.loop-i.i c.loop-i-test.true (omega (arith, start.requires.count_bound)) c.loop-i.invariant.1,
+      goes_on (set c.args.buffer.now c.args.at c.args.count) c.args.at c.args.count c.args.widths
+          c.loop-i.buffer c.loop-i.i c.loop-i-test.true (omega (arith, c.requires.count_bound)) c.loop-i.invariant.1,
     )
 
 pub shape_of-buffer : goal.shape_of-buffer
@@ -90,9 +86,8 @@ pub returns : goal.returns
 unfolding relations sequence byte padded
 returns c =
     let l : length c.args.widths ≡ 8 = search rules in
-    let start = c in
-    let k : length (take start.args.count start.args.widths) ≡ start.args.count =
-    length-take-le start.args.count start.args.widths (omega (arith, start.requires.count_bound)) in
-    byte-and-run start.args.buffer.now start.args.at start.args.count (flat_map one (take start.args.count start.args.widths))
-    c.loop-i.buffer (omega (arith, start.requires.count_in_bounds))
+    let k : length (take c.args.count c.args.widths) ≡ c.args.count =
+    length-take-le c.args.count c.args.widths (omega (arith, c.requires.count_bound)) in
+    byte-and-run c.args.buffer.now c.args.at c.args.count (flat_map one (take c.args.count c.args.widths))
+    c.loop-i.buffer (omega (arith, c.requires.count_in_bounds))
     (writing-ends c.loop-i.invariant.1 (omega arith)).0

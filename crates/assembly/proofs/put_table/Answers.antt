@@ -1,4 +1,3 @@
--- The parts from place k on
 use borrow.Author.Rules.{rules}
 use mathlib.Core.Path.{◌≡◌, sym, ap, refl, ◌∙◌}
 use mathlib.Core.List.{List, ◌∷◌, ◌++◌, map}
@@ -18,17 +17,8 @@ use Rattle.query.proofs.Shape.{past_place}
 use Rattle.format.proofs.Numbers.{length-bytes}
 use Rattle.format.proofs.Directory.{length-table}
 use Rattle.assembly.proofs.FirstPlaces.{parts_next, parts-end}
+use Rattle.assembly.proofs.put_table.Invariants.{parts_from, At}
 use Rattle.assembly.proofs.put_table.Goals as goal
-
-abbrev parts_from : List ℕ → List Place → ℕ → ℕ → List (List ℕ)
-parts_from schema places n k = map (put_place schema) (drop k (take n places))
-
--- What has been written of the table
-record At (schema before : List ℕ) (at start n : ℕ) (places : List Place) (buffer : List ℕ) (due k : ℕ) : Type 0 where
-  few : k ≤ n
-  small : due ≤ 1000 + 534 * k
-  long : length buffer ≡ length before
-  rest : over before at (table_of start (map (put_place schema) (take n places))) ≡ over buffer (at + 4 * k) (table_of due (parts_from schema places n k))
 
 begins : (schema before : List ℕ) (at start n : ℕ) (places : List Place) → start ≤ 1000 → At schema before at start n places before start 0
 begins schema before at start n places h =
@@ -109,116 +99,89 @@ loop-k-init c =
 pub place_length-size-requires : goal.place_length-size-requires
 place_length-size-requires c =
     let l : length c.args.places ≡ 8 = search rules in
-    let start = c in (
-      start.requires.widths_value,
-      every-get_or (good_place (take start.args.count start.args.widths)) start.args.places c.loop-k.k past_place
-          start.requires.places_value (omega (arith, start.requires.n_bound.0)),
-    )
+    record {
+      widths_value = c.requires.widths_value;
+      place_value =
+          every-get_or (good_place (take c.args.count c.args.widths)) c.args.places c.loop-k.k past_place
+          c.requires.places_value (omega (arith, c.requires.n_bound.0));
+    }
 
 pub overflow_mul-k : goal.overflow_mul-k
 overflow_mul-k c =
     let l : length c.args.places ≡ 8 = search rules in
-    let after-loop = c in
-    let start' = after-loop in
     omega (
       arith,
-      room-first (take start'.args.count start'.args.widths) start'.args.buffer.now start'.args.at start'.args.start
-          start'.args.n start'.args.t4 after-loop.loop-k.buffer after-loop.loop-k.due after-loop.loop-k.k (omega (arith, start'.requires.1.1.0.0))
-          start'.requires.1.1.1 after-loop.loop-k.invariant c.loop-k-test.true,
+      room-first (take c.args.count c.args.widths) c.args.buffer.now c.args.at c.args.start
+          c.args.n c.args.places c.loop-k.buffer c.loop-k.due c.loop-k.k (omega (arith, c.requires.n_bound.0))
+          c.requires.n_in_bounds c.loop-k.invariant c.loop-k-test.true,
     )
 
 pub overflow_add-at : goal.overflow_add-at
 overflow_add-at c =
     let l : length c.args.places ≡ 8 = search rules in
-    let after-loop = c in
-    let start' = after-loop in
     omega (
       arith,
-      room-first (take start'.args.count start'.args.widths) start'.args.buffer.now start'.args.at start'.args.start
-          start'.args.n start'.args.t4 after-loop.loop-k.buffer after-loop.loop-k.due after-loop.loop-k.k (omega (arith, start'.requires.1.1.0.0))
-          start'.requires.1.1.1 after-loop.loop-k.invariant c.loop-k-test.true,
+      room-first (take c.args.count c.args.widths) c.args.buffer.now c.args.at c.args.start
+          c.args.n c.args.places c.loop-k.buffer c.loop-k.due c.loop-k.k (omega (arith, c.requires.n_bound.0))
+          c.requires.n_in_bounds c.loop-k.invariant c.loop-k-test.true,
     )
 
 pub put_word-requires : goal.put_word-requires
 put_word-requires c =
     let l : length c.args.places ≡ 8 = search rules in
-    let after-loop = c in
-    let start' = after-loop in
-    room-first (take start'.args.count start'.args.widths) start'.args.buffer.now start'.args.at start'.args.start start'.args.n
-    start'.args.t4 after-loop.loop-k.buffer after-loop.loop-k.due after-loop.loop-k.k (omega (arith, start'.requires.1.1.0.0)) start'.requires.1.1.1
-    after-loop.loop-k.invariant c.loop-k-test.true
+    room-first (take c.args.count c.args.widths) c.args.buffer.now c.args.at c.args.start c.args.n
+    c.args.places c.loop-k.buffer c.loop-k.due c.loop-k.k (omega (arith, c.requires.n_bound.0)) c.requires.n_in_bounds
+    c.loop-k.invariant c.loop-k-test.true
 
 pub overflow_mul-k-in-loop-k : goal.overflow_mul-k-in-loop-k
 overflow_mul-k-in-loop-k c =
     let l : length c.args.places ≡ 8 = search rules in
-    let after-loop-test = c in
-    let after-loop = after-loop-test in
-    let start' = after-loop in
     omega (
       arith,
-      room-first (take start'.args.count start'.args.widths) start'.args.buffer.now start'.args.at start'.args.start
-          start'.args.n start'.args.t4 after-loop.loop.buffer after-loop.loop.due after-loop.loop.k (omega (arith, start'.requires.1.1.0.0))
-          start'.requires.1.1.1 after-loop.loop.invariant after-loop-test.loop-k-test.true,
+      room-first (take c.args.count c.args.widths) c.args.buffer.now c.args.at c.args.start
+          c.args.n c.args.places c.loop-k.buffer c.loop-k.due c.loop-k.k (omega (arith, c.requires.n_bound.0))
+          c.requires.n_in_bounds c.loop-k.invariant c.loop-k-test.true,
     )
 
 pub overflow_add-at-in-loop-k : goal.overflow_add-at-in-loop-k
 overflow_add-at-in-loop-k c =
     let l : length c.args.places ≡ 8 = search rules in
-    let after-loop-test = c in
-    let after-loop = after-loop-test in
-    let start' = after-loop in
     omega (
       arith,
-      room-first (take start'.args.count start'.args.widths) start'.args.buffer.now start'.args.at start'.args.start
-          start'.args.n start'.args.t4 after-loop.loop.buffer after-loop.loop.due after-loop.loop.k (omega (arith, start'.requires.1.1.0.0))
-          start'.requires.1.1.1 after-loop.loop.invariant after-loop-test.loop-k-test.true,
+      room-first (take c.args.count c.args.widths) c.args.buffer.now c.args.at c.args.start
+          c.args.n c.args.places c.loop-k.buffer c.loop-k.due c.loop-k.k (omega (arith, c.requires.n_bound.0))
+          c.requires.n_in_bounds c.loop-k.invariant c.loop-k-test.true,
     )
 
 pub overflow_add-at-in-loop-k-2 : goal.overflow_add-at-in-loop-k-2
 overflow_add-at-in-loop-k-2 c =
     let l : length c.args.places ≡ 8 = search rules in
-    let after-loop-test = c in
-    let after-loop = after-loop-test in
-    let start' = after-loop in
     omega (
       arith,
-      room-first (take start'.args.count start'.args.widths) start'.args.buffer.now start'.args.at start'.args.start
-          start'.args.n start'.args.t4 after-loop.loop.buffer after-loop.loop.due after-loop.loop.k (omega (arith, start'.requires.1.1.0.0))
-          start'.requires.1.1.1 after-loop.loop.invariant after-loop-test.loop-k-test.true,
+      room-first (take c.args.count c.args.widths) c.args.buffer.now c.args.at c.args.start
+          c.args.n c.args.places c.loop-k.buffer c.loop-k.due c.loop-k.k (omega (arith, c.requires.n_bound.0))
+          c.requires.n_in_bounds c.loop-k.invariant c.loop-k-test.true,
     )
 
 pub put_word-requires-in-loop-k : goal.put_word-requires-in-loop-k
 put_word-requires-in-loop-k c =
     let l : length c.args.places ≡ 8 = search rules in
-    let after-put-word = c in
-    let after-loop-test = after-put-word in
-    let after-loop = after-loop-test in
-    let start' = after-loop in
-    room-second (take start'.args.count start'.args.widths) start'.args.buffer.now start'.args.at start'.args.start start'.args.n
-    start'.args.t4 after-loop.loop.buffer after-loop.loop.due after-loop.loop.k (omega (arith, start'.requires.1.1.0.0)) start'.requires.1.1.1
-    after-loop.loop.invariant after-loop-test.loop-test.true after-put-word.put_word.new.buffer after-put-word.put_word.ensures
+    room-second (take c.args.count c.args.widths) c.args.buffer.now c.args.at c.args.start c.args.n
+    c.args.places c.loop-k.buffer c.loop-k.due c.loop-k.k (omega (arith, c.requires.n_bound.0)) c.requires.n_in_bounds
+    c.loop-k.invariant c.loop-k-test.true c.put_word.new.buffer c.put_word.ensures
 
 pub overflow_add-due : goal.overflow_add-due
 overflow_add-due c =
-    let after-place-length = c in
-    let after-loop = after-place-length in
-    let start = after-loop in
-    omega (arith, after-place-length.place_length-size.ensures.1, after-loop.loop.invariant.small, after-loop.loop.invariant.few, start.requires.1.1.0.0)
+    omega (arith, c.place_length-size.ensures.1, c.loop-k.invariant.small, c.loop-k.invariant.few, c.requires.n_bound.0)
 
 pub loop-k-preserved : goal.loop-k-preserved
 loop-k-preserved c =
     let l : length c.args.places ≡ 8 = search rules in
-    let after-put-word2 = c in
-    let after-put-word = after-put-word2 in
-    let after-place-length = after-put-word in
-    let after-loop-test = after-place-length in
-    let after-loop = after-loop-test in
-    let start' = after-loop in
-    goes_on (take start'.args.count start'.args.widths) start'.args.buffer.now start'.args.at start'.args.start start'.args.n
-    start'.args.t4 after-loop.loop.buffer after-loop.loop.due after-loop.loop.k (omega (arith, start'.requires.1.1.0.0)) start'.requires.1.1.1
-    after-loop.loop.invariant after-loop-test.loop-test.true after-put-word.put_word.new.0 after-put-word.put_word.ensures
-    after-place-length.place-length.result after-place-length.place-length.ensures.0 after-place-length.place-length.ensures.1
-    after-put-word2.put_word-in-loop-k.new.buffer after-put-word2.put_word-in-loop-k.ensures
+    goes_on (take c.args.count c.args.widths) c.args.buffer.now c.args.at c.args.start c.args.n
+    c.args.places c.loop-k.buffer c.loop-k.due c.loop-k.k (omega (arith, c.requires.n_bound.0)) c.requires.n_in_bounds
+    c.loop-k.invariant c.loop-k-test.true c.put_word.new.buffer c.put_word.ensures
+    c.place_length-size.result c.place_length-size.ensures.0 c.place_length-size.ensures.1
+    c.put_word-in-loop-k.new.buffer c.put_word-in-loop-k.ensures
 
 pub shape_of-buffer : goal.shape_of-buffer
 shape_of-buffer c =
@@ -227,7 +190,6 @@ shape_of-buffer c =
 pub returns : goal.returns
 returns c =
     let l : length c.args.places ≡ 8 = search rules in
-    let start' = c in
-    ended (take start'.args.count start'.args.widths) start'.args.buffer.now start'.args.at start'.args.start start'.args.n
-    start'.args.places c.loop-k.buffer c.loop-k.due c.loop-k.k (omega (arith, start'.requires.n_bound.0)) c.loop-k.invariant
+    ended (take c.args.count c.args.widths) c.args.buffer.now c.args.at c.args.start c.args.n
+    c.args.places c.loop-k.buffer c.loop-k.due c.loop-k.k (omega (arith, c.requires.n_bound.0)) c.loop-k.invariant
     c.loop-k-test.false

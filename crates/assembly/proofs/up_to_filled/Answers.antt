@@ -2,9 +2,8 @@
 use borrow.Author.Rules.{rules}
 use mathlib.Core.Path.{◌≡◌, sym, ap, refl, ◌∙◌}
 use mathlib.Core.Bool.{Bool, true, false, cond}
-use mathlib.Core.Logic.{⊎_elim}
 use mathlib.Core.List.{List, [], ◌∷◌, ◌++◌}
-use Prim.Native.Nat.{ℕ, suc, ◌+◌, ◌-◌, ◌<◌}
+use Prim.Native.Nat.{ℕ, suc, ◌+◌, ◌<◌}
 use native.Mathlib.Numerals.{add-one}
 use native.Mathlib.Omega.{arith}
 use lib.ListN.{length, take, get_or}
@@ -13,6 +12,7 @@ use Rattle.query.specs.declared.Place.{Place}
 use Rattle.query.proofs.Shape.{past_place}
 use Rattle.format.specs.File.{one_more_if_any, up_to_filled}
 use Rattle.assembly.proofs.up_to_filled.Goals as goal
+use Rattle.assembly.proofs.up_to_filled.Goals.{then-place, else-place}
 
 last-place : (ps : List Place) (p : Place) (t : Bool) → p.filled ≡ t → up_to_filled (ps ++ (p ∷ [])) ≡ cond t (suc (length ps)) (up_to_filled ps)
 unfolding up_to_filled
@@ -45,7 +45,10 @@ loop-k-preserved c =
     let k = c.loop-k.k in
     let l : length places ≡ 8 = search rules in
     let inv = c.loop-k.invariant in
-    ⊎_elim (λ w. (search rules, omega (arith, w.if-place.1), w.if-place.1 ∙ sym (turn places k true (omega arith) w.if-place.0.taken))) (λ w. (search rules, omega (arith, w.if-place.1, inv.1), w.if-place.1 ∙ inv.2 ∙ sym (turn places k false (omega arith) w.if-place.0.left))) c.if-place.branch-raw
+    elim c.if-place.branch [
+      | then-place w ↦ (search rules, omega (arith, w.n-is), w.n-is ∙ sym (turn places k true (omega arith) w.if-place.true))
+      | else-place w ↦ (search rules, omega (arith, w.n-is, inv.1), w.n-is ∙ inv.2 ∙ sym (turn places k false (omega arith) w.if-place.false))
+    ]
 
 pub returns : goal.returns
 returns c =

@@ -1,6 +1,6 @@
 -- one place more at the end
 use mathlib.Core.Path.{◌≡◌}
-use Prim.Native.Nat.{◌-◌, ◌≤◌}
+use Prim.Native.Nat.{◌≤◌}
 use lib.ListN.{take}
 use Rattle.format.specs.File.{up_to_filled}
 use Rattle.assembly.proofs.up_to_filled.Given as goal

@@ -61,7 +61,6 @@ returns-in_default-resolution c =
     let s = c in
     let a = s.args in
     let l = c.loop-a in
-    let f = c.found-1.given in
     let room = l.invariant.0 in
     let eight = l.invariant.1 in
     λ schema good widths.
@@ -78,11 +77,11 @@ returns-in_default-resolution c =
     schema
     good
     widths
-    f.0.0
-    f.0.1.0
+    c.in-Step.a
+    c.in-Step.b
     s.requires.arity-fits
     (omega (arith, s.requires.arity-fits))
-    (rw f.1 at c.find_step-found.ensures.0)
+    (rw c.in-Step.is at c.find_step-found.ensures.0)
     (rw c.in_default-resolution.is at c.resolve-resolution.ensures))
 
 pub replace-query-requires : goal.replace-query-requires
@@ -102,49 +101,45 @@ query_at c = as_query c.loop-a.query
 fewer : (c : goal.After-replace-query)
     → (chasing.chase (held_at c) (wide_query (query_at c))).count ≡ suc (chasing.chase (held_at c) (wide_query (as_query c.replace-query.result))).count
 fewer c =
-    let f = c.found-1.given in
-    let e = c.resolution-1.given in
     replaced-count
     (as_query c.args.t)
     (held_at c)
     (query_at c)
-    f.0.0
-    f.0.1.0
-    e.0.0
-    e.0.1.0
-    (rw f.1 at c.find_step-found.ensures.0)
-    (rw e.1 at c.resolve-resolution.ensures)
+    c.in-Step.a
+    c.in-Step.b
+    c.in-Replace.v
+    c.in-Replace.e
+    (rw c.in-Step.is at c.find_step-found.ensures.0)
+    (rw c.in-Replace.is at c.resolve-resolution.ensures)
     ∙ ap (λ (x : Query). suc (chasing.chase (held_at c) (wide_query x)).count) (sym c.replace-query.ensures)
 
 pub overflow_add-count : goal.overflow_add-count
 overflow_add-count c =
     let s = c in
     let l = c.loop-a in
-    let bound = under-count (as_query s.args.t) (held_at (goal.at.overflow_add-count c).After-replace-query) (query_at (goal.at.overflow_add-count c).After-replace-query) l.count l.invariant.2 s.requires.arity-fits s.requires.size_fits in
-    record { fits = omega (arith, fewer (goal.at.overflow_add-count c).After-replace-query, bound) }
+    let bound = under-count (as_query s.args.t) (held_at c) (query_at c) l.count l.invariant.2 s.requires.arity-fits s.requires.size_fits in
+    record { fits = omega (arith, fewer c, bound) }
 
 pub loop-a-smaller : goal.loop-a-smaller
-loop-a-smaller c = omega (arith, fewer (goal.at.loop-a-smaller c).After-replace-query)
+loop-a-smaller c = omega (arith, fewer c)
 
 pub loop-a-preserved : goal.loop-a-preserved
 loop-a-preserved c =
     let s = c in
     let l = c.loop-a in
-    let f = c.found-1.given in
-    let e = c.resolution-1.given in
     let room = l.invariant.0 in
     let next = under-replace
     (as_query s.args.t)
-    (held_at (goal.at.loop-a-preserved c).After-replace-query)
-    (query_at (goal.at.loop-a-preserved c).After-replace-query)
-    f.0.0
-    f.0.1.0
-    e.0.0
-    e.0.1.0
-    (rw f.1 at c.find_step-found.ensures.0)
-    (rw e.1 at c.resolve-resolution.ensures)
+    (held_at c)
+    (query_at c)
+    c.in-Step.a
+    c.in-Step.b
+    c.in-Replace.v
+    c.in-Replace.e
+    (rw c.in-Step.is at c.find_step-found.ensures.0)
+    (rw c.in-Replace.is at c.resolve-resolution.ensures)
     l.count
     l.invariant.2
     (omega (arith, s.requires.size_fits))
-    (rw f.1 at c.find_step-found.ensures.1) in
+    (rw c.in-Step.is at c.find_step-found.ensures.1) in
     (room, l.invariant.1, rw c.replace-query.ensures next)

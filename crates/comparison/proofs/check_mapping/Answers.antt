@@ -15,19 +15,18 @@ returns-in_default c =
     let p = c.args.p in
     let q = c.args.q in
     let images = c.args.images in
-    let told = c.enum_told-1.given in
-    let number : c.refusal.result ≡ told.0.0 = c.refusal.ensures ∙ ap number_in told.1 in
+    let told = c.in_default in
+    let number : c.refusal.result ≡ told.field-0 = c.refusal.ensures ∙ ap number_in told.is in
     subst (λ (n : ℕ). CheckedMapping given p q images (Refused n)) (sym number)
-    (checks-refused given p q images told.0.0
-    (paired-refused (pair_refusal given p q) p q told.0.0 (sym c.filled_pair-found.ensures ∙ told.1)))
+    (checks-refused given p q images told.field-0
+    (paired-refused (pair_refusal given p q) p q told.field-0 (sym c.filled_pair-found.ensures ∙ told.is)))
 
 pub stored-requires : goal.stored-requires
 stored-requires c =
     let given = c.args.given in
     let p = c.args.p in
     let q = c.args.q in
-    let found = c.found-1.given in
-    let is = sym c.filled_pair-found.ensures ∙ found.1 in
+    let is = sym c.filled_pair-found.ensures ∙ c.in-Places.is in
     (places-low given p q _ _ is).1
 
 pub stored-requires-2 : goal.stored-requires-2
@@ -35,8 +34,7 @@ stored-requires-2 c =
     let given = c.args.given in
     let p = c.args.p in
     let q = c.args.q in
-    let found = c.found-1.given in
-    let is = sym c.filled_pair-found.ensures ∙ found.1 in
+    let is = sym c.filled_pair-found.ensures ∙ c.in-Places.is in
     (places-low given p q _ _ is).0
 
 pub check-requires : goal.check-requires
@@ -44,8 +42,7 @@ check-requires c =
     let given = c.args.given in
     let p = c.args.p in
     let q = c.args.q in
-    let found = c.found-1.given in
-    let is = sym c.filled_pair-found.ensures ∙ found.1 in
+    let is = sym c.filled_pair-found.ensures ∙ c.in-Places.is in
     let drawn = places-read given p q _ _ is c.stored-2.result c.stored.result c.stored-2.ensures c.stored.ensures in
     check-storable given p q c.args.images _ _ drawn.0 drawn.1 drawn.2
 
@@ -54,8 +51,7 @@ returns-then-check c =
     let given = c.args.given in
     let p = c.args.p in
     let q = c.args.q in
-    let found = c.found-1.given in
-    let is = sym c.filled_pair-found.ensures ∙ found.1 in
+    let is = sym c.filled_pair-found.ensures ∙ c.in-Places.is in
     let drawn = places-read given p q _ _ is c.stored-2.result c.stored.result
     c.stored-2.ensures c.stored.ensures in
     checks-yes given p q c.args.images _ _ drawn.0 drawn.1
@@ -66,8 +62,7 @@ returns-else-check c =
     let given = c.args.given in
     let p = c.args.p in
     let q = c.args.q in
-    let found = c.found-1.given in
-    let is = sym c.filled_pair-found.ensures ∙ found.1 in
+    let is = sym c.filled_pair-found.ensures ∙ c.in-Places.is in
     let drawn = places-read given p q _ _ is c.stored-2.result c.stored.result
     c.stored-2.ensures c.stored.ensures in
     checks-no given p q c.args.images _ _ drawn.0 drawn.1

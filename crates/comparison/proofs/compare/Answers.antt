@@ -14,21 +14,19 @@ returns-in_default c =
     let given = c.args.given in
     let p = c.args.p in
     let q = c.args.q in
-    let told = c.enum_told-1.given in
-    let number : c.refusal.result ≡ told.0.0 = c.refusal.ensures ∙ ap number_in told.1 in
+    let told = c.in_default in
+    let number : c.refusal.result ≡ told.field-0 = c.refusal.ensures ∙ ap number_in told.is in
     subst (Compared given p q) (sym (c.only.ensures ∙ ap (λ (n : ℕ). bare (Refused n)) number))
-    (compared-refused given p q told.0.0 (compare-pair given p q told.0.0 (paired-refused (pair_refusal given p q) p q told.0.0
-    (sym c.filled_pair-found.ensures ∙ told.1))))
+    (compared-refused given p q told.field-0 (compare-pair given p q told.field-0 (paired-refused (pair_refusal given p q) p q told.field-0
+    (sym c.filled_pair-found.ensures ∙ told.is))))
 
 pub compare_places-requires : goal.compare_places-requires
 compare_places-requires c =
     let a = c.args in
-    let found = c.found-1.given in
-    places-accepted a.given a.p a.q _ _ (sym c.filled_pair-found.ensures ∙ found.1)
+    places-accepted a.given a.p a.q _ _ (sym c.filled_pair-found.ensures ∙ c.in-Places.is)
 
 pub returns : goal.returns
 returns c =
     let a = c.args in
-    let found = c.found-1.given in
-    places-compared a.given a.p a.q _ _ (sym c.filled_pair-found.ensures ∙ found.1) _
+    places-compared a.given a.p a.q _ _ (sym c.filled_pair-found.ensures ∙ c.in-Places.is) _
     c.compare_places.ensures

@@ -10,7 +10,7 @@ use Rattle.query.specs.Rule.{shaped_join}
 use Rattle.lists.proofs.Loops.{mapped-length}
 use Rattle.query.proofs.Shape.{SizedFor}
 use Rattle.tableaux.specs.internal.Tableaux.{tableau_of}
-use Rattle.join_rule.proofs.Shapes.{joins-shaped}
+use Rattle.join_rule.proofs.Shapes.{argument-shaped}
 use Rattle.join_chase.specs.internal.JoinChased.{IsJoinChased}
 use Rattle.mapping.specs.internal.Mapped.{Storable, Finds}
 use Rattle.comparison.specs.declared.Verdict.TheVariants.{Mapped}
@@ -18,16 +18,15 @@ use Rattle.comparison.specs.Comparison.{Compared}
 use Rattle.comparison.proofs.Pairs.{standing}
 use Rattle.comparison.proofs.Answers.{can-be-chased, answers-over, both-storable, answers-never, answers-contained, answers-apart}
 use Rattle.comparison.proofs.compare_places.Goals as goal
+use Rattle.comparison.proofs.compare_places.Goals.{After-from_query, After-chase-chased}
 
 pub stored-requires : goal.stored-requires
-stored-requires c =
-    let s = c in
-    (standing s.args.given s.args.p s.args.q s.requires).low-p
+stored-requires c = (standing c.args.given c.args.p c.args.q c.requires).low-p
 
 -- The arrays of the first query are as long as its type says
-sized : (c : goal.After-from_query) → SizedFor 12 (stored_at c.args.given c.args.p)
+sized : (c : After-from_query) → SizedFor 12 (stored_at c.args.given c.args.p)
 sized c =
-    let ok = c.stored.type-inv in
+    let ok = c.stored.type_inv in
     let here : SizedFor 12 c.stored.result =
     record {
       head = search (mapped-length, rules, ok);
@@ -38,21 +37,19 @@ sized c =
     subst (SizedFor 12) c.stored.ensures here
 
 -- The tableau that is chased is that of the first query
-tableau-is : (c : goal.After-from_query)
-    → c.from_query.result ≡ tableau_of (stored_at c.args.given c.args.p)
+tableau-is : (c : After-from_query) → c.from_query.result ≡ tableau_of (stored_at c.args.given c.args.p)
 tableau-is c = c.from_query.ensures ∙ ap tableau_of c.stored.ensures
 
 pub chase-chased-requires : goal.chase-chased-requires
 chase-chased-requires c =
-    let from = c in
-    let s = from in
-    rw (tableau-is (goal.at.chase-chased-requires c).After-from_query) (can-be-chased s.args.given s.args.p s.args.q s.requires (sized (goal.at.chase-chased-requires c).After-from_query))
+    let from = (goal.at.chase-chased-requires c).After-from_query in
+    let a = c.args in
+    rw (tableau-is from) (can-be-chased a.given a.p a.q c.requires (sized from))
 
 -- What the chase promises, for the tableau of the first query
-chased : (c : goal.After-chase-chased)
+chased : (c : After-chase-chased)
     → IsJoinChased
-    (tableau_of (stored_at c.args.given
-    c.args.p))
+    (tableau_of (stored_at c.args.given c.args.p))
     c.args.given.relations
     c.args.given.widths
     c.args.given.dependencies
@@ -60,75 +57,63 @@ chased : (c : goal.After-chase-chased)
     c.args.given.joins
     c.args.given.joined
     c.chase-chased.result
-chased c = rw (tableau-is c.before.before.before) at c.chase-chased.ensures
+chased c = rw (c.from_query.ensures ∙ ap tableau_of c.stored.ensures) at c.chase-chased.ensures
 
 -- The sets of its join dependencies are as many as their type says
-shaped : (c : goal.After-chase-chased) → every shaped_join c.args.given.joins ≡ true
-shaped c =
-    let s = c in
-    joins-shaped 4 s.args.given.joins _ s.well-formed.0.1.1.1.1.1.1.1.0
+shaped : (c : After-chase-chased) → every shaped_join c.args.given.joins ≡ true
+shaped c = argument-shaped 4 c.args.given.joins _ c.well_formed.0.1.1.1.1.1.1.1.0
 
 -- The chased tableau has room for 24 rows
-room : (c : goal.After-chase-chased) → length c.chase-chased.result.query.relations ≡ 24
-room c = let tableau = c.chase-chased.type-inv.1.1.1.0 in search (mapped-length, rules, tableau)
+room : (c : After-chase-chased) → length c.chase-chased.result.query.relations ≡ 24
+room c = search (mapped-length, rules)
 
 pub returns-then-chased : goal.returns-then-chased
 returns-then-chased c =
-    let after = c in
-    let s = after in
-    subst (Compared s.args.given s.args.p s.args.q) (sym c.only.ensures)
-    (answers-over s.args.given s.args.p s.args.q s.requires (sized (goal.at.returns-then-chased c).After-from_query) (shaped (goal.at.returns-then-chased c).After-chase-chased) after.chase-chased.result
-    (chased (goal.at.returns-then-chased c).After-chase-chased) c.if-chased.true)
+    let a = c.args in
+    let from = (goal.at.returns-then-chased c).After-from_query in
+    let after = (goal.at.returns-then-chased c).After-chase-chased in
+    subst (Compared a.given a.p a.q) (sym c.only.ensures)
+    (answers-over a.given a.p a.q c.requires (sized from) (shaped after) c.chase-chased.result
+    (chased after) c.if-chased.true)
 
 pub returns-then-query-eq0 : goal.returns-then-query-eq0
 returns-then-query-eq0 c =
-    let under = c in
-    let after = under in
-    let s = after in
-    subst (Compared s.args.given s.args.p s.args.q) (sym c.only-then-query-eq0.ensures)
-    (answers-never s.args.given s.args.p s.args.q s.requires (sized after) (shaped after) after.chase.result
-    (chased after) under.if-chased.false c.if-query-eq0.true)
+    let a = c.args in
+    let from = (goal.at.returns-then-query-eq0 c).After-from_query in
+    let after = (goal.at.returns-then-query-eq0 c).After-chase-chased in
+    subst (Compared a.given a.p a.q) (sym c.only-then-query-eq0.ensures)
+    (answers-never a.given a.p a.q c.requires (sized from) (shaped after) c.chase-chased.result
+    (chased after) c.if-chased.false c.if-query-eq0.true)
 
 pub stored-requires-2 : goal.stored-requires-2
-stored-requires-2 c =
-    let s = c in
-    (standing s.args.given s.args.p s.args.q s.requires).low-q
+stored-requires-2 c = (standing c.args.given c.args.p c.args.q c.requires).low-q
 
 pub find-mapped-requires : goal.find-mapped-requires
 find-mapped-requires c =
-    let under = c in
-    let after = under in
-    let s = after in
-    let both =
-    both-storable s.args.given s.args.p s.args.q s.requires (sized after) (shaped after) after.chase.result
-    (chased after) under.if-chased.false
-    in
+    let a = c.args in
+    let from = (goal.at.find-mapped-requires c).After-from_query in
+    let after = (goal.at.find-mapped-requires c).After-chase-chased in
+    let both = both-storable a.given a.p a.q c.requires (sized from) (shaped after) c.chase-chased.result (chased after) c.if-chased.false in
     (subst Storable (sym c.stored-2.ensures) both.0, both.1)
-
--- What the search for a mapping promises, from the second query
-finds : (c : goal.After-find-mapped)
-    → Finds (stored_at c.args.given
-    c.args.q)
-    c.chase-chased.result.query c.find-mapped.result
-finds c = rw c.stored-2.ensures at c.find-mapped.ensures
 
 pub returns-then-mapped : goal.returns-then-mapped
 returns-then-mapped c =
-    let found = c in
-    let under = found in
-    let after = under in
-    let s = after in
+    let a = c.args in
+    let from = (goal.at.returns-then-mapped c).After-from_query in
+    let after = (goal.at.returns-then-mapped c).After-chase-chased in
+    -- what the search for a mapping promises, from the second query
+    let finds : Finds (stored_at a.given a.q) c.chase-chased.result.query c.find-mapped.result = rw c.stored-2.ensures at c.find-mapped.ensures in
     subst
-    (λ (t : Tableau). Compared s.args.given s.args.p s.args.q (record { verdict = Mapped; images = found.find-mapped.result.images; query = t }))
+    (λ (t : Tableau). Compared a.given a.p a.q (record { verdict = Mapped; images = c.find-mapped.result.images; query = t }))
     (sym c.no_tableau.ensures)
-    (answers-contained s.args.given s.args.p s.args.q s.requires (sized after) (shaped after) after.chase.result
-    (chased after) under.if1.false found.find-mapped.result (finds (goal.at.returns-then-mapped c).After-find-mapped) c.if-mapped.true)
+    (answers-contained a.given a.p a.q c.requires (sized from) (shaped after) c.chase-chased.result
+    (chased after) c.if-chased.false c.find-mapped.result finds c.if-mapped.true)
 
 pub returns : goal.returns
 returns c =
-    let found = c in
-    let under = found in
-    let after = under in
-    let s = after in
-    answers-apart s.args.given s.args.p s.args.q s.requires (sized after) (shaped after) after.chase.result
-    (chased after) under.if1.false found.find-mapped.result (finds (goal.at.returns c).After-find-mapped) (room after) found.if-query-eq0.false c.if-mapped.false
+    let a = c.args in
+    let from = (goal.at.returns c).After-from_query in
+    let after = (goal.at.returns c).After-chase-chased in
+    let finds : Finds (stored_at a.given a.q) c.chase-chased.result.query c.find-mapped.result = rw c.stored-2.ensures at c.find-mapped.ensures in
+    answers-apart a.given a.p a.q c.requires (sized from) (shaped after) c.chase-chased.result
+    (chased after) c.if-chased.false c.find-mapped.result finds (room after) c.if-query-eq0.false c.if-mapped.false

@@ -4,13 +4,11 @@ use mathlib.Core.Path.{◌≡◌, sym, ap, ◌∙◌}
 use mathlib.Core.Bool.{true}
 use Prim.Native.Nat.{◌<◌}
 use native.Mathlib.Omega.{arith}
-use borrow.Author.Tests.{not-false}
 use Rattle.record.specs.Rule.{good_record}
 use Rattle.record.specs.internal.Lookup.{number_of}
 use Rattle.record.proofs.Refusals.{place-at, filled_at}
 use Rattle.comparison.specs.declared.Pair.TheVariants.{Refused}
 use Rattle.comparison.proofs.Pairs.{pair-broken, first_above, second_above, first-vacant, second-vacant, found-differ, found-stand}
-use Rattle.std.proofs.Common.{not}
 use Rattle.comparison.proofs.filled_pair.Goals as goal
 
 pub returns-then-not-is_good : goal.returns-then-not-is_good
@@ -25,9 +23,9 @@ returns-in_default c =
     let q = c.args.q in
     let good : good_record given ≡ true = sym c.is_good.ensures
     ∙ c.if-not-is_good.false in
-    let told = c.enum_told-in_default-1.given in
-    let is : Refused c.number.result ≡ Refused told.0.0 = ap Refused (c.number.ensures ∙ ap number_of told.1) in
-    is ∙ first_above given p q good told.0.0 (sym c.place_at-found.ensures ∙ told.1)
+    let told = c.in_default in
+    let is : Refused c.number.result ≡ Refused told.field-0 = ap Refused (c.number.ensures ∙ ap number_of told.is) in
+    is ∙ first_above given p q good told.field-0 (sym c.place_at-found.ensures ∙ told.is)
 
 pub returns-in_default-found : goal.returns-in_default-found
 returns-in_default-found c =
@@ -38,9 +36,9 @@ returns-in_default-found c =
     ∙ c.if-not-is_good.false in
     let low-p : p < 8 = (place-at p _ (sym c.place_at-found.ensures
     ∙ c.in-At.is)).1 in
-    let told = c.enum_told-in_default-found-1.given in
-    let is : Refused c.number-in_default-found.result ≡ Refused told.0.0 = ap Refused (c.number-in_default-found.ensures ∙ ap number_of told.1) in
-    is ∙ second_above given p q good low-p told.0.0 (sym c.place_at-found-2.ensures ∙ told.1)
+    let told = c.in_default-found in
+    let is : Refused c.number-in_default-found.result ≡ Refused told.field-0 = ap Refused (c.number-in_default-found.ensures ∙ ap number_of told.is) in
+    is ∙ second_above given p q good low-p told.field-0 (sym c.place_at-found-2.ensures ∙ told.is)
 
 pub returns-in_default-found-2 : goal.returns-in_default-found-2
 returns-in_default-found-2 c =
@@ -53,25 +51,24 @@ returns-in_default-found-2 c =
     ∙ c.in-At.is)).1 in
     let low-q : q < 8 = (place-at q _ (sym c.place_at-found-2.ensures
     ∙ c.in-At-found.is)).1 in
-    let told = c.enum_told-in_default-found-2-1.given in
-    let is : Refused c.number-in_default-found-2.result ≡ Refused told.0.0 = ap Refused (c.number-in_default-found-2.ensures ∙ ap number_of told.1) in
-    is ∙ first-vacant given p q good low-p low-q told.0.0 (sym c.filled_place-found.ensures ∙ told.1)
+    let told = c.in_default-found-2 in
+    let is : Refused c.number-in_default-found-2.result ≡ Refused told.field-0 = ap Refused (c.number-in_default-found-2.ensures ∙ ap number_of told.is) in
+    is ∙ first-vacant given p q good low-p low-q told.field-0 (sym c.filled_place-found.ensures ∙ told.is)
 
 pub returns-in_default-found-3 : goal.returns-in_default-found-3
 returns-in_default-found-3 c =
     let given = c.args.given in
     let p = c.args.p in
     let q = c.args.q in
-    let good : good_record given ≡ true = sym c.is_good.ensures ∙ not-false _
-    (ap not c.if-not-is_good.false) in
+    let good : good_record given ≡ true = sym c.is_good.ensures ∙ c.if-not-is_good.false in
     let low-p : p < 8 = (place-at p _ (sym c.place_at-found.ensures ∙ c.in-At.is)).1 in
     let low-q : q < 8 = (place-at q _ (sym c.place_at-found-2.ensures
     ∙ c.in-At-found.is)).1 in
     let at = filled_at given p _ (sym c.filled_place-found.ensures
     ∙ c.in-At-found-2.is) in
-    let told = c.enum_told-in_default-found-3-1.given in
-    let is : Refused c.number-in_default-found-3.result ≡ Refused told.0.0 = ap Refused (c.number-in_default-found-3.ensures ∙ ap number_of told.1) in
-    is ∙ second-vacant given p q good low-p low-q at.2 told.0.0 (sym c.filled_place-found-2.ensures ∙ told.1)
+    let told = c.in_default-found-3 in
+    let is : Refused c.number-in_default-found-3.result ≡ Refused told.field-0 = ap Refused (c.number-in_default-found-3.ensures ∙ ap number_of told.is) in
+    is ∙ second-vacant given p q good low-p low-q at.2 told.field-0 (sym c.filled_place-found-2.ensures ∙ told.is)
 
 pub stored-a-requires : goal.stored-a-requires
 stored-a-requires c =

@@ -1,5 +1,5 @@
 -- `search::all_links` is safe and ends; it promises nothing of the links. Assumes nothing.
-use Prim.Native.Nat.{◌-◌, ◌≤◌}
+use Prim.Native.Nat.{◌≤◌}
 use Rattle.consistency.proofs.all_links.Given as goal
 
 abbrev pub invariant-loop-r : goal.invariant-loop-r

@@ -1,5 +1,5 @@
 -- `search::links_of` is safe and ends; it promises nothing of the links. Assumes nothing.
-use Prim.Native.Nat.{◌-◌, ◌≤◌}
+use Prim.Native.Nat.{◌≤◌}
 use Rattle.consistency.proofs.links_of.Given as goal
 
 abbrev pub invariant-loop-q : goal.invariant-loop-q

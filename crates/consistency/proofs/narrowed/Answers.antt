@@ -6,7 +6,7 @@ use Rattle.consistency.proofs.Masks.{shifted}
 use Rattle.consistency.proofs.Steps.{stored}
 use mathlib.Core.Path.{◌≡◌, refl, ap, sym, ◌∙◌, subst₂}
 use mathlib.Core.List.{List}
-use Prim.Native.Nat.{ℕ, ◌-◌, ◌<◌}
+use Prim.Native.Nat.{ℕ, ◌<◌}
 use native.Mathlib.Omega.{arith}
 use lib.ListN.{get_or, set, length, length-set}
 use lib.Seq.{get_or-set_same, get_or-set_other}

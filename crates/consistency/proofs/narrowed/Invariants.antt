@@ -1,7 +1,7 @@
 -- `search::narrowed` meets its contract. The loop's invariant: the choice is made, and each row passed is narrowed by it.
 -- Assumes nothing.
 use mathlib.Core.Path.{◌≡◌}
-use Prim.Native.Nat.{ℕ, ◌-◌, ◌^◌, ◌<◌, ◌≤◌}
+use Prim.Native.Nat.{ℕ, ◌^◌, ◌<◌, ◌≤◌}
 use lib.ListN.{set, length}
 use lib.Bits.{bit_or}
 use Rattle.consistency.specs.internal.Steps.{RowAfter}

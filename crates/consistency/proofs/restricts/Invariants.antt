@@ -1,5 +1,5 @@
 -- `search::restricts` is safe and ends; it promises nothing. Assumes nothing.
-use Prim.Native.Nat.{◌-◌, ◌≤◌}
+use Prim.Native.Nat.{◌≤◌}
 use Rattle.consistency.proofs.restricts.Given as goal
 
 abbrev pub invariant-loop-d : goal.invariant-loop-d

@@ -1,6 +1,5 @@
 -- `search::settled` meets its contract. The loop's invariant: so far it is settled. Assumes nothing.
 use borrow.Author.Rules.{rules}
-use Prim.Native.Nat.{◌-◌}
 use Rattle.consistency.proofs.Steps.{settles-same, settles-more}
 use Rattle.consistency.proofs.settled.Goals as goal
 

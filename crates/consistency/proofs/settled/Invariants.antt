@@ -1,5 +1,5 @@
 -- `search::settled` meets its contract. The loop's invariant: so far it is settled. Assumes nothing.
-use Prim.Native.Nat.{◌-◌, ◌≤◌}
+use Prim.Native.Nat.{◌≤◌}
 use Rattle.consistency.specs.internal.Consistent.{Settles}
 use Rattle.consistency.proofs.settled.Given as goal
 

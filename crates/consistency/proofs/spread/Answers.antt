@@ -1,11 +1,8 @@
 -- `search::spread` meets its contract. The loop's invariant: the rows passed are compared. Assumes nothing.
 use borrow.Author.Rules.{rules}
-use mathlib.Core.Path.{subst⁻¹}
-use mathlib.Core.Logic.{⊎_elim}
-use Prim.Native.Nat.{◌-◌}
-use Rattle.consistency.specs.internal.Consistent.{Settles}
 use Rattle.consistency.proofs.Steps.{settles-same, settles-more}
 use Rattle.consistency.proofs.spread.Goals as goal
+use Rattle.consistency.proofs.spread.Goals.{then-near-q-eq1, else-near-q-eq1}
 
 pub loop-q-init : goal.loop-q-init
 loop-q-init c = (search rules, settles-same _ _ _)
@@ -13,7 +10,10 @@ loop-q-init c = (search rules, settles-same _ _ _)
 pub loop-q-preserved : goal.loop-q-preserved
 loop-q-preserved c = (
   search rules,
-  ⊎_elim (λ w. subst⁻¹ (Settles _ _ _) w.if-near-q-eq1.2 (settles-more _ _ _ _ _ c.loop-q.invariant.1 w.if-near-q-eq1.1.ensures)) (λ w. subst⁻¹ (Settles _ _ _) w.if-near-q-eq1.1 c.loop-q.invariant.1) c.if-near-q-eq1.branch-raw,
+  elim c.if-near-q-eq1.branch [
+    | then-near-q-eq1 w ↦ rw (w.next-is) (settles-more _ _ _ _ _ c.loop-q.invariant.1 w.revised-next.ensures)
+    | else-near-q-eq1 w ↦ rw (w.next-is) c.loop-q.invariant.1
+  ],
 )
 
 pub returns : goal.returns

@@ -1,5 +1,5 @@
 -- `search::spread` meets its contract. The loop's invariant: the rows passed are compared. Assumes nothing.
-use Prim.Native.Nat.{◌-◌, ◌≤◌}
+use Prim.Native.Nat.{◌≤◌}
 use Rattle.consistency.specs.internal.Consistent.{Settles}
 use Rattle.consistency.proofs.spread.Given as goal
 

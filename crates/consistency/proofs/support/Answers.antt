@@ -1,16 +1,16 @@
 -- `search::support` meets its contract. The loop's invariant: what the candidates passed support is in the mask; a mask that ends has no more candidates. Assumes nothing.
 use borrow.Author.Rules.{rules}
 use mathlib.Core.Path.{◌≡◌, subst, subst⁻¹}
-use mathlib.Core.Logic.{⊎_elim}
 use mathlib.Core.List.{List}
 use native.Mathlib.Decide.{dec_lt}
 use native.Mathlib.Omega.{arith}
-use Prim.Native.Nat.{ℕ, ◌+◌, ◌-◌, ◌/◌, ◌^◌, ◌<◌}
+use Prim.Native.Nat.{ℕ, ◌+◌, ◌/◌, ◌^◌, ◌<◌}
 use lib.Bits.{bit_or}
 use Rattle.consistency.specs.internal.Solution.{Bit, together}
 use Rattle.consistency.specs.internal.Steps.{Supports}
 use Rattle.consistency.proofs.Masks.{bit_or_left, bit_or_right, bit_past}
 use Rattle.consistency.proofs.support.Goals as goal
+use Rattle.consistency.proofs.support.Goals.{then-rest-eq1, else-rest-eq1}
 
 -- one more candidate: the mask has what the earlier ones support, and what this one does if it is a candidate
 more : (table : List ℕ) (own p q d m n : ℕ) → Supports table own p q d m → ((e : ℕ) → Bit m e → Bit n e)
@@ -46,13 +46,16 @@ loop-d-preserved c =
     let loop = c.loop-d in
     let goes = together args.table.now args.p loop.d args.q in (
       search rules,
-      ⊎_elim (λ w.
-          subst⁻¹ (Supports args.table.now args.own args.p args.q (loop.d + 1)) w.if-rest-eq1.2
-          (more args.table.now args.own args.p args.q loop.d loop.mask (bit_or loop.mask goes) loop.invariant.1
-          (λ e b. bit_or_left loop.mask goes e b) (λ h e b. bit_or_right loop.mask goes e b))) (λ w.
-          subst⁻¹ (Supports args.table.now args.own args.p args.q (loop.d + 1)) w.if-rest-eq1.1
-          (more args.table.now args.own args.p args.q loop.d loop.mask loop.mask loop.invariant.1
-          (λ e b. b) (λ h e b. absurd (w.if-rest-eq1.0.left h)))) c.if-rest-eq1.branch-raw,
+      elim c.if-rest-eq1.branch [
+        | then-rest-eq1 w ↦
+            subst⁻¹ (Supports args.table.now args.own args.p args.q (loop.d + 1)) w.mask-is
+            (more args.table.now args.own args.p args.q loop.d loop.mask (bit_or loop.mask goes) loop.invariant.1
+            (λ e b. bit_or_left loop.mask goes e b) (λ h e b. bit_or_right loop.mask goes e b))
+        | else-rest-eq1 w ↦
+            subst⁻¹ (Supports args.table.now args.own args.p args.q (loop.d + 1)) w.mask-is
+            (more args.table.now args.own args.p args.q loop.d loop.mask loop.mask loop.invariant.1
+            (λ e b. b) (λ h e b. absurd (w.if-rest-eq1.false h)))
+      ],
     )
 
 pub returns : goal.returns

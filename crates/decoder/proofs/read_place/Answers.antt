@@ -1,5 +1,4 @@
--- ---- a query and the bytes after it
-use borrow.Author.Tests.{not-false, eqb-true}
+use borrow.Author.Tests.{not-true, not-false, eqb-true}
 use mathlib.Core.Path.{◌≡◌, sym, ap, refl, ◌∙◌}
 use mathlib.Core.Bool.{Bool, true, false, cond}
 use mathlib.Core.List.{List, [], ◌∷◌}
@@ -23,6 +22,8 @@ use Rattle.parsing.specs.declared.QueryRead.{QueryRead}
 use Rattle.parsing.specs.internal.Read.{query_read}
 use Rattle.decoder.specs.internal.Read.{place_read}
 use Rattle.decoder.proofs.read_place.Goals as goal
+
+-- ---- a query and the bytes after it
 
 complete-long : (q : Query) (rest : List ℕ) → eqb (length rest) 0 ≡ false → complete bad_query (got q rest) ≡ refused bad_query
 unfolding complete
@@ -79,87 +80,64 @@ read-sizes schema part q rest narrow hb e =
 
 pub returns-then-last : goal.returns-then-last
 returns-then-last c =
-    let start = c in
     c.no_place_read.ensures ∙ sym (ap place_read
-    (vacant-last (take start.args.count start.args.widths) start.args.part.now start.args.last
+    (vacant-last (take c.args.count c.args.widths) c.args.part.now c.args.last
     (sym c.is_vacant.ensures ∙ c.if-is_vacant.true) c.if-last.true))
 
 pub returns-then-is_vacant : goal.returns-then-is_vacant
 returns-then-is_vacant c =
-    let start = c in
     (λ i. record { answer = Done; place = c.no_place.ensures i })
-    ∙ sym (ap place_read (vacant-place (take start.args.count start.args.widths) start.args.part.now start.args.last
+    ∙ sym (ap place_read (vacant-place (take c.args.count c.args.widths) c.args.part.now c.args.last
     (sym c.is_vacant.ensures ∙ c.if-is_vacant.true) c.if-last.false))
 
 pub returns-then-not-read : goal.returns-then-not-read
 returns-then-not-read c =
-    let s = c in
-    let schema = take s.args.count s.args.widths in
-    let part = s.args.part.now in
+    let schema = take c.args.count c.args.widths in
+    let part = c.args.part.now in
     let read = c.read_query-read in
     let v = sym c.is_vacant.ensures ∙ c.if-is_vacant.false in
     c.no_place_read-then-not-read.ensures
-    ∙ sym (ap place_read (bad-query schema part s.args.last v
-    (query-bad ((query schema).get part) read.result read.ensures c.if-not-read.true)))
+    ∙ sym (ap place_read (bad-query schema part c.args.last v
+    (query-bad ((query schema).get part) read.result read.ensures (not-true read.result.good c.if-not-read.true))))
 
 pub head_safe-safe-requires : goal.head_safe-safe-requires
 head_safe-safe-requires c =
-    let s = c in
-    let schema = take s.args.count s.args.widths in
-    let part = s.args.part.now in
+    let schema = take c.args.count c.args.widths in
+    let part = c.args.part.now in
     let read = c.read_query-read in
-    let (rest, e, w) = query-some ((query schema).get part) read.result read.ensures c.if-not-read.false in
+    let (rest, e, w) = query-some ((query schema).get part) read.result read.ensures (not-false read.result.good c.if-not-read.false) in
     let bytes = bytes-known part (λ i. (c.type_inv.part i).fits) in
-    let (arity, size) = read-sizes schema part read.result.query rest (good-narrow s.args.count s.args.widths s.requires) bytes e in
-    (s.requires, arity, size)
+    let (arity, size) = read-sizes schema part read.result.query rest (good-narrow c.args.count c.args.widths c.requires) bytes e in
+    (c.requires, arity, size)
 
 pub returns-then-not-read-2 : goal.returns-then-not-read-2
 returns-then-not-read-2 c =
-    let after-if3 = c in
-    let after-read-query = after-if3 in
-    let after-if1 = after-read-query in
-    let after-is-vacant = after-if1 in
-    let earlier = after-is-vacant in
-    let s = earlier in
-    let schema = take s.args.count s.args.widths in
-    let part = s.args.part.now in
-    let read = after-read-query.read-query in
-    let (rest, e, w) = query-some ((query schema).get part) read.result read.ensures after-if3.if-not-read.false in
-    let v = sym after-is-vacant.is-vacant.ensures ∙ after-if1.if1.false in
+    let schema = take c.args.count c.args.widths in
+    let part = c.args.part.now in
+    let read = c.read_query-read in
+    let (rest, e, w) = query-some ((query schema).get part) read.result read.ensures (not-false read.result.good c.if-not-read.false) in
+    let v = sym c.is_vacant.ensures ∙ c.if-is_vacant.false in
     c.no_place_read-then-not-read-2.ensures
-    ∙ sym (ap place_read (long-query schema part s.args.last v read.result.query rest e
-    (sym w ∙ c.if-not-read-2.true)))
+    ∙ sym (ap place_read (long-query schema part c.args.last v read.result.query rest e
+    (sym w ∙ not-true read.result.whole c.if-not-read-2.true)))
 
 pub returns-then-safe : goal.returns-then-safe
 returns-then-safe c =
-    let after-if3 = c in
-    let after-read-query = after-if3 in
-    let after-if1 = after-read-query in
-    let after-is-vacant = after-if1 in
-    let earlier = after-is-vacant in
-    let s = earlier in
-    let schema = take s.args.count s.args.widths in
-    let part = s.args.part.now in
-    let read = after-read-query.read-query in
-    let (rest, e, w) = query-some ((query schema).get part) read.result read.ensures after-if3.if-not-read.false in
-    let v = sym after-is-vacant.is-vacant.ensures ∙ after-if1.if1.false in
-    sym (ap place_read (good-query-part schema part s.args.last v read.result.query rest e true
-    (sym w ∙ c.if-not-read-2.false) (sym c.head_safe-safe.ensures ∙ c.if-safe.true)))
+    let schema = take c.args.count c.args.widths in
+    let part = c.args.part.now in
+    let read = c.read_query-read in
+    let (rest, e, w) = query-some ((query schema).get part) read.result read.ensures (not-false read.result.good c.if-not-read.false) in
+    let v = sym c.is_vacant.ensures ∙ c.if-is_vacant.false in
+    sym (ap place_read (good-query-part schema part c.args.last v read.result.query rest e true
+    (sym w ∙ not-false read.result.whole c.if-not-read-2.false) (sym c.head_safe-safe.ensures ∙ c.if-safe.true)))
 
 pub returns : goal.returns
 returns c =
-    let after-head-safe = c in
-    let after-if3 = after-head-safe in
-    let after-read-query = after-if3 in
-    let after-if1 = after-read-query in
-    let after-is-vacant = after-if1 in
-    let earlier = after-is-vacant in
-    let s = earlier in
-    let schema = take s.args.count s.args.widths in
-    let part = s.args.part.now in
-    let read = after-read-query.read-query in
-    let (rest, e, w) = query-some ((query schema).get part) read.result read.ensures (not-false read.result.good after-if3.if3.false) in
-    let v = sym after-is-vacant.is-vacant.ensures ∙ after-if1.if1.false in
+    let schema = take c.args.count c.args.widths in
+    let part = c.args.part.now in
+    let read = c.read_query-read in
+    let (rest, e, w) = query-some ((query schema).get part) read.result read.ensures (not-false read.result.good c.if-not-read.false) in
+    let v = sym c.is_vacant.ensures ∙ c.if-is_vacant.false in
     c.no_place_read-2.ensures
-    ∙ sym (ap place_read (good-query-part schema part s.args.last v read.result.query rest e false
-    (sym w ∙ c.if-not-read-2.false) (sym after-head-safe.head_safe-safe.ensures ∙ c.if-safe.false)))
+    ∙ sym (ap place_read (good-query-part schema part c.args.last v read.result.query rest e false
+    (sym w ∙ not-false read.result.whole c.if-not-read-2.false) (sym c.head_safe-safe.ensures ∙ c.if-safe.false)))

@@ -2,7 +2,7 @@
 use borrow.Author.Rules.{rules}
 use mathlib.Core.Path.{◌≡◌}
 use mathlib.Core.List.{List, flat_map}
-use Prim.Native.Nat.{ℕ, ◌+◌, ◌*◌, ◌-◌, ◌≤◌, ◌<◌}
+use Prim.Native.Nat.{ℕ, ◌+◌, ◌*◌, ◌≤◌, ◌<◌}
 use native.Mathlib.Nat.{add-zero}
 use native.Mathlib.Omega.{arith}
 use lib.ListN.{length, take, get_or}
@@ -52,45 +52,35 @@ loop-i-init c =
 pub overflow_mul-i : goal.overflow_mul-i
 overflow_mul-i c =
     let l : length c.args.cells ≡ 8 = search rules in
-    let after-loop = c in
-    let start = after-loop in
     let r =
-    room start.args.buffer.now start.args.at start.args.n start.args.t3 after-loop.loop-i.buffer after-loop.loop-i.i
-    c.loop-i-test.true (omega (arith, start.requires.0)) after-loop.loop-i.invariant.1 in
+    room c.args.buffer.now c.args.at c.args.n c.args.cells c.loop-i.buffer c.loop-i.i
+    c.loop-i-test.true (omega (arith, c.requires.n_bound)) c.loop-i.invariant.1 in
     omega arith
 
 pub overflow_add-at : goal.overflow_add-at
 overflow_add-at c =
     let l : length c.args.cells ≡ 8 = search rules in
-    let after-loop = c in
-    let start = after-loop in
     let r =
-    room start.args.buffer.now start.args.at start.args.n start.args.t3 after-loop.loop-i.buffer after-loop.loop-i.i
-    c.loop-i-test.true (omega (arith, start.requires.0)) after-loop.loop-i.invariant.1 in
+    room c.args.buffer.now c.args.at c.args.n c.args.cells c.loop-i.buffer c.loop-i.i
+    c.loop-i-test.true (omega (arith, c.requires.n_bound)) c.loop-i.invariant.1 in
     omega arith
 
 pub put_entry-requires : goal.put_entry-requires
 put_entry-requires c =
     let l : length c.args.cells ≡ 8 = search rules in
-    let after-loop = c in
-    let start = after-loop in
     let r =
-    room start.args.buffer.now start.args.at start.args.n start.args.t3 after-loop.loop-i.buffer after-loop.loop-i.i
-    c.loop-i-test.true (omega (arith, start.requires.0)) after-loop.loop-i.invariant.1 in
+    room c.args.buffer.now c.args.at c.args.n c.args.cells c.loop-i.buffer c.loop-i.i
+    c.loop-i-test.true (omega (arith, c.requires.n_bound)) c.loop-i.invariant.1 in
     r
 
 pub loop-i-preserved : goal.loop-i-preserved
 loop-i-preserved c =
-    let l : length c.args.cells ≡ 8 = search rules in
-    let after-put-entry = c in
-    let after-loop-test = after-put-entry in
-    let after-loop = after-loop-test in
-    let start = after-loop in (
+    let l : length c.args.cells ≡ 8 = search rules in (
       search rules,
-      goes_on start.args.buffer.now start.args.at start.args.n start.args.t3 after-loop.loop.buffer
-          after-put-entry.put_entry.new.buffer after-loop.loop.i after-loop-test.loop-test.true (omega (arith, start.requires.0))
-          after-loop.loop.invariant.1
-          after-put-entry.put_entry.ensures,
+      goes_on c.args.buffer.now c.args.at c.args.n c.args.cells c.loop-i.buffer
+          c.put_entry.new.buffer c.loop-i.i c.loop-i-test.true (omega (arith, c.requires.n_bound))
+          c.loop-i.invariant.1
+          c.put_entry.ensures,
     )
 
 pub shape_of-buffer : goal.shape_of-buffer
@@ -101,7 +91,6 @@ pub returns : goal.returns
 unfolding entries padded entry
 returns c =
     let l : length c.args.cells ≡ 8 = search rules in
-    let start = c in
-    let k : length (take start.args.n start.args.cells) ≡ start.args.n =
-    length-take-le start.args.n start.args.cells (omega (arith, start.requires.n_bound)) in
+    let k : length (take c.args.n c.args.cells) ≡ c.args.n =
+    length-take-le c.args.n c.args.cells (omega (arith, c.requires.n_bound)) in
     (writing-ends c.loop-i.invariant.1 (omega arith)).0

@@ -12,30 +12,33 @@ use Rattle.format.specs.Parts.{query_for}
 use Rattle.format.specs.File.{put_place}
 use Rattle.encoder.proofs.PlaceParts.{filled-part, vacant-part, filled-sizes}
 use Rattle.encoder.proofs.put_place.Goals as goal
-
-sized : (c : goal.Start) → SizedFor 12 c.args.place.query
-sized c = record { head = search (mapped-length, rules); relations = search (mapped-length, rules); cells = search (mapped-length, rules) }
+use Rattle.encoder.proofs.put_place.Goals.{After-from_query, Start}
 
 -- The part is that of the tableau that is made
 part : (c : goal.After-from_query)
     → put_place (take c.args.count c.args.widths) c.args.place
     ≡ (query_for 24 (take c.args.count c.args.widths)).put (as_query c.from_query.result)
 part c =
-    filled-part (take c.args.count c.args.widths) c.args.place c.if-place.true c.requires.1.0
-    c.from_query.result c.from_query.ensures (sized c.before.before.before.before.before)
+    let sized : SizedFor 12 c.args.place.query = record { head = search (mapped-length, rules); relations = search (mapped-length, rules); cells = search (mapped-length, rules) }
+    in
+    filled-part (take c.args.count c.args.widths) c.args.place c.if-place.true c.requires.place_value
+    c.from_query.result c.from_query.ensures sized
 
 pub put_query-requires : goal.put_query-requires
 put_query-requires c =
-    let start = c in
     let fits =
-    filled-sizes (take start.args.count start.args.widths) start.args.place c.if-place.true start.pre.1.0
+    filled-sizes (take c.args.count c.args.widths) c.args.place c.if-place.true c.requires.place_value
     c.from_query.result c.from_query.ensures
     in
-    (start.pre.0, ((fits.0, omega (arith, fits.1)), rw (part (goal.at.put_query-requires c).After-from_query) at start.pre.1.1))
+    record {
+      widths_value = c.requires.widths_value;
+      arity_bound = (fits.0, omega (arith, fits.1));
+      t_in_bounds = rw (part (goal.at.put_query-requires c).After-from_query) at c.requires.place_in_bounds;
+    }
 
 pub shape_of-buffer-then-place : goal.shape_of-buffer-then-place
 shape_of-buffer-then-place c =
-    c.put_query.auto.0
+    c.put_query.auto.buffer
 
 pub returns-then-place : goal.returns-then-place
 returns-then-place c = rw (part (goal.at.returns-then-place c).After-from_query) c.put_query.ensures

@@ -20,6 +20,7 @@ use Rattle.format.proofs.Parts.{head_fits}
 use Rattle.format.proofs.Lengths.{length-entries, length-query}
 use Rattle.encoder.proofs.Stores.{two-stores}
 use Rattle.encoder.proofs.put_query.Goals as goal
+use Rattle.encoder.proofs.put_query.Goals.{After-head_in_use-used, After-put_entries, Start}
 
 abbrev head_bytes : ℕ → Query → List ℕ
 head_bytes used q = (entries used).put q.head
@@ -82,9 +83,6 @@ module _ (schema buffer : List ℕ) (at : ℕ) (q : Query) (lh : length q.head �
           ∙ over-over buffer at front (row_bytes schema q) (omega (arith, total, head-long)) ∙ ap (over buffer at) (sym put-pieces)
 
 -- ---- what holds at each place, proved where it first does
-head-cells : (c : goal.Start) → length c.args.t.head ≡ 8
-head-cells c = search (mapped-length, rules)
-
 short : (c : goal.Start) → length c.args.buffer.now < 2 ^ 63
 short c = search rules
 
@@ -93,31 +91,30 @@ two c = omega (arith, length-query 24 (take c.args.count c.args.widths) (as_quer
 
 used : (c : goal.After-head_in_use-used) → c.head_in_use-used.result ≤ 8
 used c =
-    let start = c in
-    used-fits (take start.args.count start.args.widths) start.args.buffer.now start.args.at (as_query start.args.t) (head-cells c.before.before)
-    start.requires.arity_bound.0 start.requires.t_in_bounds c.head_in_use-used.result c.head_in_use-used.ensures
+    let lh : length c.args.t.head ≡ 8 = search (mapped-length, rules) in
+    used-fits (take c.args.count c.args.widths) c.args.buffer.now c.args.at (as_query c.args.t) lh
+    c.requires.arity_bound.0 c.requires.t_in_bounds c.head_in_use-used.result c.head_in_use-used.ensures
 
 rows_fit : (c : goal.After-put_entries)
     → c.args.at + 2 + 5 * c.head_in_use-used.result
     + length (row_bytes (take c.args.count c.args.widths) (as_query c.args.t)) ≤ length c.put_entries.new.buffer
 rows_fit c =
-    let after-head-in-use = c in
-    let start = after-head-in-use in
-    room-rows (take start.args.count start.args.widths) start.args.buffer.now start.args.at (as_query start.args.t) (head-cells start)
-    start.requires.1.0.0 start.requires.1.1 after-head-in-use.head_in_use-used.result after-head-in-use.head_in_use-used.ensures c.put_entries.new.buffer
+    let lh : length c.args.t.head ≡ 8 = search (mapped-length, rules) in
+    room-rows (take c.args.count c.args.widths) c.args.buffer.now c.args.at (as_query c.args.t) lh
+    c.requires.arity_bound.0 c.requires.t_in_bounds c.head_in_use-used.result c.head_in_use-used.ensures c.put_entries.new.buffer
     c.put_entries.ensures
 
 rows_at : (c : goal.After-put_entries) → c.args.at + 2 + 5 * c.head_in_use-used.result < 2 ^ 63
 rows_at c =
-    let after-head-in-use = c in
-    let start = after-head-in-use in
+    let lh : length c.args.t.head ≡ 8 = search (mapped-length, rules) in
+    let short : length c.args.buffer.now < 2 ^ 63 = search rules in
     omega (
       arith,
       rows_fit c,
-      second-long (take start.args.count start.args.widths) start.args.buffer.now start.args.at (as_query start.args.t)
-          (head-cells start) start.requires.1.0.0 start.requires.1.1 after-head-in-use.head_in_use-used.result after-head-in-use.head_in_use-used.ensures
+      second-long (take c.args.count c.args.widths) c.args.buffer.now c.args.at (as_query c.args.t)
+          lh c.requires.arity_bound.0 c.requires.t_in_bounds c.head_in_use-used.result c.head_in_use-used.ensures
           c.put_entries.new.buffer c.put_entries.ensures,
-      short start,
+      short,
     )
 
 -- ---- the needs
@@ -135,12 +132,12 @@ overflow_add-at c = omega (arith, two (goal.at.overflow_add-at c).Start, short (
 
 pub put_entries-requires : goal.put_entries-requires
 put_entries-requires c =
-    let after-head-in-use = c in
-    let start = after-head-in-use in (
-      used (goal.at.put_entries-requires c).After-head_in_use-used,
-      room-head (take start.args.count start.args.widths) start.args.buffer.now start.args.at (as_query start.args.t)
-          (head-cells start) start.requires.1.0.0 start.requires.1.1 after-head-in-use.head_in_use-used.result after-head-in-use.head_in_use-used.ensures,
-    )
+    let lh : length c.args.t.head ≡ 8 = search (mapped-length, rules) in
+    record {
+      n_bound = used (goal.at.put_entries-requires c).After-head_in_use-used;
+      n_in_bounds = room-head (take c.args.count c.args.widths) c.args.buffer.now c.args.at (as_query c.args.t)
+          lh c.requires.arity_bound.0 c.requires.t_in_bounds c.head_in_use-used.result c.head_in_use-used.ensures;
+    }
 
 pub overflow_add-at-2 : goal.overflow_add-at-2
 overflow_add-at-2 c = omega (arith, rows_at (goal.at.overflow_add-at-2 c).After-put_entries)
@@ -153,35 +150,31 @@ overflow_add-at-3 c = omega (arith, rows_at (goal.at.overflow_add-at-3 c).After-
 
 pub put_rows-requires : goal.put_rows-requires
 put_rows-requires c =
-    let earlier = c in
-    let start = earlier in
-    (start.requires.0, (start.requires.1.0.1, rows_fit (goal.at.put_rows-requires c).After-put_entries))
+    record {
+      widths_value = c.requires.widths_value;
+      size_bound = c.requires.arity_bound.1;
+      cells_in_bounds = rows_fit (goal.at.put_rows-requires c).After-put_entries;
+    }
 
 pub shape_of-buffer : goal.shape_of-buffer
 shape_of-buffer c =
-    let after-put-rows = c in
-    let after-put-entries = after-put-rows in
-    let after-head-in-use = after-put-entries in
-    let start = after-head-in-use in
-    third-long (take start.args.count start.args.widths) start.args.buffer.now start.args.at (as_query start.args.t) (head-cells start)
-    start.requires.1.0.0 start.requires.1.1 after-head-in-use.head-in-use.result after-head-in-use.head-in-use.ensures
-    after-put-entries.put_entries.new.0 after-put-entries.put_entries.ensures after-put-rows.put_rows.new.buffer
-    after-put-rows.put_rows.ensures.0
+    let lh : length c.args.t.head ≡ 8 = search (mapped-length, rules) in
+    third-long (take c.args.count c.args.widths) c.args.buffer.now c.args.at (as_query c.args.t) lh
+    c.requires.arity_bound.0 c.requires.t_in_bounds c.head_in_use-used.result c.head_in_use-used.ensures
+    c.put_entries.new.buffer c.put_entries.ensures c.put_rows.new.buffer
+    c.put_rows.ensures.0
 
 pub returns : goal.returns
 returns c =
-    let after-put-rows = c in
-    let after-put-entries = after-put-rows in
-    let after-head-in-use = after-put-entries in
-    let start = after-head-in-use in (
-      third-over (take start.args.count start.args.widths) start.args.buffer.now start.args.at (as_query start.args.t) (head-cells start)
-          start.requires.1.0.0 start.requires.1.1 after-head-in-use.head-in-use.result after-head-in-use.head-in-use.ensures
-          after-put-entries.put_entries.new.0 after-put-entries.put_entries.ensures after-put-rows.put_rows.new.buffer
-          after-put-rows.put_rows.ensures.0,
+    let lh : length c.args.t.head ≡ 8 = search (mapped-length, rules) in (
+      third-over (take c.args.count c.args.widths) c.args.buffer.now c.args.at (as_query c.args.t) lh
+          c.requires.arity_bound.0 c.requires.t_in_bounds c.head_in_use-used.result c.head_in_use-used.ensures
+          c.put_entries.new.buffer c.put_entries.ensures c.put_rows.new.buffer
+          c.put_rows.ensures.0,
       omega (
         arith,
-        after-put-rows.put_rows.ensures.1,
-        total (take start.args.count start.args.widths) start.args.buffer.now start.args.at (as_query start.args.t) (head-cells start)
-            start.requires.1.0.0 start.requires.1.1 after-head-in-use.head-in-use.result after-head-in-use.head-in-use.ensures,
+        c.put_rows.ensures.1,
+        total (take c.args.count c.args.widths) c.args.buffer.now c.args.at (as_query c.args.t) lh
+            c.requires.arity_bound.0 c.requires.t_in_bounds c.head_in_use-used.result c.head_in_use-used.ensures,
       ),
     )

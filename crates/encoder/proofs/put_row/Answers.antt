@@ -10,17 +10,15 @@ use Rattle.encoder.proofs.put_row.Goals as goal
 
 pub shape_of-buffer : goal.shape_of-buffer
 shape_of-buffer c =
-    let start = c in
-    c.put_entries.auto.0 ∙ length-set start.args.buffer.now start.args.at start.args.relation
+    c.put_entries.auto.buffer ∙ length-set c.args.buffer.now c.args.at c.args.relation
 
 pub returns : goal.returns
 returns c =
-    let start = c in
-    let buffer = start.args.buffer.now in
-    let at = start.args.at in
-    let relation = start.args.relation in
-    let bytes = (entries start.args.width).put start.args.cells in (
+    let buffer = c.args.buffer.now in
+    let at = c.args.at in
+    let relation = c.args.relation in
+    let bytes = (entries c.args.width).put c.args.cells in (
       c.put_entries.ensures ∙ ap (λ (n : ℕ). over (set buffer at relation) n bytes) (add-one at)
-          ∙ over-set buffer at relation bytes (omega (arith, start.requires.width_in_bounds)),
+          ∙ over-set buffer at relation bytes (omega (arith, c.requires.width_in_bounds)),
       refl,
     )

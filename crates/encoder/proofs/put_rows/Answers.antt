@@ -2,7 +2,7 @@
 use borrow.Author.Rules.{rules}
 use mathlib.Core.Path.{◌≡◌, sym, ap, refl, ◌∙◌}
 use mathlib.Core.List.{List, [], ◌∷◌}
-use Prim.Native.Nat.{ℕ, zero, suc, ◌+◌, ◌*◌, ◌-◌, ◌≤◌, ◌<◌}
+use Prim.Native.Nat.{ℕ, zero, suc, ◌+◌, ◌*◌, ◌≤◌, ◌<◌}
 use native.Mathlib.Nat.{le_of_suc-le-suc}
 use native.Mathlib.Omega.{arith}
 use lib.ListN.{length, take, drop, get_or, length-drop}
@@ -66,33 +66,24 @@ pub put_row-at-requires : goal.put_row-at-requires
 put_row-at-requires c =
     let ln : length c.args.named ≡ 24 = search rules in
     let lc : length c.args.cells ≡ 192 = search rules in
-    let after-width-of = c in
-    let after-loop-test = after-width-of in
-    let after-loop = after-loop-test in
-    let start' = after-loop in (
-      after-width-of.width_of-width.ensures.1,
-      room (take start'.args.count start'.args.widths) start'.args.buffer.now start'.args.start start'.args.size start'.args.t4
-          start'.args.cells after-loop.loop.buffer after-loop.loop.at after-loop.loop.r after-loop-test.loop-test.true start'.requires.1.0
+    record {
+      width_bound = c.width_of-width.ensures.1;
+      width_in_bounds = room (take c.args.count c.args.widths) c.args.buffer.now c.args.start c.args.size c.args.named
+          c.args.cells c.loop-r.buffer c.loop-r.at c.loop-r.r c.loop-r-test.true c.requires.size_bound
           ln lc
-          after-loop.loop.invariant.1 after-width-of.width_of-width.result after-width-of.width_of-width.ensures.0 after-width-of.width_of-width.ensures.1,
-    )
+          c.loop-r.invariant.1 c.width_of-width.result c.width_of-width.ensures.0 c.width_of-width.ensures.1;
+    }
 
 pub loop-r-preserved : goal.loop-r-preserved
 loop-r-preserved c =
     let ln : length c.args.named ≡ 24 = search rules in
-    let lc : length c.args.cells ≡ 192 = search rules in
-    let after-put-row = c in
-    let after-row-of = after-put-row in
-    let after-width-of = after-row-of in
-    let after-loop-test = after-width-of in
-    let after-loop = after-loop-test in
-    let start' = after-loop in (
+    let lc : length c.args.cells ≡ 192 = search rules in (
       search rules,
-      goes_on (take start'.args.count start'.args.widths) start'.args.buffer.now start'.args.start start'.args.size
-          start'.args.t4 start'.args.cells after-loop.loop.buffer after-loop.loop.at after-loop.loop.r after-loop-test.loop-test.true
-          start'.requires.1.0 ln lc after-loop.loop.invariant.1 after-width-of.width_of_lem.result after-width-of.width_of_lem.ensures.0
-          after-width-of.width_of_lem.ensures.1 after-row-of.row_of.result.cells after-put-row.put_row-at.new.buffer after-put-row.put_row-at.result
-          after-row-of.row_of.ensures after-put-row.put_row-at.ensures.0 after-put-row.put_row-at.ensures.1,
+      goes_on (take c.args.count c.args.widths) c.args.buffer.now c.args.start c.args.size
+          c.args.named c.args.cells c.loop-r.buffer c.loop-r.at c.loop-r.r c.loop-r-test.true
+          c.requires.size_bound ln lc c.loop-r.invariant.1 c.width_of-width.result c.width_of-width.ensures.0
+          c.width_of-width.ensures.1 c.row_of-line.result.cells c.put_row-at.new.buffer c.put_row-at.result
+          c.row_of-line.ensures c.put_row-at.ensures.0 c.put_row-at.ensures.1,
     )
 
 pub shape_of-buffer : goal.shape_of-buffer
@@ -103,7 +94,6 @@ pub returns : goal.returns
 returns c =
     let ln : length c.args.named ≡ 24 = search rules in
     let lc : length c.args.cells ≡ 192 = search rules in
-    let start = c in
-    let k : length (take start.args.size (chunk start.args.named start.args.cells)) ≡ start.args.size =
-    length-take-le start.args.size (chunk start.args.named start.args.cells) (rw length-chunk (omega (arith, start.requires.size_bound))) in
+    let k : length (take c.args.size (chunk c.args.named c.args.cells)) ≡ c.args.size =
+    length-take-le c.args.size (chunk c.args.named c.args.cells) (rw length-chunk (omega (arith, c.requires.size_bound))) in
     writing-ends c.loop-r.invariant.1 (omega arith)

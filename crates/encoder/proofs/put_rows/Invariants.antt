@@ -1,5 +1,5 @@
 -- row r of relations and cells
-use Prim.Native.Nat.{◌-◌, ◌≤◌}
+use Prim.Native.Nat.{◌≤◌}
 use lib.ListN.{take}
 use Rattle.format.specs.Parts.{row, chunk}
 use Rattle.encoder.proofs.Stores.{Writing}

@@ -9,17 +9,17 @@ use Rattle.format.proofs.Rules.{good-narrow}
 use Rattle.lists.proofs.Loops.{mapped-length}
 use Rattle.encoder.proofs.PlaceParts.{query-exact}
 use Rattle.encoder.proofs.query_length.Goals as goal
+use Rattle.encoder.proofs.query_length.Goals.{After-head_in_use-used, Start}
 
 sized : (c : goal.Start) → SizedFor 24 (as_query c.args.t)
 sized c = record { head = search (mapped-length, rules); relations = search (mapped-length, rules); cells = search (mapped-length, rules) }
 
 used : (c : goal.After-head_in_use-used) → c.head_in_use-used.result ≤ 8
 used c =
-    let start = c in
-    rw c.head_in_use-used.ensures (head_fits start.args.t.size start.args.t.arity start.requires.arity_bound.0)
+    rw c.head_in_use-used.ensures (head_fits c.args.t.size c.args.t.arity c.requires.arity_bound.0)
 
 pub rows_length-rows-requires : goal.rows_length-rows-requires
-rows_length-rows-requires c = (c.requires.widths_value, c.requires.arity_bound.1)
+rows_length-rows-requires c = record { widths_value = c.requires.widths_value; size_bound = c.requires.arity_bound.1 }
 
 pub overflow_mul-result : goal.overflow_mul-result
 overflow_mul-result c = omega (arith, used (goal.at.overflow_mul-result c).After-head_in_use-used)
@@ -32,10 +32,9 @@ overflow_add-result-2 c = omega (arith, used (goal.at.overflow_add-result-2 c).A
 
 pub returns : goal.returns
 returns c =
-    let start = c in
-    let schema = take start.args.count start.args.widths in
+    let schema = take c.args.count c.args.widths in
     let head = c.head_in_use-used in (
-      query-exact schema (good-narrow start.args.count start.args.widths start.requires.widths_value) 24 (as_query start.args.t) head.result
+      query-exact schema (good-narrow c.args.count c.args.widths c.requires.widths_value) 24 (as_query c.args.t) head.result
           c.rows_length-rows.result (sized (goal.at.returns c).Start) head.ensures (used (goal.at.returns c).After-head_in_use-used) c.rows_length-rows.ensures.0,
       omega (arith, used (goal.at.returns c).After-head_in_use-used, c.rows_length-rows.ensures.1),
     )

@@ -2,7 +2,7 @@
 use borrow.Author.Rules.{rules}
 use mathlib.Core.Path.{◌≡◌, sym, ap, refl, ◌∙◌}
 use mathlib.Core.List.{List, [], ◌++◌, append-nil}
-use Prim.Native.Nat.{ℕ, suc, ◌+◌, ◌*◌, ◌-◌, ◌<◌}
+use Prim.Native.Nat.{ℕ, suc, ◌+◌, ◌*◌, ◌<◌}
 use native.Mathlib.Numerals.{add-one}
 use native.Mathlib.Omega.{arith}
 use lib.ListN.{length, take, drop, get_or, set, replicate, length-drop, length-set, drop_of_length-le}
@@ -41,11 +41,10 @@ loop-c-preserved c =
     let cells = c.args.cells in
     let r = c.args.r in
     let l : length cells ≡ 192 = search rules in
-    let after-loop = c in
     let run = run_length cells r l c.requires in
-    let copy = after-loop.loop-c.copy in
-    let i = after-loop.loop-c.c in
-    let inv = after-loop.loop-c.invariant in (
+    let copy = c.loop-c.copy in
+    let i = c.loop-c.c in
+    let inv = c.loop-c.invariant in (
       search rules,
       length-set copy i (get_or cells (8 * r + i) no_cell) ∙ inv.1,
       inv.2 ∙ turn (take 8 (drop (8 * r) cells)) copy i (get_or cells (8 * r + i) no_cell) (omega arith) (omega arith)

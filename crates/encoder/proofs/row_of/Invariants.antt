@@ -1,6 +1,6 @@
 -- a list laid over one of its own length from the start is itself
 use mathlib.Core.Path.{◌≡◌}
-use Prim.Native.Nat.{◌*◌, ◌-◌, ◌≤◌}
+use Prim.Native.Nat.{◌*◌, ◌≤◌}
 use lib.ListN.{length, take, drop}
 use Rattle.lists.specs.Over.{over}
 use Rattle.encoder.proofs.row_of.Given as goal

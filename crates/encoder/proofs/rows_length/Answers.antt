@@ -1,7 +1,7 @@
 use borrow.Author.Rules.{rules}
 use mathlib.Core.Path.{◌≡◌}
 use mathlib.Core.List.{List}
-use Prim.Native.Nat.{ℕ, ◌+◌, ◌*◌, ◌-◌, ◌≤◌, ◌<◌}
+use Prim.Native.Nat.{ℕ, ◌+◌, ◌*◌, ◌≤◌, ◌<◌}
 use native.Mathlib.Nat.{zero-add}
 use native.Mathlib.Numerals.{add-one}
 use native.Mathlib.Omega.{arith}
@@ -30,18 +30,15 @@ loop-r-init c =
 pub loop-r-preserved : goal.loop-r-preserved
 loop-r-preserved c =
     let l : length c.args.named ≡ 24 = search rules in
-    let after-loop = c in
-    let start = after-loop in
     let e =
-    next (take start.args.count start.args.widths) start.args.t2 start.args.size after-loop.loop-r.r c.loop-r-test.true
-    (omega (arith, start.requires.1)) in
-    (search rules, omega (arith, c.width_of-width.ensures.1), omega (arith, e, c.width_of-width.ensures.0, after-loop.loop-r.invariant.2))
+    next (take c.args.count c.args.widths) c.args.named c.args.size c.loop-r.r c.loop-r-test.true
+    (omega (arith, c.requires.size_bound)) in
+    (search rules, omega (arith, c.width_of-width.ensures.1), omega (arith, e, c.width_of-width.ensures.0, c.loop-r.invariant.2))
 
 pub returns : goal.returns
 returns c =
     let l : length c.args.named ≡ 24 = search rules in
-    let start = c in
     let e =
-    none_left (take start.args.count start.args.widths) start.args.named start.args.size c.loop-r.r c.loop-r-test.false
-    (omega (arith, start.requires.size_bound)) in
-    (omega (arith, e, c.loop-r.invariant.2), omega (arith, start.requires.size_bound))
+    none_left (take c.args.count c.args.widths) c.args.named c.args.size c.loop-r.r c.loop-r-test.false
+    (omega (arith, c.requires.size_bound)) in
+    (omega (arith, e, c.loop-r.invariant.2), omega (arith, c.requires.size_bound))

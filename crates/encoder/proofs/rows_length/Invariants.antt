@@ -1,5 +1,5 @@
 use mathlib.Core.Path.{◌≡◌}
-use Prim.Native.Nat.{◌+◌, ◌*◌, ◌-◌, ◌≤◌}
+use Prim.Native.Nat.{◌+◌, ◌*◌, ◌≤◌}
 use lib.ListN.{take, drop}
 use Rattle.encoder.specs.internal.Lengths.{rows_length}
 use Rattle.encoder.proofs.rows_length.Given as goal

@@ -1,6 +1,6 @@
 -- `folding::among` leaves of each row's candidates those that are left. The loop's invariant: those passed are made. Assumes nothing.
 use mathlib.Core.Path.{◌≡◌, refl, ◌∙◌}
-use Prim.Native.Nat.{◌-◌, ◌≤◌, ◌<◌}
+use Prim.Native.Nat.{◌≤◌, ◌<◌}
 use native.Mathlib.Omega.{arith}
 use borrow.Author.Count.{below_none}
 use borrow.Author.Rules.{rules}

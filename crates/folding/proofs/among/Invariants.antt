@@ -1,6 +1,6 @@
 -- `folding::among` leaves of each row's candidates those that are left. The loop's invariant: those passed are made. Assumes nothing.
 use mathlib.Core.Path.{◌≡◌}
-use Prim.Native.Nat.{ℕ, ◌-◌, ◌≤◌, ◌<◌}
+use Prim.Native.Nat.{ℕ, ◌≤◌, ◌<◌}
 use lib.Bits.{bit_and}
 use lib.ListN.{get_or, length}
 use Rattle.folding.proofs.among.Given as goal

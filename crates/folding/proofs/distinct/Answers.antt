@@ -1,7 +1,7 @@
 -- `folding::distinct` marks the rows that are no repeats. The loop's invariant: those from d on are marked. Assumes nothing.
 use mathlib.Core.Path.{sym, ◌∙◌}
 use mathlib.Core.Bool.{false≢true}
-use Prim.Native.Nat.{ℕ, ◌-◌, ◌≤◌, ◌<◌}
+use Prim.Native.Nat.{ℕ, ◌≤◌, ◌<◌}
 use borrow.Author.Rules.{rules}
 use Rattle.candidates.specs.internal.Candidates.{Repeats}
 use Rattle.candidates.proofs.Masks.{marks-start, marks-one, marks-zero, marks-end, marks-room}

@@ -1,7 +1,7 @@
 -- `folding::kept` keeps the rows that are needed: the candidates and the table are made, repeats go, and each row is tried. The loop's invariant is that of
 -- `Keeping`, whatever the rows are. Assumes nothing.
 use mathlib.Core.List.{List}
-use Prim.Native.Nat.{ℕ, ◌-◌, ◌^◌, ◌≤◌, ◌<◌}
+use Prim.Native.Nat.{ℕ, ◌^◌, ◌≤◌, ◌<◌}
 use Rattle.folding.proofs.Keeping.{Keeping}
 use Rattle.folding.proofs.kept.Given as goal
 

@@ -1,7 +1,7 @@
 -- `folding::without` marks the rows that are left, without one. The loop's invariant: those from d on are marked. Assumes nothing.
 use mathlib.Core.Path.{sym, ◌∙◌}
 use mathlib.Core.Bool.{false≢true}
-use Prim.Native.Nat.{◌-◌, ◌≤◌, ◌<◌}
+use Prim.Native.Nat.{◌≤◌, ◌<◌}
 use borrow.Author.Rules.{rules}
 use Rattle.candidates.proofs.Masks.{marks-start, marks-one, marks-zero, marks-end, marks-room}
 use Rattle.folding.specs.internal.Folding.{LeftBut}

@@ -1,7 +1,6 @@
 -- `join_chase::chase` meets its contract. The loop's invariant: the chase of the tableau so far gives the outcome of the whole. The measure is the number of
 -- rounds that are left. Assumes nothing.
 use mathlib.Core.Path.{refl, sym, ◌∙◌}
-use mathlib.Core.Bool.{true}
 use Rattle.join_chase.proofs.chase.Goals as goal
 
 pub loop-widths-init : goal.loop-widths-init

@@ -2,7 +2,7 @@
 -- Assumes nothing.
 use mathlib.Core.Path.{◌≡◌, refl, ap, sym, ◌∙◌}
 use mathlib.Core.Logic.{⊎_elim}
-use Prim.Native.Nat.{ℕ, ◌+◌, ◌-◌, ◌*◌, ◌/◌, ◌%◌, ◌<◌, ◌≤◌}
+use Prim.Native.Nat.{ℕ, ◌+◌, ◌*◌, ◌/◌, ◌%◌, ◌<◌, ◌≤◌}
 use native.Mathlib.Nat.{mod-lt, mul-lt-mul_of_pos_right, div-lt_iff_lt-mul}
 use native.Mathlib.Omega.{arith}
 use mir.Val.{Fits}
@@ -12,13 +12,14 @@ use Rattle.tables.specs.internal.Table.{mixed}
 use Rattle.tables.proofs.Buckets.{mixed_at, mixed-start, mixed-take, mixed-skip, mixed-end}
 use borrow.Author.Rules.{rules}
 use Rattle.join_lookup.proofs.bucket.Goals as goal
+use Rattle.join_lookup.proofs.bucket.Goals.{After-loop-c}
 
 pub loop-c-init : goal.loop-c-init
 loop-c-init c = (search rules, search rules, refl)
 
 pub overflow_add-h : goal.overflow_add-h
 overflow_add-h c = let s = c in
-    let small : Fits w32 (get_or s.args.values c.loop-c.c 0) = search (rules, s.well-formed) in
+    let small : Fits w32 (get_or s.args.values c.loop-c.c 0) = search rules in
     omega (arith, small.fits)
 
 pub loop-c-preserved : goal.loop-c-preserved
@@ -26,21 +27,21 @@ loop-c-preserved c = let s = c in
     let a = s.args in
     let l = c.loop-c in
     let xs = a.values in
-    let size : length xs ≡ 8 = search (rules, s.well-formed) in
+    let size : length xs ≡ 8 = search rules in
     let wide : a.width ≤ length xs = omega (arith, s.requires.0) in
     let x : ℕ = get_or xs l.c 0 in
     let low : c.if-left-eq1.h < 4294967296 =
-    ⊎_elim (λ w. let e : c.if-left-eq1.h ≡ (l.h * 2654435769 + x) % 4294967296 = w.if-left-eq1.1 in omega (arith, mod-lt (l.h * 2654435769 + x) {m = 4294967296} (omega arith))) (λ w. let e : c.if-left-eq1.h ≡ l.h = w.if-left-eq1.1 in omega arith) c.if-left-eq1.branch-raw in (
+    ⊎_elim (λ w. let e : c.if-left-eq1.h ≡ (l.h * 2654435769 + x) % 4294967296 = w.h-is in omega (arith, mod-lt (l.h * 2654435769 + x) {m = 4294967296} (omega arith))) (λ w. let e : c.if-left-eq1.h ≡ l.h = w.h-is in omega arith) c.if-left-eq1.branch-raw in (
       search rules,
       low,
       l.invariant.2
-          ∙ ⊎_elim (λ w. mixed-take xs a.width l.c l.left l.h (search rules) wide w.if-left-eq1.0.taken
-          ∙ ap (mixed_at xs a.width (l.c + 1) (l.left / 2)) (sym w.if-left-eq1.1)) (λ w. mixed-skip xs a.width l.c l.left l.h (search rules) wide w.if-left-eq1.0.left
-          ∙ ap (mixed_at xs a.width (l.c + 1) (l.left / 2)) (sym w.if-left-eq1.1)) c.if-left-eq1.branch-raw,
+          ∙ ⊎_elim (λ w. mixed-take xs a.width l.c l.left l.h (search rules) wide w.if-left-eq1.true
+          ∙ ap (mixed_at xs a.width (l.c + 1) (l.left / 2)) (sym w.h-is)) (λ w. mixed-skip xs a.width l.c l.left l.h (search rules) wide w.if-left-eq1.false
+          ∙ ap (mixed_at xs a.width (l.c + 1) (l.left / 2)) (sym w.h-is)) c.if-left-eq1.branch-raw,
     )
 
 -- What is spread stays below the number of buckets
-below : (c : goal.After-loop-c) → (c.loop-c.h * 2654435769) % 4294967296 * c.args.buckets < c.args.buckets * 4294967296
+below : (c : After-loop-c) → (c.loop-c.h * 2654435769) % 4294967296 * c.args.buckets < c.args.buckets * 4294967296
 below c =
     let n = c.args.buckets in
     let m = (c.loop-c.h * 2654435769) % 4294967296 in

@@ -1,16 +1,20 @@
 -- `find` goes along table 0. Invariant: no row passed has the values. Assumes nothing.
 use mathlib.Core.Path.{◌≡◌}
-use Prim.Native.Nat.{suc, ◌-◌}
-use mathlib.Core.Bool.{true}
+use Prim.Native.Nat.{suc}
 use native.Mathlib.Omega.{arith}
 use lib.ListN.{length}
 use Rattle.join_lookup.specs.internal.Tables.{Reaches}
 use Rattle.join_lookup.proofs.Reaching.{pass-begins, pass-next, pass-found, pass-end, reach-less}
+use borrow.Author.Rules.{rules}
 use Rattle.join_lookup.proofs.find.Goals as goal
+use Rattle.join_lookup.proofs.find.Goals.{After-following-at}
 
 pub start-at-requires : goal.start-at-requires
 start-at-requires c = let s = c in
-    ((s.requires.words_value.0, s.requires.words_value.1, omega arith), λ some. (s.requires.words_value.2 some).0)
+    record {
+      words_value = (s.requires.words_value.0, s.requires.words_value.1, omega arith);
+      buckets_in_bounds = λ some. (s.requires.words_value.2 some).0;
+    }
 
 pub loop-at-init : goal.loop-at-init
 loop-at-init c = let s = c in
@@ -23,7 +27,10 @@ has-requires c = let s = c in
     let l = c in
     let w = l.loop-at.invariant in
     let p = w.2 in
-    ((w.0, w.1), (w.2.1.row, pass-begins a.schema.now a.words.now w.0 a.x w.1 a.columns a.values l.loop-at.at p c.loop-at-test.true))
+    record {
+      words_value = (w.0, w.1);
+      by_index = (w.2.1.row, pass-begins a.schema.now a.words.now w.0 a.x w.1 a.columns a.values l.loop-at.at p c.loop-at-test.true);
+    }
 
 pub returns-then-has : goal.returns-then-has
 returns-then-has c = let s = c in
@@ -43,23 +50,22 @@ following-at-requires c = let s = c in
     let l = c in
     let i = c in
     let w = l.loop-at.invariant in
-    let p = w.2 in (
-      (w.0, w.1, omega arith),
-      (
-        (w.2.1.row, pass-begins a.schema.now a.words.now w.0 a.x w.1 a.columns a.values l.loop-at.at p i.loop-at-test.true),
-        λ some. (s.requires.words_value.2 some).1,
-      ),
-    )
+    let p = w.2 in
+    record {
+      words_value = (w.0, w.1, omega arith);
+      by_index = (w.2.1.row, pass-begins a.schema.now a.words.now w.0 a.x w.1 a.columns a.values l.loop-at.at p i.loop-at-test.true);
+      words_in_bounds = λ some. (s.requires.words_value.2 some).1;
+    }
 
 -- The way goes on
-onward : (c : goal.After-following-at)
+onward : (c : After-following-at)
     → Reaches c.args.schema.now c.args.words.now c.args.x 0 c.args.columns 0 c.args.values
     (suc c.loop-at.invariant.2.1.row) c.following-at.result
 onward c = let s = c in
     let a = s.args in
     let l = c in
     let w = l.loop-at.invariant in
-    let size : length a.values ≡ 8 = s.well-formed.1.1.1.1.0.1.0.1 in
+    let size : length a.values ≡ 8 = search rules in
     c.following-at.ensures a.columns 0 w.2.0 a.values a.heads.now s.ranges.columns.fits (omega (arith, w.1.narrow)) s.requires.tabled w.2.1
 
 pub loop-at-smaller : goal.loop-at-smaller

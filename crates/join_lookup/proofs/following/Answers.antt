@@ -1,5 +1,4 @@
 -- `following` is the link of a row, or where the next row begins. Assumes nothing.
--- The row is there
 use mathlib.Core.Path.{◌≡◌, sym, ap, ◌∙◌, subst}
 use mathlib.Core.Bool.{true}
 use Prim.Native.Nat.{ℕ, suc, ◌+◌, ◌*◌, ◌<◌}
@@ -10,16 +9,20 @@ use Rattle.join_lookup.specs.internal.Starts.{start_of}
 use Rattle.join_lookup.proofs.Starting.{begins, start-inside, start-next}
 use Rattle.join_lookup.proofs.Reaching.{reach-next, reach-link, reach-inside}
 use Rattle.join_lookup.proofs.following.Goals as goal
+use Rattle.join_lookup.proofs.following.Goals.{Start, Else-x-eq0}
 
-inside : (c : goal.Start) → c.args.at < length c.args.words.now
+-- The row is there
+inside : (c : Start) → c.args.at < length c.args.words.now
 inside c = let a = c.args in
     let p = c.requires.by_index in
     omega (arith, p.1.0, start-inside a.schema.now a.words.now c.requires.words_value.0 p.0 p.1.1)
 
 -- Its link is in the slice
-room : (c : goal.Else-x-eq0) → 6 * c.args.at + 1 + c.args.t < length c.args.nodes.now
+room : (c : Else-x-eq0) → 6 * c.args.at + 1 + c.args.t < length c.args.nodes.now
 room c = let s = c in
-    omega (arith, inside c.before.before.before.before.before, s.requires.words_in_bounds (omega (arith, c.if-x-eq0.false)), s.requires.words_value.2)
+    let a = s.args in
+    let p = s.requires.by_index in
+    omega (arith, p.1.0, start-inside a.schema.now a.words.now s.requires.words_value.0 p.0 p.1.1, s.requires.words_in_bounds (omega (arith, c.if-x-eq0.false)), s.requires.words_value.2)
 
 pub next-requires : goal.next-requires
 next-requires c = let s = c in

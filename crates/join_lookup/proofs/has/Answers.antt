@@ -1,9 +1,9 @@
 -- `has` compares column by column. Invariant: the columns before c have the values.
 -- Assumes nothing.
 use mathlib.Core.Path.{◌≡◌, sym, ap, ◌∙◌}
-use mathlib.Core.Bool.{true, false, true≢false, false≢true}
+use mathlib.Core.Bool.{true≢false, false≢true}
 use mathlib.Core.Logic.{⊎_elim}
-use Prim.Native.Nat.{ℕ, ◌+◌, ◌-◌, ◌/◌, ◌%◌, ◌^◌, ◌<◌}
+use Prim.Native.Nat.{ℕ, ◌+◌, ◌/◌, ◌%◌, ◌^◌, ◌<◌}
 use native.Mathlib.Nat.{div-one}
 use native.Mathlib.Omega.{arith}
 use lib.ListN.{length, get_or}
@@ -12,10 +12,11 @@ use Rattle.tables.proofs.Buckets.{shifted}
 use Rattle.join_lookup.proofs.Having.{begins-inside, begins-room, made-has, other-relation, other-column}
 use borrow.Author.Rules.{rules}
 use Rattle.join_lookup.proofs.has.Goals as goal
+use Rattle.join_lookup.proofs.has.Goals.{Start}
 
 -- The row is there
 
-inside : (c : goal.Start) → c.args.at < length c.args.words.now
+inside : (c : Start) → c.args.at < length c.args.words.now
 inside c = let a = c.args in
     begins-inside a.schema.now a.words.now c.requires.words_value.0 a.x c.requires.words_value.1 a.at c.requires.by_index.0 c.requires.by_index.1
 
@@ -27,10 +28,11 @@ bounds-words-at c = inside (goal.at.bounds-words-at c).Start
 
 pub returns-then-words-at : goal.returns-then-words-at
 returns-then-words-at c = let s = c in
-    let a = s.args in (
-      (λ p b t. absurd (false≢true t)),
-      (λ p b t. other-relation a.schema.now a.words.now s.requires.words_value.0 a.x s.requires.words_value.1 a.at p b a.columns a.values c.if-words-at.true),
-    )
+    let a = s.args in
+    record {
+      by_index_2 = λ p b t. absurd (false≢true t);
+      by_index_3 = λ p b t. other-relation a.schema.now a.words.now s.requires.words_value.0 a.x s.requires.words_value.1 a.at p b a.columns a.values c.if-words-at.true;
+    }
 
 pub loop-c-init : goal.loop-c-init
 loop-c-init c = let s = c in
@@ -58,12 +60,13 @@ returns-then-value-values c = let s = c in
     let l = c in
     let i = c in
     let t = c in
-    let v = c in (
-      (λ p b t. absurd (false≢true t)),
-      (λ p b w. other-column a.schema.now a.words.now s.requires.words_value.0 a.x s.requires.words_value.1 a.at p b a.columns a.values l.loop-c.c
+    let v = c in
+    record {
+      by_index_2 = λ p b t. absurd (false≢true t);
+      by_index_3 = λ p b w. other-column a.schema.now a.words.now s.requires.words_value.0 a.x s.requires.words_value.1 a.at p b a.columns a.values l.loop-c.c
           s.ranges.columns.fits i.loop-c-test.true (ap (λ (n : ℕ). n % 2) (sym l.loop-c.invariant.1) ∙ t.if-left-eq1.true)
-          (λ h. c.if-value-values.true (v.value.ensures ∙ h))),
-    )
+          (λ h. c.if-value-values.true (v.value.ensures ∙ h));
+    }
 
 pub loop-c-preserved : goal.loop-c-preserved
 loop-c-preserved c = let s = c in
@@ -82,8 +85,9 @@ pub returns : goal.returns
 returns c = let s = c in
     let a = s.args in
     let l = c in
-    let e = c in (
-      (λ p b t. made-has a.schema.now a.words.now s.requires.words_value.0 a.x s.requires.words_value.1 a.at p b e.if-words-at.false a.columns a.values
-          s.ranges.columns.fits (λ d h bit. l.loop-c.invariant.2 d (omega (arith, c.loop-c-test.false)) bit)),
-      (λ p b t. absurd (true≢false t)),
-    )
+    let e = c in
+    record {
+      by_index_2 = λ p b t. made-has a.schema.now a.words.now s.requires.words_value.0 a.x s.requires.words_value.1 a.at p b e.if-words-at.false a.columns a.values
+          s.ranges.columns.fits (λ d h bit. l.loop-c.invariant.2 d (omega (arith, c.loop-c-test.false)) bit);
+      by_index_3 = λ p b t. absurd (true≢false t);
+    }

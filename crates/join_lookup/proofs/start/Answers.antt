@@ -1,19 +1,21 @@
 -- `start` is the head of a bucket, or the first row. Assumes nothing.
--- There is a bucket, and its head is in the slice
 use mathlib.Core.Path.{◌≡◌}
 use Prim.Native.Nat.{◌+◌, ◌*◌, ◌<◌}
 use native.Mathlib.Omega.{arith}
 use lib.ListN.{length}
 use Rattle.join_lookup.proofs.Reaching.{reach-first, reach-head}
+use borrow.Author.Rules.{rules}
 use Rattle.join_lookup.proofs.start.Goals as goal
+use Rattle.join_lookup.proofs.start.Goals.{Else-x-eq0, After-bucket-b}
 
-some : (c : goal.Else-x-eq0) → 0 < c.args.x.buckets
+-- There is a bucket, and its head is in the slice
+some : (c : Else-x-eq0) → 0 < c.args.x.buckets
 some c = omega (arith, c.if-x-eq0.false)
 
-room : (c : goal.After-bucket-b) → 5 * c.bucket-b.result + c.args.t < length c.args.heads.now
+room : (c : After-bucket-b) → 5 * c.bucket-b.result + c.args.t < length c.args.heads.now
 room c = let s = c in
     let e = c in
-    omega (arith, c.bucket-b.ensures.1, s.requires.buckets_in_bounds (some c.before), s.requires.words_value.2)
+    omega (arith, c.bucket-b.ensures.1, s.requires.buckets_in_bounds (omega (arith, c.if-x-eq0.false)), s.requires.words_value.2)
 
 pub returns-then-x-eq0 : goal.returns-then-x-eq0
 returns-then-x-eq0 c = let s = c in
@@ -45,7 +47,7 @@ returns c = let s = c in
     let a = s.args in
     let b = c in
     let e = c in
-    let size : length a.values ≡ 8 = s.well-formed.1.1.1.1.1.0.1.0.1 in
+    let size : length a.values ≡ 8 = search rules in
     λ set nodes table.
     reach-head a.schema.now a.words.now s.requires.words_value.0 a.x s.requires.words_value.1 a.t a.columns set a.values s.ranges.columns.fits
     (omega (arith, s.requires.words_value.1.narrow)) a.heads.now nodes b.bucket-b.result b.bucket-b.ensures.0 b.bucket-b.ensures.1 (table (some (goal.at.returns c).Else-x-eq0))

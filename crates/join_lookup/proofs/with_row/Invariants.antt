@@ -1,9 +1,8 @@
 -- `with_row` puts in the columns of a set one by one. Invariant: those before column c are put in, and nothing else is changed.
 -- Assumes nothing.
--- The columns of the set before column c are the row's, the others are as they were
 use mathlib.Core.Path.{◌≡◌}
 use Prim.Native.Nat.{◌-◌, ◌/◌, ◌^◌, ◌≤◌}
-use lib.ListN.{set}
+use Rattle.join_lookup.proofs.Putting.{PutIn}
 use Rattle.join_lookup.proofs.with_row.Given as goal
 
 abbrev pub invariant-loop-c : goal.invariant-loop-c

@@ -1,6 +1,5 @@
 -- `join_search::all_go` meets its contract. The loop's invariant: whether all sets have a row is whether those from set m on have. Assumes nothing.
 use mathlib.Core.Path.{◌≡◌, refl, sym, ◌∙◌}
-use Prim.Native.Nat.{◌-◌}
 use native.Mathlib.Omega.{arith}
 use lib.ListN.{length}
 use borrow.Author.Rules.{rules}

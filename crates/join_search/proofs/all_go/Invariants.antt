@@ -1,6 +1,5 @@
 -- `join_search::all_go` meets its contract. The loop's invariant: whether all sets have a row is whether those from set m on have. Assumes nothing.
 use mathlib.Core.Path.{◌≡◌}
-use Prim.Native.Nat.{◌-◌}
 use lib.ListN.{length, take, drop}
 use Rattle.join_search.specs.internal.Search.{all_go}
 use Rattle.join_search.proofs.all_go.Given as goal

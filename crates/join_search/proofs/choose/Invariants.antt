@@ -1,5 +1,4 @@
 -- `join_search::choose` meets its contract: column by column (`Choosing`). Assumes nothing.
-use Prim.Native.Nat.{◌-◌}
 use Rattle.join_search.proofs.Rows.{Choosing}
 use Rattle.join_search.proofs.choose.Given as goal
 

@@ -1,19 +1,10 @@
 -- `join_search::firsts` meets its contract: element by element. Assumes nothing.
--- What element t is to be
-use mathlib.Core.Path.{◌≡◌}
-use mathlib.Core.Bool.{Bool, false}
-use mathlib.Core.List.{List}
-use Prim.Native.Nat.{ℕ, ◌/◌, ◌%◌, ◌-◌}
+use mathlib.Core.Bool.{false}
 use native.Mathlib.Omega.{arith}
-use lib.ListN.{get_or}
 use borrow.Author.Rules.{rules}
 use Rattle.lists.proofs.Positions.{stored_more}
-use Rattle.query.specs.declared.JoinDependency.{JoinDependency}
-use Rattle.join_search.specs.internal.Search.{is_first}
+use Rattle.join_search.proofs.firsts.Invariants.{Right}
 use Rattle.join_search.proofs.firsts.Goals as goal
-
-abbrev Right : List ℕ → List ℕ → JoinDependency → ℕ → Bool → Type 0
-Right codes relations j t b = b ≡ is_first codes relations j.relation (get_or j.sets (t / 24) 0) (t % 24)
 
 pub loop-t-init : goal.loop-t-init
 loop-t-init c = (search rules, search rules, λ s less. absurd (omega arith))

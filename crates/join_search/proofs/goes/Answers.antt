@@ -1,13 +1,12 @@
 -- `join_search::goes` meets its contract. The loop's invariant: whether the row goes is whether it does in the columns from c on of what is left of the set.
 -- Assumes nothing.
 use mathlib.Core.Path.{refl, sym, ◌∙◌}
-use mathlib.Core.Logic.{⊎_elim}
-use Prim.Native.Nat.{◌-◌}
 use borrow.Author.Rules.{rules}
 use Rattle.join_search.specs.internal.Search.{goes_at, goes}
 use Rattle.join_search.proofs.Turns.{columns-skip, columns-pass, columns-fail, columns-end}
 use Rattle.join_search.proofs.Rows.{goes-free, goes_same, goes-not}
 use Rattle.join_search.proofs.goes.Goals as goal
+use Rattle.join_search.proofs.goes.Goals.{then-rest-eq1+then-chosen-c+else-chosen-c-2, then-rest-eq1+else-chosen-c, else-rest-eq1}
 
 pub loop-c-init : goal.loop-c-init
 loop-c-init c = (search rules, refl)
@@ -29,7 +28,11 @@ loop-c-preserved c =
     let test = goes_at a.codes.now a.chosen a.i in (
       search rules,
       l.invariant.1
-          ∙ ⊎_elim (λ w. columns-pass test l.c l.rest (search rules) w.if-rest-eq1.true (goes_same a.codes.now a.chosen a.i l.c w.if-chosen-c-2.false)) (⊎_elim (λ w. columns-pass test l.c l.rest (search rules) w.if-rest-eq1.true (goes-free a.codes.now a.chosen a.i l.c w.if-chosen-c.false)) (λ w. columns-skip test l.c l.rest (search rules) w.if-rest-eq1.false)) c.if-rest-eq1.branch-raw,
+          ∙ elim c.if-rest-eq1.branch [
+            | then-rest-eq1+then-chosen-c+else-chosen-c-2 w ↦ columns-pass test l.c l.rest (search rules) w.if-rest-eq1.true (goes_same a.codes.now a.chosen a.i l.c w.if-chosen-c-2.false)
+            | then-rest-eq1+else-chosen-c w ↦ columns-pass test l.c l.rest (search rules) w.if-rest-eq1.true (goes-free a.codes.now a.chosen a.i l.c w.if-chosen-c.false)
+            | else-rest-eq1 w ↦ columns-skip test l.c l.rest (search rules) w.if-rest-eq1.false
+          ],
     )
 
 pub returns : goal.returns

@@ -1,7 +1,7 @@
 -- `join_search::goes` meets its contract. The loop's invariant: whether the row goes is whether it does in the columns from c on of what is left of the set.
 -- Assumes nothing.
 use mathlib.Core.Path.{◌≡◌}
-use Prim.Native.Nat.{◌≤◌, ◌-◌}
+use Prim.Native.Nat.{◌≤◌}
 use Rattle.join_search.specs.internal.Search.{goes_at}
 use Rattle.join_search.proofs.Turns.{every_left}
 use Rattle.join_search.proofs.goes.Given as goal

@@ -1,20 +1,15 @@
 -- `join_search::is_first` meets its contract. The loop's invariant: whether an earlier row is the same is whether one from row e on is. Assumes nothing.
--- Whether row e is of the relation and the same as row i in the columns of a set
 use mathlib.Core.Path.{◌≡◌, refl, sym, ◌∙◌, ap}
-use mathlib.Core.Logic.{⊎_elim}
 use mathlib.Core.Bool.{Bool, true, false, not, ◌&&◌}
-use mathlib.Core.List.{List}
-use Prim.Native.Nat.{ℕ, ◌-◌}
 use native.Mathlib.Nat.{sub-zero}
 use lib.Dec.{eqb}
 use lib.ListN.{get_or}
 use borrow.Author.Rules.{rules}
-use Rattle.join_search.specs.internal.Search.{some_of, same_on}
+use Rattle.join_search.specs.internal.Search.{some_of}
 use Rattle.join_search.proofs.Turns.{some_next, some-found, some_end, tested-true, tested-false, tested-other}
+use Rattle.join_search.proofs.is_first.Invariants.{same}
 use Rattle.join_search.proofs.is_first.Goals as goal
-
-abbrev same : List ℕ → List ℕ → ℕ → ℕ → ℕ → ℕ → Bool
-same codes relations relation set i e = eqb (get_or relations e 0) relation && same_on codes set i e
+use Rattle.join_search.proofs.is_first.Goals.{then-relations-e+else-same_on, else-relations-e}
 
 not_first : (b s : Bool) → true ≡ s → false ≡ b && not s
 not_first true s e = ap not e
@@ -44,7 +39,10 @@ loop-e-preserved c =
       search rules,
       l.invariant.1
           ∙ some_next test a.i l.e (search rules)
-          (⊎_elim (λ w. tested-false _ _ w.same_on.result _ w.if-relations-e.true w.same_on.ensures w.if-same_on.false) (λ w. tested-other _ _ _ w.if-relations-e.false) c.if-relations-e.branch-raw),
+          (elim c.if-relations-e.branch [
+            | then-relations-e+else-same_on w ↦ tested-false _ _ w.same_on.result _ w.if-relations-e.true w.same_on.ensures w.if-same_on.false
+            | else-relations-e w ↦ tested-other _ _ _ w.if-relations-e.false
+          ]),
     )
 
 pub returns : goal.returns

@@ -1,20 +1,12 @@
 -- `join_search::same_on` meets its contract. The loop's invariant: whether the rows are the same is whether they are in the columns from c on of what is left
 -- of the set. Assumes nothing.
--- Whether two rows have the same code in a column
 use mathlib.Core.Path.{refl, sym, ◌∙◌}
-use mathlib.Core.Logic.{⊎_elim}
-use mathlib.Core.Bool.{Bool}
-use mathlib.Core.List.{List}
-use Prim.Native.Nat.{ℕ, ◌+◌, ◌*◌, ◌-◌}
-use lib.Dec.{eqb}
-use lib.ListN.{get_or}
 use borrow.Author.Rules.{rules}
 use borrow.Author.Tests.{eq-eqb, ne_eqb}
 use Rattle.join_search.proofs.Turns.{columns-skip, columns-pass, columns-fail, columns-end}
+use Rattle.join_search.proofs.same_on.Invariants.{same_at}
 use Rattle.join_search.proofs.same_on.Goals as goal
-
-abbrev same_at : List ℕ → ℕ → ℕ → ℕ → Bool
-same_at codes i e c = eqb (get_or codes (8 * i + c) 0) (get_or codes (8 * e + c) 0)
+use Rattle.join_search.proofs.same_on.Goals.{then-rest-eq1+else-codes-i, else-rest-eq1}
 
 pub loop-c-init : goal.loop-c-init
 loop-c-init c = (search rules, refl)
@@ -34,7 +26,10 @@ loop-c-preserved c =
     let test = same_at a.codes.now a.i a.e in (
       search rules,
       l.invariant.1
-          ∙ ⊎_elim (λ w. columns-pass test l.c l.rest (search rules) w.if-rest-eq1.true (eq-eqb _ _ w.if-codes-i.false)) (λ w. columns-skip test l.c l.rest (search rules) w.if-rest-eq1.false) c.if-rest-eq1.branch-raw,
+          ∙ elim c.if-rest-eq1.branch [
+            | then-rest-eq1+else-codes-i w ↦ columns-pass test l.c l.rest (search rules) w.if-rest-eq1.true (eq-eqb _ _ w.if-codes-i.false)
+            | else-rest-eq1 w ↦ columns-skip test l.c l.rest (search rules) w.if-rest-eq1.false
+          ],
     )
 
 pub returns : goal.returns

@@ -1,12 +1,11 @@
 -- `join_search::some_goes` meets its contract. The loop's invariant: whether some row goes is whether one from row i on does. Assumes nothing.
 use mathlib.Core.Path.{refl, sym, ◌∙◌, ap}
-use mathlib.Core.Logic.{⊎_elim}
-use Prim.Native.Nat.{◌-◌}
 use native.Mathlib.Nat.{sub-zero}
 use borrow.Author.Rules.{rules}
 use Rattle.join_search.specs.internal.Search.{row_goes, some_of}
 use Rattle.join_search.proofs.Turns.{some_next, some-found, some_end, tested-true, tested-false, tested-other}
 use Rattle.join_search.proofs.some_goes.Goals as goal
+use Rattle.join_search.proofs.some_goes.Goals.{then-relations-i+else-goes, else-relations-i}
 
 pub loop-i-init : goal.loop-i-init
 loop-i-init c = (search rules, refl)
@@ -28,7 +27,10 @@ loop-i-preserved c =
       search rules,
       l.invariant.1
           ∙ some_next test a.size l.i (search rules)
-          (⊎_elim (λ w. tested-false _ _ w.goes.result _ w.if-relations-i.true w.goes.ensures w.if-goes.false) (λ w. tested-other _ _ _ w.if-relations-i.false) c.if-relations-i.branch-raw),
+          (elim c.if-relations-i.branch [
+            | then-relations-i+else-goes w ↦ tested-false _ _ w.goes.result _ w.if-relations-i.true w.goes.ensures w.if-goes.false
+            | else-relations-i w ↦ tested-other _ _ _ w.if-relations-i.false
+          ]),
     )
 
 pub returns : goal.returns

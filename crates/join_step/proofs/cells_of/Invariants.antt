@@ -1,7 +1,7 @@
 -- `join_step::cells_of` meets its contract: the array is filled from the front. Assumes nothing.
 use mathlib.Core.Path.{◌≡◌}
 use mathlib.Core.List.{map}
-use Prim.Native.Nat.{◌-◌, ◌≤◌}
+use Prim.Native.Nat.{◌≤◌}
 use lib.ListN.{length}
 use Rattle.lists.proofs.Loops.{filled_to}
 use Rattle.query.specs.Rule.{no_cell}

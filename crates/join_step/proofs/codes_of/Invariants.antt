@@ -1,6 +1,6 @@
 -- `join_step::codes_of` meets its contract: the array is filled from the front. Assumes nothing.
 use mathlib.Core.Path.{◌≡◌}
-use Prim.Native.Nat.{◌-◌, ◌≤◌}
+use Prim.Native.Nat.{◌≤◌}
 use lib.ListN.{length}
 use Rattle.lists.proofs.Loops.{filled_to}
 use Rattle.join_step.specs.internal.Step.{codes_of}

@@ -1,9 +1,8 @@
 -- `join_step::next_row` meets its contract. The loop's invariant: nothing is found for the join dependencies before k. Assumes nothing.
--- What stands past the end of an array of join dependencies
 use mathlib.Core.Path.{◌≡◌, refl, sym, ◌∙◌, ap}
 use mathlib.Core.Bool.{true}
-use mathlib.Core.List.{List, []}
-use Prim.Native.Nat.{ℕ, ◌-◌, ◌≤◌, ◌<◌}
+use mathlib.Core.List.{List}
+use Prim.Native.Nat.{ℕ, ◌≤◌, ◌<◌}
 use native.Mathlib.Omega.{arith}
 use lib.Dec.{leb}
 use lib.ListN.{length, take, get_or}
@@ -17,10 +16,8 @@ use Rattle.query.specs.declared.JoinDependency.{JoinDependency}
 use Rattle.query.specs.Rule.{shaped_join}
 use Rattle.join_rule.proofs.Shapes.{argument-shaped}
 use Rattle.join_step.proofs.Next.{nothing-more, next-nothing, next_one}
+use Rattle.join_step.proofs.next_row.Invariants.{past_join}
 use Rattle.join_step.proofs.next_row.Goals as goal
-
-abbrev past_join : JoinDependency
-past_join = record { relation = 0; count = 0; sets = [] }
 
 -- Each of an array has 4 sets, and each that is held at most 4 of them in use
 four-sets : (joins : List JoinDependency) → every shaped_join joins ≡ true → (k : ℕ) → k < length joins → length (get_or joins k past_join).sets ≡ 4
@@ -31,10 +28,6 @@ count_at : (joins : List JoinDependency) (joined : ℕ) → every (λ j. leb j.c
 count_at joins joined fits k h enough =
     leb-true _ _ (ap (λ (j : JoinDependency). leb j.count 4) (sym (get_or-take joined joins k past_join h))
     ∙ every-get_or (λ j. leb j.count 4) (take joined joins) k past_join fits (rw (length-take-le joined joins enough) h))
-
--- The tableau has room for 24 rows
-cells-long : (s : goal.Start) → length s.args.t.cells ≡ 192
-cells-long s = search (mapped-length, rules)
 
 pub loop-k-init : goal.loop-k-init
 loop-k-init c =
@@ -54,18 +47,15 @@ first_missing-missing-requires c =
 
 pub returns-then-missing : goal.returns-then-missing
 returns-then-missing c =
-    let m = c in
-    let i = m in
-    let l = i.loop in
-    let f = i in
-    let s = f in
-    let a = s.args in
-    let low = i.loop-test.true in
-    let enough : a.joined ≤ length a.joins = omega (arith, l.invariant.0, s.requires.joined-fits) in
-    let four = four-sets a.joins (argument-shaped 4 a.joins _ s.well-formed.1.0) l.k (omega (arith, enough, low)) in
+    let l = c.loop-k in
+    let a = c.args in
+    let low = c.loop-k-test.true in
+    let enough : a.joined ≤ length a.joins = omega (arith, l.invariant.0, c.requires.joined-fits) in
+    let four = four-sets a.joins (argument-shaped 4 a.joins _ c.well_formed.1.0) l.k (omega (arith, enough, low)) in
+    let long : length a.t.cells ≡ 192 = search (mapped-length, rules) in
     λ schema narrow good good-joins.
-    next_one a.t a.joins a.joined _ f.codes-of.ensures l.invariant.2 (cells-long s) enough past_join schema narrow good good-joins l.k low
-    l.invariant.4 four _ m.first_missing-missing.ensures c.if-missing.true _ c.cells_of.ensures
+    next_one a.t a.joins a.joined _ c.codes_of-codes.ensures l.invariant.2 long enough past_join schema narrow good good-joins l.k low
+    l.invariant.4 four _ c.first_missing-missing.ensures c.if-missing.true _ c.cells_of.ensures
 
 pub loop-k-preserved : goal.loop-k-preserved
 loop-k-preserved c =
@@ -73,7 +63,7 @@ loop-k-preserved c =
     let a = s.args in
     let l = c.loop-k in
     let low = c.loop-k-test.true in
-    let four = four-sets a.joins (argument-shaped 4 a.joins _ s.well-formed.1.0) l.k (omega (arith, l.invariant.0, s.requires.joined-fits, low)) in (
+    let four = four-sets a.joins (argument-shaped 4 a.joins _ c.well_formed.1.0) l.k (omega (arith, l.invariant.0, s.requires.joined-fits, low)) in (
       l.invariant.0,
       l.invariant.1,
       l.invariant.2,
@@ -88,6 +78,7 @@ returns c =
     let s = f in
     let a = s.args in
     let enough : a.joined ≤ length a.joins = omega (arith, l.invariant.0, s.requires.joined-fits) in
+    let long : length a.t.cells ≡ 192 = search (mapped-length, rules) in
     λ schema narrow good good-joins.
-    next-nothing a.t a.joins a.joined _ f.codes_of-codes.ensures l.invariant.2 (cells-long s) enough past_join schema narrow good good-joins
+    next-nothing a.t a.joins a.joined _ f.codes_of-codes.ensures l.invariant.2 long enough past_join schema narrow good good-joins
     (λ e less. l.invariant.4 e (omega (arith, c.loop-k-test.false))) _ refl

@@ -1,6 +1,6 @@
 -- `join_step::row_at` meets its contract: the array is filled from the front. Assumes nothing.
 use mathlib.Core.Path.{◌≡◌}
-use Prim.Native.Nat.{◌*◌, ◌-◌, ◌≤◌}
+use Prim.Native.Nat.{◌*◌, ◌≤◌}
 use lib.ListN.{length, take, drop}
 use Rattle.lists.proofs.Loops.{filled_to}
 use Rattle.query.specs.Rule.{no_cell}

@@ -1,6 +1,6 @@
 -- `join_step::with_row` meets its contract: the cells are written one after the other. Assumes nothing.
 use mathlib.Core.Path.{◌≡◌}
-use Prim.Native.Nat.{◌+◌, ◌*◌, ◌-◌, ◌≤◌}
+use Prim.Native.Nat.{◌+◌, ◌*◌, ◌≤◌}
 use lib.ListN.{length, drop}
 use Rattle.lists.specs.Over.{over}
 use Rattle.join_step.proofs.with_row.Given as goal

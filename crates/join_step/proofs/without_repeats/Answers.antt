@@ -1,23 +1,18 @@
 -- `join_step::without_repeats` meets its contract. The loop's invariant: what is kept is the tableau with its first i rows only, and of those no repeated ones.
 -- Assumes nothing.
--- The tableau, from its parts
 use mathlib.Core.Path.{◌≡◌, refl, sym, ◌∙◌, ap}
-use mathlib.Core.Logic.{⊎_elim}
 use mathlib.Core.List.{List}
-use Prim.Native.Nat.{ℕ, ◌*◌, ◌-◌}
+use Prim.Native.Nat.{ℕ, ◌*◌}
 use native.Mathlib.Omega.{arith}
 use lib.ListN.{length, take, drop, get_or}
 use borrow.Author.Rules.{rules}
 use Rattle.lists.proofs.Loops.{mapped-length}
-use Rattle.query.specs.declared.Cell.{Cell}
 use Rattle.query.specs.declared.Tableau.{Tableau}
 use Rattle.join_search.specs.internal.Search.{is_first}
 use Rattle.join_step.specs.internal.Step.{with_row, distinct_to}
 use Rattle.join_step.proofs.Rows.{distinct-size, distinct-keeps, distinct-drops}
 use Rattle.join_step.proofs.without_repeats.Goals as goal
-
-abbrev whole : Tableau → ℕ → List ℕ → List Cell → Tableau
-whole kept size relations cells = record { arity = kept.arity; size = size; head = kept.head; relations = relations; cells = cells }
+use Rattle.join_step.proofs.without_repeats.Goals.{then-is_first, else-is_first}
 
 pub loop-i-init : goal.loop-i-init
 unfolding distinct_to
@@ -40,7 +35,7 @@ with_row-kept-requires c =
     let s = c in
     let l = c.loop-i in
     let small = distinct-size s.args.t l.i in
-    let same : l.auto.size ≡ (distinct_to s.args.t l.i).size = ap (λ (k : Tableau). k.size) l.invariant.4 in
+    let same : l.kept.size ≡ (distinct_to s.args.t l.i).size = ap (λ (k : Tableau). k.size) l.invariant.4 in
     omega (arith, small, same, c.loop-i-test.true, s.requires)
 
 pub loop-i-preserved : goal.loop-i-preserved
@@ -55,10 +50,13 @@ loop-i-preserved c =
       l.invariant.1,
       l.invariant.2,
       l.invariant.3,
-      ⊎_elim (λ w.
-          w.if-is_first.3 ∙ w.if-is_first.2.ensures ∙ ap (λ (k : Tableau). with_row k (get_or t.relations l.i 0) w.if-is_first.1.result) l.invariant.4
-          ∙ ap (with_row (distinct_to t l.i) (get_or t.relations l.i 0)) w.if-is_first.1.ensures
-          ∙ sym (distinct-keeps t l.i (sym first ∙ w.if-is_first.0.taken))) (λ w. w.if-is_first.1 ∙ l.invariant.4 ∙ sym (distinct-drops t l.i (sym first ∙ w.if-is_first.0.left))) c.if-is_first.branch-raw,
+      elim c.if-is_first.branch [
+        | then-is_first w ↦
+            w.kept-is ∙ w.with_row-kept.ensures ∙ ap (λ (k : Tableau). with_row k (get_or t.relations l.i 0) w.row_at-row.result) l.invariant.4
+            ∙ ap (with_row (distinct_to t l.i) (get_or t.relations l.i 0)) w.row_at-row.ensures
+            ∙ sym (distinct-keeps t l.i (sym first ∙ w.if-is_first.true))
+        | else-is_first w ↦ w.kept-is ∙ l.invariant.4 ∙ sym (distinct-drops t l.i (sym first ∙ w.if-is_first.false))
+      ],
     )
 
 pub returns : goal.returns

@@ -1,6 +1,6 @@
 -- `clear` goes through the buckets of a table. Invariant: those before b are empty, and nothing else is changed. Assumes nothing.
--- The first b heads of table t are the end, the other tables' are as they were
 use Prim.Native.Nat.{◌-◌, ◌≤◌}
+use Rattle.join_tables.proofs.Clearing.{Cleared}
 use Rattle.join_tables.proofs.clear.Given as goal
 
 abbrev pub invariant-loop-b : goal.invariant-loop-b

@@ -1,5 +1,4 @@
 -- `enter` goes from row to row before. Invariant: the rows from the one at `at` on are in the table. Assumes nothing.
-use Prim.Native.Nat.{◌-◌}
 use Rattle.join_tables.proofs.Filling.{Entered}
 use Rattle.join_tables.proofs.enter.Given as goal
 

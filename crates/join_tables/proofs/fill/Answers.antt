@@ -1,11 +1,8 @@
 -- `fill` makes the table of set after set, and last table 0 by all their columns. Invariant: the first k sets have their tables. Assumes nothing.
 use mathlib.Core.Path.{refl, ◌∙◌}
-use Prim.Native.Nat.{◌-◌}
 use native.Mathlib.Omega.{arith}
 use Rattle.join_tables.proofs.Filling.{levelled-none, levelled-next, levelled-all}
 use Rattle.join_tables.proofs.fill.Goals as goal
-
--- Where the call began
 
 pub thread-requires : goal.thread-requires
 thread-requires c = let s = c in
@@ -15,7 +12,7 @@ pub loop-k-init : goal.loop-k-init
 loop-k-init c = let d = c in
     let s = d in
     let a = s.args in
-    let r = s.requires.1 in (
+    let r = s.requires.roomy in (
       levelled-none a.schema.now a.words.now a.j a.x a.heads.now d.thread.new.nodes d.thread.ensures.threaded
           (record { some = r.some; heads-room = r.heads-room; nodes-room = omega (arith, r.nodes-room, d.thread.ensures.nodes_len_unchanged); short = r.short }),
       refl,
@@ -24,38 +21,45 @@ loop-k-init c = let d = c in
 
 pub bounds-j-k : goal.bounds-j-k
 bounds-j-k c = let s = c in
-    omega (arith, c.loop-k-test.true, s.pre.0.0.few, s.pre.0.0.shaped)
+    omega (arith, c.loop-k-test.true, s.requires.searchable.0.few, s.requires.searchable.0.shaped)
 
 pub enter_set-requires : goal.enter_set-requires
 enter_set-requires c = let i = c in
     let s = i in
     let v = i.loop-k.invariant.0 in
-    ((s.pre.0.0.spelled, s.pre.0.1, omega (arith, i.loop-k-test.true, s.pre.0.0.few)), (v.room, v.thread))
+    record {
+      words_value = (s.requires.searchable.0.spelled, s.requires.searchable.1, omega (arith, i.loop-k-test.true, s.requires.searchable.0.few));
+      roomy = (v.room, v.thread);
+    }
 
 pub loop-k-preserved : goal.loop-k-preserved
 loop-k-preserved c = let u = c in
     let i = u in
-    let l = i.loop in
+    let l = i.loop-k in
     let s = i in
     let a = s.args in
     let e = u.enter_set.ensures in (
-      levelled-next a.schema.now a.words.now a.j a.x l.heads l.nodes l.filled l.k l.invariant.0 i.loop-test.true s.pre.0.0.few
-          u.enter_set.new.heads u.enter_set.new.nodes e.0 e.1.0 e.1.1.0 e.1.1.1,
-      c.heads-1.given ∙ l.invariant.1,
-      c.nodes-in-loop-k-1.given ∙ l.invariant.2,
+      levelled-next a.schema.now a.words.now a.j a.x l.heads l.nodes l.filled l.k l.invariant.0 i.loop-k-test.true s.requires.searchable.0.few
+          u.enter_set.new.heads u.enter_set.new.nodes e.threaded e.roomy_2 e.table e.by_index,
+      u.enter_set.auto.heads ∙ l.invariant.1,
+      u.enter_set.auto.nodes ∙ l.invariant.2,
     )
 
 pub enter-requires : goal.enter-requires
 enter-requires c = let e = c in
     let s = e in
     let v = e.loop-k.invariant.0 in
-    ((s.pre.0.0.spelled, s.pre.0.1, omega arith), ((v.room, v.thread), λ some. absurd (some refl)))
+    record {
+      words_value = (s.requires.searchable.0.spelled, s.requires.searchable.1, omega arith);
+      roomy = (v.room, v.thread);
+      table = λ some. absurd (some refl);
+    }
 
 pub returns : goal.returns
 returns c = let u = c in
     let e = u in
-    let l = e.loop in
+    let l = e.loop-k in
     let s = e in
     let a = s.args in
-    levelled-all a.schema.now a.words.now a.j a.x l.heads l.nodes l.filled l.k l.invariant.0 e.loop-test.false s.pre.0.0.few
-    s.pre.0.1 s.pre.0.2 u.enter.new.heads u.enter.new.nodes u.enter.ensures.beside u.enter.ensures.table_2
+    levelled-all a.schema.now a.words.now a.j a.x l.heads l.nodes l.filled l.k l.invariant.0 e.loop-k-test.false s.requires.searchable.0.few
+    s.requires.searchable.1 s.requires.searchable.2 u.enter.new.heads u.enter.new.nodes u.enter.ensures.beside u.enter.ensures.table_2

@@ -1,10 +1,10 @@
 -- `thread` walks over the rows. Invariant: the rows passed have their links. Assumes nothing.
--- The rows before position p, of which the next begins at word `at`, have their links
 use mathlib.Core.Path.{◌≡◌}
 use mathlib.Core.Bool.{true}
 use Prim.Native.Nat.{◌-◌}
 use lib.ListN.{length}
 use Rattle.words.specs.Words.{spells_rows}
+use Rattle.join_tables.proofs.Threading.{Linked}
 use Rattle.join_tables.proofs.thread.Given as goal
 
 abbrev pub invariant-loop-at : goal.invariant-loop-at

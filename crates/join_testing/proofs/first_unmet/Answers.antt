@@ -2,7 +2,7 @@
 -- Assumes nothing.
 use mathlib.Core.Path.{◌≡◌, refl, sym, ap, subst, ◌∙◌}
 use mathlib.Core.List.{List, [], ◌∷◌, map}
-use Prim.Native.Nat.{◌≤◌, ◌-◌, ◌+◌}
+use Prim.Native.Nat.{◌≤◌, ◌+◌}
 use native.Mathlib.Omega.{arith}
 use lib.ListN.{length, take, drop, get_or}
 use Rattle.theory.specs.Database as database
@@ -17,6 +17,7 @@ use Rattle.join_tables.specs.internal.Indexed.{Searchable}
 use Rattle.join_testing.proofs.Finding.{unmet-found, unmet-later, unmet-end}
 use borrow.Author.Rules.{rules}
 use Rattle.join_testing.proofs.first_unmet.Goals as goal
+use Rattle.join_testing.proofs.first_unmet.Goals.{In-loop-k}
 
 -- What an array that is read past its end gives
 
@@ -24,7 +25,7 @@ abbrev unread : JoinDependency
 unread = record { relation = 0; count = 0; sets = [] }
 
 -- The search from join dependency k on, by join dependency k and the later ones
-onward : (c : goal.In-loop-k)
+onward : (c : In-loop-k)
     → first_unmet_from 0 c.args.schema.now (map join_of (take c.args.joined c.args.joins)) (database_of c.args.schema.now c.args.words.now)
     ≡ first_unmet_from c.loop-k.k c.args.schema.now (join_of (get_or c.args.joins c.loop-k.k unread)
     ∷ map join_of (drop (c.loop-k.k + 1) (take c.args.joined c.args.joins))) (database_of c.args.schema.now c.args.words.now)
@@ -49,24 +50,21 @@ first_choice-found-requires c = let s = c in
     (s.requires.1 k low)
 
 pub returns-in-At : goal.returns-in-At
-returns-in-At c = let f = c.found-1.given in
-    let i = c in
-    let a = c.args in
+returns-in-At c = let a = c.args in
     let k = c.loop-k.k in
     sym (ap unmet_of (onward (goal.at.returns-in-At c).In-loop-k)
     ∙ unmet-found a.schema.now (database_of a.schema.now a.words.now) (join_of (get_or a.joins k unread))
-    (map join_of (drop (k + 1) (take a.joined a.joins))) k f.0.0 f.0.1.0 f.0.1.1.0 f.0.1.1.1.0 (sym f.1 ∙ c.first_choice-found.ensures))
+    (map join_of (drop (k + 1) (take a.joined a.joins))) k c.in-At.a c.in-At.b c.in-At.c c.in-At.d (sym c.in-At.is ∙ c.first_choice-found.ensures))
 
 pub loop-k-preserved : goal.loop-k-preserved
-loop-k-preserved c = let i = c in
-    let l = c.loop-k in
+loop-k-preserved c = let l = c.loop-k in
     let a = c.args in (
       search rules,
       onward (goal.at.loop-k-preserved c).In-loop-k
           ∙ unmet-later a.schema.now (database_of a.schema.now a.words.now) (join_of (get_or a.joins l.k unread))
           (map join_of (drop (l.k + 1) (take a.joined a.joins))) l.k (sym c.in_default.is ∙ c.first_choice-found.ensures),
-      c.nodes-1.given ∙ l.invariant.2,
-      c.heads-1.given ∙ l.invariant.3,
+      c.first_choice-found.auto.nodes ∙ l.invariant.2,
+      c.first_choice-found.auto.heads ∙ l.invariant.3,
     )
 
 pub returns : goal.returns

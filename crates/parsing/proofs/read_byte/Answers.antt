@@ -9,16 +9,13 @@ returns-then-s-at c = sym (ap byte_read (byte_past (between c.args.low c.args.hi
 
 pub returns-then-b-low : goal.returns-then-b-low
 returns-then-b-low c =
-    let start = c in
-    sym (ap byte_read (byte-bad (between start.args.low start.args.high) _ _ c.if-s-at.false (below _ _ _ c.if-b-low.true)))
+    sym (ap byte_read (byte-bad (between c.args.low c.args.high) _ _ c.if-s-at.false (below _ _ _ c.if-b-low.true)))
 
 pub returns-then-high-b : goal.returns-then-high-b
 returns-then-high-b c =
-    let start = c in
-    sym (ap byte_read (byte-bad (between start.args.low start.args.high) _ _ c.if-s-at.false (above _ _ _ c.if-high-b.true)))
+    sym (ap byte_read (byte-bad (between c.args.low c.args.high) _ _ c.if-s-at.false (above _ _ _ c.if-high-b.true)))
 
 pub returns : goal.returns
 returns c =
-    let start = c in
-    sym (ap byte_read (byte-good (between start.args.low start.args.high) _ _ c.if-s-at.false
+    sym (ap byte_read (byte-good (between c.args.low c.args.high) _ _ c.if-s-at.false
     (within _ _ _ c.if-b-low.false c.if-high-b.false)))

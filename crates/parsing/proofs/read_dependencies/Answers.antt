@@ -1,9 +1,8 @@
--- What has been read of the part
 use borrow.Author.Rules.{rules}
 use mathlib.Core.Path.{◌≡◌, sym, ap, refl, ◌∙◌}
 use mathlib.Core.Bool.{true}
 use mathlib.Core.List.{List}
-use Prim.Native.Nat.{ℕ, ◌+◌, ◌*◌, ◌-◌, ◌≤◌, ◌<◌}
+use Prim.Native.Nat.{ℕ, ◌+◌, ◌*◌, ◌≤◌, ◌<◌}
 use native.Mathlib.Omega.{arith}
 use lib.Dec.{leb}
 use lib.ListN.{length, take, drop, set, replicate, length-set}
@@ -21,12 +20,10 @@ use Rattle.parsing.specs.declared.DependencyRead.TheVariants.{Found, NoDependenc
 use Rattle.parsing.specs.internal.Read.{byte_read}
 use Rattle.parsing.specs.internal.Read.{dependency_read, no_dependencies, dependencies_read}
 use Rattle.parsing.proofs.Dependencies.{dependency-read, dependency-none}
-use Rattle.parsing.proofs.Counted.{byte-read, byte-none, no-low, Counting, counting-starts, counting-turns, counting-fails-front}
+use Rattle.parsing.proofs.Counted.{byte-read, byte-none, no-low, counting-starts, counting-turns, counting-fails-front}
 use Rattle.parsing.proofs.Counted.{counting-ends-front, no-count-front}
+use Rattle.parsing.proofs.read_dependencies.Invariants.{At}
 use Rattle.parsing.proofs.read_dependencies.Goals as goal
-
-abbrev At : List ℕ → List ℕ → ℕ → List Dependency → ℕ → Type 0
-At schema part n ds i = Counting (λ n. leb n 32) 32 no_dependency blank_dependency (dependency schema) part n ds i (1 + 3 * i)
 
 module _ (schema part : List ℕ) where
   begins : (n : ℕ) → Byte n ≡ byte_read (get_byte (between 0 32) part) → (n ≤ 32) × At schema part n (replicate 32 no_dependency) 0
@@ -65,49 +62,35 @@ module _ (schema part : List ℕ) where
 
 pub returns-in_default : goal.returns-in_default
 returns-in_default c =
-    let after-read-byte = c in
-    let start = after-read-byte in
-    c.no_dependencies.ensures ∙ no-dependencies-read (take start.args.count start.args.widths) start.args.part.now
-    after-read-byte.read_byte.result
-    after-read-byte.read_byte.ensures c.in_default.is
+    c.no_dependencies.ensures ∙ no-dependencies-read (take c.args.count c.args.widths) c.args.part.now
+    c.read_byte.result
+    c.read_byte.ensures c.in_default.is
 
 pub loop-i-init : goal.loop-i-init
 loop-i-init c =
-    let start = c in
     let (few, f) =
-    begins (take start.args.count start.args.widths) start.args.part.now c.in-Byte.held
+    begins (take c.args.count c.args.widths) c.args.part.now c.in-Byte.held
     (sym c.in-Byte.is ∙ c.read_byte.ensures) in
     (omega arith, few, refl, f)
 
 pub returns-in_default-read_dependency : goal.returns-in_default-read_dependency
 returns-in_default-read_dependency c =
-    let after-read-dependency = c in
-    let after-loop-test = after-read-dependency in
-    let after-loop = after-loop-test in
-    let after-held = after-loop in
-    let start = after-held in
     c.no_dependencies-in_default-read_dependency.ensures
-    ∙ fails (take start.args.count start.args.widths) start.args.part.now after-held.held.given.0.0 after-loop.loop.dependencies
-    after-loop.loop.i after-loop.loop.invariant.3 after-loop-test.loop-test.true after-read-dependency.read_dependency.result
-    after-read-dependency.read_dependency.ensures c.in_default-read_dependency.is
+    ∙ fails (take c.args.count c.args.widths) c.args.part.now c.in-Byte.held c.loop-i.dependencies
+    c.loop-i.i c.loop-i.invariant.3 c.loop-i-test.true c.read_dependency.result
+    c.read_dependency.ensures c.in_default-read_dependency.is
 
 pub loop-i-preserved : goal.loop-i-preserved
-loop-i-preserved c =
-    let after-read-dependency = c in
-    let after-loop-test = after-read-dependency in
-    let after-loop = after-loop-test in (
-      search rules,
-      after-loop.loop.invariant.1,
-      length-set after-loop.loop.dependencies after-loop.loop.i c.in-Found.d ∙ after-loop.loop.invariant.2,
-      goes_on _ _ _ after-loop.loop.dependencies after-loop.loop.i after-loop.loop.invariant.3 after-loop-test.loop-test.true
-          after-read-dependency.read_dependency.result after-read-dependency.read_dependency.ensures c.in-Found.d (omega arith)
-          c.in-Found.is,
-    )
+loop-i-preserved c = (
+  search rules,
+  c.loop-i.invariant.1,
+  length-set c.loop-i.dependencies c.loop-i.i c.in-Found.d ∙ c.loop-i.invariant.2,
+  goes_on _ _ _ c.loop-i.dependencies c.loop-i.i c.loop-i.invariant.3 c.loop-i-test.true
+      c.read_dependency.result c.read_dependency.ensures c.in-Found.d (omega arith)
+      c.in-Found.is,
+)
 
 pub returns : goal.returns
 returns c =
-    let after-loop = c in
-    let after-held = after-loop in
-    let start = after-held in
-    accepted (take start.args.count start.args.widths) start.args.part.now after-held.held.given.0.0 after-loop.loop-i.dependencies
-    after-loop.loop-i.i after-loop.loop-i.invariant.3 c.loop-i-test.false
+    accepted (take c.args.count c.args.widths) c.args.part.now c.in-Byte.held c.loop-i.dependencies
+    c.loop-i.i c.loop-i.invariant.3 c.loop-i-test.false

@@ -19,18 +19,14 @@ returns-then-part-at-lt3 c =
 
 pub returns-then-dependency_good : goal.returns-then-dependency_good
 returns-then-dependency_good c =
-    let after-if2 = c in
-    let start = after-if2 in
-    let schema = take start.args.count start.args.widths in
-    let part = start.args.part.now in
-    let at = start.args.at in
-    found-dependency schema part at after-if2.if-part-at-lt3.false c.dependency_good.result c.dependency_good.ensures c.if-dependency_good.true
+    let schema = take c.args.count c.args.widths in
+    let part = c.args.part.now in
+    let at = c.args.at in
+    found-dependency schema part at c.if-part-at-lt3.false c.dependency_good.result c.dependency_good.ensures c.if-dependency_good.true
 
 pub returns : goal.returns
 returns c =
-    let after-if2 = c in
-    let start = after-if2 in
-    let schema = take start.args.count start.args.widths in
-    let part = start.args.part.now in
-    let at = start.args.at in
-    bad-dependency schema part at after-if2.if-part-at-lt3.false c.dependency_good.result c.dependency_good.ensures c.if-dependency_good.false
+    let schema = take c.args.count c.args.widths in
+    let part = c.args.part.now in
+    let at = c.args.at in
+    bad-dependency schema part at c.if-part-at-lt3.false c.dependency_good.result c.dependency_good.ensures c.if-dependency_good.false

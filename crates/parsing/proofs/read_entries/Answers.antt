@@ -1,8 +1,7 @@
--- the invariant's reading, for any list
 use borrow.Author.Rules.{rules}
 use mathlib.Core.Path.{◌≡◌, sym, ap, refl, ◌∙◌}
 use mathlib.Core.List.{List}
-use Prim.Native.Nat.{ℕ, ◌+◌, ◌*◌, ◌-◌, ◌<◌}
+use Prim.Native.Nat.{ℕ, ◌+◌, ◌*◌, ◌<◌}
 use native.Mathlib.Nat.{add-zero}
 use native.Mathlib.Omega.{arith}
 use lib.ListN.{length, drop, set, replicate, length-set}
@@ -19,6 +18,7 @@ use Rattle.parsing.specs.internal.Read.{entry_read, cells_read}
 use Rattle.format.proofs.Filling.{Filling, filling-starts, filling-turns, filling-fails, filling-ends}
 use Rattle.parsing.proofs.read_entries.Goals as goal
 
+-- the invariant's reading, for any list
 abbrev At : List ℕ → ℕ → ℕ → List Cell → ℕ → Type 0
 At s at n cells i = Filling entry.get ((entries n).get (drop at s)) n cells i (drop (at + 5 * i) s)
 
@@ -44,25 +44,18 @@ loop-i-init c =
 
 pub returns-in-NoEntry : goal.returns-in-NoEntry
 returns-in-NoEntry c =
-    let after-read-entry = c in
-    let after-loop = after-read-entry in
-    let start = after-loop in
-    fails start.args.s.now start.args.at start.args.n after-loop.loop.cells after-loop.loop.i after-read-entry.read_entry.result
-    after-loop.loop.invariant.2 c.loop-i-test.true
-    after-read-entry.read_entry.ensures c.in-NoEntry.is
+    fails c.args.s.now c.args.at c.args.n c.loop-i.cells c.loop-i.i c.read_entry.result
+    c.loop-i.invariant.2 c.loop-i-test.true
+    c.read_entry.ensures c.in-NoEntry.is
 
 pub loop-i-preserved : goal.loop-i-preserved
-loop-i-preserved c =
-    let after-read-entry = c in
-    let after-loop-test = after-read-entry in
-    let after-loop = after-loop-test in
-    let start = after-loop in (
-      search rules,
-      length-set after-loop.loop.cells after-loop.loop.i (record { entry = c.in-Read.e }) ∙ after-loop.loop.invariant.1,
-      goes_on start.args.s.now start.args.at start.args.n after-loop.loop.cells after-loop.loop.i after-read-entry.read_entry.result
-          c.in-Read.e after-loop.loop.invariant.2 after-loop-test.loop-test.true
-          (omega arith) after-read-entry.read_entry.ensures c.in-Read.is,
-    )
+loop-i-preserved c = (
+  search rules,
+  length-set c.loop-i.cells c.loop-i.i (record { entry = c.in-Read.e }) ∙ c.loop-i.invariant.1,
+  goes_on c.args.s.now c.args.at c.args.n c.loop-i.cells c.loop-i.i c.read_entry.result
+      c.in-Read.e c.loop-i.invariant.2 c.loop-i-test.true
+      (omega arith) c.read_entry.ensures c.in-Read.is,
+)
 
 pub returns : goal.returns
 returns c =

@@ -1,6 +1,5 @@
--- the invariant's reading, for any list
 use mathlib.Core.Path.{◌≡◌}
-use Prim.Native.Nat.{◌+◌, ◌*◌, ◌-◌, ◌≤◌}
+use Prim.Native.Nat.{◌+◌, ◌*◌, ◌≤◌}
 use lib.ListN.{length, drop}
 use Rattle.format.specs.Parts.{entry, entries}
 use Rattle.format.proofs.Filling.{Filling}

@@ -17,40 +17,25 @@ returns-then-s-at-lt5 c =
 
 pub returns-then-n-gt2147483647 : goal.returns-then-n-gt2147483647
 returns-then-n-gt2147483647 c =
-    let after-word32 = c in
-    let after-if2 = after-word32 in
-    let start = after-if2 in
-    no-entry start.args.s.now start.args.at after-word32.word32-n.result after-if2.if2.false after-word32.word32-n.ensures
-    (constant-bad _ after-word32.word32-n.result c.if-tag-eq0.true c.if-n-gt2147483647.true)
+    no-entry c.args.s.now c.args.at c.word32-n.result c.if-s-at-lt5.false c.word32-n.ensures
+    (constant-bad _ c.word32-n.result c.if-tag-eq0.true c.if-n-gt2147483647.true)
 
 pub returns-then-tag-eq0 : goal.returns-then-tag-eq0
 returns-then-tag-eq0 c =
-    let after-word32 = c in
-    let after-if2 = after-word32 in
-    let start = after-if2 in
-    constant-entry start.args.s.now start.args.at after-word32.word32-n.result after-if2.if2.false after-word32.word32-n.ensures
+    constant-entry c.args.s.now c.args.at c.word32-n.result c.if-s-at-lt5.false c.word32-n.ensures
     c.if-tag-eq0.true c.if-n-gt2147483647.false
 
 pub returns-then-n-gt95 : goal.returns-then-n-gt95
 returns-then-n-gt95 c =
-    let after-word32 = c in
-    let after-if2 = after-word32 in
-    let start = after-if2 in
-    no-entry start.args.s.now start.args.at after-word32.word32-n.result after-if2.if2.false after-word32.word32-n.ensures
-    (variable-bad _ after-word32.word32-n.result c.if-tag-eq1.true c.if-n-gt95.true)
+    no-entry c.args.s.now c.args.at c.word32-n.result c.if-s-at-lt5.false c.word32-n.ensures
+    (variable-bad _ c.word32-n.result c.if-tag-eq1.true c.if-n-gt95.true)
 
 pub returns-then-tag-eq1 : goal.returns-then-tag-eq1
 returns-then-tag-eq1 c =
-    let after-word32 = c in
-    let after-if2 = after-word32 in
-    let start = after-if2 in
-    variable-entry start.args.s.now start.args.at after-word32.word32-n.result after-if2.if2.false after-word32.word32-n.ensures
+    variable-entry c.args.s.now c.args.at c.word32-n.result c.if-s-at-lt5.false c.word32-n.ensures
     c.if-tag-eq1.true c.if-n-gt95.false
 
 pub returns : goal.returns
 returns c =
-    let after-word32 = c in
-    let after-if2 = after-word32 in
-    let start = after-if2 in
-    no-entry start.args.s.now start.args.at after-word32.word32-n.result after-if2.if2.false after-word32.word32-n.ensures
-    (tag-bad _ after-word32.word32-n.result c.if-tag-eq0.false c.if-tag-eq1.false)
+    no-entry c.args.s.now c.args.at c.word32-n.result c.if-s-at-lt5.false c.word32-n.ensures
+    (tag-bad _ c.word32-n.result c.if-tag-eq0.false c.if-tag-eq1.false)

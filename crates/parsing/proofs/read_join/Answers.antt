@@ -13,40 +13,31 @@ with-sets s at sets e = λ i. record { relation = get_or s at 0; count = get_or 
 
 pub returns-then-left-lt2 : goal.returns-then-left-lt2
 returns-then-left-lt2 c =
-    let start = c in
-    c.no_join.ensures ∙ join-two (take start.args.count start.args.widths) start.args.part.now start.args.at c.if-left-lt2.true
+    c.no_join.ensures ∙ join-two (take c.args.count c.args.widths) c.args.part.now c.args.at c.if-left-lt2.true
 
 pub returns-then-n-gt4 : goal.returns-then-n-gt4
 returns-then-n-gt4 c =
-    let start = c in
-    c.no_join-then-n-gt4.ensures ∙ join-many (take start.args.count start.args.widths) start.args.part.now start.args.at c.if-n-gt4.true
+    c.no_join-then-n-gt4.ensures ∙ join-many (take c.args.count c.args.widths) c.args.part.now c.args.at c.if-n-gt4.true
 
 pub returns-then-left-n : goal.returns-then-left-n
 returns-then-left-n c =
-    let start = c in
-    c.no_join-then-left-n.ensures ∙ join-cut (take start.args.count start.args.widths) start.args.part.now start.args.at c.if-left-n.true
+    c.no_join-then-left-n.ensures ∙ join-cut (take c.args.count c.args.widths) c.args.part.now c.args.at c.if-left-n.true
 
 pub returns-then-not-join_good : goal.returns-then-not-join_good
 returns-then-not-join_good c =
-    let after-join-good = c in
-    let after-read-sets = after-join-good in
-    let start = after-read-sets in
-    let part = start.args.part.now in
-    let at = start.args.at in
+    let part = c.args.part.now in
+    let at = c.args.at in
     c.no_join-then-not-join_good.ensures
-    ∙ join-unfit (take start.args.count start.args.widths) part at
-    (record { relation = get_or part at 0; count = get_or part (at + 1) 0; sets = after-read-sets.read-sets.result })
-    (with-sets part at after-read-sets.read-sets.result after-read-sets.read-sets.ensures) after-join-good.join_good.result
-    after-join-good.join_good.ensures (ap not c.if-not-join_good.true)
+    ∙ join-unfit (take c.args.count c.args.widths) part at
+    (record { relation = get_or part at 0; count = get_or part (at + 1) 0; sets = c.read_sets-sets.result })
+    (with-sets part at c.read_sets-sets.result c.read_sets-sets.ensures) c.join_good.result
+    c.join_good.ensures (ap not c.if-not-join_good.true)
 
 pub returns : goal.returns
 returns c =
-    let after-join-good = c in
-    let after-read-sets = after-join-good in
-    let start = after-read-sets in
-    let part = start.args.part.now in
-    let at = start.args.at in
-    join-found (take start.args.count start.args.widths) part at
-    (record { relation = get_or part at 0; count = get_or part (at + 1) 0; sets = after-read-sets.read-sets.result })
-    (with-sets part at after-read-sets.read-sets.result after-read-sets.read-sets.ensures) after-join-good.join_good.result
-    after-join-good.join_good.ensures after-read-sets.if3.false (ap not c.if-not-join_good.false)
+    let part = c.args.part.now in
+    let at = c.args.at in
+    join-found (take c.args.count c.args.widths) part at
+    (record { relation = get_or part at 0; count = get_or part (at + 1) 0; sets = c.read_sets-sets.result })
+    (with-sets part at c.read_sets-sets.result c.read_sets-sets.ensures) c.join_good.result
+    c.join_good.ensures c.if-left-n.false (ap not c.if-not-join_good.false)

@@ -1,10 +1,9 @@
 -- `parsing::read_joins` meets its contract. Invariant: what has been read of the bytes, and that the next join dependency starts within them.
 -- Assumes nothing.
--- What has been read of the part
 use mathlib.Core.Path.{◌≡◌, refl, sym, ap, ◌∙◌}
 use mathlib.Core.Bool.{true, false, not}
 use mathlib.Core.List.{List, [], ◌∷◌}
-use Prim.Native.Nat.{ℕ, ◌+◌, ◌-◌, ◌≤◌, ◌<◌}
+use Prim.Native.Nat.{ℕ, ◌+◌, ◌≤◌, ◌<◌}
 use native.Mathlib.Omega.{arith}
 use lib.ListN.{length, take, drop, set, replicate, length-set}
 use borrow.Author.Rules.{rules}
@@ -21,12 +20,10 @@ use Rattle.parsing.specs.declared.ByteRead.TheVariants.{Byte, NoByte}
 use Rattle.parsing.specs.declared.JoinRead.{JoinRead}
 use Rattle.parsing.specs.internal.Read.{byte_read, join_read, no_joins_read, joins_read}
 use Rattle.parsing.proofs.Joins.{join-none, join-read}
-use Rattle.parsing.proofs.Counted.{byte-read, byte-none, Counting, counting-starts, counting-turns, counting-fails, counting-ends}
+use Rattle.parsing.proofs.Counted.{byte-read, byte-none, counting-starts, counting-turns, counting-fails, counting-ends}
 use Rattle.parsing.proofs.Counted.{counting-long, no-count}
+use Rattle.parsing.proofs.read_joins.Invariants.{At}
 use Rattle.parsing.proofs.read_joins.Goals as goal
-
-abbrev At : List ℕ → List ℕ → ℕ → List JoinDependency → ℕ → ℕ → Type 0
-At schema part n js i at = Counting (between 1 4) 4 no_join unused_join (join schema) part n js i at
 
 no_bytes : (schema part : List ℕ) → length part ≡ 0 → no_joins_read true ≡ joins_read (read_joins schema part)
 unfolding read_joins
@@ -76,99 +73,64 @@ module _ (schema part : List ℕ) (some : length part ≡ 0 → ⊥) where
 
 pub returns-then-part-eq0 : goal.returns-then-part-eq0
 returns-then-part-eq0 c =
-    let start = c in
-    c.no_joins.ensures ∙ no_bytes (take start.args.count start.args.widths) start.args.part.now c.if-part-eq0.true
+    c.no_joins.ensures ∙ no_bytes (take c.args.count c.args.widths) c.args.part.now c.if-part-eq0.true
 
 pub returns-in_default : goal.returns-in_default
 returns-in_default c =
-    let after-read-byte = c in
-    let after-if1 = after-read-byte in
-    let start = after-if1 in
-    c.no_joins-in_default.ensures ∙ no-joins-read (take start.args.count start.args.widths) start.args.part.now after-if1.if1.false
-    after-read-byte.read_byte.result after-read-byte.read_byte.ensures c.in_default.is
+    c.no_joins-in_default.ensures ∙ no-joins-read (take c.args.count c.args.widths) c.args.part.now c.if-part-eq0.false
+    c.read_byte.result c.read_byte.ensures c.in_default.is
 
 pub loop-i-init : goal.loop-i-init
 loop-i-init c =
-    let after-read-byte = c in
-    let after-if1 = after-read-byte in
-    let start = after-if1 in
     let (few, f) =
-    begins (take start.args.count start.args.widths) start.args.part.now after-if1.if1.false c.in-Byte.joined
-    (sym c.in-Byte.is ∙ after-read-byte.read_byte.ensures) in
-    let some = after-if1.if1.false in
+    begins (take c.args.count c.args.widths) c.args.part.now c.if-part-eq0.false c.in-Byte.joined
+    (sym c.in-Byte.is ∙ c.read_byte.ensures) in
+    let some = c.if-part-eq0.false in
     (omega arith, few, refl, omega (arith, some), f)
 
 pub returns-then-not-read : goal.returns-then-not-read
 returns-then-not-read c =
-    let after-read-join = c in
-    let in-loop = after-read-join in
-    let at-loop = in-loop in
-    let after-joined = at-loop in
-    let after-if1 = after-joined in
-    let start = after-if1 in
     c.no_joins-then-not-read.ensures
-    ∙ fails (take start.args.count start.args.widths) start.args.part.now after-if1.if1.false after-joined.joined.given.0.0
-    at-loop.loop.joins at-loop.loop.i at-loop.loop.at at-loop.loop.invariant.4 in-loop.loop-test.true
-    after-read-join.read_join-read.result after-read-join.read_join-read.ensures (ap not c.if-not-read.true)
+    ∙ fails (take c.args.count c.args.widths) c.args.part.now c.if-part-eq0.false c.in-Byte.joined
+    c.loop-i.joins c.loop-i.i c.loop-i.at c.loop-i.invariant.4 c.loop-i-test.true
+    c.read_join-read.result c.read_join-read.ensures c.if-not-read.true
 
 pub overflow_add-at : goal.overflow_add-at
 overflow_add-at c =
-    let after-read-join = c in
-    let at-loop = after-read-join in
-    let start = at-loop in
     let inside =
-    (join-read (take start.args.count start.args.widths) start.args.part.now at-loop.loop.at after-read-join.read_join-read.result
-    at-loop.loop.invariant.3 after-read-join.read_join-read.ensures (ap not c.if-not-read.false)).1
+    (join-read (take c.args.count c.args.widths) c.args.part.now c.loop-i.at c.read_join-read.result
+    c.loop-i.invariant.3 c.read_join-read.ensures c.if-not-read.false).1
     in
     search rules
 
 pub overflow_add-at-in-loop-i : goal.overflow_add-at-in-loop-i
 overflow_add-at-in-loop-i c =
-    let after-read-join = c in
-    let at-loop = after-read-join in
-    let start = at-loop in
     let inside =
-    (join-read (take start.args.count start.args.widths) start.args.part.now at-loop.loop.at after-read-join.read_join-read.result
-    at-loop.loop.invariant.3 after-read-join.read_join-read.ensures (ap not c.if-not-read.false)).1
+    (join-read (take c.args.count c.args.widths) c.args.part.now c.loop-i.at c.read_join-read.result
+    c.loop-i.invariant.3 c.read_join-read.ensures c.if-not-read.false).1
     in
     search rules
 
 pub loop-i-preserved : goal.loop-i-preserved
 loop-i-preserved c =
-    let after-read-join = c in
-    let in-loop = after-read-join in
-    let at-loop = in-loop in
-    let after-joined = at-loop in
-    let after-if1 = after-joined in
-    let start = after-if1 in
-    let schema = take start.args.count start.args.widths in
-    let read = after-read-join.read_join-read in
-    let good = (ap not c.if-not-read.false) in (
+    let schema = take c.args.count c.args.widths in
+    let read = c.read_join-read in
+    let good = c.if-not-read.false in (
       search rules,
-      at-loop.loop.invariant.1,
-      length-set at-loop.loop.joins at-loop.loop.i read.result.join ∙ at-loop.loop.invariant.2,
-      (join-read schema start.args.part.now at-loop.loop.at read.result at-loop.loop.invariant.3 read.ensures good).1,
-      goes_on schema start.args.part.now after-if1.if1.false after-joined.joined.given.0.0 at-loop.loop.joins at-loop.loop.i
-          at-loop.loop.at at-loop.loop.invariant.4 in-loop.loop-test.true read.result read.ensures (omega arith) at-loop.loop.invariant.3 good,
+      c.loop-i.invariant.1,
+      length-set c.loop-i.joins c.loop-i.i read.result.join ∙ c.loop-i.invariant.2,
+      (join-read schema c.args.part.now c.loop-i.at read.result c.loop-i.invariant.3 read.ensures good).1,
+      goes_on schema c.args.part.now c.if-part-eq0.false c.in-Byte.joined c.loop-i.joins c.loop-i.i
+          c.loop-i.at c.loop-i.invariant.4 c.loop-i-test.true read.result read.ensures (omega arith) c.loop-i.invariant.3 good,
     )
 
 pub returns-then-at-part : goal.returns-then-at-part
 returns-then-at-part c =
-    let after-loop = c in
-    let at-loop = after-loop in
-    let after-joined = at-loop in
-    let after-if1 = after-joined in
-    let start = after-if1 in
     c.no_joins-then-at-part.ensures
-    ∙ too_long (take start.args.count start.args.widths) start.args.part.now after-if1.if1.false after-joined.joined.given.0.0
-    at-loop.loop.joins at-loop.loop.i at-loop.loop.at at-loop.loop.invariant.4 after-loop.loop-i-test.false c.if-at-part.true
+    ∙ too_long (take c.args.count c.args.widths) c.args.part.now c.if-part-eq0.false c.in-Byte.joined
+    c.loop-i.joins c.loop-i.i c.loop-i.at c.loop-i.invariant.4 c.loop-i-test.false c.if-at-part.true
 
 pub returns : goal.returns
 returns c =
-    let after-loop = c in
-    let at-loop = after-loop in
-    let after-joined = at-loop in
-    let after-if1 = after-joined in
-    let start = after-if1 in
-    accepted (take start.args.count start.args.widths) start.args.part.now after-if1.if1.false after-joined.joined.given.0.0
-    at-loop.loop.joins at-loop.loop.i at-loop.loop.at at-loop.loop.invariant.4 after-loop.loop-i-test.false c.if-at-part.false
+    accepted (take c.args.count c.args.widths) c.args.part.now c.if-part-eq0.false c.in-Byte.joined
+    c.loop-i.joins c.loop-i.i c.loop-i.at c.loop-i.invariant.4 c.loop-i-test.false c.if-at-part.false

@@ -1,5 +1,4 @@
--- What the first two bytes say
-use borrow.Author.Tests.{not-false, leb-true}
+use borrow.Author.Tests.{not-true, not-false, leb-true}
 use mathlib.Core.Path.{◌≡◌, sym, ap, ◌∙◌}
 use mathlib.Core.Bool.{true, false, cond}
 use mathlib.Core.List.{List}
@@ -24,6 +23,7 @@ use Rattle.parsing.proofs.RowLaws.{byte-bounds, cells-bad, cells-good, entries-b
 use Rattle.parsing.proofs.QueryLaws.{map-none, no-arity, no_size, no-head, after-head, rows-bad, rows-some}
 use Rattle.parsing.proofs.read_query.Goals as goal
 
+-- What the first two bytes say
 record Sizes (part : List ℕ) (arity size : ℕ) : Type 0 where
   arity-read : get_byte (λ n. leb n 8) part ≡ got arity (drop 1 part)
   size-read : get_byte (λ n. leb n 12) (drop 1 part) ≡ got size (drop 2 part)
@@ -94,150 +94,95 @@ module _ (schema part : List ℕ) (arity size used : ℕ) (front : CellsRead) (r
 
 pub returns-in_default : goal.returns-in_default
 returns-in_default c =
-    let start = c in
-    c.no_query_read.ensures ∙ refuses (take start.args.count start.args.widths) start.args.part.now
-    (no-arity (take start.args.count start.args.widths) start.args.part.now
-    (byte-none (get_byte (λ n. leb n 8) start.args.part.now)
+    c.no_query_read.ensures ∙ refuses (take c.args.count c.args.widths) c.args.part.now
+    (no-arity (take c.args.count c.args.widths) c.args.part.now
+    (byte-none (get_byte (λ n. leb n 8) c.args.part.now)
     (rw no-low at (sym c.in_default.is ∙ c.read_byte.ensures))))
 
 pub returns-in_default-read_byte : goal.returns-in_default-read_byte
 returns-in_default-read_byte c =
-    let after-arity = c in
-    let after-read-byte = after-arity in
-    let start = after-read-byte in
     let (t, ea) =
-    first start.args.part.now after-read-byte.read_byte.result after-arity.in-Byte.arity after-read-byte.read_byte.ensures
-    after-arity.in-Byte.is in
-    c.no_query_read-in_default-read_byte.ensures ∙ refuses (take start.args.count start.args.widths) start.args.part.now
-    (no_size (take start.args.count start.args.widths) start.args.part.now after-arity.in-Byte.arity ea
-    (byte-none (get_byte (λ n. leb n 12) (drop 1 start.args.part.now))
+    first c.args.part.now c.read_byte.result c.in-Byte.arity c.read_byte.ensures
+    c.in-Byte.is in
+    c.no_query_read-in_default-read_byte.ensures ∙ refuses (take c.args.count c.args.widths) c.args.part.now
+    (no_size (take c.args.count c.args.widths) c.args.part.now c.in-Byte.arity ea
+    (byte-none (get_byte (λ n. leb n 12) (drop 1 c.args.part.now))
     (rw no-low at (sym c.in_default-read_byte.is ∙ c.read_byte-2.ensures))))
 
 pub read_entries-front-requires : goal.read_entries-front-requires
 read_entries-front-requires c =
-    let after-size = c in
-    let after-read-byte2 = after-size in
-    let after-arity = after-read-byte2 in
-    let after-read-byte = after-arity in
-    let start = after-read-byte in
     let z =
-    (sizes start.args.part.now after-read-byte.read_byte.result after-read-byte2.read-byte2.result after-arity.arity.given.0.0
-    after-size.in-Byte-read_byte.size after-read-byte.read_byte.ensures after-arity.arity.given.1 after-read-byte2.read-byte2.ensures
-    after-size.in-Byte-read_byte.is) in
-    (z.long, rw c.head_in_use-used.ensures (head_fits after-size.in-Byte-read_byte.size after-arity.arity.given.0.0 z.arity-fits))
+    (sizes c.args.part.now c.read_byte.result c.read_byte-2.result c.in-Byte.arity
+    c.in-Byte-read_byte.size c.read_byte.ensures c.in-Byte.is c.read_byte-2.ensures
+    c.in-Byte-read_byte.is) in
+    record { at_in_bounds = z.long; n_bound = rw c.head_in_use-used.ensures (head_fits c.in-Byte-read_byte.size c.in-Byte.arity z.arity-fits) }
 
 pub returns-then-not-front : goal.returns-then-not-front
 returns-then-not-front c =
-    let after-read-entries = c in
-    let after-head-in-use = after-read-entries in
-    let after-size = after-head-in-use in
-    let after-read-byte2 = after-size in
-    let after-arity = after-read-byte2 in
-    let after-read-byte = after-arity in
-    let start = after-read-byte in
     let z =
-    (sizes start.args.part.now after-read-byte.read_byte.result after-read-byte2.read-byte2.result after-arity.arity.given.0.0
-    after-size.size.given.0.0 after-read-byte.read_byte.ensures after-arity.arity.given.1 after-read-byte2.read-byte2.ensures
-    after-size.size.given.1) in
+    (sizes c.args.part.now c.read_byte.result c.read_byte-2.result c.in-Byte.arity
+    c.in-Byte-read_byte.size c.read_byte.ensures c.in-Byte.is c.read_byte-2.ensures
+    c.in-Byte-read_byte.is) in
     let e =
-    cells-bad ((entries after-head-in-use.head-in-use.result).get (drop 2 start.args.part.now)) after-read-entries.read_entries-front.result
-    after-read-entries.read_entries-front.ensures c.if-not-front.true in
-    c.no_query_read-then-not-front.ensures ∙ refuses (take start.args.count start.args.widths) start.args.part.now
-    (no-head (take start.args.count start.args.widths) start.args.part.now after-arity.arity.given.0.0 z.arity-read
-    after-size.size.given.0.0 z.size-read (rw (← after-head-in-use.head-in-use.ensures) e))
+    cells-bad ((entries c.head_in_use-used.result).get (drop 2 c.args.part.now)) c.read_entries-front.result
+    c.read_entries-front.ensures (not-true c.read_entries-front.result.good c.if-not-front.true) in
+    c.no_query_read-then-not-front.ensures ∙ refuses (take c.args.count c.args.widths) c.args.part.now
+    (no-head (take c.args.count c.args.widths) c.args.part.now c.in-Byte.arity z.arity-read
+    c.in-Byte-read_byte.size z.size-read (rw (← c.head_in_use-used.ensures) e))
 
 pub overflow_mul-used : goal.overflow_mul-used
 overflow_mul-used c =
-    let after-read-entries = c in
-    let after-head-in-use = after-read-entries in
-    let after-size = after-head-in-use in
-    let after-read-byte2 = after-size in
-    let after-arity = after-read-byte2 in
-    let after-read-byte = after-arity in
-    let start = after-read-byte in
     let z =
-    (sizes start.args.part.now after-read-byte.read_byte.result after-read-byte2.read-byte2.result after-arity.arity.given.0.0
-    after-size.size.given.0.0 after-read-byte.read_byte.ensures after-arity.arity.given.1 after-read-byte2.read-byte2.ensures
-    after-size.size.given.1) in
+    (sizes c.args.part.now c.read_byte.result c.read_byte-2.result c.in-Byte.arity
+    c.in-Byte-read_byte.size c.read_byte.ensures c.in-Byte.is c.read_byte-2.ensures
+    c.in-Byte-read_byte.is) in
     let ends =
-    (head-ends start.args.part.now after-arity.arity.given.0.0 after-size.size.given.0.0 after-head-in-use.head-in-use.result
-    after-read-entries.read_entries-front.result z after-head-in-use.head-in-use.ensures after-read-entries.read_entries-front.ensures
-    c.if-not-front.false).1 in
+    (head-ends c.args.part.now c.in-Byte.arity c.in-Byte-read_byte.size c.head_in_use-used.result
+    c.read_entries-front.result z c.head_in_use-used.ensures c.read_entries-front.ensures
+    (not-false c.read_entries-front.result.good c.if-not-front.false)).1 in
     omega arith
 
 pub overflow_add-used : goal.overflow_add-used
 overflow_add-used c =
-    let after-read-entries = c in
-    let after-head-in-use = after-read-entries in
-    let after-size = after-head-in-use in
-    let after-read-byte2 = after-size in
-    let after-arity = after-read-byte2 in
-    let after-read-byte = after-arity in
-    let start = after-read-byte in
     let z =
-    (sizes start.args.part.now after-read-byte.read_byte.result after-read-byte2.read-byte2.result after-arity.arity.given.0.0
-    after-size.size.given.0.0 after-read-byte.read_byte.ensures after-arity.arity.given.1 after-read-byte2.read-byte2.ensures
-    after-size.size.given.1) in
+    (sizes c.args.part.now c.read_byte.result c.read_byte-2.result c.in-Byte.arity
+    c.in-Byte-read_byte.size c.read_byte.ensures c.in-Byte.is c.read_byte-2.ensures
+    c.in-Byte-read_byte.is) in
     let ends =
-    (head-ends start.args.part.now after-arity.arity.given.0.0 after-size.size.given.0.0 after-head-in-use.head-in-use.result
-    after-read-entries.read_entries-front.result z after-head-in-use.head-in-use.ensures after-read-entries.read_entries-front.ensures
-    c.if-not-front.false).1 in
+    (head-ends c.args.part.now c.in-Byte.arity c.in-Byte-read_byte.size c.head_in_use-used.result
+    c.read_entries-front.result z c.head_in_use-used.ensures c.read_entries-front.ensures
+    (not-false c.read_entries-front.result.good c.if-not-front.false)).1 in
     omega arith
 
 pub read_rows-rows-requires : goal.read_rows-rows-requires
 read_rows-rows-requires c =
-    let after-read-entries = c in
-    let after-head-in-use = after-read-entries in
-    let after-size = after-head-in-use in
-    let after-read-byte2 = after-size in
-    let after-arity = after-read-byte2 in
-    let after-read-byte = after-arity in
-    let start = after-read-byte in
     let z =
-    (sizes start.args.part.now after-read-byte.read_byte.result after-read-byte2.read-byte2.result after-arity.arity.given.0.0
-    after-size.size.given.0.0 after-read-byte.read_byte.ensures after-arity.arity.given.1 after-read-byte2.read-byte2.ensures
-    after-size.size.given.1) in
+    (sizes c.args.part.now c.read_byte.result c.read_byte-2.result c.in-Byte.arity
+    c.in-Byte-read_byte.size c.read_byte.ensures c.in-Byte.is c.read_byte-2.ensures
+    c.in-Byte-read_byte.is) in
     let ends =
-    (head-ends start.args.part.now after-arity.arity.given.0.0 after-size.size.given.0.0 after-head-in-use.head-in-use.result
-    after-read-entries.read_entries-front.result z after-head-in-use.head-in-use.ensures after-read-entries.read_entries-front.ensures
-    c.if-not-front.false).1 in
-    (start.requires, (ends, z.size_fits))
+    (head-ends c.args.part.now c.in-Byte.arity c.in-Byte-read_byte.size c.head_in_use-used.result
+    c.read_entries-front.result z c.head_in_use-used.ensures c.read_entries-front.ensures
+    (not-false c.read_entries-front.result.good c.if-not-front.false)).1 in
+    record { widths_value = c.requires; start_in_bounds = ends; size_bound = z.size_fits }
 
 pub returns-then-not-rows : goal.returns-then-not-rows
 returns-then-not-rows c =
-    let after-read-rows = c in
-    let after-if1 = after-read-rows in
-    let after-read-entries = after-if1 in
-    let after-head-in-use = after-read-entries in
-    let after-size = after-head-in-use in
-    let after-read-byte2 = after-size in
-    let after-arity = after-read-byte2 in
-    let after-read-byte = after-arity in
-    let start = after-read-byte in
     c.no_query_read-then-not-rows.ensures
-    ∙ bad-rows (take start.args.count start.args.widths) start.args.part.now after-arity.arity.given.0.0 after-size.size.given.0.0
-    after-head-in-use.head-in-use.result after-read-entries.read-entries.result after-read-rows.read_rows-rows.result
-    (sizes start.args.part.now after-read-byte.read_byte.result after-read-byte2.read-byte2.result after-arity.arity.given.0.0
-    after-size.size.given.0.0 after-read-byte.read_byte.ensures after-arity.arity.given.1 after-read-byte2.read-byte2.ensures
-    after-size.size.given.1) after-head-in-use.head-in-use.ensures after-read-entries.read-entries.ensures
-    (not-false after-read-entries.read-entries.result.good after-if1.if1.false) after-read-rows.read_rows-rows.ensures
-    c.if-not-rows.true
+    ∙ bad-rows (take c.args.count c.args.widths) c.args.part.now c.in-Byte.arity c.in-Byte-read_byte.size
+    c.head_in_use-used.result c.read_entries-front.result c.read_rows-rows.result
+    (sizes c.args.part.now c.read_byte.result c.read_byte-2.result c.in-Byte.arity
+    c.in-Byte-read_byte.size c.read_byte.ensures c.in-Byte.is c.read_byte-2.ensures
+    c.in-Byte-read_byte.is) c.head_in_use-used.ensures c.read_entries-front.ensures
+    (not-false c.read_entries-front.result.good c.if-not-front.false) c.read_rows-rows.ensures
+    (not-true c.read_rows-rows.result.good c.if-not-rows.true)
 
 pub returns : goal.returns
 returns c =
-    let after-read-rows = c in
-    let after-if1 = after-read-rows in
-    let after-read-entries = after-if1 in
-    let after-head-in-use = after-read-entries in
-    let after-size = after-head-in-use in
-    let after-read-byte2 = after-size in
-    let after-arity = after-read-byte2 in
-    let after-read-byte = after-arity in
-    let start = after-read-byte in
-    accepts (take start.args.count start.args.widths) start.args.part.now after-arity.arity.given.0.0 after-size.size.given.0.0
-    after-head-in-use.head-in-use.result after-read-entries.read-entries.result after-read-rows.read_rows-rows.result
-    (sizes start.args.part.now after-read-byte.read_byte.result after-read-byte2.read-byte2.result after-arity.arity.given.0.0
-    after-size.size.given.0.0 after-read-byte.read_byte.ensures after-arity.arity.given.1 after-read-byte2.read-byte2.ensures
-    after-size.size.given.1) after-head-in-use.head-in-use.ensures after-read-entries.read-entries.ensures
-    (not-false after-read-entries.read-entries.result.good after-if1.if1.false) after-read-rows.read_rows-rows.ensures
-    c.if-not-rows.false
+    accepts (take c.args.count c.args.widths) c.args.part.now c.in-Byte.arity c.in-Byte-read_byte.size
+    c.head_in_use-used.result c.read_entries-front.result c.read_rows-rows.result
+    (sizes c.args.part.now c.read_byte.result c.read_byte-2.result c.in-Byte.arity
+    c.in-Byte-read_byte.size c.read_byte.ensures c.in-Byte.is c.read_byte-2.ensures
+    c.in-Byte-read_byte.is) c.head_in_use-used.ensures c.read_entries-front.ensures
+    (not-false c.read_entries-front.result.good c.if-not-front.false) c.read_rows-rows.ensures
+    (not-false c.read_rows-rows.result.good c.if-not-rows.false)

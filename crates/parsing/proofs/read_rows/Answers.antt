@@ -1,7 +1,7 @@
 -- `read_rows` reads the rows one after another, and the entries of each into their cells.
 -- Assumes nothing.
 use mathlib.Core.Path.{◌≡◌, ◌∙◌}
-use Prim.Native.Nat.{◌+◌, ◌*◌, ◌-◌, ◌≤◌}
+use Prim.Native.Nat.{◌+◌, ◌*◌, ◌≤◌}
 use native.Mathlib.Numerals.{add-one-dec}
 use native.Mathlib.Omega.{arith}
 use lib.ListN.{length, take, get_or}
@@ -15,16 +15,14 @@ use Rattle.parsing.proofs.read_rows.Goals as goal
 
 pub loop-r-init : goal.loop-r-init
 loop-r-init c =
-    let s = c in
-    let a = s.args in
+    let a = c.args in
     let S = take a.count a.widths in
     let X = a.part.now in
-    begins S X a.start a.size s.requires.start_in_bounds
+    begins S X a.start a.size c.requires.start_in_bounds
 
 pub returns-then-part-at : goal.returns-then-part-at
 returns-then-part-at c =
-    let s = c in
-    let a = s.args in
+    let a = c.args in
     let S = take a.count a.widths in
     let X = a.part.now in
     let l = c.loop-r in
@@ -36,201 +34,138 @@ bounds-part-at c = c.if-part-at.false
 
 pub returns-then-count-relation : goal.returns-then-count-relation
 returns-then-count-relation c =
-    let after-loop-test = c in
-    let after-loop = after-loop-test in
-    let s = after-loop in
-    let a = s.args in
+    let a = c.args in
     let S = take a.count a.widths in
     let X = a.part.now in
-    let l = after-loop.loop in
-    let long : length a.widths ≡ 8 = s.well-formed.1.1.1.1.0.1.0.1 in
-    let unknown : length S ≤ get_or X l.at 0 = rw (schema-length a.count a.widths s.requires.0 long) c.if-count-relation.true in
-    c.no_rows-then-count-relation.ensures ∙ fails S X a.start a.size l.relations l.cells l.at l.r l.invariant after-loop-test.loop-r-test.true
+    let l = c.loop-r in
+    let long : length a.widths ≡ 8 = c.well_formed.1.1.1.1.0.1.0.1 in
+    let unknown : length S ≤ get_or X l.at 0 = rw (schema-length a.count a.widths c.requires.widths_value long) c.if-count-relation.true in
+    c.no_rows-then-count-relation.ensures ∙ fails S X a.start a.size l.relations l.cells l.at l.r l.invariant c.loop-r-test.true
     (row-unknown S X l.at c.if-part-at.false unknown)
 
 pub overflow_cast-width : goal.overflow_cast-width
 overflow_cast-width c =
-    let after-loop = c in
-    let start = after-loop in
-    relation-fits (get_or start.args.part.now after-loop.loop-r.at 0) start.args.count c.if-count-relation.false start.ranges.count
+    relation-fits (get_or c.args.part.now c.loop-r.at 0) c.args.count c.if-count-relation.false c.ranges.count
 
 pub bounds-widths-relation : goal.bounds-widths-relation
 bounds-widths-relation c =
-    let s = c in
-    let a = s.args in
+    let a = c.args in
     let S = take a.count a.widths in
     let X = a.part.now in
-    let long : length a.widths ≡ 8 = s.well-formed.1.1.1.1.0.1.0.1 in
-    omega (arith, (relations-bounds a.count a.widths s.requires.widths_value).1)
+    let long : length a.widths ≡ 8 = c.well_formed.1.1.1.1.0.1.0.1 in
+    omega (arith, (relations-bounds a.count a.widths c.requires.widths_value).1)
 
 pub loop-i-init : goal.loop-i-init
 loop-i-init c =
-    let after-loop = c in
-    let s = after-loop in
-    let a = s.args in
+    let a = c.args in
     let S = take a.count a.widths in
     let X = a.part.now in
-    let l = after-loop.loop-r in
-    let long : length a.widths ≡ 8 = s.well-formed.1.1.1.1.0.1.0.1 in
+    let l = c.loop-r in
+    let long : length a.widths ≡ 8 = c.well_formed.1.1.1.1.0.1.0.1 in
     row-begins S X a.start a.size l.relations l.cells l.at l.r l.invariant (get_or a.widths (get_or X l.at 0) 0)
-    (known-row a.count a.widths X l.at s.requires.0 long c.if-part-at.false c.if-count-relation.false) (row_inside l.r a.size
-    c.loop-r-test.true s.requires.1.1)
+    (known-row a.count a.widths X l.at c.requires.widths_value long c.if-part-at.false c.if-count-relation.false) (row_inside l.r a.size
+    c.loop-r-test.true c.requires.size_bound)
 
 pub overflow_add-at : goal.overflow_add-at
 overflow_add-at c =
-    let after-if1 = c in
-    let after-loop = after-if1 in
-    let start = after-loop in
-    next_fits after-loop.loop.at (length start.args.part.now) after-if1.if-part-at.false start.well-formed.0.1
+    next_fits c.loop-r.at (length c.args.part.now) c.if-part-at.false c.well_formed.0.1
 
 pub overflow_mul-i : goal.overflow_mul-i
 overflow_mul-i c = entries_fit c.loop-i.i (short c.loop-i.invariant)
 
 pub overflow_add-at-in-loop-i : goal.overflow_add-at-in-loop-i
 overflow_add-at-in-loop-i c =
-    let after-if1 = c in
-    let after-loop = after-if1 in
-    let start = after-loop in
-    entry-fits after-loop.loop.at (length start.args.part.now) c.loop-i.i after-if1.if-part-at.false start.well-formed.0.1
+    entry-fits c.loop-r.at (length c.args.part.now) c.loop-i.i c.if-part-at.false c.well_formed.0.1
     (short c.loop-i.invariant)
 
 pub overflow_mul-cells : goal.overflow_mul-cells
 overflow_mul-cells c =
-    let after-loop-test = c in
-    let after-loop = after-loop-test in
-    let start = after-loop in
-    row_fits after-loop.loop.r start.args.size after-loop-test.loop-r-test.true start.requires.1.1
+    row_fits c.loop-r.r c.args.size c.loop-r-test.true c.requires.size_bound
 
 pub overflow_add-cells : goal.overflow_add-cells
 overflow_add-cells c =
-    let after-loop2-test = c in
-    let after-loop2 = after-loop2-test in
-    let after-loop-test = after-loop2 in
-    let after-loop = after-loop-test in
-    let start = after-loop in
-    cell-fits (8 * after-loop.loop.r + after-loop2.loop2.i)
-    (cell-inside after-loop.loop.r start.args.size after-loop2.loop2.i _ after-loop-test.loop-test.true start.requires.1.1
-    after-loop2-test.loop-i-test.true after-loop2.loop2.invariant.small)
+    cell-fits (8 * c.loop-r.r + c.loop-i.i)
+    (cell-inside c.loop-r.r c.args.size c.loop-i.i _ c.loop-r-test.true c.requires.size_bound
+    c.loop-i-test.true c.loop-i.invariant.small)
 
 pub offset_bounds-cells-r : goal.offset_bounds-cells-r
 offset_bounds-cells-r c =
-    let after-loop2-test = c in
-    let after-loop2 = after-loop2-test in
-    let after-loop-test = after-loop2 in
-    let after-loop = after-loop-test in
-    let start = after-loop in
-    offset-fits (8 * after-loop.loop.r + after-loop2.loop2.i)
-    (cell-inside after-loop.loop.r start.args.size after-loop2.loop2.i _ after-loop-test.loop-test.true start.requires.1.1
-    after-loop2-test.loop-i-test.true after-loop2.loop2.invariant.small)
+    offset-fits (8 * c.loop-r.r + c.loop-i.i)
+    (cell-inside c.loop-r.r c.args.size c.loop-i.i _ c.loop-r-test.true c.requires.size_bound
+    c.loop-i-test.true c.loop-i.invariant.small)
 
 pub bounds-cells-r : goal.bounds-cells-r
 bounds-cells-r c =
-    let after-loop2-test = c in
-    let after-loop2 = after-loop2-test in
-    let after-loop-test = after-loop2 in
-    let after-loop = after-loop-test in
-    let start = after-loop in
-    cell-inside after-loop.loop.r start.args.size after-loop2.loop2.i _ after-loop-test.loop-test.true start.requires.1.1
-    after-loop2-test.loop-i-test.true after-loop2.loop2.invariant.small
+    cell-inside c.loop-r.r c.args.size c.loop-i.i _ c.loop-r-test.true c.requires.size_bound
+    c.loop-i-test.true c.loop-i.invariant.small
 
 pub returns-in-NoEntry : goal.returns-in-NoEntry
 returns-in-NoEntry c =
-    let after-loop2-test = c in
-    let after-loop2 = after-loop2-test in
-    let after-loop-test = after-loop2 in
-    let after-loop = after-loop-test in
-    let s = after-loop in
-    let a = s.args in
+    let a = c.args in
     let S = take a.count a.widths in
     let X = a.part.now in
-    let l = after-loop.loop in
-    let m = after-loop2.loop2 in
+    let l = c.loop-r in
+    let m = c.loop-i in
     let o = c.read_entry in
-    c.no_rows-in-NoEntry.ensures ∙ fails S X a.start a.size l.relations l.cells l.at l.r l.invariant after-loop-test.loop-test.true
+    c.no_rows-in-NoEntry.ensures ∙ fails S X a.start a.size l.relations l.cells l.at l.r l.invariant c.loop-r-test.true
     (row-stops S X l.at l.r (get_or a.widths (get_or X l.at 0) 0) l.cells m.cells m.i m.invariant o.result o.ensures
-    c.in-NoEntry.is after-loop2-test.loop-i-test.true)
+    c.in-NoEntry.is c.loop-i-test.true)
 
 pub overflow_step-i : goal.overflow_step-i
 overflow_step-i c =
-    let after-loop2-test = c in
-    let after-loop2 = after-loop2-test in
-    next-entry-fits after-loop2.loop2.i _ after-loop2-test.loop-i-test.true after-loop2.loop2.invariant.small
+    next-entry-fits c.loop-i.i _ c.loop-i-test.true c.loop-i.invariant.small
 
 pub loop-i-smaller : goal.loop-i-smaller
 loop-i-smaller c = add-one-dec _ c.loop-i.i c.loop-i-test.true
 
 pub loop-i-preserved : goal.loop-i-preserved
 loop-i-preserved c =
-    let after-loop2-test = c in
-    let after-loop2 = after-loop2-test in
-    let after-loop-test = after-loop2 in
-    let after-loop = after-loop-test in
-    let s = after-loop in
-    let a = s.args in
+    let a = c.args in
     let S = take a.count a.widths in
     let X = a.part.now in
-    let l = after-loop.loop in
-    let m = after-loop2.loop2 in
+    let l = c.loop-r in
+    let m = c.loop-i in
     let o = c.read_entry in
     row-goes-on S X l.at l.r (get_or a.widths (get_or X l.at 0) 0) l.cells m.cells m.i m.invariant o.result o.ensures
-    c.in-Read.e c.in-Read.is (row_inside l.r a.size after-loop-test.loop-test.true s.requires.1.1) l.invariant.cells-long
-    after-loop2-test.loop-i-test.true
+    c.in-Read.e c.in-Read.is (row_inside l.r a.size c.loop-r-test.true c.requires.size_bound) l.invariant.cells-long
+    c.loop-i-test.true
 
 pub bounds-relations-r : goal.bounds-relations-r
 bounds-relations-r c =
-    let after-loop-test = c in
-    let after-loop = after-loop-test in
-    let start = after-loop in
-    row_inside after-loop.loop.r start.args.size after-loop-test.loop-r-test.true start.requires.1.1
+    row_inside c.loop-r.r c.args.size c.loop-r-test.true c.requires.size_bound
 
 pub overflow_add-at-in-loop-r : goal.overflow_add-at-in-loop-r
 overflow_add-at-in-loop-r c =
-    let after-if1 = c in
-    let after-loop = after-if1 in
-    let start = after-loop in
-    next_fits after-loop.loop.at (length start.args.part.now) after-if1.if-part-at.false start.well-formed.0.1
+    next_fits c.loop-r.at (length c.args.part.now) c.if-part-at.false c.well_formed.0.1
 
 pub overflow_mul-at : goal.overflow_mul-at
 overflow_mul-at c = entries_fit _ c.loop-i.invariant.small
 
 pub overflow_add-at-in-loop-r-2 : goal.overflow_add-at-in-loop-r-2
 overflow_add-at-in-loop-r-2 c =
-    let after-if1 = c in
-    let after-loop = after-if1 in
-    let start = after-loop in
-    entry-fits after-loop.loop.at (length start.args.part.now) _ after-if1.if-part-at.false start.well-formed.0.1 c.loop-i.invariant.small
+    entry-fits c.loop-r.at (length c.args.part.now) _ c.if-part-at.false c.well_formed.0.1 c.loop-i.invariant.small
 
 pub overflow_step-r : goal.overflow_step-r
 overflow_step-r c =
-    let after-loop-test = c in
-    let after-loop = after-loop-test in
-    let start = after-loop in
-    next-row-fits after-loop.loop.r start.args.size after-loop-test.loop-r-test.true start.requires.1.1
+    next-row-fits c.loop-r.r c.args.size c.loop-r-test.true c.requires.size_bound
 
 pub loop-r-smaller : goal.loop-r-smaller
 loop-r-smaller c =
-    let after-loop-test = c in
-    let after-loop = after-loop-test in
-    let start = after-loop in
-    add-one-dec start.args.size after-loop.loop.r after-loop-test.loop-r-test.true
+    add-one-dec c.args.size c.loop-r.r c.loop-r-test.true
 
 pub loop-r-preserved : goal.loop-r-preserved
 loop-r-preserved c =
-    let after-loop-test = c in
-    let after-loop = after-loop-test in
-    let s = after-loop in
-    let a = s.args in
+    let a = c.args in
     let S = take a.count a.widths in
     let X = a.part.now in
-    let l = after-loop.loop in
+    let l = c.loop-r in
     let m = c.loop-i in
     row_ends S X a.start a.size l.relations l.cells m.cells l.at l.r (get_or a.widths (get_or X l.at 0) 0) m.i
-    (good-narrow a.count a.widths s.requires.0) l.invariant m.invariant after-loop-test.loop-r-test.true s.requires.1.1 c.loop-i-test.false
+    (good-narrow a.count a.widths c.requires.widths_value) l.invariant m.invariant c.loop-r-test.true c.requires.size_bound c.loop-i-test.false
 
 pub returns : goal.returns
 returns c =
-    let s = c in
-    let a = s.args in
+    let a = c.args in
     let S = take a.count a.widths in
     let X = a.part.now in
     let l = c.loop-r in

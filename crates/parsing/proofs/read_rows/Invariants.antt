@@ -1,6 +1,5 @@
 -- `read_rows` reads the rows one after another, and the entries of each into their cells.
 -- Assumes nothing.
-use Prim.Native.Nat.{◌-◌}
 use lib.ListN.{take}
 use Rattle.parsing.proofs.ReadingRows.{At, InRow}
 use Rattle.parsing.proofs.read_rows.Given as goal

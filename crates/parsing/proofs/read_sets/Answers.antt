@@ -28,19 +28,17 @@ loop-i-init c = (search rules, search rules, refl)
 
 pub loop-i-preserved : goal.loop-i-preserved
 loop-i-preserved c =
-    let start = c in
     let loop = c.loop-i in (
       search rules,
       search rules,
-      stored_next start.args.part.now start.args.at start.args.n loop.i loop.sets start.requires.1 start.requires.0 (search rules)
+      stored_next c.args.part.now c.args.at c.args.n loop.i loop.sets c.requires.1 c.requires.0 (search rules)
           loop.invariant.2,
     )
 
 pub returns : goal.returns
 returns c =
-    let start = c in
-    let part = start.args.part.now in
-    let at = start.args.at in
-    let n = start.args.n in
-    let long : length (take n (drop at part)) ≡ n = stretch-length at n part start.requires.1 in
+    let part = c.args.part.now in
+    let at = c.args.at in
+    let n = c.args.n in
+    let long : length (take n (drop at part)) ≡ n = stretch-length at n part c.requires.1 in
     c.loop-i.invariant.2 ∙ filled-all (take n (drop at part)) c.loop-i.i (omega arith)

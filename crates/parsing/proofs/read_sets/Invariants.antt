@@ -1,6 +1,6 @@
 -- `parsing::read_sets` meets its contract. Invariant: the first i sets are stored, and 0 stands after them. Assumes nothing.
 use mathlib.Core.Path.{◌≡◌}
-use Prim.Native.Nat.{◌-◌, ◌≤◌}
+use Prim.Native.Nat.{◌≤◌}
 use lib.ListN.{length, take, drop}
 use Rattle.lists.proofs.Loops.{filled_to}
 use Rattle.parsing.proofs.read_sets.Given as goal

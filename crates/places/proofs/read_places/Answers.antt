@@ -1,4 +1,3 @@
--- The record with the places read so far and the others laid over what follows them
 use borrow.Author.Tests.{eq-eqb, ne_eqb}
 use mathlib.Core.Path.{◌≡◌, sym, ap, refl, ◌∙◌, subst}
 use mathlib.Core.Bool.{Bool, true, false}
@@ -10,10 +9,8 @@ use lib.ListN.{length, take, drop, set, replicate, length-set}
 use Rattle.query.specs.declared.Dependency.{Dependency}
 use Rattle.query.specs.declared.JoinDependency.{JoinDependency}
 use Rattle.query.specs.declared.Place.{Place}
-use Rattle.record.specs.declared.Outcome.{Outcome}
 use Rattle.record.specs.declared.Status.TheVariants.{Done, Refused}
 use Rattle.query.specs.Rule.{no_place}
-use Rattle.lists.specs.Over.{over}
 use Rattle.refusals.specs.Refusals.{Reply, gives, refused, ◌>>=◌}
 use Rattle.decoder.proofs.Placed.{place-accepted, place-refused}
 use Rattle.format.specs.File.{stretch, stretches, read_place, none_left, read_places}
@@ -23,20 +20,8 @@ use Rattle.decoder.specs.declared.PlaceRead.{PlaceRead}
 use Rattle.decoder.specs.internal.Read.{place_read}
 use Rattle.places.specs.internal.Read.{outcome_of, record_read}
 use Rattle.format.proofs.Stretches.{table_at, stretches-cons, stretch-fits}
+use Rattle.places.proofs.read_places.Invariants.{record_over, At}
 use Rattle.places.proofs.read_places.Goals as goal
-
-abbrev record_over : ℕ × List ℕ → ℕ × List Dependency → ℕ × List JoinDependency → List Place → ℕ → Reply (List Place) → Outcome
-record_over rs ds js places i (gives ps) =
-    record { answer = Done; «record» = record { relations = rs.0; widths = rs.1; held = ds.0; dependencies = ds.1; joined = js.0; joins = js.1; places = over places i ps } }
-record_over rs ds js places i (refused m) = outcome_of (refused m)
-
--- What has been read of the query parts
-record At (rs : ℕ × List ℕ) (ds : ℕ × List Dependency) (js : ℕ × List JoinDependency) (schema file : List ℕ) (n : ℕ) (places : List Place) (k : ℕ) : Type 0 where
-  low : 2 ≤ k
-  high : k ≤ n
-  long : length places ≡ 8
-  rest : record_read rs ds js (read_places schema (stretches (n - 2) file (drop 10 file)))
-      ≡ record_over rs ds js places (k - 2) (read_places schema (stretches (n - k) file (table_at file k)))
 
 module _ (rs : ℕ × List ℕ) (ds : ℕ × List Dependency) (js : ℕ × List JoinDependency) where
   starts : (o : Reply (List Place)) → record_read rs ds js o ≡ record_over rs ds js (replicate 8 no_place) 0 o
@@ -141,44 +126,31 @@ ended rs ds js schema file n places k f h =
 
 pub loop-k-init : goal.loop-k-init
 loop-k-init c =
-    let start = c in
-    begins (start.args.count, start.args.widths) (start.args.held, start.args.dependencies) (start.args.joined, start.args.joins) (take start.args.count start.args.widths)
-    start.args.file.now start.args.n c.no_place-blank.result c.no_place-blank.ensures start.requires.le_n.0
+    begins (c.args.count, c.args.widths) (c.args.held, c.args.dependencies) (c.args.joined, c.args.joins) (take c.args.count c.args.widths)
+    c.args.file.now c.args.n c.no_place-blank.result c.no_place-blank.ensures c.requires.le_n.0
 
 pub part-requires : goal.part-requires
 part-requires c =
-    let start = c in (
-      omega (arith, start.requires.le_n.2),
-      stretch-fits start.args.file.now start.args.n (2 + 4 * start.args.n) c.loop-k.k c.loop-k-test.true start.requires.file_value,
-    )
+    record {
+      k_in_bounds = omega (arith, c.requires.le_n.2);
+      file_in_bounds = stretch-fits c.args.file.now c.args.n (2 + 4 * c.args.n) c.loop-k.k c.loop-k-test.true c.requires.file_value;
+    }
 
 pub returns-in-Refused : goal.returns-in-Refused
 returns-in-Refused c =
-    let after-answer = c in
-    let after-read-place = after-answer in
-    let after-part = after-read-place in
-    let after-loop-test = after-part in
-    let after-loop = after-loop-test in
-    let start = after-loop in
-    c.refusal.ensures ∙ stops (start.args.count, start.args.widths) (start.args.held, start.args.dependencies) (start.args.joined, start.args.joins)
-    (take start.args.count start.args.widths) start.args.file.now start.args.n after-loop.loop.places after-loop.loop.k
-    after-loop.loop.invariant after-loop-test.loop-test.true start.requires.1.0.1 after-part.part.result.now after-part.part.ensures
-    after-read-place.read-place.result after-read-place.read-place.ensures after-answer.in-Refused.number after-answer.in-Refused.is
+    c.refusal.ensures ∙ stops (c.args.count, c.args.widths) (c.args.held, c.args.dependencies) (c.args.joined, c.args.joins)
+    (take c.args.count c.args.widths) c.args.file.now c.args.n c.loop-k.places c.loop-k.k
+    c.loop-k.invariant c.loop-k-test.true c.requires.le_n.1 c.part.result.now c.part.ensures
+    c.read_place-read.result c.read_place-read.ensures c.in-Refused.number c.in-Refused.is
 
 pub loop-k-preserved : goal.loop-k-preserved
 loop-k-preserved c =
-    let after-read-place = c in
-    let after-part = after-read-place in
-    let after-loop-test = after-part in
-    let after-loop = after-loop-test in
-    let start = after-loop in
-    goes_on (start.args.count, start.args.widths) (start.args.held, start.args.dependencies) (start.args.joined, start.args.joins) (take start.args.count start.args.widths)
-    start.args.file.now start.args.n after-loop.loop.places after-loop.loop.k after-loop.loop.invariant after-loop-test.loop-test.true
-    start.requires.1.0.1 after-part.part.result.now after-part.part.ensures after-read-place.read_place-read.result
-    after-read-place.read_place-read.ensures c.in-Done.is
+    goes_on (c.args.count, c.args.widths) (c.args.held, c.args.dependencies) (c.args.joined, c.args.joins) (take c.args.count c.args.widths)
+    c.args.file.now c.args.n c.loop-k.places c.loop-k.k c.loop-k.invariant c.loop-k-test.true
+    c.requires.le_n.1 c.part.result.now c.part.ensures c.read_place-read.result
+    c.read_place-read.ensures c.in-Done.is
 
 pub returns : goal.returns
 returns c =
-    let start = c in
-    ended (start.args.count, start.args.widths) (start.args.held, start.args.dependencies) (start.args.joined, start.args.joins) (take start.args.count start.args.widths)
-    start.args.file.now start.args.n c.loop-k.places c.loop-k.k c.loop-k.invariant c.loop-k-test.false
+    ended (c.args.count, c.args.widths) (c.args.held, c.args.dependencies) (c.args.joined, c.args.joins) (take c.args.count c.args.widths)
+    c.args.file.now c.args.n c.loop-k.places c.loop-k.k c.loop-k.invariant c.loop-k-test.false

@@ -1,7 +1,7 @@
 -- `printing::put_bytes` meets its contract. Invariant: the bytes from i on are left to be written. Assumes nothing.
 -- a turn stores the next byte
 use mathlib.Core.Path.{◌≡◌}
-use Prim.Native.Nat.{◌-◌, ◌≤◌}
+use Prim.Native.Nat.{◌≤◌}
 use lib.ListN.{length, drop}
 use Rattle.printing.proofs.Writing.{Progress}
 use Rattle.printing.proofs.put_bytes.Given as goal

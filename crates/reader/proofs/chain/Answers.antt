@@ -1,6 +1,5 @@
 use borrow.Author.Rules.{rules}
 use mathlib.Core.Path.{sym, ◌∙◌}
-use Prim.Native.Nat.{◌-◌}
 use native.Mathlib.Nat.{sub-zero}
 use native.Mathlib.Omega.{arith}
 use Rattle.format.proofs.Stretches.{chained-turns, chained-breaks, chained-ends}
@@ -12,23 +11,18 @@ loop-k-init c =
 
 pub returns-then-offset-due : goal.returns-then-offset-due
 returns-then-offset-due c =
-    let after-loop = c in
-    let start = after-loop in
-    sym (after-loop.loop-k.invariant.2 ∙ chained-breaks start.args.file.now start.args.n after-loop.loop-k.due after-loop.loop-k.k
+    sym (c.loop-k.invariant.2 ∙ chained-breaks c.args.file.now c.args.n c.loop-k.due c.loop-k.k
     c.loop-k-test.true (λ e. c.if-offset-due.true (c.word16-offset.ensures.0 ∙ e)))
 
 pub loop-k-preserved : goal.loop-k-preserved
-loop-k-preserved c =
-    let after-loop = c in
-    let start = after-loop in (
-      search rules,
-      omega (arith, c.word16-size.ensures.1),
-      after-loop.loop-k.invariant.2 ∙ chained-turns start.args.file.now start.args.n after-loop.loop-k.due after-loop.loop-k.k
-          c.loop-k-test.true c.word16-size.result (sym c.word16-offset.ensures.0 ∙ c.if-offset-due.false)
-          c.word16-size.ensures.0,
-    )
+loop-k-preserved c = (
+  search rules,
+  omega (arith, c.word16-size.ensures.1),
+  c.loop-k.invariant.2 ∙ chained-turns c.args.file.now c.args.n c.loop-k.due c.loop-k.k
+      c.loop-k-test.true c.word16-size.result (sym c.word16-offset.ensures.0 ∙ c.if-offset-due.false)
+      c.word16-size.ensures.0,
+)
 
 pub returns : goal.returns
 returns c =
-    let start = c in
-    sym (c.loop-k.invariant.2 ∙ chained-ends start.args.file.now start.args.n c.loop-k.due c.loop-k.k c.loop-k-test.false)
+    sym (c.loop-k.invariant.2 ∙ chained-ends c.args.file.now c.args.n c.loop-k.due c.loop-k.k c.loop-k-test.false)

@@ -13,36 +13,25 @@ returns-then-file-lt2 c =
 
 pub returns-then-n-lt2 : goal.returns-then-n-lt2
 returns-then-n-lt2 c =
-    let start = c in
-    sym (ap directory_read (too_few start.args.file.now c.word16-n.result c.word16-n.ensures.0 c.if-n-lt2.true))
+    sym (ap directory_read (too_few c.args.file.now c.word16-n.result c.word16-n.ensures.0 c.if-n-lt2.true))
 
 pub returns-then-n-gt10 : goal.returns-then-n-gt10
 returns-then-n-gt10 c =
-    let after-word16 = c in
-    let start = after-word16 in
-    sym (ap directory_read (too_many start.args.file.now after-word16.word16-n.result after-word16.word16-n.ensures.0 c.if-n-gt10.true))
+    sym (ap directory_read (too_many c.args.file.now c.word16-n.result c.word16-n.ensures.0 c.if-n-gt10.true))
 
 pub returns-then-file-n : goal.returns-then-file-n
 returns-then-file-n c =
-    let after-word16 = c in
-    let start = after-word16 in
-    sym (ap directory_read (cut-table start.args.file.now after-word16.word16-n.result after-word16.word16-n.ensures.0 c.if-file-n.true))
+    sym (ap directory_read (cut-table c.args.file.now c.word16-n.result c.word16-n.ensures.0 c.if-file-n.true))
 
 pub returns-then-chain : goal.returns-then-chain
 returns-then-chain c =
-    let after-if2 = c in
-    let after-word16 = after-if2 in
-    let start = after-word16 in
-    let n = after-word16.word16.result in
-    let file = start.args.file.now in
+    let n = c.word16-n.result in
+    let file = c.args.file.now in
     ap Parts (sym (length-stretches n file (drop 2 file)))
-    ∙ sym (ap directory_read (full-table start.args.file.now after-word16.word16.result after-word16.word16.ensures.0 after-if2.if-n-lt2.false
+    ∙ sym (ap directory_read (full-table c.args.file.now c.word16-n.result c.word16-n.ensures.0 c.if-n-lt2.false
     c.if-n-gt10.false c.if-file-n.false true (sym c.chain.ensures ∙ c.if-chain.true)))
 
 pub returns : goal.returns
 returns c =
-    let after-if2 = c in
-    let after-word16 = after-if2 in
-    let start = after-word16 in
-    sym (ap directory_read (full-table start.args.file.now after-word16.word16.result after-word16.word16.ensures.0 after-if2.if-n-lt2.false
+    sym (ap directory_read (full-table c.args.file.now c.word16-n.result c.word16-n.ensures.0 c.if-n-lt2.false
     c.if-n-gt10.false c.if-file-n.false false (sym c.chain.ensures ∙ c.if-chain.false)))

@@ -1,5 +1,4 @@
--- ---- the parts
-use borrow.Author.Tests.{leb-true}
+use borrow.Author.Tests.{not-true, not-false, leb-true}
 use mathlib.Core.Path.{◌≡◌, sym, ap, refl, ◌∙◌}
 use mathlib.Core.Bool.{true, false}
 use mathlib.Core.List.{List, [], ◌∷◌}
@@ -30,7 +29,10 @@ use Rattle.parsing.specs.declared.JoinsRead.{JoinsRead}
 use Rattle.parsing.specs.internal.Read.{relations_read, dependencies_read, joins_read}
 use Rattle.places.specs.internal.Read.{outcome_of, record_read}
 use Rattle.format.proofs.Stretches.{table_at, first_two, stretch-fits}
+use Rattle.reader.proofs.read_parts.Goals.{Else-not-first, Else-not-functional}
 use Rattle.reader.proofs.read_parts.Goals as goal
+
+-- ---- the parts
 
 stretch-bytes : (file table : List ℕ) → Bytes file → Bytes (stretch file table)
 stretch-bytes file table hb =
@@ -193,121 +195,98 @@ module _ (file : List ℕ) (n : ℕ) (low : 2 ≤ n) (part0 : List ℕ) (e₀ : 
             (drop (1 + 3 * ds.held) part1) tail_of.1 (js.joined, js.joins) w₂)
 
 pub part-requires : goal.part-requires
-part-requires c = (
-  omega (arith, c.requires.le_n.2),
-  stretch-fits c.args.file.now c.args.n (2 + 4 * c.args.n) 0 (omega (arith, c.requires.le_n.0)) c.requires.file_value,
-)
+part-requires c =
+    record {
+      k_in_bounds = omega (arith, c.requires.le_n.2);
+      file_in_bounds = stretch-fits c.args.file.now c.args.n (2 + 4 * c.args.n) 0 (omega (arith, c.requires.le_n.0)) c.requires.file_value;
+    }
 
 pub returns-then-not-first : goal.returns-then-not-first
 returns-then-not-first c =
-    let after-read-relations = c in
-    let after-part = after-read-relations in
-    let start = after-part in
-    c.refusal.ensures ∙ refuses-relations start.args.file.now start.args.n start.requires.0.0 after-part.part.result.now
-    after-part.part.ensures after-read-relations.read_relations-first.result after-read-relations.read_relations-first.ensures
-    c.if-not-first.true
+    c.refusal.ensures ∙ refuses-relations c.args.file.now c.args.n c.requires.le_n.0 c.part.result.now
+    c.part.ensures c.read_relations-first.result c.read_relations-first.ensures
+    (not-true c.read_relations-first.result.good c.if-not-first.true)
 
 pub part-second-requires : goal.part-second-requires
 part-second-requires c =
-    let start = c in (
-      omega (arith, start.requires.le_n.2),
-      stretch-fits start.args.file.now start.args.n (2 + 4 * start.args.n) 1 (omega (arith, start.requires.le_n.0)) start.requires.file_value,
-    )
+    record {
+      k_in_bounds = omega (arith, c.requires.le_n.2);
+      file_in_bounds = stretch-fits c.args.file.now c.args.n (2 + 4 * c.args.n) 1 (omega (arith, c.requires.le_n.0)) c.requires.file_value;
+    }
 
 -- What is known where the relations are good
 module _ (c : goal.Else-not-first) where
-  abbrev after-read-relations : goal.After-read_relations-first
-  after-read-relations = c
+  first_good : c.read_relations-first.result.good ≡ true
+  first_good = not-false c.read_relations-first.result.good c.if-not-first.false
 
-  abbrev after-part : tie.After-part
-  after-part = after-read-relations
+  file-bytes : Bytes c.args.file.now
+  file-bytes = bytes-known c.args.file.now (λ i. (c.type_inv.file i).fits)
 
-  abbrev start : tie.Start
-  start = after-part
-
-  first_good : after-read-relations.read-relations.result.good ≡ true
-  first_good = c.if-not-first.false
-
-  file-bytes : Bytes start.args.file.now
-  file-bytes = bytes-known start.args.file.now (λ i. (after-part.shared-slice-known.given i).fits)
-
-  relations-known : good_relations after-read-relations.read-relations.result.count after-read-relations.read-relations.result.widths ≡ true
+  relations-known : good_relations c.read_relations-first.result.count c.read_relations-first.result.widths ≡ true
   relations-known =
-      good-count start.args.file.now start.args.n start.pre.0.0 after-part.part.result.now after-part.part.ensures
-      after-read-relations.read-relations.result after-read-relations.read-relations.ensures file-bytes first_good
+      good-count c.args.file.now c.args.n c.requires.le_n.0 c.part.result.now c.part.ensures
+      c.read_relations-first.result c.read_relations-first.ensures file-bytes first_good
 
 pub read_dependencies-functional-requires : goal.read_dependencies-functional-requires
-read_dependencies-functional-requires c = relations-known c
+read_dependencies-functional-requires c = relations-known (goal.at.read_dependencies-functional-requires c).Else-not-first
 
 pub returns-then-not-functional : goal.returns-then-not-functional
 returns-then-not-functional c =
-    let after-read-dependencies = c in
-    let after-part2 = after-read-dependencies in
-    let e = after-part2 in
-    c.refusal-then-not-functional.ensures ∙ refuses-dependencies (start e).args.file.now (start e).args.n (start e).requires.0.0 (after-part e).part.result.now
-    (after-part e).part.ensures (after-read-relations e).read-relations.result (after-read-relations e).read-relations.ensures
-    after-part2.part2.result.now after-part2.part2.ensures (first_good e)
-    after-read-dependencies.read_dependencies-functional.result after-read-dependencies.read_dependencies-functional.ensures
-    c.if-not-functional.true
+    c.refusal-then-not-functional.ensures ∙ refuses-dependencies c.args.file.now c.args.n c.requires.le_n.0 c.part.result.now
+    c.part.ensures c.read_relations-first.result c.read_relations-first.ensures
+    c.part-second.result.now c.part-second.ensures (first_good (goal.at.returns-then-not-functional c).Else-not-first)
+    c.read_dependencies-functional.result c.read_dependencies-functional.ensures
+    (not-true c.read_dependencies-functional.result.good c.if-not-functional.true)
 
 -- What is known where the functional dependencies are good too
-module _ (c : goal.After-dependencies-1) where
-  abbrev after-read-dependencies : goal.After-read_dependencies-functional
-  after-read-dependencies = c
+module _ (c : goal.Else-not-functional) where
+  known-bytes : Bytes c.args.file.now
+  known-bytes = bytes-known c.args.file.now (λ i. (c.type_inv.file i).fits)
 
-  abbrev after-part2 : tie.After-part2
-  after-part2 = after-read-dependencies
+  second-good : c.read_dependencies-functional.result.good ≡ true
+  second-good = not-false c.read_dependencies-functional.result.good c.if-not-functional.false
 
-  abbrev first : tie.Else1
-  first = after-part2
-
-  second-good : after-read-dependencies.read-dependencies.result.good ≡ true
-  second-good = c.if-not-functional.false
-
-  tail-fits : 1 + 3 * after-read-dependencies.read-dependencies.result.held ≤ length after-part2.part2.result.now
+  tail-fits : 1 + 3 * c.read_dependencies-functional.result.held ≤ length c.part-second.result.now
   tail-fits =
-      (tail_of (start first).args.file.now (start first).args.n (start first).pre.0.0 (after-part first).part.result.now
-      (after-part first).part.ensures (after-read-relations first).read-relations.result (after-read-relations first).read-relations.ensures
-      after-part2.part2.result.now after-part2.part2.ensures (first_good first)
-      after-read-dependencies.read-dependencies.result after-read-dependencies.read-dependencies.ensures (file-bytes first) second-good).0
+      (tail_of c.args.file.now c.args.n c.requires.le_n.0 c.part.result.now c.part.ensures c.read_relations-first.result
+      c.read_relations-first.ensures c.part-second.result.now c.part-second.ensures
+      (not-false c.read_relations-first.result.good c.if-not-first.false) c.read_dependencies-functional.result
+      c.read_dependencies-functional.ensures known-bytes second-good).0
 
 pub slice_bounds-read_joins-count : goal.slice_bounds-read_joins-count
-slice_bounds-read_joins-count c = let room = tail-fits c in omega arith
+slice_bounds-read_joins-count c = let room = tail-fits (goal.at.slice_bounds-read_joins-count c).Else-not-functional in omega arith
 
 pub slice_bounds-read_joins-start : goal.slice_bounds-read_joins-start
-slice_bounds-read_joins-start c = let room = tail-fits c in omega arith
+slice_bounds-read_joins-start c = let room = tail-fits (goal.at.slice_bounds-read_joins-start c).Else-not-functional in omega arith
 
 pub slice_bounds-read_joins-end : goal.slice_bounds-read_joins-end
-slice_bounds-read_joins-end c = let room = tail-fits c in omega arith
+slice_bounds-read_joins-end c = let room = tail-fits (goal.at.slice_bounds-read_joins-end c).Else-not-functional in omega arith
 
 pub read_joins-rest-requires : goal.read_joins-rest-requires
-read_joins-rest-requires c = relations-known (first c)
+read_joins-rest-requires c = relations-known (goal.at.read_joins-rest-requires c).Else-not-first
 
 pub returns-then-not-rest : goal.returns-then-not-rest
 returns-then-not-rest c =
-    let after-read-joins = c in
-    let d = after-read-joins in
-    let e = first d in
-    c.refusal-then-not-rest.ensures ∙ refuses-joins (start e).args.file.now (start e).args.n (start e).pre.0.0 (after-part e).part.result.now
-    (after-part e).part.ensures (after-read-relations e).read-relations.result (after-read-relations e).read-relations.ensures
-    (after-part2 d).part2.result.now (after-part2 d).part2.ensures (first_good e)
-    (after-read-dependencies d).read-dependencies.result (after-read-dependencies d).read-dependencies.ensures (file-bytes e) (second-good d)
-    after-read-joins.read_joins-rest.result after-read-joins.read_joins-rest.ensures
-    c.if-not-rest.true
+    c.refusal-then-not-rest.ensures ∙ refuses-joins c.args.file.now c.args.n c.requires.le_n.0 c.part.result.now
+    c.part.ensures c.read_relations-first.result c.read_relations-first.ensures c.part-second.result.now c.part-second.ensures
+    (not-false c.read_relations-first.result.good c.if-not-first.false) c.read_dependencies-functional.result
+    c.read_dependencies-functional.ensures (known-bytes (goal.at.returns-then-not-rest c).Else-not-functional)
+    (second-good (goal.at.returns-then-not-rest c).Else-not-functional) c.read_joins-rest.result c.read_joins-rest.ensures
+    (not-true c.read_joins-rest.result.good c.if-not-rest.true)
 
 pub read_places-requires : goal.read_places-requires
 read_places-requires c =
-    let e = first c in
-    (relations-known e, ((start e).pre.0, (start e).pre.1))
+    record {
+      widths_value = relations-known (goal.at.read_places-requires c).Else-not-first;
+      le_n = c.requires.le_n;
+      file_value = c.requires.file_value;
+    }
 
 pub returns : goal.returns
 returns c =
-    let after-read-joins = c in
-    let d = after-read-joins in
-    let e = first d in
-    c.read_places.ensures ∙ reads-places (start e).args.file.now (start e).args.n (start e).pre.0.0 (after-part e).part.result.now
-    (after-part e).part.ensures (after-read-relations e).read-relations.result (after-read-relations e).read-relations.ensures
-    (after-part2 d).part2.result.now (after-part2 d).part2.ensures (first_good e)
-    (after-read-dependencies d).read-dependencies.result (after-read-dependencies d).read-dependencies.ensures (file-bytes e) (second-good d)
-    after-read-joins.read_joins-rest.result after-read-joins.read_joins-rest.ensures
-    c.if-not-rest.false
+    c.read_places.ensures ∙ reads-places c.args.file.now c.args.n c.requires.le_n.0 c.part.result.now
+    c.part.ensures c.read_relations-first.result c.read_relations-first.ensures c.part-second.result.now c.part-second.ensures
+    (not-false c.read_relations-first.result.good c.if-not-first.false) c.read_dependencies-functional.result
+    c.read_dependencies-functional.ensures (known-bytes (goal.at.returns c).Else-not-functional)
+    (second-good (goal.at.returns c).Else-not-functional) c.read_joins-rest.result c.read_joins-rest.ensures
+    (not-false c.read_joins-rest.result.good c.if-not-rest.false)

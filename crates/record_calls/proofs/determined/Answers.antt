@@ -12,6 +12,7 @@ use Rattle.lists.proofs.Loops.{mapped-length}
 use Rattle.record.proofs.Good.{good-record}
 use Rattle.record_calls.proofs.Outcomes.{rights-narrow, determined-broken, determined-unfit, determined-done}
 use Rattle.record_calls.proofs.determined.Goals as goal
+use Rattle.record_calls.proofs.determined.Goals.{Else-not-is_good}
 
 -- what the tests passed so far tell
 

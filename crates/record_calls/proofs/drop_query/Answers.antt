@@ -5,7 +5,6 @@ use mathlib.Core.Bool.{true}
 use mathlib.Core.Option.{none, some}
 use Prim.Native.Nat.{ℕ}
 use native.Mathlib.Omega.{arith}
-use borrow.Author.Tests.{not-false}
 use Rattle.record.specs.declared.Record.{Record}
 use Rattle.record.specs.declared.Lookup.TheVariants as lookup
 use Rattle.query.specs.Rule.{no_place}
@@ -14,7 +13,6 @@ use Rattle.record.specs.Calls.{concluded, with_place}
 use Rattle.record.specs.internal.Lookup.{number_of, filled_place}
 use Rattle.record.proofs.Refusals.{filled_at}
 use Rattle.record_calls.proofs.Outcomes.{drop-broken, drop-refused, drop-done}
-use Rattle.std.proofs.Common.{not}
 use Rattle.record_calls.proofs.drop_query.Goals as goal
 
 pub returns-then-not-is_good : goal.returns-then-not-is_good
@@ -29,10 +27,10 @@ returns-in_default c =
     let good : good_record given ≡ true =
     sym c.is_good.ensures ∙ c.if-not-is_good.false
     in
-    let told = c.enum_told-1.given in
-    let number : c.number.result ≡ told.0.0 = c.number.ensures ∙ ap number_of told.1 in
+    let told = c.in_default in
+    let number : c.number.result ≡ told.field-0 = c.number.ensures ∙ ap number_of told.is in
     c.refused-in_default.ensures ∙ ap (λ (n : ℕ). concluded (some n) given given) number
-    ∙ drop-refused given place good told.0.0 (sym c.filled_place-found.ensures ∙ told.1)
+    ∙ drop-refused given place good told.field-0 (sym c.filled_place-found.ensures ∙ told.is)
 
 pub with_place-requires : goal.with_place-requires
 with_place-requires c =
@@ -51,8 +49,7 @@ returns c =
     sym c.filled_place-found.ensures ∙ c.in-At.is
     in
     let good : good_record given ≡ true =
-    sym c.is_good.ensures ∙ not-false _
-    (ap not c.if-not-is_good.false)
+    sym c.is_good.ensures ∙ c.if-not-is_good.false
     in
     let stored : with_place given at c.no_place.result ≡ with_place given at no_place =
     ap (with_place given at) c.no_place.ensures

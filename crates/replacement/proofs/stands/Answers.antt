@@ -1,11 +1,10 @@
 -- `replacement::stands` meets its contract. The loop's invariant: the variable stands in the head exactly when it stands in what is left of it.
 -- Assumes nothing.
 use mathlib.Core.Path.{refl, sym, ◌∙◌}
-use mathlib.Core.Logic.{⊎_elim}
-use Prim.Native.Nat.{◌-◌}
 use borrow.Author.Rules.{rules}
 use Rattle.replacement.proofs.Steps.{stands-constant, stands-other, stands_here, stands-end}
 use Rattle.replacement.proofs.stands.Goals as goal
+use Rattle.replacement.proofs.stands.Goals.{in-Constant, in-Variable+else-v-w}
 
 pub loop-k-init : goal.loop-k-init
 loop-k-init c = (search rules, refl)
@@ -23,7 +22,10 @@ loop-k-preserved c =
     let k = c.loop-k.k in (
       search rules,
       c.loop-k.invariant.1
-          ∙ ⊎_elim (λ w. stands-constant a.v a.arity k a.head (search rules) (search rules) _ w.in-Constant.1.given.1) (λ w. stands-other a.v a.arity k a.head (search rules) (search rules) _ w.if-v-w.given.1 w.3.left) c.match-entry.branch-raw,
+          ∙ elim c.match-entry.branch [
+            | in-Constant w ↦ stands-constant a.v a.arity k a.head (search rules) (search rules) _ w.in-Constant.is
+            | in-Variable+else-v-w w ↦ stands-other a.v a.arity k a.head (search rules) (search rules) _ w.in-Variable.is w.if-v-w.false
+          ],
     )
 
 pub returns : goal.returns

@@ -1,7 +1,7 @@
 -- `replacement::stands` meets its contract. The loop's invariant: the variable stands in the head exactly when it stands in what is left of it.
 -- Assumes nothing.
 use mathlib.Core.Path.{◌≡◌}
-use Prim.Native.Nat.{◌≤◌, ◌-◌}
+use Prim.Native.Nat.{◌≤◌}
 use Rattle.replacement.proofs.Steps.{stands_left}
 use Rattle.replacement.proofs.stands.Given as goal
 

@@ -1,6 +1,6 @@
 -- `replacement::substitute_cells` meets its contract. The loop's invariant: the first k cells are done. Assumes nothing.
 use mathlib.Core.Path.{◌≡◌, ap, ◌∙◌}
-use Prim.Native.Nat.{ℕ, ◌-◌}
+use Prim.Native.Nat.{ℕ}
 use native.Mathlib.Omega.{arith}
 use borrow.Author.Rules.{rules}
 use Rattle.replacement.specs.internal.Replacement.{substitute_cell}

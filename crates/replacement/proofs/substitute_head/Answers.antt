@@ -1,5 +1,4 @@
 -- `replacement::substitute_head` meets its contract. The loop's invariant: the first k cells are done. Assumes nothing.
-use Prim.Native.Nat.{◌-◌}
 use borrow.Author.Rules.{rules}
 use Rattle.lists.proofs.Maps.{map_first-none, map_first-more, map_first-done}
 use Rattle.replacement.proofs.substitute_head.Goals as goal

@@ -1,6 +1,6 @@
 -- `replacement::substitute_head` meets its contract. The loop's invariant: the first k cells are done. Assumes nothing.
 use mathlib.Core.Path.{◌≡◌}
-use Prim.Native.Nat.{◌≤◌, ◌-◌}
+use Prim.Native.Nat.{◌≤◌}
 use Rattle.replacement.specs.internal.Replacement.{substitute_cell}
 use Rattle.lists.proofs.Maps.{map_first}
 use Rattle.replacement.proofs.substitute_head.Given as goal

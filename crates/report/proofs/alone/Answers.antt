@@ -10,8 +10,9 @@ use Rattle.query.proofs.Shape.{past_place}
 use Rattle.report.proofs.OnePlace.{alone-made}
 use borrow.Author.Rules.{rules}
 use Rattle.report.proofs.alone.Goals as goal
+use Rattle.report.proofs.alone.Goals.{Start}
 
-read : (c : goal.Start) → get_or c.args.given.places c.args.place past_place ≡ get_or c.args.given.places c.args.place no_place
+read : (c : Start) → get_or c.args.given.places c.args.place past_place ≡ get_or c.args.given.places c.args.place no_place
 read c =
     let long : length c.args.given.places ≡ 8 = search (mapped-length, rules) in
     let within : c.args.place < length c.args.given.places = omega (arith, c.requires) in
@@ -19,6 +20,5 @@ read c =
 
 pub returns : goal.returns
 returns c =
-    let first = c in
-    alone-made first.args.given first.args.place c.no_place-vacant.result (get_or first.args.given.places first.args.place past_place)
+    alone-made c.args.given c.args.place c.no_place-vacant.result (get_or c.args.given.places c.args.place past_place)
     c.no_place-vacant.ensures (read (goal.at.returns c).Start)

@@ -10,8 +10,9 @@ use Rattle.lists.proofs.Loops.{mapped-length, get_d_any}
 use Rattle.query.proofs.Shape.{past_place}
 use borrow.Author.Rules.{rules}
 use Rattle.report.proofs.is_filled.Goals as goal
+use Rattle.report.proofs.is_filled.Goals.{Start}
 
-read : (c : goal.Start) → get_or c.args.given.places c.args.place past_place ≡ get_or c.args.given.places c.args.place no_place
+read : (c : Start) → get_or c.args.given.places c.args.place past_place ≡ get_or c.args.given.places c.args.place no_place
 read c =
     let long : length c.args.given.places ≡ 8 = search (mapped-length, rules) in
     let within : c.args.place < length c.args.given.places = omega (arith, c.requires) in

@@ -4,24 +4,22 @@ use Rattle.report.proofs.report.Goals as goal
 
 pub write_places-requires : goal.write_places-requires
 write_places-requires c =
-    let s = c in (
-      s.requires,
-      read-good s.args.file.now c.read-outcome.result c.read-outcome.ensures
+    (
+      c.requires,
+      read-good c.args.file.now c.read-outcome.result c.read-outcome.ensures
           (λ i. (c.type_inv.file i).fits) c.in-Done.is,
     )
 
 pub returns-in-Done : goal.returns-in-Done
 returns-in-Done c =
-    let s = c in
-    read-listing s.args.file.now c.read-outcome.result
+    read-listing c.args.file.now c.read-outcome.result
     c.read-outcome.ensures
-    c.in-Done.is s.args.buffer.now _ _
+    c.in-Done.is c.args.buffer.now _ _
     c.write_places.ensures
 
 pub returns-in-Refused : goal.returns-in-Refused
 returns-in-Refused c =
-    let s = c in
-    read-refused s.args.file.now c.read-outcome.result
+    read-refused c.args.file.now c.read-outcome.result
     c.read-outcome.ensures
     c.in-Refused.n c.in-Refused.is
-    s.args.buffer.now _ _ c.write_refused.ensures
+    c.args.buffer.now _ _ c.write_refused.ensures

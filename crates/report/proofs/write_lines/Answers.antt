@@ -7,18 +7,19 @@ use Rattle.report.proofs.OnePlace.{other-low}
 use Rattle.report.proofs.Listed.{listable, lines-written}
 use borrow.Author.Rules.{rules}
 use Rattle.report.proofs.write_lines.Goals as goal
+use Rattle.report.proofs.write_lines.Goals.{Start, After-stored-source, After-stored-result, After-reduce-reduced}
 
-eight : (c : goal.Start) → length c.args.given.places ≡ 8
+eight : (c : Start) → length c.args.given.places ≡ 8
 eight c = let long : length c.args.given.places ≡ 8 = search (mapped-length, rules) in long
 
 -- The arrays of what the calls return have their lengths, and the count is a byte
-source-long : (c : goal.After-stored-source) → length c.stored-source.result.relations ≡ 12
+source-long : (c : After-stored-source) → length c.stored-source.result.relations ≡ 12
 source-long c = let long : length c.stored-source.result.relations ≡ 12 = search (mapped-length, rules) in long
 
-result-long : (c : goal.After-stored-result) → length c.stored-result.result.relations ≡ 12
+result-long : (c : After-stored-result) → length c.stored-result.result.relations ≡ 12
 result-long c = let long : length c.stored-result.result.relations ≡ 12 = search (mapped-length, rules) in long
 
-count_small : (c : goal.After-reduce-reduced) → c.reduce-reduced.result.count < 256
+count_small : (c : After-reduce-reduced) → c.reduce-reduced.result.count < 256
 count_small c = let small : c.reduce-reduced.result.count < 256 = search rules in small
 
 pub stored-result-requires : goal.stored-result-requires
@@ -27,26 +28,14 @@ stored-result-requires c = subst (λ (n : ℕ). n < 8) (sym c.other_place-target
 
 pub write_place-requires : goal.write_place-requires
 write_place-requires c =
-    let result = c in
-    let reduced = result in
-    let source = reduced in
-    let single = source in
-    let other = single in
-    let s = other in
-    listable s.args.given s.args.place s.requires.2 s.requires.1 (eight s) s.requires.3 other.other_place.result other.other_place.ensures
-    single.alone.result single.alone.ensures reduced.reduce.result reduced.reduce.ensures source.stored.result source.stored.ensures
-    result.stored-result.result result.stored-result.ensures s.args.buffer.now s.args.at s.requires.0.room
+    listable c.args.given c.args.place c.requires.2 c.requires.1 (eight (goal.at.write_place-requires c).Start) c.requires.3 c.other_place-target.result
+    c.other_place-target.ensures c.alone-single.result c.alone-single.ensures c.reduce-reduced.result c.reduce-reduced.ensures c.stored-source.result
+    c.stored-source.ensures c.stored-result.result c.stored-result.ensures c.args.buffer.now c.args.at c.requires.0.room
 
 pub returns : goal.returns
 returns c =
-    let written = c in
-    let result = written in
-    let reduced = result in
-    let source = reduced in
-    let single = source in
-    let other = single in
-    let s = other in
-    lines-written s.args.given s.args.place s.requires.2 s.requires.1 (eight s) s.requires.3 other.other_place.result other.other_place.ensures
-    single.alone.result single.alone.ensures reduced.reduce.result reduced.reduce.ensures source.stored.result source.stored.ensures
-    result.stored2.result result.stored2.ensures (source-long source) (result-long result) (count_small reduced) s.args.buffer.now s.args.at
-    written.write_place.new.buffer written.write_place.result written.write_place.ensures
+    lines-written c.args.given c.args.place c.requires.2 c.requires.1 (eight (goal.at.returns c).Start) c.requires.3 c.other_place-target.result
+    c.other_place-target.ensures c.alone-single.result c.alone-single.ensures c.reduce-reduced.result c.reduce-reduced.ensures c.stored-source.result
+    c.stored-source.ensures c.stored-result.result c.stored-result.ensures (source-long (goal.at.returns c).After-stored-source)
+    (result-long (goal.at.returns c).After-stored-result) (count_small (goal.at.returns c).After-reduce-reduced) c.args.buffer.now c.args.at
+    c.write_place.new.buffer c.write_place.result c.write_place.ensures

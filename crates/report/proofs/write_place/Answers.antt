@@ -5,17 +5,15 @@ use Rattle.report.proofs.write_place.Goals as goal
 
 pub write_lines-requires : goal.write_lines-requires
 write_lines-requires c =
-    let s = c in (s.requires.0, s.requires.1, s.requires.2, sym c.is_filled.ensures ∙ c.if-is_filled.true)
+    (c.requires.0, c.requires.1, c.requires.2, sym c.is_filled.ensures ∙ c.if-is_filled.true)
 
 pub returns-then-is_filled : goal.returns-then-is_filled
 returns-then-is_filled c =
-    let s = c in
-    part_filled s.args.given s.args.place s.args.buffer.now s.args.at c.write_lines.new.buffer
+    part_filled c.args.given c.args.place c.args.buffer.now c.args.at c.write_lines.new.buffer
     c.write_lines.result
     (sym c.is_filled.ensures ∙ c.if-is_filled.true)
     c.write_lines.ensures
 
 pub returns : goal.returns
 returns c =
-    let s = c in
-    part-vacant s.args.given s.args.place s.args.buffer.now s.args.at (sym c.is_filled.ensures ∙ c.if-is_filled.false)
+    part-vacant c.args.given c.args.place c.args.buffer.now c.args.at (sym c.is_filled.ensures ∙ c.if-is_filled.false)

@@ -12,17 +12,17 @@ loop-place-init c = (search rules, part-started c.args.given 0 c.args.buffer.now
 
 pub write_place-next-requires : goal.write_place-next-requires
 write_place-next-requires c =
-    let s = c in (
-      record { room = part_room s.args.given _ _ _ _ c.loop-place.invariant.1 s.requires.0 c.loop-place-test.true },
-      s.requires.1,
+    (
+      record { room = part_room c.args.given _ _ _ _ c.loop-place.invariant.1 c.requires.0 c.loop-place-test.true },
+      c.requires.1,
       c.loop-place-test.true,
     )
 
 pub loop-place-preserved : goal.loop-place-preserved
 loop-place-preserved c =
-    let s = c in (
+    (
       search rules,
-      part-more s.args.given _ _ _ _ c.loop-place.invariant.1 s.requires.0
+      part-more c.args.given _ _ _ _ c.loop-place.invariant.1 c.requires.0
           c.loop-place-test.true _ _
           c.write_place-next.ensures,
     )

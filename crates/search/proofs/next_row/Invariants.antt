@@ -1,6 +1,6 @@
 -- `search::next_row` meets its contract. The loop's invariant: the best row is not placed, and without one each row passed is.
 -- Assumes nothing.
-use Prim.Native.Nat.{ℕ, ◌-◌, ◌<◌, ◌≤◌}
+use Prim.Native.Nat.{ℕ, ◌<◌, ◌≤◌}
 use Rattle.consistency.specs.internal.Solution.{Bit}
 use Rattle.consistency.specs.internal.Consistent.{NoBit}
 use Rattle.search.proofs.next_row.Given as goal

@@ -16,8 +16,9 @@ returns c =
     let s = c in
     let first = c.start in
     let settled = c.settled-state in
-    let a = c.place_row-last.ensures in (
-      a.solved,
-      λ p. no-solution s.args.rows s.args.domain.now s.args.table.now settled.result (settled.ensures.placed ∙ first.ensures.0) _
-          (a.failed p),
-    )
+    let a = c.place_row-last.ensures in
+    record {
+      found = a.solved;
+      none = λ p. no-solution s.args.rows s.args.domain.now s.args.table.now settled.result (settled.ensures.placed ∙ first.ensures.0) _
+          (a.failed p);
+    }

@@ -1,5 +1,5 @@
 -- `search::test_choices` meets its contract. The loop's invariant: each row passed fits. Assumes nothing.
-use Prim.Native.Nat.{ℕ, ◌-◌, ◌<◌, ◌≤◌}
+use Prim.Native.Nat.{ℕ, ◌<◌, ◌≤◌}
 use Rattle.search.specs.internal.Invariant.{RowFits}
 use Rattle.search.proofs.test_choices.Given as goal
 

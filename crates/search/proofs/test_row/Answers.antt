@@ -3,7 +3,7 @@ use borrow.Author.Rules.{rules}
 use borrow.Author.Count.{below_more}
 use Rattle.search.proofs.Steps.{excluded-one, excluded-two}
 use Rattle.consistency.proofs.Masks.{digit-one, bit_shifted, bit_or_left, bit_or_right}
-use Prim.Native.Nat.{◌-◌, ◌*◌, ◌^◌, ◌%◌}
+use Prim.Native.Nat.{◌*◌, ◌^◌, ◌%◌}
 use native.Mathlib.Omega.{arith}
 use Rattle.search.proofs.test_row.Goals as goal
 

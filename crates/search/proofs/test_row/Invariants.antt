@@ -1,5 +1,5 @@
 -- `search::test_row` meets its contract. The loop's invariant: the row goes together with each row passed. Assumes nothing.
-use Prim.Native.Nat.{ℕ, ◌-◌, ◌<◌, ◌≤◌}
+use Prim.Native.Nat.{ℕ, ◌<◌, ◌≤◌}
 use lib.ListN.{get_or}
 use Rattle.consistency.specs.internal.Solution.{Bit, together}
 use Rattle.search.proofs.test_row.Given as goal

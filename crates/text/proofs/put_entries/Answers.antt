@@ -1,7 +1,6 @@
 -- `text::put_entries` meets its contract. Invariant: the entries from i on are left to be written. Assumes nothing.
 use borrow.Author.Rules.{rules}
 use Rattle.text.proofs.Turns.{entries-turn, entries-end}
-use Prim.Native.Nat.{◌-◌}
 use Rattle.printing.proofs.Writing.{started, part-fits, wrote, finished, left_as, same_size}
 use Rattle.text.proofs.put_entries.Goals as goal
 

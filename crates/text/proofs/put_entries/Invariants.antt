@@ -1,6 +1,6 @@
 -- `text::put_entries` meets its contract. Invariant: the entries from i on are left to be written. Assumes nothing.
 use mathlib.Core.Path.{◌≡◌}
-use Prim.Native.Nat.{◌-◌, ◌≤◌}
+use Prim.Native.Nat.{◌≤◌}
 use lib.ListN.{length, take, drop}
 use Rattle.query.specs.View.{entries_of}
 use Rattle.text.specs.Text.{entries_text}

@@ -1,21 +1,14 @@
 -- `text::put_images` meets its contract. Invariant: the images from variable v on are left to be written. Assumes nothing.
--- Whether a variable stands in one of the first rows
 use borrow.Author.Rules.{rules}
 use mathlib.Core.Path.{sym, ◌∙◌}
 use mathlib.Core.Bool.{Bool}
-use mathlib.Core.List.{List}
-use mathlib.Core.Logic.{⊎_elim}
-use Prim.Native.Nat.{ℕ, ◌-◌}
+use Prim.Native.Nat.{ℕ}
 use lib.ListN.{take}
-use Rattle.theory.specs.Query.{member, variables_of, row_entries}
-use Rattle.query.specs.declared.Cell.{Cell}
-use Rattle.query.specs.View.{rows_of, images_of}
+use Rattle.query.specs.View.{images_of}
 use Rattle.printing.proofs.Writing.{started, part-fits, wrote, finished, left_as, moved, same_size}
-use Rattle.text.proofs.Turns.{images-passed, images-skipped, images-end}
+use Rattle.text.proofs.Turns.{in_row, images-passed, images-skipped, images-end}
 use Rattle.text.proofs.put_images.Goals as goal
-
-abbrev in_row : List ℕ → ℕ → List ℕ → List Cell → ℕ → Bool
-in_row schema size named cells v = member v (variables_of (row_entries (rows_of schema (take size named) cells)))
+use Rattle.text.proofs.put_images.Goals.{then-rows_have, else-rows_have}
 
 pub loop-v-init : goal.loop-v-init
 loop-v-init c = (search rules, started c.requires.0)
@@ -36,7 +29,13 @@ loop-v-preserved c =
     let asked = sym c.rows_have.ensures in
     let low = c.loop-v-test.true in (
       search rules,
-      ⊎_elim (λ w. moved (wrote l.invariant.1 _ (images-passed (images_of s.images) test l.v low (asked ∙ w.if-rows_have.0.taken)) w.if-rows_have.3.ensures) w.if-rows_have.6 w.if-rows_have.7) (λ w. moved (left_as l.invariant.1 (images-skipped (images_of s.images) test l.v low (asked ∙ w.if-rows_have.0.left))) w.if-rows_have.1 w.if-rows_have.2) c.if-rows_have.branch-raw,
+      elim c.if-rows_have.branch [
+        | then-rows_have w ↦
+            moved (wrote l.invariant.1 _ (images-passed (images_of s.images) test l.v low (asked ∙ w.if-rows_have.true)) w.put_image-next.ensures) w.buffer-is
+            w.next-is
+        | else-rows_have w ↦
+            moved (left_as l.invariant.1 (images-skipped (images_of s.images) test l.v low (asked ∙ w.if-rows_have.false))) w.buffer-is w.next-is
+      ],
     )
 
 pub shape_of-buffer : goal.shape_of-buffer

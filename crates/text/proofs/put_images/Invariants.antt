@@ -1,5 +1,4 @@
 -- `text::put_images` meets its contract. Invariant: the images from variable v on are left to be written. Assumes nothing.
--- Whether a variable stands in one of the first rows
 use mathlib.Core.Bool.{Bool}
 use Prim.Native.Nat.{ℕ, ◌-◌, ◌≤◌}
 use lib.ListN.{take}
@@ -7,6 +6,7 @@ use Rattle.query.specs.View.{images_of}
 use Rattle.printing.proofs.Writing.{Progress}
 use Rattle.lists.specs.Numbers.{numbers_where}
 use Rattle.text.specs.Text.{images_text}
+use Rattle.text.proofs.Turns.{in_row}
 use Rattle.text.proofs.put_images.Given as goal
 
 abbrev pub invariant-loop-v : goal.invariant-loop-v

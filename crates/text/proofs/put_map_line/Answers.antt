@@ -14,26 +14,19 @@ put_bytes-next-requires c = part-fits (started c.requires.0) map_word _ refl
 pub put_images-next-requires : goal.put_images-next-requires
 unfolding map_line
 put_images-next-requires c =
-    let s = c in
-    let variables = variables_in_rows (query_of (take s.args.relations s.args.widths) s.args.query) in (
-      part-fits (wrote (started s.requires.0) _ refl c.put_bytes-next.ensures)
-          (images_text (images_of s.args.images) variables) _ refl,
-      s.requires.1,
-      s.requires.2,
+    let variables = variables_in_rows (query_of (take c.args.relations c.args.widths) c.args.query) in (
+      part-fits (wrote (started c.requires.0) _ refl c.put_bytes-next.ensures)
+          (images_text (images_of c.args.images) variables) _ refl,
+      c.requires.1,
+      c.requires.2,
     )
 
 pub put_byte-requires : goal.put_byte-requires
 unfolding map_line
-put_byte-requires c =
-    let word = c in
-    let s = word in
-    rest-fits (wrote (wrote (started s.requires.0) _ refl word.put_bytes-next.ensures) _ refl c.put_images-next.ensures)
+put_byte-requires c = rest-fits (wrote (wrote (started c.requires.0) _ refl c.put_bytes-next.ensures) _ refl c.put_images-next.ensures)
 
 pub returns : goal.returns
 unfolding map_line
 returns c =
-    let images = c in
-    let word = images in
-    let s = word in
-    wrote-rest (wrote (wrote (started s.requires.0) _ refl word.put-bytes.ensures) _ refl images.put_images-next.ensures)
+    wrote-rest (wrote (wrote (started c.requires.0) _ refl c.put_bytes-next.ensures) _ refl c.put_images-next.ensures)
     c.put_byte.ensures

@@ -8,63 +8,43 @@ use Rattle.text.proofs.put_place_line.Goals as goal
 pub put_field-next-requires : goal.put_field-next-requires
 unfolding place_line
 put_field-next-requires c =
-    let s = c in
-    part-fits (started s.requires) (field place_word s.args.place) _ refl
+    part-fits (started c.requires) (field place_word c.args.place) _ refl
 
 pub put_field-next-requires-2 : goal.put_field-next-requires-2
 unfolding place_line
 put_field-next-requires-2 c =
-    let first = c in
-    let s = first in
-    let left₁ = wrote (started s.requires) _ refl first.put_field-next.ensures in
-    part-fits left₁ (field rows_word s.args.rows) _ refl
+    let left₁ = wrote (started c.requires) _ refl c.put_field-next.ensures in
+    part-fits left₁ (field rows_word c.args.rows) _ refl
 
 pub put_field-next-requires-3 : goal.put_field-next-requires-3
 unfolding place_line
 put_field-next-requires-3 c =
-    let second = c in
-    let first = second in
-    let s = first in
-    let left₁ = wrote (started s.requires) _ refl first.put-field.ensures in
-    let left₂ = wrote left₁ _ refl second.put_field-next-2.ensures in
-    part-fits left₂ (field kept_word s.args.kept) _ refl
+    let left₁ = wrote (started c.requires) _ refl c.put_field-next.ensures in
+    let left₂ = wrote left₁ _ refl c.put_field-next-2.ensures in
+    part-fits left₂ (field kept_word c.args.kept) _ refl
 
 pub put_field-next-requires-4 : goal.put_field-next-requires-4
 unfolding place_line
 put_field-next-requires-4 c =
-    let third = c in
-    let second = third in
-    let first = second in
-    let s = first in
-    let left₁ = wrote (started s.requires) _ refl first.put-field.ensures in
-    let left₂ = wrote left₁ _ refl second.put-field2.ensures in
-    let left₃ = wrote left₂ _ refl third.put_field-next-3.ensures in
-    part-fits left₃ (field replaced_word s.args.count) _ refl
+    let left₁ = wrote (started c.requires) _ refl c.put_field-next.ensures in
+    let left₂ = wrote left₁ _ refl c.put_field-next-2.ensures in
+    let left₃ = wrote left₂ _ refl c.put_field-next-3.ensures in
+    part-fits left₃ (field replaced_word c.args.count) _ refl
 
 pub put_byte-requires : goal.put_byte-requires
 unfolding place_line
 put_byte-requires c =
-    let fourth = c in
-    let third = fourth in
-    let second = third in
-    let first = second in
-    let s = first in
-    let left₁ = wrote (started s.requires) _ refl first.put-field.ensures in
-    let left₂ = wrote left₁ _ refl second.put-field2.ensures in
-    let left₃ = wrote left₂ _ refl third.put-field3.ensures in
-    let left₄ = wrote left₃ _ refl fourth.put_field-next-4.ensures in
+    let left₁ = wrote (started c.requires) _ refl c.put_field-next.ensures in
+    let left₂ = wrote left₁ _ refl c.put_field-next-2.ensures in
+    let left₃ = wrote left₂ _ refl c.put_field-next-3.ensures in
+    let left₄ = wrote left₃ _ refl c.put_field-next-4.ensures in
     rest-fits left₄
 
 pub returns : goal.returns
 unfolding place_line
 returns c =
-    let fourth = c in
-    let third = fourth in
-    let second = third in
-    let first = second in
-    let s = first in
-    let left₁ = wrote (started s.requires) _ refl first.put-field.ensures in
-    let left₂ = wrote left₁ _ refl second.put-field2.ensures in
-    let left₃ = wrote left₂ _ refl third.put-field3.ensures in
-    let left₄ = wrote left₃ _ refl fourth.put_field-next-4.ensures in
+    let left₁ = wrote (started c.requires) _ refl c.put_field-next.ensures in
+    let left₂ = wrote left₁ _ refl c.put_field-next-2.ensures in
+    let left₃ = wrote left₂ _ refl c.put_field-next-3.ensures in
+    let left₄ = wrote left₃ _ refl c.put_field-next-4.ensures in
     wrote-rest left₄ c.put_byte.ensures

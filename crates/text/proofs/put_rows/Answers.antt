@@ -1,6 +1,6 @@
 -- `text::put_rows` meets its contract. Invariant: the rows from r on are left to be written. Assumes nothing.
 use borrow.Author.Rules.{rules}
-use Prim.Native.Nat.{◌*◌, ◌-◌, ◌≤◌}
+use Prim.Native.Nat.{◌*◌, ◌≤◌}
 use native.Mathlib.Omega.{arith}
 use lib.ListN.{take, drop, get_or}
 use Rattle.lists.proofs.Loops.{mapped-length}

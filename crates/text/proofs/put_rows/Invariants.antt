@@ -1,6 +1,6 @@
 -- `text::put_rows` meets its contract. Invariant: the rows from r on are left to be written. Assumes nothing.
 use mathlib.Core.Path.{◌≡◌}
-use Prim.Native.Nat.{◌*◌, ◌-◌, ◌≤◌}
+use Prim.Native.Nat.{◌*◌, ◌≤◌}
 use lib.ListN.{length, take, drop}
 use Rattle.query.specs.View.{rows_of}
 use Rattle.printing.proofs.Writing.{Progress}

@@ -1,6 +1,6 @@
 -- `text::row_cells` meets its contract. Invariant: the first i cells of the row are copied, the others blank. Assumes nothing.
 use mathlib.Core.Path.{◌≡◌}
-use Prim.Native.Nat.{◌+◌, ◌-◌, ◌≤◌}
+use Prim.Native.Nat.{◌+◌, ◌≤◌}
 use lib.ListN.{length, take, drop}
 use Rattle.lists.proofs.Loops.{filled_to}
 use Rattle.query.specs.Rule.{no_cell}

@@ -24,27 +24,28 @@ use Rattle.text.specs.internal.Listable.{variables_in_rows}
 use Rattle.text.proofs.Bound.{place_short}
 use Rattle.text.proofs.Occurring.{rows-occurring}
 use Rattle.text.proofs.write_place.Goals as goal
+use Rattle.text.proofs.write_place.Goals.{Start}
 
-abbrev schema : goal.Start → List ℕ
+abbrev schema : Start → List ℕ
 schema c = take c.args.relations c.args.widths
 
-abbrev source : goal.Start → theory.Query
+abbrev source : Start → theory.Query
 source c = query_of (schema c) c.args.source
 
-abbrev result : goal.Start → theory.Query
+abbrev result : Start → theory.Query
 result c = query_of (schema c) c.args.res
 
-source-long : (c : goal.Start) → c.args.source.size ≤ length c.args.source.relations
+source-long : (c : Start) → c.args.source.size ≤ length c.args.source.relations
 source-long c = let l : length c.args.source.relations ≡ 12 = search (mapped-length, rules) in omega (arith, (good-query 12 _ _ c.requires.source-good).size)
 
-result-long : (c : goal.Start) → c.args.res.size ≤ length c.args.res.relations
+result-long : (c : Start) → c.args.res.size ≤ length c.args.res.relations
 result-long c = let l : length c.args.res.relations ≡ 12 = search (mapped-length, rules) in omega (arith, (good-query 12 _ _ c.requires.result-good).size)
 
 -- What is to be written
-abbrev text : goal.Start → List ℕ
+abbrev text : Start → List ℕ
 text c = place_text c.args.place (source c) (result c) c.args.count (images_of c.args.images)
 
-text-fits : (c : goal.Start) → Fits c.args.buffer.now c.args.at (text c)
+text-fits : (c : Start) → Fits c.args.buffer.now c.args.at (text c)
 text-fits c =
     let p = c.requires in
     let short =
@@ -54,7 +55,7 @@ text-fits c =
     record { room = omega (arith, p.room) }
 
 -- Where the result is never, one line is left
-never-left : (c : goal.Start) → c.args.res.size ≡ 0
+never-left : (c : Start) → c.args.res.size ≡ 0
     → Progress c.args.buffer.now c.args.at (text c) (never_line c.args.place c.args.source.size c.args.count) c.args.buffer.now
     c.args.at
 unfolding place_text
@@ -64,14 +65,14 @@ never-left c z =
     left_as (started (text-fits c)) (rw (k, m))
 
 -- The variables that stand in a row are those that occur
-variables : (c : goal.Start) → variables_in_rows (source c) ≡ occurring (source c)
+variables : (c : Start) → variables_in_rows (source c) ≡ occurring (source c)
 unfolding head_safe
 variables c =
     rows-occurring (source c) (variables-below 12 (schema c) (width-le _ _ c.requires.relations-good) c.args.source c.requires.source-good)
     (λ v at. subset-true _ _ c.requires.source-safe v at)
 
 -- Else the four parts are left
-lines_left : (c : goal.Start) → (c.args.res.size ≡ 0 → ⊥)
+lines_left : (c : Start) → (c.args.res.size ≡ 0 → ⊥)
     → Progress c.args.buffer.now c.args.at (text c)
     (place_line c.args.place c.args.source.size c.args.res.size c.args.count
     ++ (head_line (entries_of (take c.args.res.arity c.args.res.head))
@@ -89,50 +90,30 @@ pub put_never_line-requires : goal.put_never_line-requires
 put_never_line-requires c = rest-fits (never-left (goal.at.put_never_line-requires c).Start c.if-kept-eq0.true)
 
 pub returns-then-kept-eq0 : goal.returns-then-kept-eq0
-returns-then-kept-eq0 c =
-    let test = c in
-    wrote-rest (never-left (goal.at.returns-then-kept-eq0 c).Start test.if-kept-eq0.true) c.put_never_line.ensures
+returns-then-kept-eq0 c = wrote-rest (never-left (goal.at.returns-then-kept-eq0 c).Start c.if-kept-eq0.true) c.put_never_line.ensures
 
 pub put_place_line-next-requires : goal.put_place_line-next-requires
-put_place_line-next-requires c =
-    let chosen = c in
-    part-fits (lines_left (goal.at.put_place_line-next-requires c).Start chosen.if-kept-eq0.false) _ _ refl
+put_place_line-next-requires c = part-fits (lines_left (goal.at.put_place_line-next-requires c).Start c.if-kept-eq0.false) _ _ refl
 
 pub put_head_line-next-requires : goal.put_head_line-next-requires
 put_head_line-next-requires c =
-    let line = c in
-    let chosen = line in
-    let left = wrote (lines_left chosen chosen.if1.false) _ refl line.put_place_line-next.ensures in
-    (part-fits left _ _ refl, (good-query 12 _ _ chosen.requires.result-good).arity)
+    let left = wrote (lines_left (goal.at.put_head_line-next-requires c).Start c.if-kept-eq0.false) _ refl c.put_place_line-next.ensures in
+    (part-fits left _ _ refl, (good-query 12 _ _ c.requires.result-good).arity)
 
 pub put_rows-next-requires : goal.put_rows-next-requires
 put_rows-next-requires c =
-    let head = c in
-    let line = head in
-    let chosen = line in
-    let left = wrote (wrote (lines_left chosen chosen.if1.false) _ refl line.put-place-line.ensures) _ refl
-    head.put_head_line-next.ensures in
-    let s = chosen in
-    (part-fits left _ _ refl, s.requires.relations-good, s.requires.result-good)
+    let left = wrote (wrote (lines_left (goal.at.put_rows-next-requires c).Start c.if-kept-eq0.false) _ refl c.put_place_line-next.ensures) _ refl
+    c.put_head_line-next.ensures in
+    (part-fits left _ _ refl, c.requires.relations-good, c.requires.result-good)
 
 pub put_map_line-requires : goal.put_map_line-requires
 put_map_line-requires c =
-    let rows = c in
-    let head = rows in
-    let line = head in
-    let chosen = line in
-    let left = wrote (wrote (lines_left chosen chosen.if1.false) _ refl line.put-place-line.ensures) _ refl
-    head.put-head-line.ensures in
-    let s = chosen in
-    (rest-fits (wrote left _ refl rows.put_rows-next.ensures), s.requires.relations-good, (good-query 12 _ _ s.requires.source-good).size)
+    let left = wrote (wrote (lines_left (goal.at.put_map_line-requires c).Start c.if-kept-eq0.false) _ refl c.put_place_line-next.ensures) _ refl
+    c.put_head_line-next.ensures in
+    (rest-fits (wrote left _ refl c.put_rows-next.ensures), c.requires.relations-good, (good-query 12 _ _ c.requires.source-good).size)
 
 pub returns : goal.returns
 returns c =
-    let map = c in
-    let rows = map in
-    let head = rows in
-    let line = head in
-    let chosen = line in
-    let left = wrote (wrote (lines_left chosen chosen.if1.false) _ refl line.put-place-line.ensures) _ refl
-    head.put-head-line.ensures in
-    wrote-rest (wrote left _ refl rows.put-rows.ensures) map.put_map_line.ensures
+    let left = wrote (wrote (lines_left (goal.at.returns c).Start c.if-kept-eq0.false) _ refl c.put_place_line-next.ensures) _ refl
+    c.put_head_line-next.ensures in
+    wrote-rest (wrote left _ refl c.put_rows-next.ensures) c.put_map_line.ensures

@@ -4,13 +4,11 @@ use borrow.Author.Rules.{rules}
 use borrow.Author.Count.{below_more}
 use mathlib.Core.Path.{sym, ◌∙◌}
 use mathlib.Core.Bool.{false≢true}
-use borrow.Author.Tests.{not-false}
-use Prim.Native.Nat.{◌-◌}
 use native.Mathlib.Nat.{not-le_of_lt}
-use mathlib.Core.Logic.{⊎_elim}
 use Rattle.query.proofs.Codes.{code-constant, code-variable}
 use Rattle.lists.proofs.Positions.{tells-true, tells-false}
 use Rattle.candidates.proofs.agree.agrees.Goals as goal
+use Rattle.candidates.proofs.agree.agrees.Goals.{in-Constant, in-Variable+else-not-takes}
 
 pub returns-then-not-takes : goal.returns-then-not-takes
 returns-then-not-takes c =
@@ -22,7 +20,10 @@ pub loop-i-preserved : goal.loop-i-preserved
 loop-i-preserved c = (
   search rules,
   below_more _ _ c.loop-i.invariant.1
-      (⊎_elim (λ w e. absurd (not-le_of_lt (code-constant _ _ (sym c.decode-own.ensures ∙ w.in-Constant.1.given.1)) e)) (λ w e. w.if-not-takes.ensures.0 (not-false _ w.4.left)) c.match-own.branch-raw),
+      (elim c.match-own.branch [
+        | in-Constant w ↦ λ e. absurd (not-le_of_lt (code-constant _ _ (sym c.decode-own.ensures ∙ w.in-Constant.is)) e)
+        | in-Variable+else-not-takes w ↦ λ e. w.takes.ensures.0 w.if-not-takes.false
+      ]),
 )
 
 pub returns : goal.returns

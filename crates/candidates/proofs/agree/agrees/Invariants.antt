@@ -1,6 +1,6 @@
 -- `agrees` tells whether the two rows take each shared variable to one number. The invariant: they do in the columns passed.
 -- Assumes nothing.
-use Prim.Native.Nat.{ℕ, ◌+◌, ◌-◌, ◌≤◌, ◌<◌}
+use Prim.Native.Nat.{ℕ, ◌+◌, ◌≤◌, ◌<◌}
 use lib.ListN.{get_or}
 use Rattle.candidates.specs.internal.Candidates.{Takes}
 use Rattle.candidates.proofs.agree.agrees.Given as goal

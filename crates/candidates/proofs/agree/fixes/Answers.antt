@@ -3,12 +3,11 @@
 use borrow.Author.Rules.{rules}
 use borrow.Author.Count.{below_more}
 use mathlib.Core.Path.{sym, ◌∙◌}
-use Prim.Native.Nat.{◌-◌}
 use native.Mathlib.Nat.{not-le_of_lt}
-use mathlib.Core.Logic.{⊎_elim}
 use Rattle.query.proofs.Codes.{code-constant, code-variable}
 use Rattle.lists.proofs.Positions.{tells-true, tells-false}
 use Rattle.candidates.proofs.agree.fixes.Goals as goal
+use Rattle.candidates.proofs.agree.fixes.Goals.{in-Constant+else-target-d, in-Variable}
 
 pub returns-then-target-d : goal.returns-then-target-d
 returns-then-target-d c =
@@ -19,7 +18,10 @@ pub loop-i-preserved : goal.loop-i-preserved
 loop-i-preserved c = (
   search rules,
   below_more _ _ c.loop-i.invariant.1
-      (⊎_elim (λ w e. w.3.left) (λ w e. absurd (not-le_of_lt e (code-variable _ _ (sym c.decode-own.ensures ∙ w.in-Variable.1.given.1)).0)) c.match-own.branch-raw),
+      (elim c.match-own.branch [
+        | in-Constant+else-target-d w ↦ λ e. w.if-target-d.false
+        | in-Variable w ↦ λ e. absurd (not-le_of_lt e (code-variable _ _ (sym c.decode-own.ensures ∙ w.in-Variable.is)).0)
+      ]),
 )
 
 pub returns : goal.returns

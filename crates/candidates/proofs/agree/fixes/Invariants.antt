@@ -1,7 +1,7 @@
 -- `fixes` tells whether the image has the row's constants. The invariant: it has those of the columns passed.
 -- Assumes nothing.
 use mathlib.Core.Path.{◌≡◌}
-use Prim.Native.Nat.{ℕ, ◌+◌, ◌-◌, ◌≤◌, ◌<◌}
+use Prim.Native.Nat.{ℕ, ◌+◌, ◌≤◌, ◌<◌}
 use lib.ListN.{get_or}
 use Rattle.candidates.proofs.agree.fixes.Given as goal
 

@@ -1,7 +1,7 @@
 -- `holds` tells whether a number stands in a row. The invariant: not in the columns passed.
 -- Assumes nothing.
 use mathlib.Core.Path.{◌≡◌}
-use Prim.Native.Nat.{ℕ, ◌+◌, ◌-◌, ◌≤◌, ◌<◌}
+use Prim.Native.Nat.{ℕ, ◌+◌, ◌≤◌, ◌<◌}
 use lib.ListN.{get_or}
 use Rattle.candidates.proofs.agree.holds.Given as goal
 

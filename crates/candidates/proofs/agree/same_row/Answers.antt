@@ -2,7 +2,6 @@
 -- Assumes nothing.
 use borrow.Author.Rules.{rules}
 use borrow.Author.Count.{below_none, below_more}
-use Prim.Native.Nat.{◌-◌}
 use Rattle.lists.proofs.Positions.{tells-true, tells-false}
 use Rattle.candidates.proofs.agree.same_row.Goals as goal
 

@@ -1,7 +1,7 @@
 -- `same_row` tells whether two rows are the same. The invariant: they are in the columns passed.
 -- Assumes nothing.
 use mathlib.Core.Path.{◌≡◌}
-use Prim.Native.Nat.{ℕ, ◌+◌, ◌-◌, ◌≤◌, ◌<◌}
+use Prim.Native.Nat.{ℕ, ◌+◌, ◌≤◌, ◌<◌}
 use lib.ListN.{get_or}
 use Rattle.candidates.proofs.agree.same_row.Given as goal
 

@@ -4,12 +4,12 @@ use borrow.Author.Rules.{rules}
 use borrow.Author.Count.{below_none, below_more}
 use mathlib.Core.Path.{sym, ◌∙◌}
 use mathlib.Core.Bool.{false≢true}
-use mathlib.Core.Logic.{⊎_elim}
 use native.Mathlib.Nat.{not-le_of_lt}
-use Prim.Native.Nat.{◌-◌, ◌<◌}
+use Prim.Native.Nat.{◌<◌}
 use Rattle.query.proofs.Codes.{code-constant, code-variable}
 use Rattle.lists.proofs.Positions.{tells-true, tells-false}
 use Rattle.candidates.proofs.agree.shares.Goals as goal
+use Rattle.candidates.proofs.agree.shares.Goals.{in-Constant, in-Variable+else-holds}
 
 pub loop-i-init : goal.loop-i-init
 loop-i-init c = (search rules, below_none _)
@@ -23,7 +23,10 @@ pub loop-i-preserved : goal.loop-i-preserved
 loop-i-preserved c = (
   search rules,
   below_more _ _ c.loop-i.invariant.1
-      (⊎_elim (λ w large h. not-le_of_lt (code-constant _ _ (sym c.decode-own.ensures ∙ w.in-Constant.1.given.1)) large) (λ w large h. false≢true (sym w.3.left ∙ w.if-holds.ensures.1 h)) c.match-own.branch-raw),
+      (elim c.match-own.branch [
+        | in-Constant w ↦ λ large h. not-le_of_lt (code-constant _ _ (sym c.decode-own.ensures ∙ w.in-Constant.is)) large
+        | in-Variable+else-holds w ↦ λ large h. false≢true (sym w.if-holds.false ∙ w.holds.ensures.1 h)
+      ]),
 )
 
 pub returns : goal.returns

@@ -1,6 +1,6 @@
 -- `shares` tells whether two rows share a variable. The invariant: none of the columns passed.
 -- Assumes nothing.
-use Prim.Native.Nat.{ℕ, ◌+◌, ◌-◌, ◌≤◌, ◌<◌}
+use Prim.Native.Nat.{ℕ, ◌+◌, ◌≤◌, ◌<◌}
 use lib.ListN.{get_or}
 use Rattle.candidates.specs.internal.Sharing.{Holds}
 use Rattle.candidates.proofs.agree.shares.Given as goal

@@ -1,7 +1,7 @@
 -- `takes` tells whether the row takes the number to the image. The invariant: it does in the columns passed.
 -- Assumes nothing.
 use mathlib.Core.Path.{◌≡◌}
-use Prim.Native.Nat.{ℕ, ◌+◌, ◌-◌, ◌≤◌, ◌<◌}
+use Prim.Native.Nat.{ℕ, ◌+◌, ◌≤◌, ◌<◌}
 use lib.ListN.{get_or}
 use Rattle.candidates.proofs.agree.takes.Given as goal
 

@@ -1,7 +1,7 @@
 -- `all_below` marks every number below n. The invariant: those from e on are marked.
 -- Assumes nothing.
 use borrow.Author.Rules.{rules}
-use Prim.Native.Nat.{◌-◌, ◌<◌}
+use Prim.Native.Nat.{◌<◌}
 use Rattle.candidates.proofs.Masks.{marks-start, marks-one, marks-end, marks-room}
 use Rattle.candidates.proofs.table.all_below.Goals as goal
 

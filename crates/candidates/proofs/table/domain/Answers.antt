@@ -3,7 +3,7 @@
 use borrow.Author.Rules.{rules}
 use mathlib.Core.Path.{sym, ◌∙◌, subst}
 use mathlib.Core.Bool.{false≢true}
-use Prim.Native.Nat.{ℕ, ◌-◌, ◌<◌}
+use Prim.Native.Nat.{ℕ, ◌<◌}
 use Rattle.candidates.specs.internal.Candidates.{Marks, Possible}
 use Rattle.candidates.proofs.Masks.{marks-start, marks-one, marks-zero, marks-end, marks-room}
 use Rattle.candidates.proofs.table.domain.Goals as goal

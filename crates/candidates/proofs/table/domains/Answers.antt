@@ -2,7 +2,7 @@
 -- Assumes nothing.
 use borrow.Author.Rules.{rules}
 use borrow.Author.Count.{below_none}
-use Prim.Native.Nat.{◌-◌, ◌<◌}
+use Prim.Native.Nat.{◌<◌}
 use lib.ListN.{length}
 use Rattle.candidates.specs.internal.Candidates.{Marks, candidates_of, Possible}
 use Rattle.lists.proofs.Positions.{stored_more}

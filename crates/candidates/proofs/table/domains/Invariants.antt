@@ -1,7 +1,7 @@
 -- `domains` has the mask of each row. The invariant: it has those of the rows passed.
 -- Assumes nothing.
 use mathlib.Core.Path.{◌≡◌}
-use Prim.Native.Nat.{ℕ, ◌-◌, ◌≤◌, ◌<◌}
+use Prim.Native.Nat.{ℕ, ◌≤◌, ◌<◌}
 use lib.ListN.{get_or, length}
 use Rattle.candidates.specs.internal.Candidates.{Marks, candidates_of, Possible}
 use Rattle.candidates.proofs.table.domains.Given as goal

@@ -4,7 +4,7 @@ use borrow.Author.Rules.{rules}
 use borrow.Author.Count.{below_none, below_more}
 use mathlib.Core.Path.{sym, ◌∙◌, subst, subst⁻¹, subst₂}
 use mathlib.Core.Bool.{false≢true}
-use Prim.Native.Nat.{ℕ, ◌+◌, ◌*◌, ◌-◌, ◌<◌}
+use Prim.Native.Nat.{ℕ, ◌+◌, ◌*◌, ◌<◌}
 use native.Mathlib.Nat.{le_trans, lt_trans}
 use lib.ListN.{set, length-set}
 use Rattle.candidates.specs.internal.Candidates.{candidates_of, IsMask}
@@ -18,12 +18,13 @@ loop-d-init c = (search rules, search rules, (λ r d q hr hq hd is. is), below_n
 pub mask-requires : goal.mask-requires
 mask-requires c =
     let shared = c in
-    let start = shared in (
-      (start.requires.0, start.requires.1, search rules, start.requires.2),
-      λ apart. subst₂ (λ (x y : ℕ). Shares start.args.source.now x y → ⊥) shared.row_at.ensures.0
+    let start = shared in
+    record {
+      laid = (start.requires.0, start.requires.1, search rules, start.requires.2);
+      fact = λ apart. subst₂ (λ (x y : ℕ). Shares start.args.source.now x y → ⊥) shared.row_at.ensures.0
           shared.row_at-2.ensures.0
-          (λ s. false≢true (sym apart ∙ shared.shares-sharing.ensures.1 s)),
-    )
+          (λ s. false≢true (sym apart ∙ shared.shares-sharing.ensures.1 s));
+    }
 
 pub loop-d-preserved : goal.loop-d-preserved
 loop-d-preserved c =

@@ -1,7 +1,7 @@
 -- `put_pair` puts the masks of one row for each candidate of another in their places. The invariant: those passed are there, and what was right is.
 -- Assumes nothing.
 use mathlib.Core.Path.{◌≡◌}
-use Prim.Native.Nat.{ℕ, ◌-◌, ◌≤◌, ◌<◌}
+use Prim.Native.Nat.{ℕ, ◌≤◌, ◌<◌}
 use lib.ListN.{length}
 use Rattle.candidates.specs.internal.Candidates.{IsMask}
 use Rattle.candidates.specs.internal.Sharing.{Keeps}

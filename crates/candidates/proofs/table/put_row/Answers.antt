@@ -2,8 +2,6 @@
 -- Assumes nothing.
 use borrow.Author.Rules.{rules}
 use borrow.Author.Count.{below_none, below_more}
-use mathlib.Core.Path.{◌∙◌}
-use Prim.Native.Nat.{◌-◌}
 use native.Mathlib.Omega.{arith}
 use Rattle.candidates.specs.internal.Sharing.{IsPair}
 use Rattle.candidates.proofs.table.put_row.Goals as goal
@@ -25,9 +23,9 @@ loop-q-preserved c =
     let args = start.args in
     let kept = put.ensures.0 in (
       search rules,
-      c.table-1.given ∙ loop.invariant.1,
+      omega arith,
       (λ r d q hr hq hd is. kept r d q hr hq hd (loop.invariant.2 r d q hr hq hd is)),
-      below_more (IsPair args.source.now args.target.now args.size args.count put.new.0 args.r) loop.q
+      below_more (IsPair args.source.now args.target.now args.size args.count put.new.table args.r) loop.q
           (λ k h d hd. kept args.r d k start.requires.1 (omega arith) hd (loop.invariant.3 k h d hd)) put.ensures.1,
     )
 

@@ -1,7 +1,7 @@
 -- `put_row` puts the masks of every row for each candidate of one in their places. The invariant: those of the rows passed are there, and what was right is.
 -- Assumes nothing.
 use mathlib.Core.Path.{◌≡◌}
-use Prim.Native.Nat.{ℕ, ◌-◌, ◌≤◌, ◌<◌}
+use Prim.Native.Nat.{ℕ, ◌≤◌, ◌<◌}
 use lib.ListN.{length}
 use Rattle.candidates.specs.internal.Sharing.{IsPair, Keeps}
 use Rattle.candidates.proofs.table.put_row.Given as goal

@@ -1,7 +1,7 @@
 -- `repeats` tells whether a row is the same as an earlier one. The invariant: as none of those passed.
 -- Assumes nothing.
 use mathlib.Core.Path.{◌≡◌}
-use Prim.Native.Nat.{ℕ, ◌*◌, ◌-◌, ◌≤◌, ◌<◌}
+use Prim.Native.Nat.{ℕ, ◌*◌, ◌≤◌, ◌<◌}
 use lib.ListN.{get_or}
 use Rattle.candidates.specs.internal.Candidates.{SameRow}
 use Rattle.candidates.proofs.table.repeats.Given as goal

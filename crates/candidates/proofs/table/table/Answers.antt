@@ -2,7 +2,7 @@
 -- Assumes nothing.
 use borrow.Author.Rules.{rules}
 use borrow.Author.Count.{below_none, below_more}
-use Prim.Native.Nat.{ℕ, ◌-◌, ◌≤◌}
+use Prim.Native.Nat.{ℕ, ◌≤◌}
 use native.Mathlib.Omega.{arith}
 use Rattle.candidates.specs.internal.Sharing.{IsPair}
 use Rattle.candidates.proofs.table.table.Goals as goal
@@ -20,8 +20,8 @@ loop-r-preserved c =
     let start = c in
     let args = start.args in (
       search rules,
-      c.all-in-loop-r-1.given,
-      below_more (λ k. (q : ℕ) → q ≤ args.size → IsPair args.source.now args.target.now args.size args.count put.new.0 k q) loop.r
+      omega arith,
+      below_more (λ k. (q : ℕ) → q ≤ args.size → IsPair args.source.now args.target.now args.size args.count put.new.table k q) loop.r
           (λ k h q hq d hd. put.ensures.0 k d q (omega arith) hq hd (loop.invariant.2 k h q hq d hd)) put.ensures.1,
     )
 

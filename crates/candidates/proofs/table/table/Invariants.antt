@@ -1,7 +1,7 @@
 -- `table` has each mask in its place. The invariant: those for the candidates of the rows passed are there.
 -- Assumes nothing.
 use mathlib.Core.Path.{◌≡◌}
-use Prim.Native.Nat.{ℕ, ◌-◌, ◌≤◌, ◌<◌}
+use Prim.Native.Nat.{ℕ, ◌≤◌, ◌<◌}
 use lib.ListN.{length}
 use Rattle.candidates.specs.internal.Sharing.{IsPair}
 use Rattle.candidates.proofs.table.table.Given as goal

@@ -2,7 +2,7 @@
 -- Assumes nothing.
 use borrow.Author.Rules.{rules}
 use mathlib.Core.Path.{◌≡◌, subst}
-use Prim.Native.Nat.{ℕ, ◌+◌, ◌-◌}
+use Prim.Native.Nat.{ℕ, ◌+◌}
 use Rattle.mapping.specs.internal.Lines.{choice_of}
 use Rattle.mapping.specs.internal.Lines.{Assigned}
 use Rattle.mapping.proofs.Images.{rows_start, rows_more}

@@ -1,6 +1,6 @@
 -- `assign` gives the variables of all rows their images. The invariant: those of the rows passed have them.
 -- Assumes nothing.
-use Prim.Native.Nat.{◌-◌, ◌≤◌}
+use Prim.Native.Nat.{◌≤◌}
 use Rattle.mapping.specs.internal.Lines.{choice_of}
 use Rattle.mapping.specs.internal.Lines.{Assigned}
 use Rattle.mapping.proofs.assign.assign.Given as goal

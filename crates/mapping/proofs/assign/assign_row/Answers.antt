@@ -2,36 +2,30 @@
 -- Assumes nothing.
 use borrow.Author.Rules.{rules}
 use mathlib.Core.Path.{◌≡◌, sym, ap, ◌∙◌, subst}
-use mathlib.Core.Logic.{⊎_elim}
-use Prim.Native.Nat.{ℕ, ◌+◌, ◌-◌, ◌<◌}
+use Prim.Native.Nat.{ℕ, ◌+◌, ◌<◌}
 use lib.ListN.{length, length-set}
 use Rattle.mapping.specs.internal.Lines.{RowAssigned}
 use Rattle.query.proofs.Codes.{code-constant}
 use Rattle.mapping.proofs.Images.{row-start, row-skip, row-store, variable-small}
 use Rattle.mapping.proofs.assign.assign_row.Goals as goal
+use Rattle.mapping.proofs.assign.assign_row.Goals.{in-Constant, in-Variable}
 
 pub loop-i-init : goal.loop-i-init
 loop-i-init c = (search rules, search rules, row-start c.args.images c.args.source c.args.target c.args.row c.args.image)
 
 pub offset_bounds-out-v : goal.offset_bounds-out-v
 offset_bounds-out-v c =
-    let at4 = c in
-    let at6 = at4 in
-    let at7 = at6 in
-    let s = at7 in
-    let place : s.args.row + at6.loop.i < 104 = search rules in
-    let small = variable-small _ _ (s.requires.2 (s.args.row + at6.loop.i) place) (sym at4.decode-own.ensures ∙ c.in-Variable.is) in
+    let s = c in
+    let place : s.args.row + s.loop-i.i < 104 = search rules in
+    let small = variable-small _ _ (s.requires.2 (s.args.row + s.loop-i.i) place) (sym s.decode-own.ensures ∙ c.in-Variable.is) in
     let low = small.0 in
     search rules
 
 pub bounds-out-v : goal.bounds-out-v
 bounds-out-v c =
-    let at4 = c in
-    let at6 = at4 in
-    let at7 = at6 in
-    let s = at7 in
-    let place : s.args.row + at6.loop.i < 104 = search rules in
-    let small = variable-small _ _ (s.requires.2 (s.args.row + at6.loop.i) place) (sym at4.decode-own.ensures ∙ c.in-Variable.is) in
+    let s = c in
+    let place : s.args.row + s.loop-i.i < 104 = search rules in
+    let small = variable-small _ _ (s.requires.2 (s.args.row + s.loop-i.i) place) (sym s.decode-own.ensures ∙ c.in-Variable.is) in
     small.0
 
 pub loop-i-preserved : goal.loop-i-preserved
@@ -43,15 +37,21 @@ loop-i-preserved c =
     let place : args.row + i < 104 = search rules in
     let Next = RowAssigned args.images args.source args.target args.row args.image (i + 1) in (
       search rules,
-      ⊎_elim (λ w. ap length w.2 ∙ l.invariant.1) (λ w. ap length w.4 ∙ simp length-set l.invariant.1) c.match-own.branch-raw,
-      ⊎_elim (λ w.
-          subst Next (sym w.2)
-          (row-skip args.images args.source args.target args.row args.image i l.out l.invariant.2
-          (code-constant _ _ (sym c.decode-own.ensures ∙ w.out-is.given.1)))) (λ w.
-          let small = variable-small _ _ (s.requires.2 (args.row + i) place) (sym c.decode-own.ensures ∙ w.out-1.given.1) in
-          subst Next (sym w.4)
-          (row-store args.images args.source args.target args.row args.image i l.out l.invariant.2 w.out-1.given.0.0 small.0 l.invariant.1
-          small.1)) c.match-own.branch-raw,
+      elim c.match-own.branch [
+        | in-Constant w ↦ ap length w.out-is ∙ l.invariant.1
+        | in-Variable w ↦ ap length w.out-is ∙ simp length-set l.invariant.1
+      ],
+      elim c.match-own.branch [
+        | in-Constant w ↦
+            subst Next (sym w.out-is)
+            (row-skip args.images args.source args.target args.row args.image i l.out l.invariant.2
+            (code-constant _ _ (sym c.decode-own.ensures ∙ w.in-Constant.is)))
+        | in-Variable w ↦
+            let small = variable-small _ _ (s.requires.2 (args.row + i) place) (sym c.decode-own.ensures ∙ w.in-Variable.is) in
+            subst Next (sym w.out-is)
+            (row-store args.images args.source args.target args.row args.image i l.out l.invariant.2 w.in-Variable.v small.0 l.invariant.1
+            small.1)
+      ],
     )
 
 pub returns : goal.returns

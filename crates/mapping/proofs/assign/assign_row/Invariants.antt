@@ -1,7 +1,7 @@
 -- `assign_row` gives the variables of a row their images. The invariant: those of the columns passed have them.
 -- Assumes nothing.
 use mathlib.Core.Path.{◌≡◌}
-use Prim.Native.Nat.{◌-◌, ◌≤◌}
+use Prim.Native.Nat.{◌≤◌}
 use lib.ListN.{length}
 use Rattle.mapping.specs.internal.Lines.{RowAssigned}
 use Rattle.mapping.proofs.assign.assign_row.Given as goal

@@ -4,7 +4,6 @@ use borrow.Author.Rules.{rules}
 use borrow.Author.Count.{below_none, below_more}
 use mathlib.Core.Path.{sym, ◌∙◌}
 use mathlib.Core.Bool.{false≢true}
-use Prim.Native.Nat.{◌-◌}
 use Rattle.lists.proofs.Positions.{tells-true, tells-false}
 use Rattle.mapping.proofs.carry.all_land.Goals as goal
 

@@ -1,6 +1,6 @@
 -- `all_land` tells whether each row is carried to one of the target's. The invariant: those passed are.
 -- Assumes nothing.
-use Prim.Native.Nat.{ℕ, ◌-◌, ◌≤◌, ◌<◌}
+use Prim.Native.Nat.{ℕ, ◌≤◌, ◌<◌}
 use Rattle.mapping.specs.internal.Lines.{Lands}
 use Rattle.mapping.proofs.carry.all_land.Given as goal
 

@@ -1,7 +1,7 @@
 -- `carries` tells whether 8 entries are carried. The invariant: those passed are.
 -- Assumes nothing.
 use mathlib.Core.Path.{◌≡◌}
-use Prim.Native.Nat.{ℕ, ◌+◌, ◌-◌, ◌≤◌, ◌<◌}
+use Prim.Native.Nat.{ℕ, ◌+◌, ◌≤◌, ◌<◌}
 use Rattle.theory.specs.Query.{constant}
 use Rattle.theory.specs.Answer.{value_of}
 use Rattle.query.specs.View.{images_of}

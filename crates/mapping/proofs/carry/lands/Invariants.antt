@@ -1,7 +1,7 @@
 -- `lands` tells whether a row is carried to one of the target's. The invariant: to none of those passed.
 -- Assumes nothing.
 use mathlib.Core.Path.{◌≡◌}
-use Prim.Native.Nat.{ℕ, ◌*◌, ◌-◌, ◌≤◌, ◌<◌}
+use Prim.Native.Nat.{ℕ, ◌*◌, ◌≤◌, ◌<◌}
 use lib.ListN.{get_or}
 use Rattle.mapping.specs.internal.Lines.{Carried}
 use Rattle.mapping.proofs.carry.lands.Given as goal

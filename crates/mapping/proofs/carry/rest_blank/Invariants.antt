@@ -1,7 +1,7 @@
 -- `rest_blank` tells whether the other variables have constant 0. The invariant: those passed have it.
 -- Assumes nothing.
 use mathlib.Core.Path.{◌≡◌}
-use Prim.Native.Nat.{ℕ, ◌-◌, ◌≤◌, ◌<◌}
+use Prim.Native.Nat.{ℕ, ◌≤◌, ◌<◌}
 use Rattle.theory.specs.Query.{constant}
 use Rattle.query.specs.View.{images_of}
 use Rattle.mapping.specs.internal.Lines.{Stands}

@@ -3,7 +3,7 @@
 use borrow.Author.Rules.{rules}
 use borrow.Author.Count.{below_none, below_more}
 use mathlib.Core.Path.{sym, ◌∙◌}
-use Prim.Native.Nat.{◌-◌, ◌<◌}
+use Prim.Native.Nat.{◌<◌}
 use Rattle.theory.proofs.Entries.{same_entry-eq, same_entry-ne}
 use Rattle.lists.proofs.Positions.{tells-true, tells-false}
 use Rattle.mapping.proofs.carry.stands.Goals as goal

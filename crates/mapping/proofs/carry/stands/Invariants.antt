@@ -1,7 +1,7 @@
 -- `stands` tells whether a variable stands among the cells. The invariant: not among those passed.
 -- Assumes nothing.
 use mathlib.Core.Path.{◌≡◌}
-use Prim.Native.Nat.{ℕ, ◌-◌, ◌≤◌, ◌<◌}
+use Prim.Native.Nat.{ℕ, ◌≤◌, ◌<◌}
 use Rattle.theory.specs.Query.{variable}
 use Rattle.mapping.specs.internal.Lines.{entry_in}
 use Rattle.mapping.proofs.carry.stands.Given as goal

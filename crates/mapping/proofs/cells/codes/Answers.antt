@@ -3,7 +3,7 @@
 use borrow.Author.Rules.{rules}
 use borrow.Author.Count.{below_none}
 use mathlib.Core.Path.{◌≡◌}
-use Prim.Native.Nat.{◌-◌, ◌<◌}
+use Prim.Native.Nat.{◌<◌}
 use lib.ListN.{length}
 use Rattle.theory.specs.Containment.{freeze}
 use Rattle.mapping.specs.internal.Lines.{entry_in}

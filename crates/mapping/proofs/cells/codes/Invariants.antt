@@ -1,7 +1,7 @@
 -- `codes` has the code of each cell. The invariant: those passed are read.
 -- Assumes nothing.
 use mathlib.Core.Path.{◌≡◌}
-use Prim.Native.Nat.{ℕ, ◌-◌, ◌≤◌, ◌<◌}
+use Prim.Native.Nat.{ℕ, ◌≤◌, ◌<◌}
 use lib.ListN.{get_or, length}
 use Rattle.theory.specs.Containment.{freeze}
 use Rattle.mapping.specs.internal.Lines.{entry_in}

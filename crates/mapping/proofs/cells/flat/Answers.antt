@@ -3,7 +3,6 @@
 use borrow.Author.Rules.{rules}
 use borrow.Author.Count.{below_none}
 use mathlib.Core.Path.{◌≡◌, ap, ◌∙◌}
-use mathlib.Core.Logic.{⊎_elim}
 use borrow.Author.Tests.{lt-ltb, le-ltb}
 use Prim.Native.Nat.{ℕ, ◌-◌, ◌<◌}
 use lib.ListN.{get_or, length, length-set}
@@ -13,6 +12,7 @@ use Rattle.query.specs.Rule.{no_cell}
 use Rattle.mapping.specs.internal.Lines.{cell_at}
 use Rattle.lists.proofs.Positions.{stored-into}
 use Rattle.mapping.proofs.cells.flat.Goals as goal
+use Rattle.mapping.proofs.cells.flat.Goals.{then-k-lt96, else-k-lt96}
 
 pub loop-k-init : goal.loop-k-init
 loop-k-init c = (search rules, search rules, below_none _)
@@ -25,10 +25,18 @@ loop-k-preserved c =
     let long : k < length all = search rules in
     let same : ℕ → Cell → Type 0 = λ j x. x ≡ cell_at 12 q j in (
       search rules,
-      ⊎_elim (λ w. ap length w.if-k-lt96.2 ∙ simp length-set c.loop-k.invariant.1) (λ w. ap length w.if-k-lt96.2 ∙ simp length-set c.loop-k.invariant.1) c.if-k-lt96.branch-raw,
-      ⊎_elim (λ w. stored-into same all c.if-k-lt96.all k (get_or q.cells k no_cell) no_cell w.if-k-lt96.2 long c.loop-k.invariant.2
-          (simp (lt-ltb _ _ w.if-k-lt96.0.taken))) (λ w. stored-into same all c.if-k-lt96.all k (get_or q.head (k - 96) no_cell) no_cell w.if-k-lt96.2 long c.loop-k.invariant.2
-          (simp (le-ltb _ _ w.if-k-lt96.0.left))) c.if-k-lt96.branch-raw,
+      elim c.if-k-lt96.branch [
+        | then-k-lt96 w ↦ ap length w.all-is ∙ simp length-set c.loop-k.invariant.1
+        | else-k-lt96 w ↦ ap length w.all-is ∙ simp length-set c.loop-k.invariant.1
+      ],
+      elim c.if-k-lt96.branch [
+        | then-k-lt96 w ↦
+            stored-into same all c.if-k-lt96.all k (get_or q.cells k no_cell) no_cell w.all-is long c.loop-k.invariant.2
+            (simp (lt-ltb _ _ w.if-k-lt96.true))
+        | else-k-lt96 w ↦
+            stored-into same all c.if-k-lt96.all k (get_or q.head (k - 96) no_cell) no_cell w.all-is long c.loop-k.invariant.2
+            (simp (le-ltb _ _ w.if-k-lt96.false))
+      ],
     )
 
 pub returns : goal.returns

@@ -3,7 +3,6 @@
 use borrow.Author.Rules.{rules}
 use borrow.Author.Count.{below_none}
 use mathlib.Core.Path.{◌≡◌, ap, ◌∙◌}
-use mathlib.Core.Logic.{⊎_elim}
 use borrow.Author.Tests.{lt-ltb, le-ltb}
 use Prim.Native.Nat.{ℕ, ◌-◌, ◌<◌}
 use lib.ListN.{get_or, length, length-set}
@@ -14,6 +13,7 @@ use Rattle.query.specs.Rule.{no_cell}
 use Rattle.mapping.specs.internal.Lines.{cell_at}
 use Rattle.lists.proofs.Positions.{stored-into}
 use Rattle.mapping.proofs.cells.tableau_flat.Goals as goal
+use Rattle.mapping.proofs.cells.tableau_flat.Goals.{then-k-lt192, else-k-lt192}
 
 pub loop-k-init : goal.loop-k-init
 loop-k-init c = (search rules, search rules, below_none _)
@@ -26,10 +26,18 @@ loop-k-preserved c =
     let long : k < length all = search rules in
     let same : ℕ → Cell → Type 0 = λ j x. x ≡ cell_at 24 q j in (
       search rules,
-      ⊎_elim (λ w. ap length w.if-k-lt192.2 ∙ simp length-set c.loop-k.invariant.1) (λ w. ap length w.if-k-lt192.2 ∙ simp length-set c.loop-k.invariant.1) c.if-k-lt192.branch-raw,
-      ⊎_elim (λ w. stored-into same all c.if-k-lt192.all k (get_or q.cells k no_cell) no_cell w.if-k-lt192.2 long c.loop-k.invariant.2
-          (simp (lt-ltb _ _ w.if-k-lt192.0.taken))) (λ w. stored-into same all c.if-k-lt192.all k (get_or q.head (k - 192) no_cell) no_cell w.if-k-lt192.2 long c.loop-k.invariant.2
-          (simp (le-ltb _ _ w.if-k-lt192.0.left))) c.if-k-lt192.branch-raw,
+      elim c.if-k-lt192.branch [
+        | then-k-lt192 w ↦ ap length w.all-is ∙ simp length-set c.loop-k.invariant.1
+        | else-k-lt192 w ↦ ap length w.all-is ∙ simp length-set c.loop-k.invariant.1
+      ],
+      elim c.if-k-lt192.branch [
+        | then-k-lt192 w ↦
+            stored-into same all c.if-k-lt192.all k (get_or q.cells k no_cell) no_cell w.all-is long c.loop-k.invariant.2
+            (simp (lt-ltb _ _ w.if-k-lt192.true))
+        | else-k-lt192 w ↦
+            stored-into same all c.if-k-lt192.all k (get_or q.head (k - 192) no_cell) no_cell w.all-is long c.loop-k.invariant.2
+            (simp (le-ltb _ _ w.if-k-lt192.false))
+      ],
     )
 
 pub returns : goal.returns

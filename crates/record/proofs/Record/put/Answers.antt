@@ -17,6 +17,7 @@ use Rattle.query.proofs.Good.{good-query}
 use Rattle.record.proofs.Refusals.{place-at, vacant-at}
 use Rattle.record.proofs.Outcomes.{put-broken, put-high, put-unfit, put-unsafe, put-filled, put-done}
 use Rattle.record.proofs.Record.put.Goals as goal
+use Rattle.record.proofs.Record.put.Goals.{Else-not-is_good, Else-not-query_good, Else-not-head_safe, In-At}
 
 pub returns-then-not-is_good : goal.returns-then-not-is_good
 returns-then-not-is_good c =
@@ -45,13 +46,13 @@ safe c = sym c.head_safe.ensures ∙ c.if-not-head_safe.false
 pub returns-in_default : goal.returns-in_default
 returns-in_default c =
     let self = c.args.self in
-    let told = c.enum_told-in_default-1.given in
-    let number : c.number.result ≡ told.0.0 = c.number.ensures ∙ ap number_of told.1 in
+    let told = c.in_default in
+    let number : c.number.result ≡ told.field-0 = c.number.ensures ∙ ap number_of told.is in
     c.refused-in_default.ensures ∙ ap (λ (n : ℕ). concluded (some n) self self) number
     ∙ put-high c.args.self
     c.args.place
-    c.args.q (good (goal.at.returns-in_default c).Else-not-is_good) told.0.0
-    (sym c.place_at-found.ensures ∙ told.1)
+    c.args.q (good (goal.at.returns-in_default c).Else-not-is_good) told.field-0
+    (sym c.place_at-found.ensures ∙ told.is)
 
 pub query_good-requires : goal.query_good-requires
 query_good-requires c = (good-record c.args.self (good (goal.at.query_good-requires c).Else-not-is_good)).relations
@@ -89,16 +90,16 @@ returns-then-not-head_safe c =
 pub returns-in_default-found : goal.returns-in_default-found
 returns-in_default-found c =
     let self = c.args.self in
-    let told = c.enum_told-in_default-found-1.given in
-    let number : c.number-in_default-found.result ≡ told.0.0 = c.number-in_default-found.ensures ∙ ap number_of told.1 in
+    let told = c.in_default-found in
+    let number : c.number-in_default-found.result ≡ told.field-0 = c.number-in_default-found.ensures ∙ ap number_of told.is in
     c.refused-in_default-found.ensures ∙ ap (λ (n : ℕ). concluded (some n) self self) number
     ∙ put-filled c.args.self
     c.args.place
     c.args.q
     (good (goal.at.returns-in_default-found c).Else-not-is_good)
     (low (goal.at.returns-in_default-found c).In-At) (fit (goal.at.returns-in_default-found c).Else-not-query_good)
-    (safe (goal.at.returns-in_default-found c).Else-not-head_safe) told.0.0
-    (sym c.vacant_place-found.ensures ∙ told.1)
+    (safe (goal.at.returns-in_default-found c).Else-not-head_safe) told.field-0
+    (sym c.vacant_place-found.ensures ∙ told.is)
 
 pub with_place-requires : goal.with_place-requires
 with_place-requires c =
