@@ -11,19 +11,23 @@ use Rattle.database_on_files.proofs.count_in_file.Goals as goal
 
 pub returns-in-Done : goal.returns-in-Done
 returns-in-Done c =
-    let d = c in
-    let t = d in
-    let o = t in
-    let a = o.args in
+    let a = c.args in
+    let o = c.read-outcome in
     let l = c.leave_count.ensures in
-    let p : count_reply d.count-done.result ≡ counted_in a.file.now a.place a.words.now =
-    d.count-done.ensures ∙ sym (read_done a.file.now o.read.result o.read.ensures (λ r. counted r a.place a.words.now) t.enum_told.given.1) in
-    (l.0 ∙ ap returned p, l.1 ∙ leaves-same p (λ n. n) a.count.now)
+    let p : count_reply c.count-done.result ≡ counted_in a.file.now a.place a.words.now =
+    c.count-done.ensures ∙ sym (read_done a.file.now o.result o.ensures (λ r. counted r a.place a.words.now) c.in-Done.is) in
+    record {
+      value = l.value ∙ ap returned p;
+      count_after = l.count_after ∙ leaves-same p (λ n. n) a.count.now;
+    }
 
 pub returns-in-Refused : goal.returns-in-Refused
 returns-in-Refused c =
-    let o = c in
-    let a = o.args in
+    let a = c.args in
+    let o = c.read-outcome in
     let p : counted_in a.file.now a.place a.words.now ≡ refused c.in-Refused.n =
-    read-refused a.file.now o.read-outcome.result o.read-outcome.ensures (λ r. counted r a.place a.words.now) _ c.in-Refused.is in
-    (refused-number p, refused-leaves p (λ n. n) a.count.now)
+    read-refused a.file.now o.result o.ensures (λ r. counted r a.place a.words.now) _ c.in-Refused.is in
+    record {
+      value = refused-number p;
+      count_after = refused-leaves p (λ n. n) a.count.now;
+    }

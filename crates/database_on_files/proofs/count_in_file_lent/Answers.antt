@@ -1,5 +1,4 @@
 -- `count_in_file_lent` gives the count of the answers, once the file is read. Assumes nothing.
--- Where the call began
 use mathlib.Core.Path.{◌≡◌, refl, sym, ap, ◌∙◌}
 use mathlib.Core.List.{List}
 use Prim.Native.Nat.{ℕ}
@@ -15,47 +14,51 @@ use Rattle.database_on_files.proofs.Memory.{unused-read}
 use Rattle.database_on_files.proofs.count_in_file_lent.Goals as goal
 use Rattle.database_on_files.proofs.count_in_file_lent.Goals.{After-count_lent-done, Start}
 
-abbrev start : goal.After-count_lent-done → goal.Start
-start c = c
-
 -- Once the file is read the count is that of its record
-of-record : (c : goal.After-count_lent-done)
-    → count_reply c.count_lent-done.result ≡ counted_in (start c).args.file.now (start c).args.place (start c).args.words.now
+of-record : (c : After-count_lent-done)
+    → count_reply c.count_lent-done.result ≡ counted_in c.args.file.now c.args.place c.args.words.now
 of-record c =
-    let s = (start c).args in
-    let o = c.read in
+    let s = c.args in
+    let o = c.read-outcome in
     c.count_lent-done.ensures.result_value
     ∙ sym (read_done s.file.now o.result o.ensures (λ r. counted r s.place s.words.now) c.in-Done.is)
 
 -- Working memory is as the call on its record leaves it
-unused : (c : goal.After-count_lent-done) (before after : List ℕ)
-    → UnusedIfRefused (search_conditions c.read.result.«record» (start c).args.place (start c).args.words.now) before after
-    → UnusedInFile (start c).args.file.now (λ r. search_conditions r (start c).args.place (start c).args.words.now) before after
+unused : (c : After-count_lent-done) (before after : List ℕ)
+    → UnusedIfRefused (search_conditions c.read-outcome.result.«record» c.args.place c.args.words.now) before after
+    → UnusedInFile c.args.file.now (λ r. search_conditions r c.args.place c.args.words.now) before after
 unused c before after =
-    let s = (start c).args in
-    let o = c.read in
+    let s = c.args in
+    let o = c.read-outcome in
     unused-read s.file.now o.result o.ensures c.in-Done.is
     (λ r. search_conditions r s.place s.words.now) before after
 
 pub returns-in-Done : goal.returns-in-Done
 returns-in-Done c =
-    let k = c in
-    let p = of-record (goal.at.returns-in-Done c).After-count_lent-done in
+    let k = (goal.at.returns-in-Done c).After-count_lent-done in
+    let p = of-record k in
     let l = c.leave_count.ensures in
-    let m = k.count_lent-done.ensures.1 in (
-      l.0 ∙ ap returned p,
-      (
-        l.1 ∙ ap (λ (x : Reply ℕ). leaves x (λ n. n) (start (goal.at.returns-in-Done c).After-count_lent-done).args.count.now) p,
-        (unused (goal.at.returns-in-Done c).After-count_lent-done _ _ m.0, (unused (goal.at.returns-in-Done c).After-count_lent-done _ _ m.1.0, (unused (goal.at.returns-in-Done c).After-count_lent-done _ _ m.1.1.0, unused (goal.at.returns-in-Done c).After-count_lent-done _ _ m.1.1.1))),
-      ),
-    )
+    let m = c.count_lent-done.ensures in
+    record {
+      value = l.value ∙ ap returned p;
+      count_after = l.count_after ∙ ap (λ (x : Reply ℕ). leaves x (λ n. n) c.args.count.now) p;
+      unused_in_file = unused k _ _ m.unused_if_refused;
+      unused_in_file_2 = unused k _ _ m.unused_if_refused_2;
+      unused_in_file_3 = unused k _ _ m.unused_if_refused_3;
+      unused_in_file_4 = unused k _ _ m.unused_if_refused_4;
+    }
 
 pub returns-in-Refused : goal.returns-in-Refused
 returns-in-Refused c =
     let o = c.read-outcome in
     let s = c.args in
     let p : counted_in s.file.now s.place s.words.now ≡ refused c.in-Refused.n =
-    read-refused s.file.now o.result o.ensures (λ r. counted r s.place s.words.now) _ c.in-Refused.is in (
-      refused-number p,
-      (refused-leaves p (λ n. n) s.count.now, (λ n r. refl, (λ n r. refl, (λ n r. refl, λ n r. refl)))),
-    )
+    read-refused s.file.now o.result o.ensures (λ r. counted r s.place s.words.now) _ c.in-Refused.is in
+    record {
+      value = refused-number p;
+      count_after = refused-leaves p (λ n. n) s.count.now;
+      unused_in_file = λ n r. refl;
+      unused_in_file_2 = λ n r. refl;
+      unused_in_file_3 = λ n r. refl;
+      unused_in_file_4 = λ n r. refl;
+    }

@@ -14,27 +14,31 @@ use Rattle.database_on_files.proofs.evaluate_in_file.Goals as goal
 
 pub returns-in-Done : goal.returns-in-Done
 returns-in-Done c =
-    let d = c in
-    let t = d in
-    let o = t in
-    let a = o.args in
+    let a = c.args in
+    let o = c.read-outcome in
     let l = c.leave_count.ensures in
-    let done = t.enum_told.given.1 in
-    let p : count_reply d.evaluate-done.result ≡ evaluated_in a.file.now a.place a.words.now (length a.answers.now) =
-    d.evaluate-done.ensures.result_value
-    ∙ sym (read_done a.file.now o.read.result o.read.ensures (λ r. evaluated r a.place a.words.now (length a.answers.now)) done) in
-    let w = done-leaves (outcome-done (read_file a.file.now) o.read.result o.read.ensures done)
+    let p : count_reply c.evaluate-done.result ≡ evaluated_in a.file.now a.place a.words.now (length a.answers.now) =
+    c.evaluate-done.ensures.result_value
+    ∙ sym (read_done a.file.now o.result o.ensures (λ r. evaluated r a.place a.words.now (length a.answers.now)) c.in-Done.is) in
+    let w = done-leaves (outcome-done (read_file a.file.now) o.result o.ensures c.in-Done.is)
     (λ r. buffer_then r a.place a.words.now a.answers.now) a.answers.now in
-    (l.0 ∙ ap returned p, (d.evaluate-done.ensures.buffer_after ∙ w, l.1 ∙ leaves-same p (λ n. n) a.count.now))
+    record {
+      value = l.value ∙ ap returned p;
+      answers_after = c.evaluate-done.ensures.buffer_after ∙ w;
+      count_after = l.count_after ∙ leaves-same p (λ n. n) a.count.now;
+    }
 
 pub returns-in-Refused : goal.returns-in-Refused
 returns-in-Refused c =
-    let o = c in
-    let a = o.args in
+    let a = c.args in
+    let o = c.read-outcome in
     let n = c.in-Refused.n in
     let p : evaluated_in a.file.now a.place a.words.now (length a.answers.now) ≡ refused n =
-    read-refused a.file.now o.read-outcome.result o.read-outcome.ensures (λ r. evaluated r a.place a.words.now (length a.answers.now)) n
-    c.in-Refused.is in
-    let w = refused-leaves (outcome-refused (read_file a.file.now) o.read-outcome.result n o.read-outcome.ensures c.in-Refused.is)
-    (λ r. buffer_then r a.place a.words.now a.answers.now) a.answers.now in
-    (refused-number p, (w, refused-leaves p (λ n. n) a.count.now))
+    read-refused a.file.now o.result o.ensures (λ r. evaluated r a.place a.words.now (length a.answers.now)) n c.in-Refused.is in
+    record {
+      value = refused-number p;
+      answers_after =
+          refused-leaves (outcome-refused (read_file a.file.now) o.result n o.ensures c.in-Refused.is)
+          (λ r. buffer_then r a.place a.words.now a.answers.now) a.answers.now;
+      count_after = refused-leaves p (λ n. n) a.count.now;
+    }

@@ -17,16 +17,33 @@ next v = gives (test_numbers v)
 pub returns-in-Done : goal.returns-in-Done
 returns-in-Done c =
     let a = c.args in
+    let o = c.read-outcome in
     let l = c.leave_test.ensures in
     let p : test_result c.test-found.result ≡ tested_in a.file.now a.words.now =
     ap (λ (x : Reply Violation). x >>= next) c.test-found.ensures
-    ∙ sym (read_done a.file.now c.read-outcome.result c.read-outcome.ensures (λ r. tested r a.words.now >>= next) c.in-Done.is) in
-    (l.0 ∙ ap returned p, (l.1.0 ∙ leaves-same p (λ t. t.verdict) a.verdict.now, (l.1.1.0 ∙ leaves-same p (λ t. t.dependency) a.dependency.now, (l.1.1.1.0 ∙ leaves-same p (λ t. t.first) a.first.now, (l.1.1.1.1.0 ∙ leaves-same p (λ t. t.second) a.second.now, (l.1.1.1.1.1.0 ∙ leaves-same p (λ t. t.third) a.third.now, l.1.1.1.1.1.1 ∙ leaves-same p (λ t. t.fourth) a.fourth.now))))))
+    ∙ sym (read_done a.file.now o.result o.ensures (λ r. tested r a.words.now >>= next) c.in-Done.is) in
+    record {
+      value = l.value ∙ ap returned p;
+      verdict_after = l.verdict_after ∙ leaves-same p (λ t. t.verdict) a.verdict.now;
+      dependency_after = l.dependency_after ∙ leaves-same p (λ t. t.dependency) a.dependency.now;
+      first_after = l.first_after ∙ leaves-same p (λ t. t.first) a.first.now;
+      second_after = l.second_after ∙ leaves-same p (λ t. t.second) a.second.now;
+      third_after = l.third_after ∙ leaves-same p (λ t. t.third) a.third.now;
+      fourth_after = l.fourth_after ∙ leaves-same p (λ t. t.fourth) a.fourth.now;
+    }
 
 pub returns-in-Refused : goal.returns-in-Refused
 returns-in-Refused c =
-    let o = c in
     let a = c.args in
+    let o = c.read-outcome in
     let p : tested_in a.file.now a.words.now ≡ refused c.in-Refused.n =
-    read-refused a.file.now o.read-outcome.result o.read-outcome.ensures (λ r. tested r a.words.now >>= next) _ c.in-Refused.is in
-    (refused-number p, (refused-leaves p (λ t. t.verdict) a.verdict.now, (refused-leaves p (λ t. t.dependency) a.dependency.now, (refused-leaves p (λ t. t.first) a.first.now, (refused-leaves p (λ t. t.second) a.second.now, (refused-leaves p (λ t. t.third) a.third.now, refused-leaves p (λ t. t.fourth) a.fourth.now))))))
+    read-refused a.file.now o.result o.ensures (λ r. tested r a.words.now >>= next) _ c.in-Refused.is in
+    record {
+      value = refused-number p;
+      verdict_after = refused-leaves p (λ t. t.verdict) a.verdict.now;
+      dependency_after = refused-leaves p (λ t. t.dependency) a.dependency.now;
+      first_after = refused-leaves p (λ t. t.first) a.first.now;
+      second_after = refused-leaves p (λ t. t.second) a.second.now;
+      third_after = refused-leaves p (λ t. t.third) a.third.now;
+      fourth_after = refused-leaves p (λ t. t.fourth) a.fourth.now;
+    }
