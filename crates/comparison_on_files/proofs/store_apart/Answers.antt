@@ -9,6 +9,7 @@ use Rattle.query.proofs.Good.{good-query}
 use Rattle.format.specs.Parts.{query_for}
 use Rattle.comparison_on_files.proofs.Verdicts.{verdict-short, verdict-long, verdict-stored}
 use Rattle.comparison_on_files.proofs.store_apart.Goals as goal
+use Rattle.comparison_on_files.proofs.store_apart.Goals.{Start}
 
 fits : (c : goal.Start) → (c.args.chased.arity ≤ 8) × (c.args.chased.size ≤ 24)
 fits c =

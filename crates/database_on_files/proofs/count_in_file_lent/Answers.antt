@@ -13,6 +13,7 @@ use Rattle.record_on_files.proofs.Files.{read_done, read-refused}
 use Rattle.lent_numbers.proofs.Lent.{refused-number, refused-leaves}
 use Rattle.database_on_files.proofs.Memory.{unused-read}
 use Rattle.database_on_files.proofs.count_in_file_lent.Goals as goal
+use Rattle.database_on_files.proofs.count_in_file_lent.Goals.{After-count_lent-done, Start}
 
 abbrev start : goal.After-count_lent-done → goal.Start
 start c = c

@@ -16,6 +16,7 @@ use Rattle.lent_numbers.proofs.Lent.{done-leaves, refused-number, refused-leaves
 use Rattle.format.proofs.Results.{outcome-done, outcome-refused}
 use Rattle.database_on_files.proofs.Memory.{unused-read}
 use Rattle.database_on_files.proofs.evaluate_in_file_lent.Goals as goal
+use Rattle.database_on_files.proofs.evaluate_in_file_lent.Goals.{After-evaluate_lent-done, Start}
 
 abbrev start : goal.After-evaluate_lent-done → goal.Start
 start c = c

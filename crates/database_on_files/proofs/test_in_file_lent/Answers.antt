@@ -15,6 +15,7 @@ use Rattle.record_on_files.proofs.Files.{read_done, read-refused}
 use Rattle.lent_numbers.proofs.Lent.{refused-number, refused-leaves}
 use Rattle.database_on_files.proofs.Memory.{unused-read}
 use Rattle.database_on_files.proofs.test_in_file_lent.Goals as goal
+use Rattle.database_on_files.proofs.test_in_file_lent.Goals.{After-test_lent-found, Start}
 
 abbrev start : goal.After-test_lent-found → goal.Start
 start c = c

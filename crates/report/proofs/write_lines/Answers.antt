@@ -7,7 +7,7 @@ use Rattle.report.proofs.OnePlace.{other-low}
 use Rattle.report.proofs.Listed.{listable, lines-written}
 use borrow.Author.Rules.{rules}
 use Rattle.report.proofs.write_lines.Goals as goal
-use Rattle.report.proofs.write_lines.Goals.{Start, After-stored-source, After-stored-result, After-reduce-reduced}
+use Rattle.report.proofs.write_lines.Goals.{After-reduce-reduced, After-stored-result, After-stored-source, Start}
 
 eight : (c : Start) → length c.args.given.places ≡ 8
 eight c = let long : length c.args.given.places ≡ 8 = search (mapped-length, rules) in long
