@@ -7,9 +7,9 @@ use Rattle.lent_numbers.proofs.leave_columns.Goals as goal
 pub returns-in-Determined : goal.returns-in-Determined
 returns-in-Determined c =
     let p = ap columns_reply c.in-Determined.is in
-    (done-number p, (done-leaves p (λ t. t.0) _, done-leaves p (λ t. t.1) _))
+    record { value = done-number p; columns_after = done-leaves p (λ t. t.0) _; count_after = done-leaves p (λ t. t.1) _ }
 
 pub returns-in-Refused : goal.returns-in-Refused
 returns-in-Refused c =
     let p = ap columns_reply c.in-Refused.is in
-    (refused-number p, (refused-leaves p (λ t. t.0) _, refused-leaves p (λ t. t.1) _))
+    record { value = refused-number p; columns_after = refused-leaves p (λ t. t.0) _; count_after = refused-leaves p (λ t. t.1) _ }

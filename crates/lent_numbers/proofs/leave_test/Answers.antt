@@ -13,19 +13,51 @@ next v = gives (test_numbers v)
 pub returns-in-Obeys : goal.returns-in-Obeys
 returns-in-Obeys c =
     let p = goes_on (ap test_reply c.in-Obeys.is) next in
-    (done-number p, (done-leaves p (λ t. t.verdict) _, (done-leaves p (λ t. t.dependency) _, (done-leaves p (λ t. t.first) _, (done-leaves p (λ t. t.second) _, (done-leaves p (λ t. t.third) _, done-leaves p (λ t. t.fourth) _))))))
+    record {
+      value = done-number p;
+      verdict_after = done-leaves p (λ t. t.verdict) _;
+      dependency_after = done-leaves p (λ t. t.dependency) _;
+      first_after = done-leaves p (λ t. t.first) _;
+      second_after = done-leaves p (λ t. t.second) _;
+      third_after = done-leaves p (λ t. t.third) _;
+      fourth_after = done-leaves p (λ t. t.fourth) _;
+    }
 
 pub returns-in-Broken : goal.returns-in-Broken
 returns-in-Broken c =
     let p = goes_on (ap test_reply c.in-Broken.is) next in
-    (done-number p, (done-leaves p (λ t. t.verdict) _, (done-leaves p (λ t. t.dependency) _, (done-leaves p (λ t. t.first) _, (done-leaves p (λ t. t.second) _, (done-leaves p (λ t. t.third) _, done-leaves p (λ t. t.fourth) _))))))
+    record {
+      value = done-number p;
+      verdict_after = done-leaves p (λ t. t.verdict) _;
+      dependency_after = done-leaves p (λ t. t.dependency) _;
+      first_after = done-leaves p (λ t. t.first) _;
+      second_after = done-leaves p (λ t. t.second) _;
+      third_after = done-leaves p (λ t. t.third) _;
+      fourth_after = done-leaves p (λ t. t.fourth) _;
+    }
 
 pub returns-in-BrokenJoin : goal.returns-in-BrokenJoin
 returns-in-BrokenJoin c =
     let p = goes_on (ap test_reply c.in-BrokenJoin.is) next in
-    (done-number p, (done-leaves p (λ t. t.verdict) _, (done-leaves p (λ t. t.dependency) _, (done-leaves p (λ t. t.first) _, (done-leaves p (λ t. t.second) _, (done-leaves p (λ t. t.third) _, done-leaves p (λ t. t.fourth) _))))))
+    record {
+      value = done-number p;
+      verdict_after = done-leaves p (λ t. t.verdict) _;
+      dependency_after = done-leaves p (λ t. t.dependency) _;
+      first_after = done-leaves p (λ t. t.first) _;
+      second_after = done-leaves p (λ t. t.second) _;
+      third_after = done-leaves p (λ t. t.third) _;
+      fourth_after = done-leaves p (λ t. t.fourth) _;
+    }
 
 pub returns-in-Refused : goal.returns-in-Refused
 returns-in-Refused c =
     let p = still-refused (ap test_reply c.in-Refused.is) next in
-    (refused-number p, (refused-leaves p (λ t. t.verdict) _, (refused-leaves p (λ t. t.dependency) _, (refused-leaves p (λ t. t.first) _, (refused-leaves p (λ t. t.second) _, (refused-leaves p (λ t. t.third) _, refused-leaves p (λ t. t.fourth) _))))))
+    record {
+      value = refused-number p;
+      verdict_after = refused-leaves p (λ t. t.verdict) _;
+      dependency_after = refused-leaves p (λ t. t.dependency) _;
+      first_after = refused-leaves p (λ t. t.first) _;
+      second_after = refused-leaves p (λ t. t.second) _;
+      third_after = refused-leaves p (λ t. t.third) _;
+      fourth_after = refused-leaves p (λ t. t.fourth) _;
+    }
