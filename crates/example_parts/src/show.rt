@@ -3,18 +3,22 @@ use query::{Cell, Entry};
 use std::io;
 
 // Writes a number after a text.
-pub fn number(rt: &impl Print, text: &str, n: u8) -> io::Result<()> {
-    print!(rt; "{text}{n}")
+pub fn number(rt: &impl Print, text: &[u8], n: u8) -> io::Result<()> {
+    rt.write_all(text)?;
+    print!(rt; "{n}")
 }
 
 // Writes a call and the number of its case.
-pub fn case(rt: &impl Print, call: &str, n: u8) -> io::Result<()> {
-    print!(rt; "{call}{n}: ")
+pub fn case(rt: &impl Print, call: &[u8], n: u8) -> io::Result<()> {
+    number(rt, call, n)?;
+    print!(rt; ": ")
 }
 
 // Writes a call and its two places.
-pub fn places(rt: &impl Print, call: &str, p: u8, q: u8) -> io::Result<()> {
-    print!(rt; "{call}{p} {q}:")
+pub fn places(rt: &impl Print, call: &[u8], p: u8, q: u8) -> io::Result<()> {
+    number(rt, call, p)?;
+    number(rt, b" ", q)?;
+    print!(rt; ":")
 }
 
 // Writes the end of a line.
@@ -27,7 +31,7 @@ pub fn cell(rt: &impl Print, c: Cell) -> io::Result<()> {
     let e = c.entry;
     match e {
         Entry::Constant(n) => print!(rt; " {n}"),
-        Entry::Variable(v) => number(rt, " v", v),
+        Entry::Variable(v) => number(rt, b" v", v),
     }
 }
 

@@ -21,12 +21,12 @@ fn comparison(rt: &impl Print, c: Comparison) -> io::Result<()> {
             show::images(rt, images)?;
         }
         Verdict::Apart => {
-            show::number(rt, " not contained, rows ", query.size)?;
+            show::number(rt, b" not contained, rows ", query.size)?;
             print!(rt; ", first")?;
             show::cell(rt, cells[0])?;
             show::cell(rt, cells[1])?;
         }
-        Verdict::Refused(n) => show::number(rt, " ", n)?,
+        Verdict::Refused(n) => show::number(rt, b" ", n)?,
     }
     show::end(rt)
 }
@@ -36,7 +36,7 @@ fn checked(rt: &impl Print, answer: Checked) -> io::Result<()> {
     match answer {
         Checked::Yes => print!(rt; " yes")?,
         Checked::No => print!(rt; " no")?,
-        Checked::Refused(n) => show::number(rt, " ", n)?,
+        Checked::Refused(n) => show::number(rt, b" ", n)?,
     }
     show::end(rt)
 }
@@ -99,7 +99,7 @@ fn crossed(r: Record) -> Record {
 
 // The comparison of two places.
 fn compare_two(rt: &impl Print, r: Record, p: u8, q: u8) -> io::Result<()> {
-    show::places(rt, "compare ", p, q)?;
+    show::places(rt, b"compare ", p, q)?;
     comparison(rt, comparison::compare(r, p as usize, q as usize))
 }
 
@@ -115,7 +115,7 @@ fn compare_joined(rt: &impl Print, r: Record) -> io::Result<()> {
 // The comparison of place p with each of the places 0 to 8.
 fn compare_with(rt: &impl Print, r: Record, p: u8) -> io::Result<()> {
     for q in 0..9u8 {
-        show::places(rt, "compare ", p, q)?;
+        show::places(rt, b"compare ", p, q)?;
         comparison(rt, comparison::compare(r, p as usize, q as usize))?;
     }
     Ok(())
@@ -139,7 +139,7 @@ fn check_with(rt: &impl Print, r: Record, q: u8, a: Entry, b: Entry, c: Entry) -
     images[1] = Cell { entry: b };
     images[2] = Cell { entry: c };
     for p in 0..9u8 {
-        show::places(rt, "check ", p, q)?;
+        show::places(rt, b"check ", p, q)?;
         checked(
             rt,
             comparison::check_mapping(r, p as usize, q as usize, images),

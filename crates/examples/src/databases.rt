@@ -19,19 +19,20 @@ fn test(rt: &impl Print, r: Record, words: &[u32]) -> io::Result<()> {
         Conformance::BrokenJoin(k, a, b, c, d) => {
             print!(rt; " breaks join {k} in rows {a} {b} {c} {d}")?;
         }
-        Conformance::Refused(n) => show::number(rt, " ", n)?,
+        Conformance::Refused(n) => show::number(rt, b" ", n)?,
     }
     show::end(rt)
 }
 
 // Writes a word after a text.
-fn word(rt: &impl Print, text: &str, n: u32) -> io::Result<()> {
-    print!(rt; "{text}{n}")
+fn word(rt: &impl Print, text: &[u8], n: u32) -> io::Result<()> {
+    rt.write_all(text)?;
+    print!(rt; "{n}")
 }
 
 // Evaluates a place.
 fn evaluate(rt: &impl Print, r: Record, place: u8, words: &[u32], room: bool) -> io::Result<()> {
-    show::case(rt, "evaluate ", place)?;
+    show::case(rt, b"evaluate ", place)?;
     let mut answers = [9u32; 2];
     let done = if room {
         database::evaluate(r, place as usize, words, &mut answers)
@@ -40,10 +41,10 @@ fn evaluate(rt: &impl Print, r: Record, place: u8, words: &[u32], room: bool) ->
     };
     match done {
         Answered::Count(n) => print!(rt; "answers {n}")?,
-        Answered::Refused(n) => show::number(rt, "", n)?,
+        Answered::Refused(n) => show::number(rt, b"", n)?,
     }
-    word(rt, ", buffer ", answers[0])?;
-    word(rt, " ", answers[1])?;
+    word(rt, b", buffer ", answers[0])?;
+    word(rt, b" ", answers[1])?;
     show::end(rt)
 }
 
@@ -54,7 +55,7 @@ fn write(rt: &impl Print, r: Record) -> io::Result<()> {
     let written = file::write(r, &mut buffer);
     match written {
         Written::Length(n) => print!(rt; "{n}")?,
-        Written::Refused(n) => show::number(rt, "", n)?,
+        Written::Refused(n) => show::number(rt, b"", n)?,
     }
     show::end(rt)
 }

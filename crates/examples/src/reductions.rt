@@ -13,13 +13,13 @@ fn result(rt: &impl Print, q: Query) -> io::Result<()> {
     let cells = q.cells;
     let head = q.head;
     if q.size == 0 {
-        return show::number(rt, " never, head length ", q.arity);
+        return show::number(rt, b" never, head length ", q.arity);
     }
-    show::number(rt, " rows ", q.size)?;
+    show::number(rt, b" rows ", q.size)?;
     print!(rt; ", first")?;
     show::cell(rt, cells[0])?;
     show::cell(rt, cells[1])?;
-    show::number(rt, ", head length ", q.arity)?;
+    show::number(rt, b", head length ", q.arity)?;
     show::cell(rt, head[0])?;
     show::cell(rt, head[1])
 }
@@ -28,7 +28,7 @@ fn result(rt: &impl Print, q: Query) -> io::Result<()> {
 fn reduced(rt: &impl Print, o: Reduced, target: usize) -> io::Result<()> {
     let answer = o.answer;
     if let Status::Refused(n) = answer {
-        show::number(rt, " ", n)?;
+        show::number(rt, b" ", n)?;
         return show::end(rt);
     }
     let after = o.record;
@@ -41,7 +41,7 @@ fn reduced(rt: &impl Print, o: Reduced, target: usize) -> io::Result<()> {
     }
     print!(rt; ",")?;
     show::images(rt, images)?;
-    show::number(rt, ", replaced ", o.count)?;
+    show::number(rt, b", replaced ", o.count)?;
     show::end(rt)
 }
 
@@ -62,7 +62,7 @@ fn filled(r: Record) -> Record {
 
 // The reduction of one place into another.
 fn reduce(rt: &impl Print, r: Record, source: u8, target: u8) -> io::Result<()> {
-    show::places(rt, "reduce ", source, target)?;
+    show::places(rt, b"reduce ", source, target)?;
     reduced(
         rt,
         reduction::reduce(r, source as usize, target as usize),

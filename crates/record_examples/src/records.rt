@@ -12,7 +12,7 @@ fn answer(rt: &impl Print, outcome: Outcome) -> io::Result<Record> {
     let answer = outcome.answer;
     match answer {
         Status::Done => print!(rt; "done")?,
-        Status::Refused(n) => show::number(rt, "", n)?,
+        Status::Refused(n) => show::number(rt, b"", n)?,
     }
     show::end(rt)?;
     Ok(outcome.record)
@@ -22,10 +22,10 @@ fn answer(rt: &impl Print, outcome: Outcome) -> io::Result<Record> {
 fn columns(rt: &impl Print, answer: Columns) -> io::Result<()> {
     match answer {
         Columns::Determined(mask, count) => {
-            show::number(rt, "set ", mask)?;
-            show::number(rt, ", columns ", count)?;
+            show::number(rt, b"set ", mask)?;
+            show::number(rt, b", columns ", count)?;
         }
-        Columns::Refused(n) => show::number(rt, "", n)?,
+        Columns::Refused(n) => show::number(rt, b"", n)?,
     }
     show::end(rt)
 }
@@ -34,7 +34,7 @@ fn columns(rt: &impl Print, answer: Columns) -> io::Result<()> {
 fn open_counts(rt: &impl Print) -> io::Result<()> {
     let widths = [1u8; 9];
     for n in 0..10usize {
-        show::case(rt, "open, widths ", n as u8)?;
+        show::case(rt, b"open, widths ", n as u8)?;
         answer(rt, record_calls::open(&widths[..n]))?;
     }
     Ok(())
@@ -43,7 +43,7 @@ fn open_counts(rt: &impl Print) -> io::Result<()> {
 // Open with a width of 0 to 9.
 fn open_widths(rt: &impl Print) -> io::Result<()> {
     for w in 0..10u8 {
-        show::case(rt, "open, width ", w)?;
+        show::case(rt, b"open, width ", w)?;
         answer(rt, record_calls::open(&[2, w]))?;
     }
     Ok(())
@@ -139,7 +139,7 @@ fn query(case: u8) -> Query {
 // Put the query of each case at a place. Where the record is good and the place vacant, 5 is given for 1, 3, 5, 7 to 12 and 15, and 6 for 13.
 fn puts(rt: &impl Print, r: Record, place: usize) -> io::Result<()> {
     for case in 0..16u8 {
-        show::case(rt, "put ", case)?;
+        show::case(rt, b"put ", case)?;
         answer(rt, r.put(place, query(case)))?;
     }
     Ok(())
@@ -148,7 +148,7 @@ fn puts(rt: &impl Print, r: Record, place: usize) -> io::Result<()> {
 // Drop places 0 to 9.
 fn drops(rt: &impl Print, r: Record) -> io::Result<()> {
     for place in 0..10usize {
-        show::case(rt, "drop ", place as u8)?;
+        show::case(rt, b"drop ", place as u8)?;
         answer(rt, record_calls::drop_query(r, place))?;
     }
     Ok(())
@@ -191,7 +191,7 @@ fn dependency(case: u8) -> Dependency {
 // Add the dependency of each case.
 fn adds(rt: &impl Print, r: Record) -> io::Result<()> {
     for case in 0..6u8 {
-        show::case(rt, "add ", case)?;
+        show::case(rt, b"add ", case)?;
         answer(rt, r.add_dependency(dependency(case)))?;
     }
     Ok(())
@@ -201,7 +201,7 @@ fn adds(rt: &impl Print, r: Record) -> io::Result<()> {
 fn full(rt: &impl Print, r: Record) -> io::Result<Record> {
     let mut grown = r;
     for case in 0..32u8 {
-        show::case(rt, "add to ", case)?;
+        show::case(rt, b"add to ", case)?;
         grown = answer(rt, grown.add_dependency(dependency(1 - case % 2)))?;
     }
     Ok(grown)
@@ -259,7 +259,7 @@ fn join(case: u8) -> JoinDependency {
 // Add the join dependency of each case. Where the record is good and holds fewer than 4, 15 is given for 2 to 8.
 fn joins(rt: &impl Print, r: Record) -> io::Result<()> {
     for case in 0..9u8 {
-        show::case(rt, "join ", case)?;
+        show::case(rt, b"join ", case)?;
         answer(rt, r.add_join(join(case)))?;
     }
     Ok(())
@@ -269,7 +269,7 @@ fn joins(rt: &impl Print, r: Record) -> io::Result<()> {
 fn joined(rt: &impl Print, r: Record) -> io::Result<Record> {
     let mut grown = r;
     for case in 0..4u8 {
-        show::case(rt, "join to ", case)?;
+        show::case(rt, b"join to ", case)?;
         grown = answer(rt, grown.add_join(join(case % 2)))?;
     }
     Ok(grown)
@@ -278,7 +278,7 @@ fn joined(rt: &impl Print, r: Record) -> io::Result<Record> {
 // The columns of a relation that each of its sets, and the empty one, determines.
 fn determined(rt: &impl Print, r: Record, relation: u8) -> io::Result<()> {
     for left in 0..9u8 {
-        show::case(rt, "determined by ", left)?;
+        show::case(rt, b"determined by ", left)?;
         columns(rt, record_calls::determined(r, relation, left))?;
     }
     Ok(())

@@ -10,15 +10,16 @@ use Rattle.record_on_files.proofs.determined_in_file.Goals as goal
 
 pub returns-in-Done : goal.returns-in-Done
 returns-in-Done c =
-    let d = c in
-    let t = d in
-    let o = t in
-    let a = o.args in
+    let a = c.args in
     let l = c.leave_columns.ensures in
-    let p : columns_reply d.determined.result ≡ determined_in a.file.now a.relation a.left =
-    d.determined.ensures
-    ∙ sym (read_done a.file.now o.read.result o.read.ensures (λ r. determined_columns r a.relation a.left) t.enum_told.given.1) in
-    (l.0 ∙ ap returned p, (l.1.0 ∙ leaves-same p (λ t. t.0) a.columns.now, l.1.1 ∙ leaves-same p (λ t. t.1) a.count.now))
+    let p : columns_reply c.determined.result ≡ determined_in a.file.now a.relation a.left =
+    c.determined.ensures
+    ∙ sym (read_done a.file.now c.read-outcome.result c.read-outcome.ensures (λ r. determined_columns r a.relation a.left) c.in-Done.is) in
+    record {
+      value = l.value ∙ ap returned p;
+      columns_after = l.columns_after ∙ leaves-same p (λ t. t.0) a.columns.now;
+      count_after = l.count_after ∙ leaves-same p (λ t. t.1) a.count.now;
+    }
 
 pub returns-in-Refused : goal.returns-in-Refused
 returns-in-Refused c =
@@ -26,4 +27,8 @@ returns-in-Refused c =
     let p : determined_in s.args.file.now s.args.relation s.args.left ≡ refused c.in-Refused.n =
     read-refused s.args.file.now c.read-outcome.result c.read-outcome.ensures
     (λ r. determined_columns r s.args.relation s.args.left) _ c.in-Refused.is in
-    (refused-number p, (refused-leaves p (λ t. t.0) s.args.columns.now, refused-leaves p (λ t. t.1) s.args.count.now))
+    record {
+      value = refused-number p;
+      columns_after = refused-leaves p (λ t. t.0) s.args.columns.now;
+      count_after = refused-leaves p (λ t. t.1) s.args.count.now;
+    }

@@ -9,4 +9,4 @@ returns c =
     let w = c.write_good.ensures in
     let l = c.leave_length.ensures in
     wrote-fitted s.args.given s.args.out.now _ w.1 s.args.size.now s.requires (length_reply c.write_good.result) w.0 _ _
-    l.0 l.1
+    l.value l.size_after

@@ -24,7 +24,7 @@ returns-in-Done c =
     c.reduce-reduced.result
     c.reduce-reduced.ensures
     (reduced-shaped c.reduce-reduced.result _
-    c.reduce-reduced.type-inv) _ _ _ _ _
+    c.reduce-reduced.type_inv) _ _ _ _ _
     c.store_reduction.ensures
 
 pub returns-in-Refused : goal.returns-in-Refused
