@@ -3,12 +3,11 @@ use Rattle.report.proofs.Reading.{read-good, read-listing, read-refused}
 use Rattle.report.proofs.report.Goals as goal
 
 pub write_places-requires : goal.write_places-requires
-write_places-requires c =
-    (
-      c.requires,
-      read-good c.args.file.now c.read-outcome.result c.read-outcome.ensures
-          (λ i. (c.type_inv.file i).fits) c.in-Done.is,
-    )
+write_places-requires c = (
+  c.requires,
+  read-good c.args.file.now c.read-outcome.result c.read-outcome.ensures
+      (λ i. (c.type_inv.file i).fits) c.in-Done.is,
+)
 
 pub returns-in-Done : goal.returns-in-Done
 returns-in-Done c =

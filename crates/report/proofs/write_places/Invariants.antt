@@ -1,5 +1,5 @@
 -- `report::write_places` meets its contract. Invariant: the lines of the filled places below `place` are written. Assumes nothing.
-use Prim.Native.Nat.{◌-◌, ◌≤◌}
+use Prim.Native.Nat.{◌≤◌}
 use Rattle.report.specs.internal.Places.{PartWritten}
 use Rattle.report.proofs.write_places.Given as goal
 
