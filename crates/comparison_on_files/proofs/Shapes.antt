@@ -4,7 +4,7 @@ use mathlib.Core.Bool.{true}
 use mathlib.Core.List.{List}
 use mir.Val.{Val}
 use denote.Laws.{Is}
-use denote.Struct.Field.{u8-field}
+use denote.Builtin.{u8}
 use Rattle.query.specs.declared.Tableau.{Tableau}
 use Rattle.query.specs.Rule.{shaped_tableau}
 use Rattle.query.specs.contracts.Cell as cell
@@ -17,9 +17,9 @@ use Rattle.comparison_on_files.specs.Queries.{ComparisonShape}
 -- A tableau's arrays
 tableau-shaped : (t : Tableau) (vs : List Val) → Is tableau.the_row t vs → shaped_tableau t ≡ true
 tableau-shaped t vs p =
-    let head = long cell.the_field 8 t.head _ p.1.1.1.1.0 in
-    let relations = long u8-field 24 t.relations _ p.1.1.1.1.1.0 in
-    let cells = long cell.the_field 192 t.cells _ p.1.1.1.1.1.1.0 in rw (head, relations, cells)
+    let head = long cell.the_row 8 t.head _ p.1.1.1.1.0 in
+    let relations = long u8 24 t.relations _ p.1.1.1.1.1.0 in
+    let cells = long cell.the_row 192 t.cells _ p.1.1.1.1.1.1.0 in rw (head, relations, cells)
 
 pub comparison-shaped : (c : Comparison) (vs : List Val) → Is comparison.the_row c vs → ComparisonShape c
-comparison-shaped c vs p = (tableau-shaped c.query _ p.1.1.1.1.0, long cell.the_field 96 c.images _ p.1.1.1.0)
+comparison-shaped c vs p = (tableau-shaped c.query _ p.1.1.1.1.0, long cell.the_row 96 c.images _ p.1.1.1.0)

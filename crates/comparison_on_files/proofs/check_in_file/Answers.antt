@@ -11,14 +11,17 @@ pub returns-in-Done : goal.returns-in-Done
 returns-in-Done c =
     let a = c.args in
     let read = c.read-outcome in
-    says_same
+    let said = c.check_words.ensures in
+    let s = says_same
     (read_done a.file.now read.result read.ensures (λ r. reply (pair_refusal r a.p a.q) (words_map r a.p a.q a.mapping.now))
-    c.in-Done.is) _ _ _ c.check_words.ensures
+    c.in-Done.is) a.verdict.now c.check_words.result c.check_words.new.verdict (said.value, said.verdict_after) in
+    record { value = s.0; verdict_after = s.1 }
 
 pub returns-in-Refused : goal.returns-in-Refused
 returns-in-Refused c =
     let a = c.args in
     let read = c.read-outcome in
-    says_same
+    let s = says_same
     (read-refused a.file.now read.result read.ensures (λ r. reply (pair_refusal r a.p a.q) (words_map r a.p a.q a.mapping.now))
-    _ c.in-Refused.is) a.verdict.now _ a.verdict.now (refl, refl)
+    _ c.in-Refused.is) a.verdict.now c.in-Refused.n a.verdict.now (refl, refl) in
+    record { value = s.0; verdict_after = s.1 }

@@ -1,5 +1,4 @@
 -- `store_apart` stores a verdict with its query. Assumes nothing.
--- A good tableau's head and rows are few
 use mathlib.Core.Path.{◌≡◌}
 use Prim.Native.Nat.{◌≤◌, ◌<◌}
 use native.Mathlib.Omega.{arith}
@@ -11,7 +10,8 @@ use Rattle.comparison_on_files.proofs.Verdicts.{verdict-short, verdict-long, ver
 use Rattle.comparison_on_files.proofs.store_apart.Goals as goal
 use Rattle.comparison_on_files.proofs.store_apart.Goals.{Start}
 
-fits : (c : goal.Start) → (c.args.chased.arity ≤ 8) × (c.args.chased.size ≤ 24)
+-- A good tableau's head and rows are few
+fits : (c : Start) → (c.args.chased.arity ≤ 8) × (c.args.chased.size ≤ 24)
 fits c =
     let parts = good-query 24 (take c.args.count c.args.widths) (as_query c.args.chased) c.requires.chased_value in
     (parts.arity, parts.size)
@@ -23,7 +23,7 @@ returns-then-mapping-lt192 c =
     c.if-mapping-lt192.true
 
 pub query_length-n-requires : goal.query_length-n-requires
-query_length-n-requires c = (c.requires.widths_value, fits (goal.at.query_length-n-requires c).Start)
+query_length-n-requires c = record { widths_value = c.requires.widths_value; arity_bound = fits (goal.at.query_length-n-requires c).Start }
 
 pub returns-then-part-n : goal.returns-then-part-n
 returns-then-part-n c =
@@ -38,16 +38,14 @@ pub put_query-requires : goal.put_query-requires
 put_query-requires c =
     let n = c.query_length-n.ensures.0 in
     let l : c.query_length-n.result ≤ length c.args.part.now = c.if-part-n.false in
-    (c.requires.widths_value, (fits (goal.at.put_query-requires c).Start, omega arith))
+    record { widths_value = c.requires.widths_value; arity_bound = fits (goal.at.put_query-requires c).Start; t_in_bounds = omega arith }
 
 pub returns : goal.returns
 returns c =
     let a = c.args in
     let schema = take a.count a.widths in
-    let n : c.query_length-n.result ≡ length ((query_for 24 schema).put (as_query a.chased)) =
-    c.query_length-n.ensures.0 in
-    let l : c.query_length-n.result ≤ length a.part.now =
-    c.if-part-n.false in
+    let n : c.query_length-n.result ≡ length ((query_for 24 schema).put (as_query a.chased)) = c.query_length-n.ensures.0 in
+    let l : c.query_length-n.result ≤ length a.part.now = c.if-part-n.false in
     verdict-stored a.images a.verdict.now a.mapping.now a.part.now a.size.now 0 ((query_for 24 schema).put (as_query a.chased)) _ _ _
     c.if-mapping-lt192.false (omega arith) c.put_mapping.ensures
     c.put_query.ensures.0 n

@@ -7,11 +7,7 @@ use Rattle.comparison_on_files.proofs.Verdicts.{comparison-never, comparison-ref
 use Rattle.comparison_on_files.proofs.store_comparison.Goals as goal
 
 pub store_apart-requires : goal.store_apart-requires
-store_apart-requires c = (
-  c.requires.widths_value,
-  c.requires.sound_comparison
-      c.in-Apart.is,
-)
+store_apart-requires c = record { widths_value = c.requires.widths_value; chased_value = c.requires.sound_comparison c.in-Apart.is }
 
 pub returns-in-Apart : goal.returns-in-Apart
 returns-in-Apart c =
