@@ -25,7 +25,7 @@ pub returns-in-Length : goal.returns-in-Length
 returns-in-Length c =
     let s = c in
     let w = c.write-written.ensures in
-    read_again s.args.given s.args.buffer.now _ c.read.result (record-shaped s.args.given _ s.well-formed.0) _
+    read_again s.args.given s.args.buffer.now _ c.read.result (record-shaped s.args.given _ s.well_formed.0) _
     (sym w.0 ∙ ap length_reply c.in-Length.is) w.1 c.read.ensures
 
 pub returns-in-Refused : goal.returns-in-Refused
