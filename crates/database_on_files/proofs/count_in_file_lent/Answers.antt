@@ -12,7 +12,7 @@ use Rattle.record_on_files.proofs.Files.{read_done, read-refused}
 use Rattle.lent_numbers.proofs.Lent.{refused-number, refused-leaves}
 use Rattle.database_on_files.proofs.Memory.{unused-read}
 use Rattle.database_on_files.proofs.count_in_file_lent.Goals as goal
-use Rattle.database_on_files.proofs.count_in_file_lent.Goals.{After-count_lent-done, Start}
+use Rattle.database_on_files.proofs.count_in_file_lent.Goals.{After-count_lent-done}
 
 -- Once the file is read the count is that of its record
 of-record : (c : After-count_lent-done)

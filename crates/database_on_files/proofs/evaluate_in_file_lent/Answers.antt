@@ -15,7 +15,7 @@ use Rattle.lent_numbers.proofs.Lent.{done-leaves, refused-number, refused-leaves
 use Rattle.format.proofs.Results.{outcome-done, outcome-refused}
 use Rattle.database_on_files.proofs.Memory.{unused-read}
 use Rattle.database_on_files.proofs.evaluate_in_file_lent.Goals as goal
-use Rattle.database_on_files.proofs.evaluate_in_file_lent.Goals.{After-evaluate_lent-done, Start}
+use Rattle.database_on_files.proofs.evaluate_in_file_lent.Goals.{After-evaluate_lent-done}
 
 -- Once the file is read the count is that of its record
 of-record : (c : After-evaluate_lent-done)

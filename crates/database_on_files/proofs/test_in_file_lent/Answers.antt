@@ -14,7 +14,7 @@ use Rattle.record_on_files.proofs.Files.{read_done, read-refused}
 use Rattle.lent_numbers.proofs.Lent.{refused-number, refused-leaves}
 use Rattle.database_on_files.proofs.Memory.{unused-read}
 use Rattle.database_on_files.proofs.test_in_file_lent.Goals as goal
-use Rattle.database_on_files.proofs.test_in_file_lent.Goals.{After-test_lent-found, Start}
+use Rattle.database_on_files.proofs.test_in_file_lent.Goals.{After-test_lent-found}
 
 -- Once the file is read the test is that of its record
 of-record : (c : After-test_lent-found) → test_result c.test_lent-found.result ≡ tested_in c.args.file.now c.args.words.now
