@@ -4,6 +4,12 @@ use Rattle.demands.proofs.demand1.count_lent.Goals as goal
 
 pub returns : goal.returns
 returns c =
-    let k = c in
-    let a = k.args in
-    (count_meets a.given a.place a.words.now k.count_lent.result k.count_lent.ensures.result_value, k.count_lent.ensures.1)
+    let a = c.args in
+    let e = c.count_lent.ensures in
+    record {
+      count_meets = count_meets a.given a.place a.words.now c.count_lent.result e.result_value;
+      unused_if_refused = e.unused_if_refused;
+      unused_if_refused_2 = e.unused_if_refused_2;
+      unused_if_refused_3 = e.unused_if_refused_3;
+      unused_if_refused_4 = e.unused_if_refused_4;
+    }

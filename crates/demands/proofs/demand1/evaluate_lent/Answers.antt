@@ -4,7 +4,12 @@ use Rattle.demands.proofs.demand1.evaluate_lent.Goals as goal
 
 pub returns : goal.returns
 returns c =
-    let k = c in
-    let a = k.args in
-    let e = k.evaluate_lent.ensures in
-    (evaluate-meets a.given a.place a.words.now a.buffer.now _ k.evaluate_lent.result e.0 e.1.0, e.1.1)
+    let a = c.args in
+    let e = c.evaluate_lent.ensures in
+    record {
+      evaluate_meets = evaluate-meets a.given a.place a.words.now a.buffer.now _ c.evaluate_lent.result e.result_value e.buffer_after;
+      unused_if_refused = e.unused_if_refused;
+      unused_if_refused_2 = e.unused_if_refused_2;
+      unused_if_refused_3 = e.unused_if_refused_3;
+      unused_if_refused_4 = e.unused_if_refused_4;
+    }

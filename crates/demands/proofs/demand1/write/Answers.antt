@@ -4,6 +4,5 @@ use Rattle.demands.proofs.demand1.write.Goals as goal
 
 pub returns : goal.returns
 returns c =
-    let k = c in
-    let a = k.args in
-    write_meets a.given a.buffer.now _ k.write.result k.write.ensures.0 k.write.ensures.1
+    let a = c.args in
+    write_meets a.given a.buffer.now _ c.write.result c.write.ensures.0 c.write.ensures.1

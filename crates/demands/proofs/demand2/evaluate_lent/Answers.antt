@@ -4,6 +4,5 @@ use Rattle.demands.proofs.demand2.evaluate_lent.Goals as goal
 
 pub returns : goal.returns
 returns c =
-    let k = c in
-    let a = k.args in
-    evaluates a.given a.place a.words.now a.buffer.now _ k.evaluate_lent.result k.evaluate_lent.ensures.result_value k.evaluate_lent.ensures.buffer_after
+    let a = c.args in
+    evaluates a.given a.place a.words.now a.buffer.now _ c.evaluate_lent.result c.evaluate_lent.ensures.result_value c.evaluate_lent.ensures.buffer_after

@@ -9,28 +9,24 @@ use Rattle.demands.proofs.demand2.read_back.Goals as goal
 
 pub slice_bounds-read-end : goal.slice_bounds-read-end
 slice_bounds-read-end c =
-    let s = c in
     let w = c.write-written.ensures in
-    inside s.args.given s.args.buffer.now _ _ (sym w.0 ∙ ap length_reply c.in-Length.is) w.1
+    inside c.args.given c.args.buffer.now _ _ (sym w.0 ∙ ap length_reply c.in-Length.is) w.1
 
 pub slice_bounds-read-end-in-Length : goal.slice_bounds-read-end-in-Length
 slice_bounds-read-end-in-Length c =
-    let s = c in
     let w = c.write-written.ensures in
     sym
     (length-take-le _ _
-    (inside s.args.given s.args.buffer.now _ _ (sym w.0 ∙ ap length_reply c.in-Length.is) w.1))
+    (inside c.args.given c.args.buffer.now _ _ (sym w.0 ∙ ap length_reply c.in-Length.is) w.1))
 
 pub returns-in-Length : goal.returns-in-Length
 returns-in-Length c =
-    let s = c in
     let w = c.write-written.ensures in
-    read_again s.args.given s.args.buffer.now _ c.read.result (record-shaped s.args.given _ s.well-formed.0) _
+    read_again c.args.given c.args.buffer.now _ c.read.result (record-shaped c.args.given _ c.well_formed.0) _
     (sym w.0 ∙ ap length_reply c.in-Length.is) w.1 c.read.ensures
 
 pub returns-in-Refused : goal.returns-in-Refused
 returns-in-Refused c =
-    let s = c in
-    not_written s.args.given s.args.buffer.now s.args.buffer.now
-    (record { answer = Refused c.in-Refused.n; «record» = s.args.given }) _
+    not_written c.args.given c.args.buffer.now c.args.buffer.now
+    (record { answer = Refused c.in-Refused.n; «record» = c.args.given }) _
     (sym c.write-written.ensures.0 ∙ ap length_reply c.in-Refused.is)

@@ -6,15 +6,13 @@ use Rattle.demands.proofs.demand2.write_back.Goals as goal
 
 pub returns-in-Done : goal.returns-in-Done
 returns-in-Done c =
-    let s = c in
     let read = c.read-read in
-    written-again s.args.file.now s.args.buffer.now _ read.result read.ensures c.write.result
-    (bytes-known s.args.file.now (λ i. (c.type_inv.file i).fits))
+    written-again c.args.file.now c.args.buffer.now _ read.result read.ensures c.write.result
+    (bytes-known c.args.file.now (λ i. (c.type_inv.file i).fits))
     c.write.ensures.0 c.write.ensures.1
 
 pub returns-in-Refused : goal.returns-in-Refused
 returns-in-Refused c =
-    let s = c in
     let read = c.read-read in
-    not-read s.args.file.now s.args.buffer.now _ read.result read.ensures (Refused c.in-Refused.n) _
+    not-read c.args.file.now c.args.buffer.now _ read.result read.ensures (Refused c.in-Refused.n) _
     c.in-Refused.is
