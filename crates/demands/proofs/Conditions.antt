@@ -47,12 +47,12 @@ use Rattle.demands.specs.Demand1Calls.{ReduceMeets, TestMeets, EvaluateMeets, Co
 -- ---- every call
 
 module _ (conditions : List Condition) (said : Option ℕ) (Unchanged Due : Type 0) (first : said ≡ first_holding conditions)
-    (Turned-down : (n : ℕ) → first_holding conditions ≡ some n → Unchanged) (accepted : first_holding conditions ≡ none → Due) where
+    (turned_down : (n : ℕ) → first_holding conditions ≡ some n → Unchanged) (accepted : first_holding conditions ≡ none → Due) where
   -- What a call does, by what is found of its conditions
   stretches-meet : (stretches : List (List ℕ)) → map (λ (c : Condition). c.1) conditions ≡ flatten stretches
       → every (λ (ns : List ℕ). follows ns order) stretches ≡ true → Meets conditions stretches said Unchanged Due
   stretches-meet stretches asks ordered =
-      record { asks = asks; ordered = ordered; first = first; unchanged = λ n e. Turned-down n (sym first ∙ e); due = λ e. accepted (sym first ∙ e) }
+      record { asks = asks; ordered = ordered; first = first; unchanged = λ n e. turned_down n (sym first ∙ e); due = λ e. accepted (sym first ∙ e) }
 
   -- One that asks in one stretch
   meets : (numbers : List ℕ) → map (λ (c : Condition). c.1) conditions ≡ numbers → follows numbers order ≡ true

@@ -7,7 +7,7 @@ use native.Mathlib.Omega.{arith}
 use lib.ListN.{length, take, drop, get_or, set, replicate, length-map, get_or-map}
 use lib.Seq.{take-length, drop-length, drop-cons}
 use Rattle.lists.specs.Over.{over}
-use Rattle.lists.proofs.Loops.{filled_to, filled_next, get_d_any}
+use Rattle.lists.proofs.Loops.{filled_to, filled_next, get_or_any}
 use Rattle.lists.proofs.Over.{over-nil, over-set}
 
 module _ {A : Type 0} (n : ℕ) (z : A) (xs out : List A) (i : ℕ) (inv : out ≡ filled_to n z xs i) where
@@ -39,4 +39,4 @@ module _ {A : Type 0} (under xs out : List A) (at c : ℕ) (inv : over out (at +
 -- What stands at a position of the images of some elements
 pub mapped_at : {A B : Type 0} (f : A → B) (xs : List A) (i : ℕ) (d : A) (z : B) → i < length xs → f (get_or xs i d) ≡ get_or (map f xs) i z
 mapped_at f xs i d z h =
-    sym (get_or-map f xs i d) ∙ get_d_any (map f xs) i (f d) z (omega (arith, length-map xs f))
+    sym (get_or-map f xs i d) ∙ get_or_any (map f xs) i (f d) z (omega (arith, length-map xs f))

@@ -78,10 +78,10 @@ module _ {A : Type 0} {test : ℕ → A → Bool} {xs : List A} {found : Bool} {
 -- ---- a stretch of an array
 
 -- What stands at a position does not depend on what would stand past the end
-pub get_d_any : {A : Type 0} (xs : List A) (i : ℕ) (d e : A) → i < length xs → get_or xs i d ≡ get_or xs i e
-get_d_any [] i d e h = absurd (not-suc-le-zero h)
-get_d_any (x ∷ xs) zero d e h = refl
-get_d_any (x ∷ xs) (suc i) d e h = get_d_any xs i d e (le_of_suc-le-suc h)
+pub get_or_any : {A : Type 0} (xs : List A) (i : ℕ) (d e : A) → i < length xs → get_or xs i d ≡ get_or xs i e
+get_or_any [] i d e h = absurd (not-suc-le-zero h)
+get_or_any (x ∷ xs) zero d e h = refl
+get_or_any (x ∷ xs) (suc i) d e h = get_or_any xs i d e (le_of_suc-le-suc h)
 
 -- A list is as long as what is made of its elements: what a struct's type tells of its arrays
 pub mapped-length : (A B : Type 0) (f : A → B) (xs : List A) (n : ℕ) → length (map f xs) ≡ n → length xs ≡ n

@@ -11,7 +11,7 @@ use Rattle.query.specs.Rule.{no_join}
 use Rattle.query.specs.declared.JoinDependency.{JoinDependency}
 use Rattle.words.specs.Words.{database_of}
 use Rattle.lists.proofs.Positions.{left-cons, left-none}
-use Rattle.lists.proofs.Loops.{get_d_any}
+use Rattle.lists.proofs.Loops.{get_or_any}
 use Rattle.join_testing.specs.Unmet.{first_unmet_from, unmet_of}
 use Rattle.join_tables.specs.internal.Indexed.{Searchable}
 use Rattle.join_testing.proofs.Finding.{unmet-found, unmet-later, unmet-end}
@@ -46,7 +46,7 @@ first_choice-found-requires c = let s = c in
     let k = c.loop-k.k in
     let low = c.loop-k-test.true in
     let size : length s.args.joins ≡ 4 = search rules in
-    subst (Searchable s.args.schema.now s.args.words.now) (get_d_any s.args.joins k no_join unread (omega (arith, s.requires.0)))
+    subst (Searchable s.args.schema.now s.args.words.now) (get_or_any s.args.joins k no_join unread (omega (arith, s.requires.0)))
     (s.requires.1 k low)
 
 pub returns-in-At : goal.returns-in-At

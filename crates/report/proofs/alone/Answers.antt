@@ -5,7 +5,7 @@ use Prim.Native.Nat.{◌<◌}
 use native.Mathlib.Omega.{arith}
 use lib.ListN.{length, get_or}
 use Rattle.query.specs.Rule.{no_place}
-use Rattle.lists.proofs.Loops.{mapped-length, get_d_any}
+use Rattle.lists.proofs.Loops.{mapped-length, get_or_any}
 use Rattle.query.proofs.Shape.{past_place}
 use Rattle.report.proofs.OnePlace.{alone-made}
 use borrow.Author.Rules.{rules}
@@ -16,7 +16,7 @@ read : (c : Start) → get_or c.args.given.places c.args.place past_place ≡ ge
 read c =
     let long : length c.args.given.places ≡ 8 = search (mapped-length, rules) in
     let within : c.args.place < length c.args.given.places = omega (arith, c.requires) in
-    get_d_any c.args.given.places c.args.place past_place no_place within
+    get_or_any c.args.given.places c.args.place past_place no_place within
 
 pub returns : goal.returns
 returns c =

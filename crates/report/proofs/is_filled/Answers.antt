@@ -6,7 +6,7 @@ use native.Mathlib.Omega.{arith}
 use lib.ListN.{length, get_or}
 use Rattle.query.specs.declared.Place.{Place}
 use Rattle.query.specs.Rule.{no_place}
-use Rattle.lists.proofs.Loops.{mapped-length, get_d_any}
+use Rattle.lists.proofs.Loops.{mapped-length, get_or_any}
 use Rattle.query.proofs.Shape.{past_place}
 use borrow.Author.Rules.{rules}
 use Rattle.report.proofs.is_filled.Goals as goal
@@ -16,7 +16,7 @@ read : (c : Start) → get_or c.args.given.places c.args.place past_place ≡ ge
 read c =
     let long : length c.args.given.places ≡ 8 = search (mapped-length, rules) in
     let within : c.args.place < length c.args.given.places = omega (arith, c.requires) in
-    get_d_any c.args.given.places c.args.place past_place no_place within
+    get_or_any c.args.given.places c.args.place past_place no_place within
 
 pub returns : goal.returns
 returns c = ap (λ (p : Place). p.filled) (read (goal.at.returns c).Start)

@@ -8,7 +8,7 @@ use borrow.Author.Rules.{rules}
 use Rattle.query.specs.declared.Place.{Place}
 use Rattle.query.specs.Rule.{no_place}
 use Rattle.record.specs.Calls.{is_filled}
-use Rattle.lists.proofs.Loops.{mapped-length, get_d_any}
+use Rattle.lists.proofs.Loops.{mapped-length, get_or_any}
 use Rattle.query.proofs.Shape.{past_place}
 use Rattle.record.proofs.Refusals.{filled-high, filled-yes, filled-no}
 use Rattle.record.proofs.Record.filled_place.Goals as goal
@@ -23,7 +23,7 @@ returns-then-self-place c =
     let long : length self.places ≡ 8 = search (mapped-length, rules) in
     let below : place < 8 = search rules in
     let same : is_filled self place ≡ (get_or self.places place past_place).filled =
-    ap (λ (p : Place). p.filled) (get_d_any self.places place no_place past_place (omega arith))
+    ap (λ (p : Place). p.filled) (get_or_any self.places place no_place past_place (omega arith))
     in
     filled-yes self place below (same ∙ c.if-self-place.true)
 
@@ -34,6 +34,6 @@ returns-else-self-place c =
     let long : length self.places ≡ 8 = search (mapped-length, rules) in
     let below : place < 8 = search rules in
     let same : is_filled self place ≡ (get_or self.places place past_place).filled =
-    ap (λ (p : Place). p.filled) (get_d_any self.places place no_place past_place (omega arith))
+    ap (λ (p : Place). p.filled) (get_or_any self.places place no_place past_place (omega arith))
     in
     filled-no self place below (same ∙ c.if-self-place.false)
