@@ -80,6 +80,12 @@ class Gate(unittest.TestCase):
         self.assertLess(calls.index("edits done"), calls.index("called python/test"))
         self.assertIn("said", lines)
 
+    def test_no_edit(self):
+        """Without an edit the Python tests are run all the same."""
+        status, lines, calls = self.run_gate(CI="echo rt: ok; echo 12 passed, 0 failed")
+        self.assertEqual((status, lines[-1]), (0, "12 passed, 0 failed"))
+        self.assertIn("called python/test", calls)
+
     def test_not_proved(self):
         """Where a crate is not proved the Python tests are not run, and the gate says so."""
         ci = "echo 'rt: record NOT PROVED'; echo rt: must-fail a/b: refused; echo 11 passed, 1 failed; exit 1"
