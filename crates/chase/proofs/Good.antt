@@ -11,7 +11,7 @@ use lib.ListN.{length, take, drop, get_or}
 use Rattle.query.specs.declared.Entry.{Entry}
 use Rattle.query.specs.declared.Entry.TheVariants.{Constant, Variable}
 use Rattle.query.specs.declared.Cell.{Cell}
-use Rattle.query.specs.declared.Query.{Query}
+use Rattle.query.specs.Types.{Query}
 use Rattle.lists.specs.Tests.{every, in_use}
 use Rattle.query.specs.View.{as_query}
 use Rattle.query.specs.Rule.{blank_entry, blank_cell, good_entry, good_cell, good_row, good_rows, head_in_use, good_up_to, good_tableau, never_tableau}

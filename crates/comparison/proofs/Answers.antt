@@ -13,7 +13,7 @@ use lib.ListN.{length}
 use borrow.Author.Tests.{le-leb}
 use Rattle.record.specs.Calls.{stored_at, query_at}
 use Rattle.query.specs.declared.Cell.{Cell}
-use Rattle.query.specs.declared.Query.{Query}
+use Rattle.query.specs.Types.{Query}
 use Rattle.record.specs.declared.Record.{Record}
 use Rattle.query.specs.View.{entries_of, query_of, as_query, images_of}
 use Rattle.record.specs.View.{schema_of, dependencies_of, joins_of}

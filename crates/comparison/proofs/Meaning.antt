@@ -15,8 +15,8 @@ use Rattle.joins.specs.JoinChase.{chased, join_chase}
 use Rattle.joins.proofs.Theorems.{join-chase-computes, without-joins}
 use Rattle.join_rule.proofs.Fitting.{good-joins-fit}
 use Rattle.query.specs.declared.Cell.{Cell}
-use Rattle.query.specs.declared.Query.{Query}
-use Rattle.query.specs.declared.Tableau.{Tableau}
+use Rattle.query.specs.Types.{Query}
+use Rattle.query.specs.Types.{Tableau}
 use Rattle.query.specs.View.{as_query, held_joins, images_of}
 use Rattle.query.proofs.Meaning.{stored-unique}
 use Rattle.record.specs.declared.Record.{Record}

@@ -5,7 +5,7 @@ use mathlib.Core.List.{List}
 use mir.Val.{Val}
 use denote.Laws.{Is}
 use denote.Builtin.{u8}
-use Rattle.query.specs.declared.Tableau.{Tableau}
+use Rattle.query.specs.Types.{Tableau}
 use Rattle.query.specs.Rule.{shaped_tableau}
 use Rattle.query.specs.contracts.Cell as cell
 use Rattle.query.specs.contracts.Tableau as tableau

@@ -5,7 +5,7 @@ use Rattle.refusals.specs.Refusals.{gives, refusal_in}
 use Rattle.query.specs.declared.Cell.{Cell}
 use Rattle.query.specs.declared.Dependency.{Dependency}
 use Rattle.query.specs.declared.JoinDependency.{JoinDependency}
-use Rattle.query.specs.declared.Query.{Query}
+use Rattle.query.specs.Types.{Query}
 use Rattle.query.specs.View.{entries_of, mask_of}
 use Rattle.query.specs.Rule.{no_cell, no_tableau, no_place, place_with}
 use Rattle.record.specs.declared.Record.{Record}

@@ -9,8 +9,8 @@ use lib.Dec.{eqb}
 use lib.ListN.{length, take, drop, get_or, replicate, length-append, length-drop}
 use lib.Seq.{length-take-le, take-append-le, drop-append-le}
 use Rattle.query.specs.declared.Cell.{Cell}
-use Rattle.query.specs.declared.Query.{Query}
-use Rattle.query.specs.declared.Tableau.{Tableau}
+use Rattle.query.specs.Types.{Query}
+use Rattle.query.specs.Types.{Tableau}
 use Rattle.query.specs.declared.Place.{Place}
 use Rattle.query.specs.View.{as_query}
 use Rattle.query.specs.Rule.{good_query, head_safe, good_place, no_cell}

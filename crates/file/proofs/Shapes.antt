@@ -10,7 +10,7 @@ use denote.Builtin.{u8}
 use denote.Laws.{Is}
 use denote.RattleType.{RattleType}
 use denote.Shadow.{shadow}
-use Rattle.query.specs.declared.Query.{Query}
+use Rattle.query.specs.Types.{Query}
 use Rattle.query.specs.declared.Place.{Place}
 use Rattle.query.specs.declared.JoinDependency.{JoinDependency}
 use Rattle.record.specs.declared.Record.{Record}

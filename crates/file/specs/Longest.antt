@@ -2,7 +2,7 @@
 use Rattle.std.specs.Prelude.{◌≡◌, true, length, replicate}
 use Rattle.query.specs.declared.Entry.TheVariants.{Variable}
 use Rattle.query.specs.declared.Cell.{Cell}
-use Rattle.query.specs.declared.Query.{Query}
+use Rattle.query.specs.Types.{Query}
 use Rattle.record.specs.declared.Record.{Record}
 use Rattle.record.specs.View.{schema_of}
 use Rattle.query.specs.Rule.{place_with}

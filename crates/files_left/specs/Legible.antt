@@ -3,7 +3,7 @@
 -- `Bytes` holds of every file and query part that a call can be given: bytes are below 256.
 use Rattle.std.specs.Prelude.{◌≡◌, List, [], ℕ, length, take}
 use Rattle.std.proofs.Math.Option.{none}
-use Rattle.query.specs.declared.Query.{Query}
+use Rattle.query.specs.Types.{Query}
 use Rattle.record.specs.declared.Record.{Record}
 use Rattle.record.specs.View.{schema_of}
 use Rattle.query.specs.View.{query_of}

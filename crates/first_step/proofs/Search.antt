@@ -13,7 +13,7 @@ use lib.ListN.{length, take, drop, get_or}
 use Rattle.query.specs.declared.Entry as stored-entry
 use Rattle.query.specs.declared.Dependency as stored-dependency
 use Rattle.query.specs.declared.Cell.{Cell}
-use Rattle.query.specs.declared.Query.{Query}
+use Rattle.query.specs.Types.{Query}
 use Rattle.query.specs.View.{entry_of, dependency_of}
 use Rattle.query.specs.Rule.{no_cell, no_dependency}
 use Rattle.first_step.specs.internal.Wide.{wide_row, wide_rows, first_differing}

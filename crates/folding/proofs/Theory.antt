@@ -10,8 +10,8 @@ use native.Mathlib.Decide.{dec_lt}
 use native.Mathlib.Omega.{arith}
 use lib.ListN.{length, get_or}
 use Rattle.lists.proofs.Positions.{length_none}
-use Rattle.query.specs.declared.Query.{Query}
-use Rattle.query.specs.declared.Tableau.{Tableau}
+use Rattle.query.specs.Types.{Query}
+use Rattle.query.specs.Types.{Tableau}
 use Rattle.query.specs.View.{query_of, as_query}
 use Rattle.query.specs.Rule.{good_query, good_tableau}
 use Rattle.query.proofs.Stored.{Within}

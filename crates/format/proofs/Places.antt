@@ -8,7 +8,7 @@ use lib.Dec.{eqb, lit≤}
 use lib.ListN.{length, take, drop, replicate, length-map, take-append-drop}
 use lib.Seq.{length-take-le}
 use borrow.Author.Tests.{eqb-true}
-use Rattle.query.specs.declared.Query.{Query}
+use Rattle.query.specs.Types.{Query}
 use Rattle.query.specs.declared.Place.{Place}
 use Rattle.lists.specs.Tests.{every}
 use Rattle.query.specs.Rule.{blank_query, good_query, head_safe, no_query, good_place, no_place, shaped_query, place_with}

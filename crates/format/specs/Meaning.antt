@@ -3,7 +3,7 @@
 use Rattle.std.specs.Prelude.{◌≡◌, ◌↔◌, true, List, ℕ, ◌+◌, ◌*◌, ◌≤◌, length, take}
 use Rattle.query.specs.declared.Dependency.{Dependency}
 use Rattle.query.specs.declared.JoinDependency.{JoinDependency}
-use Rattle.query.specs.declared.Query.{Query}
+use Rattle.query.specs.Types.{Query}
 use Rattle.query.specs.Rule.{good_relations, good_dependencies, good_joins, good_up_to, shaped_for, shaped_join}
 use Rattle.lists.specs.Tests.{every}
 use Rattle.format.specs.Format.{Lawful}

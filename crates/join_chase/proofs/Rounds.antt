@@ -21,7 +21,7 @@ use Rattle.joins.specs.Join.{JoinsFit}
 use Rattle.joins.specs.JoinChase.{keep_first, without_repeats, add_row, next_row, first_unmet, settle, chased, overflow, join_chase}
 use Rattle.joins.proofs.Choices.{next_row-found}
 use Rattle.joins.proofs.JoinChase.{added-some, rounds, settled-falls, join-at-end, join-at-row, join-at-limit}
-use Rattle.query.specs.declared.Tableau.{Tableau}
+use Rattle.query.specs.Types.{Tableau}
 use Rattle.query.specs.declared.Dependency.{Dependency}
 use Rattle.query.specs.declared.JoinDependency.{JoinDependency}
 use Rattle.query.specs.View.{query_of, as_query, held_of, join_of, held_joins}

@@ -13,7 +13,7 @@ use Rattle.lists.proofs.Positions.{every-get_or-else}
 use Rattle.theory.specs.Query.{Entry, constant, Row, column}
 use Rattle.theory.specs.Containment.{freeze}
 use Rattle.query.specs.declared.Cell.{Cell}
-use Rattle.query.specs.declared.Query.{Query}
+use Rattle.query.specs.Types.{Query}
 use Rattle.query.specs.View.{entry_of, entries_of, query_of}
 use Rattle.query.specs.Rule.{good_cell, blank_cell, good_up_to, no_cell}
 use Rattle.query.specs.internal.Code.{code_of}

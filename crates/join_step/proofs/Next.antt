@@ -10,7 +10,7 @@ use lib.ListN.{length, take, get_or}
 use Rattle.lists.proofs.Tests.{below-or-past}
 use Rattle.theory.specs.Query.{Entry, Row}
 use Rattle.query.specs.declared.Cell.{Cell}
-use Rattle.query.specs.declared.Tableau.{Tableau}
+use Rattle.query.specs.Types.{Tableau}
 use Rattle.query.specs.declared.JoinDependency.{JoinDependency}
 use Rattle.query.specs.View.{entries_of, query_of, as_query}
 use Rattle.query.specs.Rule.{good_tableau, good_joins, good_row}

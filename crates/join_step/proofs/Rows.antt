@@ -23,7 +23,7 @@ use Rattle.minimization.proofs.Checking.{same_row-eq, same_row-self}
 use Rattle.joins.specs.JoinChase.{keep_first, add_row}
 use Rattle.joins.proofs.Repeats.{keep_first-has, keep_first-length, snoc-there, snoc_new}
 use Rattle.query.specs.declared.Cell.{Cell}
-use Rattle.query.specs.declared.Tableau.{Tableau}
+use Rattle.query.specs.Types.{Tableau}
 use Rattle.query.specs.View.{entries_of, rows_of, query_of, as_query, columns_of}
 use Rattle.query.specs.Rule.{good_cell, blank_cell, good_row, good_rows, good_tableau}
 use Rattle.query.proofs.Good.{good-query, make-query}

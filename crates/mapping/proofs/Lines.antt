@@ -20,7 +20,7 @@ use Rattle.theory.proofs.Lists.{get_or-mem}
 use Rattle.theory.proofs.Members.{row-of-entry}
 use Rattle.theory.proofs.Entries.{constant-variable, variables_of-mem, mem-variables_of, row-row_entries}
 use Rattle.query.specs.declared.Cell.{Cell}
-use Rattle.query.specs.declared.Query.{Query}
+use Rattle.query.specs.Types.{Query}
 use Rattle.query.specs.View.{entry_of, query_of}
 use Rattle.lists.specs.Tests.{every, in_use}
 use Rattle.query.specs.Rule.{good_cell, blank_cell, head_in_use, good_up_to, good_query, no_cell}

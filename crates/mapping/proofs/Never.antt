@@ -4,7 +4,7 @@ use mathlib.Core.Path.{◌≡◌, ap}
 use mathlib.Core.List.{List, []}
 use Prim.Native.Nat.{ℕ}
 use lib.ListN.{take}
-use Rattle.query.specs.declared.Query.{Query}
+use Rattle.query.specs.Types.{Query}
 use Rattle.query.specs.View.{rows_of, query_of}
 
 -- A stored query of size 0 has no rows

@@ -11,8 +11,8 @@ use Rattle.theory.specs.Query.{Entry, constant, variable}
 use Rattle.theory.specs.Answer.{value_of}
 use Rattle.theory.specs.Containment.{freeze}
 use Rattle.query.specs.declared.Cell.{Cell}
-use Rattle.query.specs.declared.Query.{Query}
-use Rattle.query.specs.declared.Tableau.{Tableau}
+use Rattle.query.specs.Types.{Query}
+use Rattle.query.specs.Types.{Tableau}
 use Rattle.query.specs.View.{entry_of, query_of, as_query, images_of}
 use Rattle.query.specs.Rule.{no_cell}
 use Rattle.query.proofs.Good.{good-query}

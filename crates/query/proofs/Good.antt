@@ -7,7 +7,7 @@ use Prim.Native.Nat.{ℕ, ◌*◌, ◌^◌, ◌≤◌, ◌<◌}
 use lib.Dec.{eqb, ltb, leb}
 use lib.ListN.{length, take, drop, get_or}
 use borrow.Author.Tests.{leb-true, ltb-true, eqb-false, not-true, le-leb}
-use Rattle.query.specs.declared.Query.{Query}
+use Rattle.query.specs.Types.{Query}
 use Rattle.query.specs.declared.Dependency.{Dependency}
 use Rattle.query.specs.declared.JoinDependency.{JoinDependency}
 use Rattle.lists.specs.Tests.{every, in_use, is_zero}

@@ -19,7 +19,7 @@ use Rattle.theory.specs.Containment.{ConstantsBelow}
 use Rattle.query.specs.declared.Entry.{Entry}
 use Rattle.query.specs.declared.Entry.TheVariants.{Constant, Variable}
 use Rattle.query.specs.declared.Cell.{Cell}
-use Rattle.query.specs.declared.Query.{Query}
+use Rattle.query.specs.Types.{Query}
 use Rattle.query.specs.View.{entry_of, entries_of, rows_of, query_of, columns_from}
 use Rattle.lists.specs.Tests.{every, in_use}
 use Rattle.query.specs.Rule.{good_entry, good_cell, blank_entry, blank_cell, good_row, good_rows, head_in_use, good_up_to, head_safe}

@@ -1,6 +1,6 @@
 -- What the views and the rule come to. Each statement is proved in `proofs/Meaning`.
 use Rattle.std.specs.Prelude.{◌≡◌, true, List, ℕ, ◌≤◌, get_or}
-use Rattle.query.specs.declared.Query.{Query}
+use Rattle.query.specs.Types.{Query}
 use Rattle.query.specs.View.{query_of}
 use Rattle.query.specs.Rule.{good_up_to, shaped_for}
 

@@ -3,7 +3,7 @@
 use Rattle.std.specs.Prelude.{◌≡◌, ℕ, ◌↔◌, List, []}
 use mathlib.Core.Path.{refl, sym, ap, subst, ◌∙◌}
 use mathlib.Core.List.Memᴰ
-use Rattle.query.specs.declared.Query.{Query}
+use Rattle.query.specs.Types.{Query}
 use Rattle.query.specs.View.{query_of}
 use Rattle.theory.specs.Query as theory
 use Rattle.theory.specs.Query.{WellFormed, variables_of, row_entries, ◌∈◌}

@@ -4,7 +4,7 @@ use mathlib.Core.Bool.{true, false}
 use mathlib.Core.Option.{none, some}
 use Prim.Native.Nat.{ℕ, ◌<◌}
 use borrow.Author.Tests.{lt-ltb, le-ltb, eq-eqb, ne_eqb}
-use Rattle.query.specs.declared.Query.{Query}
+use Rattle.query.specs.Types.{Query}
 use Rattle.query.specs.declared.Dependency.{Dependency}
 use Rattle.query.specs.declared.JoinDependency.{JoinDependency}
 use Rattle.query.specs.Rule.{good_dependency, good_join, good_query, head_safe, place_with}

@@ -3,7 +3,7 @@
 use Rattle.std.specs.Prelude.{Bool, not, List, [], ◌∷◌, ℕ, ◌+◌, eqb, ltb, get_or, set}
 use Rattle.std.proofs.Math.Option.{Option, none, some}
 use Rattle.theory.specs.Query as theory
-use Rattle.query.specs.declared.Query.{Query}
+use Rattle.query.specs.Types.{Query}
 use Rattle.query.specs.declared.Dependency.{Dependency}
 use Rattle.query.specs.declared.JoinDependency.{JoinDependency}
 use Rattle.query.specs.declared.Place.{Place}

@@ -1,6 +1,6 @@
 -- What the calls' equations come to, in the words of SPECIFICATION, Calls on the record. Each statement is proved in `proofs/Meaning`.
 use Rattle.std.specs.Prelude.{◌≡◌, true, ℕ, length}
-use Rattle.query.specs.declared.Query.{Query}
+use Rattle.query.specs.Types.{Query}
 use Rattle.query.specs.declared.Dependency.{Dependency}
 use Rattle.query.specs.declared.JoinDependency.{JoinDependency}
 use Rattle.record.specs.declared.Record.{Record}

@@ -18,7 +18,7 @@ use Rattle.theory.proofs.Members.{row-of-entry}
 use Rattle.query.specs.declared.Entry.{Entry}
 use Rattle.query.specs.declared.Entry.TheVariants.{Constant, Variable}
 use Rattle.query.specs.declared.Cell.{Cell}
-use Rattle.query.specs.declared.Query.{Query}
+use Rattle.query.specs.Types.{Query}
 use Rattle.query.specs.View.{entry_of, query_of, images_of}
 use Rattle.lists.specs.Tests.{every}
 use Rattle.query.specs.Rule.{good_entry, good_cell, good_query, no_cell}

@@ -1,2 +1,3 @@
--- What a stored query and the tableau of it have in common.
+-- Laws of the tableau of a query, and of some elements in an array of another length.
 pub mod Tableaux
+pub mod Room

@@ -11,8 +11,8 @@ use lib.Seq.{take-append-le, drop-append-le, length-take-le}
 use Rattle.theory.specs.Query as theory
 use Rattle.lists.specs.Tests.{every, is_zero}
 use Rattle.query.specs.declared.Cell.{Cell}
-use Rattle.query.specs.declared.Query.{Query}
-use Rattle.query.specs.declared.Tableau.{Tableau}
+use Rattle.query.specs.Types.{Query}
+use Rattle.query.specs.Types.{Tableau}
 use Rattle.query.specs.View.{entries_of, rows_of, query_of, as_query}
 use Rattle.query.specs.Rule.{good_row, good_rows, good_up_to, good_query, good_tableau, blank_cell, no_cell, head_safe}
 use Rattle.lists.proofs.Tests.{and_left, every_append, every-append-is, every-replicate}

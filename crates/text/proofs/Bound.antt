@@ -13,7 +13,7 @@ use Rattle.lists.proofs.Tests.{and_left, and_right, every_take, used-good}
 use Rattle.query.specs.declared.Cell.{Cell}
 use Rattle.query.specs.declared.Entry.{Entry}
 use Rattle.query.specs.declared.Entry.TheVariants.{Constant, Variable}
-use Rattle.query.specs.declared.Query.{Query}
+use Rattle.query.specs.Types.{Query}
 use Rattle.query.specs.View.{entry_of, entries_of, rows_of, query_of, images_of}
 use Rattle.query.specs.Rule.{good_entry, good_cell, blank_cell, good_rows, good_query, good_relations}
 use Rattle.query.proofs.Good.{good-query}

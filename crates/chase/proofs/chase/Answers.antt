@@ -10,7 +10,7 @@ use Rattle.first_step.specs.internal.Wide.{wide_query}
 use Rattle.query.specs.View.{as_query, held_of}
 use Rattle.lists.proofs.Loops.{mapped-length}
 use Rattle.chase.proofs.Rounds.{under-start, under-replace, replaced-count, under-count, under_rest, under-clash}
-use Rattle.query.specs.declared.Query.{Query}
+use Rattle.query.specs.Types.{Query}
 use Rattle.theory.specs.Database.{Dependency}
 use Rattle.theory.specs.Chase as chasing
 use Rattle.chase.proofs.chase.Goals as goal

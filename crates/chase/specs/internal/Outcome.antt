@@ -1,6 +1,6 @@
 -- What the chase asks and what it promises.
 use Rattle.std.specs.Prelude.{◌≡◌, true, List, ℕ, ◌≤◌}
-use Rattle.query.specs.declared.Tableau.{Tableau}
+use Rattle.query.specs.Types.{Tableau}
 use Rattle.query.specs.declared.Dependency.{Dependency}
 use Rattle.query.specs.View.{query_of, as_query, held_of}
 use Rattle.query.specs.Rule.{good_tableau}

@@ -3,7 +3,7 @@ use mathlib.Core.Path.{◌≡◌, sym, ap, subst, ◌∙◌}
 use mathlib.Core.Bool.{true}
 use lib.ListN.{length}
 use borrow.Author.Rules.{rules}
-use Rattle.query.specs.declared.Tableau.{Tableau}
+use Rattle.query.specs.Types.{Tableau}
 use Rattle.record.specs.Calls.{stored_at}
 use Rattle.lists.specs.Tests.{every}
 use Rattle.query.specs.Rule.{shaped_join}

@@ -1,7 +1,7 @@
 -- `comparison::only` meets its contract. Assumes nothing.
 use mathlib.Core.Path.{ap}
 use lib.ListN.{replicate}
-use Rattle.query.specs.declared.Tableau.{Tableau}
+use Rattle.query.specs.Types.{Tableau}
 use Rattle.query.specs.Rule.{no_cell}
 use Rattle.comparison.proofs.only.Goals as goal
 

@@ -7,7 +7,7 @@ use native.Mathlib.Omega.{arith}
 use lib.Dec.{eqb}
 use lib.ListN.{length, take}
 use Rattle.refusals.specs.Refusals.{◌>>=◌, bad_query, gives, refused, unsafe_head}
-use Rattle.query.specs.declared.Query.{Query}
+use Rattle.query.specs.Types.{Query}
 use Rattle.record.specs.declared.Status.TheVariants.{Done}
 use Rattle.query.specs.Rule.{head_safe, no_place, place_with}
 use Rattle.query.proofs.Good as stored

@@ -1,6 +1,6 @@
 -- The rows of a stored query that are left when each has gone without which the query can be mapped into the others. A mask has bit d for row d.
 use Rattle.std.specs.Prelude.{◌≡◌, ◌≢◌, true, List, [], ℕ, ◌<◌, get_or}
-use Rattle.query.specs.declared.Query.{Query}
+use Rattle.query.specs.Types.{Query}
 use Rattle.query.specs.View.{query_of}
 use Rattle.query.specs.Rule.{good_query}
 use Rattle.theory.specs.Query as theory

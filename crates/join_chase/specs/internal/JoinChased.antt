@@ -1,7 +1,7 @@
 -- What the chase with both kinds asks and what it promises. The schema is the widths of so many relations.
 use Rattle.std.specs.Prelude.{◌≡◌, true, false, cond, List, ℕ, ◌+◌, ◌*◌, ◌-◌, ◌<◌, length, take}
 use Rattle.theory.specs.Query.{variable_count}
-use Rattle.query.specs.declared.Tableau.{Tableau}
+use Rattle.query.specs.Types.{Tableau}
 use Rattle.query.specs.declared.Dependency.{Dependency}
 use Rattle.query.specs.declared.JoinDependency.{JoinDependency}
 use Rattle.query.specs.View.{query_of, as_query, held_of, held_joins}

@@ -7,7 +7,7 @@ use native.Mathlib.Omega.{arith}
 use lib.ListN.{length, take, drop, get_or}
 use borrow.Author.Rules.{rules}
 use Rattle.lists.proofs.Loops.{mapped-length}
-use Rattle.query.specs.declared.Tableau.{Tableau}
+use Rattle.query.specs.Types.{Tableau}
 use Rattle.join_search.specs.internal.Search.{is_first}
 use Rattle.join_step.specs.internal.Step.{with_row, distinct_to}
 use Rattle.join_step.proofs.Rows.{distinct-size, distinct-keeps, distinct-drops}

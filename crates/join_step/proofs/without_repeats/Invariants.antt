@@ -7,7 +7,7 @@ use Rattle.join_step.specs.internal.Step.{codes_of, distinct_to}
 use mathlib.Core.List.{List}
 use Prim.Native.Nat.{ℕ}
 use Rattle.query.specs.declared.Cell.{Cell}
-use Rattle.query.specs.declared.Tableau.{Tableau}
+use Rattle.query.specs.Types.{Tableau}
 use Rattle.join_step.proofs.without_repeats.Given as goal
 
 -- The tableau, from its parts

@@ -4,7 +4,7 @@ use Rattle.std.proofs.Math.Option.{Option, none, some}
 use Rattle.lists.specs.Tests.{every}
 use Rattle.lists.specs.Over.{over}
 use Rattle.query.specs.declared.Cell.{Cell}
-use Rattle.query.specs.declared.Tableau.{Tableau}
+use Rattle.query.specs.Types.{Tableau}
 use Rattle.query.specs.declared.JoinDependency.{JoinDependency}
 use Rattle.query.specs.View.{entries_of, query_of, as_query, held_joins}
 use Rattle.query.specs.Rule.{good_row, no_cell}

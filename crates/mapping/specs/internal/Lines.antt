@@ -3,7 +3,7 @@ use Rattle.std.specs.Prelude.{◌≡◌, cond, List, ◌⊎◌, ℕ, ◌+◌, �
 use Rattle.theory.specs.Query as theory
 use Rattle.theory.specs.Answer.{value_of}
 use Rattle.query.specs.declared.Cell.{Cell}
-use Rattle.query.specs.declared.Query.{Query}
+use Rattle.query.specs.Types.{Query}
 use Rattle.query.specs.View.{entry_of, images_of}
 use Rattle.query.specs.Rule.{no_cell}
 use Rattle.candidates.specs.internal.Candidates.{row_start, image_start}

@@ -4,8 +4,8 @@ use Rattle.theory.specs.Query as theory
 use Rattle.theory.specs.Answer.{IsMapping, Mapping}
 use Rattle.minimization.specs.Checking.{maps_to}
 use Rattle.query.specs.declared.Cell.{Cell}
-use Rattle.query.specs.declared.Query.{Query}
-use Rattle.query.specs.declared.Tableau.{Tableau}
+use Rattle.query.specs.Types.{Query}
+use Rattle.query.specs.Types.{Tableau}
 use Rattle.query.specs.View.{entries_of, query_of, as_query, images_of}
 use Rattle.query.specs.Rule.{good_query, good_tableau, no_cell}
 use Rattle.mapping.specs.declared.Mapped.{Mapped}

@@ -8,7 +8,7 @@ use lib.Dec.{eqb, leb}
 use lib.ListN.{length, take, drop, length-drop}
 use lib.Seq.{drop-drop}
 use Rattle.query.specs.declared.Cell.{Cell}
-use Rattle.query.specs.declared.Query.{Query}
+use Rattle.query.specs.Types.{Query}
 use Rattle.lists.specs.Tests.{between}
 use Rattle.format.specs.Format.{none, got, map_reading, get_byte}
 use Rattle.format.specs.Parts.{entries, rows, query_with, query}

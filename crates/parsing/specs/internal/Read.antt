@@ -1,7 +1,7 @@
 -- The answers of this crate's functions: the format's readings and results as values of the code's structs and enums.
 use Rattle.std.specs.Prelude.{Bool, true, false, List, map, ℕ, eqb, length, replicate}
 use Rattle.query.specs.declared.Cell.{Cell}
-use Rattle.query.specs.declared.Query.{Query}
+use Rattle.query.specs.Types.{Query}
 use Rattle.query.specs.declared.Dependency.{Dependency}
 use Rattle.query.specs.declared.JoinDependency.{JoinDependency}
 use Rattle.query.specs.Rule.{no_cell, no_query, no_dependency, no_join}

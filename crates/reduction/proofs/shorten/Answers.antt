@@ -2,8 +2,8 @@
 use Rattle.std.proofs.Common.{◌≡◌, ℕ, ◌*◌, ◌≤◌, true, List, length, sym, ap, ◌∙◌, subst, arith, rules}
 use Rattle.lists.specs.Tests.{every, between}
 use Rattle.lists.proofs.Loops.{mapped-length}
-use Rattle.query.specs.declared.Query.{Query}
-use Rattle.query.specs.declared.Tableau.{Tableau}
+use Rattle.query.specs.Types.{Query}
+use Rattle.query.specs.Types.{Tableau}
 use Rattle.query.specs.View.{query_of, as_query}
 use Rattle.query.specs.Rule.{good_query, good_tableau}
 use Rattle.query.proofs.Good.{good-query}

@@ -1,6 +1,6 @@
 -- What the steps of a reduction ask and promise: the shortened query, and the record that has it. The promise of the call itself is in `Reduced`.
 use Rattle.std.specs.Prelude.{◌≡◌, ℕ, ◌<◌, true, List, [], replicate}
-use Rattle.query.specs.declared.Query.{Query}
+use Rattle.query.specs.Types.{Query}
 use Rattle.query.specs.declared.Dependency.{Dependency}
 use Rattle.record.specs.declared.Record.{Record}
 use Rattle.query.specs.View.{query_of, images_of}

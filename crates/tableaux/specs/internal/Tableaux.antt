@@ -1,7 +1,7 @@
 -- A stored query as a tableau, which has room for 12 rows more, and a tableau without that room.
 use Rattle.std.specs.Prelude.{◌++◌, take, replicate}
-use Rattle.query.specs.declared.Query.{Query}
-use Rattle.query.specs.declared.Tableau.{Tableau}
+use Rattle.query.specs.Types.{Query}
+use Rattle.query.specs.Types.{Tableau}
 use Rattle.query.specs.Rule.{no_cell}
 
 -- The tableau of a stored query: its rows, then 12 that are not in use

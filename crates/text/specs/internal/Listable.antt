@@ -1,7 +1,7 @@
 -- What the functions that write are given: stored rows, images and queries, and what may be listed.
 use Rattle.std.specs.Prelude.{◌≡◌, true, List, ℕ, ◌+◌, ◌≤◌, ◌<◌, length, take}
 use Rattle.query.specs.declared.Cell.{Cell}
-use Rattle.query.specs.declared.Query.{Query}
+use Rattle.query.specs.Types.{Query}
 use Rattle.query.specs.View.{entries_of}
 use Rattle.lists.specs.Tests.{every}
 use Rattle.query.specs.Rule.{good_relations, good_cell, good_query, head_safe}

@@ -1,0 +1,2 @@
+-- What `all` and `any` of a chain of iterators come to.
+pub mod Chains

@@ -1,0 +1,14 @@
+-- `limits::row_good` meets its contract. Invariant: the answer is that of the cells of the row from i on.
+-- Assumes nothing.
+use mathlib.Core.Path.{◌≡◌}
+use Prim.Native.Nat.{◌-◌, ◌≤◌}
+use lib.ListN.{length, take, drop}
+use Rattle.lists.specs.Tests.{in_use}
+use Rattle.query.specs.Rule.{good_cell, blank_cell}
+use Rattle.lists.proofs.Loops.{Remains, used_test}
+use Rattle.limits.proofs.row_good.Given as goal
+
+abbrev pub invariant-loop-i : goal.invariant-loop-i
+invariant-loop-i l =
+    (l.i ≤ 8) × (length l.cells ≡ 96)
+    × Remains (used_test l.used good_cell blank_cell) (take 8 (drop l.start l.cells)) (in_use l.used good_cell blank_cell (take 8 (drop l.start l.cells))) l.i

@@ -1,0 +1,16 @@
+-- `limits::rows_have` meets its contract. Invariant: whether the variable stands in a row is decided by the rows from the present one on.
+-- Assumes nothing.
+use mathlib.Core.Path.{◌≡◌}
+use Prim.Native.Nat.{◌-◌, ◌≤◌}
+use lib.ListN.{length, take}
+use Rattle.theory.specs.Query.{member, variables_of, row_entries}
+use Rattle.query.specs.View.{rows_of}
+use Rattle.lists.proofs.Loops.{Sought}
+use Rattle.limits.proofs.Variables.{row_has}
+use Rattle.limits.proofs.rows_have.Given as goal
+
+abbrev pub invariant-loop-row : goal.invariant-loop-row
+invariant-loop-row l =
+    (l.row ≤ l.size) × (length l.named ≡ 12)
+    × Sought (row_has (take l.relations l.widths) l.cells l.v) (take l.size l.named)
+    (member l.v (variables_of (row_entries (rows_of (take l.relations l.widths) (take l.size l.named) l.cells)))) l.row
