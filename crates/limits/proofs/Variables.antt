@@ -14,7 +14,7 @@ use Rattle.theory.specs.Query.{subset}
 use Rattle.query.specs.declared.Entry.{Entry}
 use Rattle.query.specs.declared.Entry.TheVariants.{Constant, Variable}
 use Rattle.query.specs.declared.Cell.{Cell}
-use Rattle.query.specs.declared.Query.{Query}
+use Rattle.query.specs.Types.{Query}
 use Rattle.query.specs.View.{entry_of, entries_of, rows_of}
 use Rattle.lists.specs.Tests.{every}
 use Rattle.limits.specs.internal.Entries.{is_variable, names_variable, safe_entry, safe_cell}

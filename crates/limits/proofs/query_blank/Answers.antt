@@ -3,7 +3,7 @@
 use mathlib.Core.Path.{◌≡◌, sym, ◌∙◌}
 use mathlib.Core.Bool.{true, false}
 use borrow.Author.Tests.{eq-eqb, ne_eqb}
-use Rattle.query.specs.declared.Query.{Query}
+use Rattle.query.specs.Types.{Query}
 use Rattle.lists.specs.Tests.{every, in_use, is_zero}
 use Rattle.query.specs.Rule.{blank_query, good_cell, blank_cell}
 use Rattle.lists.proofs.Loops.{none-used}

@@ -6,7 +6,7 @@ use mathlib.Core.List.{List}
 use Prim.Native.Nat.{ℕ, ◌*◌, ◌≤◌, ◌<◌}
 use lib.ListN.{take, drop}
 use borrow.Author.Tests.{le-leb, lt-leb}
-use Rattle.query.specs.declared.Query.{Query}
+use Rattle.query.specs.Types.{Query}
 use Rattle.lists.specs.Tests.{every, in_use, is_zero}
 use Rattle.query.specs.Rule.{good_cell, blank_cell, good_rows, good_up_to, good_query, head_in_use}
 use Rattle.limits.proofs.query_good.Goals as goal
