@@ -39,12 +39,14 @@ use Rattle.theory.specs.Query.{◌∈◌}
 use Rattle.theory.specs.Answer as answer
 use Rattle.minimization.specs.Checking.{maps_to}
 use Rattle.refusals.specs.Refusals.{gives, reply}
-use Rattle.comparison.specs.declared.Pair.TheVariants.{Places}
 use Rattle.comparison.specs.declared.Comparison.{Comparison}
 use Rattle.comparison.specs.declared.Verdict.TheVariants as verdict
-use Rattle.comparison.specs.declared.Checked.TheVariants as checked
 use Rattle.comparison.specs.Comparison.{outcome_at, query_in, chased_at, pair_refusal, Compared, CheckedMapping}
-use Rattle.comparison.specs.internal.Pairs.{paired, bare}
+use Rattle.std.specs.Prelude.{Ok, Err}
+use Rattle.refusals.specs.declared.Refusal.{Refusal}
+use Rattle.refusals.specs.declared.Refusal.TheVariants as refusal
+use Rattle.refusals.specs.Refusal.{number_of}
+use Rattle.comparison.specs.internal.Pairs.{both, looked_up, bare}
 use Rattle.comparison.proofs.Pairs.{standing, paired-places, compare-over}
 use Rattle.comparison.proofs.Verdicts.{queries, compared-refused, compared-never, compared-mapped, compared-apart}
 
@@ -99,9 +101,9 @@ module _ (r : Record) (p q : ℕ) (accepted : pair_refusal r p q ≡ none) (size
         ∙ ap (join_chase (schema_of r) (dependencies_of r) (joins_of r) 24) (tableau-query (schema_of r) (stored_at r p) sized k.good-p k.narrow)
 
     -- before a row that would be one too many
-    pub answers-over : result.over ≡ true → Compared r p q (bare (verdict.Refused 17))
+    pub answers-over : result.over ≡ true → Compared r p q (bare (verdict.Refused refusal.TooManyRows))
     answers-over e =
-        compared-refused r p q 17
+        compared-refused r p q refusal.TooManyRows
         (compare-over r p q accepted (sym outcome ∙ ap (λ (b : Bool). cond b overflow (chased (query_of (schema_of r) (as_query result.query)))) e))
 
     -- or in a query
@@ -154,7 +156,7 @@ module _ (r : Record) (p q : ℕ) (accepted : pair_refusal r p q ≡ none) (size
 -- ---- two places
 
 -- Two places that were found are those that were given, and are not refused
-module _ (r : Record) (p q a b : ℕ) (is : paired (pair_refusal r p q) p q ≡ Places a b) where
+module _ (r : Record) (p q a b : ℕ) (is : looked_up r p q ≡ both a b) where
   pub places-low : (a < 8) × (b < 8)
   places-low =
       let f = paired-places (pair_refusal r p q) p q a b is in
@@ -179,7 +181,7 @@ module _ (r : Record) (p q a b : ℕ) (is : paired (pair_refusal r p q) p q ≡ 
 
 -- ---- the checking of a mapping
 
-pub checks-refused : (r : Record) (p q : ℕ) (images : List Cell) (n : ℕ) → pair_refusal r p q ≡ some n → CheckedMapping r p q images (checked.Refused n)
+pub checks-refused : (r : Record) (p q : ℕ) (images : List Cell) (n : Refusal) → pair_refusal r p q ≡ some (number_of n) → CheckedMapping r p q images (Err n)
 checks-refused r p q images n e = ap (λ (o : Option ℕ). reply o (maps_to (query_at r q) (query_at r p) (entries_of images))) (sym e)
 
 module _ (r : Record) (p q : ℕ) (images : List Cell) (x y : Query) (accepted : pair_refusal r p q ≡ none) (is_x : x ≡ stored_at r p)
@@ -197,11 +199,5 @@ module _ (r : Record) (p q : ℕ) (images : List Cell) (x y : Query) (accepted :
         ∙ ap₂ (λ (S T : Query). maps_to (query_of (schema_of r) S) (query_of (schema_of r) T) (entries_of images)) is_y is_x
 
     -- The answer is what the test tells
-    says : (t : Bool) → b ≡ t → gives t ≡ reply (pair_refusal r p q) (maps_to (query_at r q) (query_at r p) (entries_of images))
-    says t e = ap₂ (λ (o : Option ℕ) (m : Bool). reply o m) (sym accepted) (sym e ∙ tells)
-
-    pub checks-yes : b ≡ true → CheckedMapping r p q images checked.Yes
-    checks-yes e = says true e
-
-    pub checks-no : b ≡ false → CheckedMapping r p q images checked.No
-    checks-no e = says false e
+    pub checks-told : CheckedMapping r p q images (Ok b)
+    checks-told = ap₂ (λ (o : Option ℕ) (m : Bool). reply o m) (sym accepted) tells

@@ -24,8 +24,8 @@ use Rattle.record.specs.View.{schema_of, dependencies_of, joins_of}
 use Rattle.record.specs.Calls.{query_at}
 use Rattle.comparison.specs.declared.Verdict.{Verdict}
 use Rattle.comparison.specs.declared.Verdict.TheVariants as verdict
-use Rattle.comparison.specs.declared.Checked.{Checked}
-use Rattle.comparison.specs.declared.Checked.TheVariants.{Yes, No, Refused}
+use Rattle.std.specs.Prelude.{Result, Ok, Err, Bool, true, false}
+use Rattle.refusals.specs.declared.Refusal.{Refusal}
 use Rattle.comparison.specs.Comparison.{pair_refusal, comparison_refusal, not_contained, verdict_reply, verdict_of, CheckedMapping}
 use Rattle.comparison.specs.Meaning.{CheckMeans, CheckDenies, ComparedOnce, FunctionalAlone, OutcomeMeans}
 use Rattle.comparison.proofs.Pairs.{compare-stands}
@@ -36,46 +36,40 @@ use Rattle.comparison.proofs.Verdicts.{queries, verdict-same, refused-apart}
 -- ---- checking a mapping
 
 -- The answers of a check are different
-yes-no : Yes ≡ No → ⊥
+yes-no : ◌≡◌ {A = Result Bool Refusal} (Ok true) (Ok false) → ⊥
 yes-no e = let z : ◌≡◌ {A = ℕ} 0 1 = cc in omega arith
 
-yes-refused : (n : ℕ) → Yes ≡ Refused n → ⊥
-yes-refused n e = let z : ◌≡◌ {A = ℕ} 0 1 = cc in omega arith
-
-no-refused : (n : ℕ) → No ≡ Refused n → ⊥
-no-refused n e = let z : ◌≡◌ {A = ℕ} 0 1 = cc in omega arith
-
-module _ (r : Record) (p q : ℕ) (images : List Cell) (c : Checked) (is : CheckedMapping r p q images c) where
-  says-yes : c ≡ Yes → (pair_refusal r p q ≡ none) × IsMapping (query_at r q) (query_at r p) (images_of images)
+module _ (r : Record) (p q : ℕ) (images : List Cell) (c : Result Bool Refusal) (is : CheckedMapping r p q images c) where
+  says-yes : c ≡ Ok true → (pair_refusal r p q ≡ none) × IsMapping (query_at r q) (query_at r p) (images_of images)
   says-yes y = go (pair_refusal r p q) refl
     where
       go : (o : Option ℕ) → pair_refusal r p q ≡ o → (pair_refusal r p q ≡ none) × IsMapping (query_at r q) (query_at r p) (images_of images)
       go none e =
-          ⊎_elim (λ (h : (c ≡ Yes) × IsMapping (query_at r q) (query_at r p) (images_of images)). (e, h.1))
-          (λ (h : (c ≡ No) × (IsMapping (query_at r q) (query_at r p) (images_of images) → ⊥)). absurd (yes-no (sym y ∙ h.0)))
+          ⊎_elim (λ (h : (c ≡ Ok true) × IsMapping (query_at r q) (query_at r p) (images_of images)). (e, h.1))
+          (λ (h : (c ≡ Ok false) × (IsMapping (query_at r q) (query_at r p) (images_of images) → ⊥)). absurd (yes-no (sym y ∙ h.0)))
           (checked-decided r p q images c is e)
-      go (some n) e = absurd (yes-refused n (sym y ∙ checked_refused r p q images c is n e))
+      go (some n) e = absurd (checked_refused r p q images c is n e true y)
 
-  says-no : c ≡ No → (pair_refusal r p q ≡ none) × (IsMapping (query_at r q) (query_at r p) (images_of images) → ⊥)
+  says-no : c ≡ Ok false → (pair_refusal r p q ≡ none) × (IsMapping (query_at r q) (query_at r p) (images_of images) → ⊥)
   says-no y = go (pair_refusal r p q) refl
     where
       go : (o : Option ℕ) → pair_refusal r p q ≡ o → (pair_refusal r p q ≡ none) × (IsMapping (query_at r q) (query_at r p) (images_of images) → ⊥)
       go none e =
-          ⊎_elim (λ (h : (c ≡ Yes) × IsMapping (query_at r q) (query_at r p) (images_of images)). absurd (yes-no (sym h.0 ∙ y)))
-          (λ (h : (c ≡ No) × (IsMapping (query_at r q) (query_at r p) (images_of images) → ⊥)). (e, h.1))
+          ⊎_elim (λ (h : (c ≡ Ok true) × IsMapping (query_at r q) (query_at r p) (images_of images)). absurd (yes-no (sym h.0 ∙ y)))
+          (λ (h : (c ≡ Ok false) × (IsMapping (query_at r q) (query_at r p) (images_of images) → ⊥)). (e, h.1))
           (checked-decided r p q images c is e)
-      go (some n) e = absurd (no-refused n (sym y ∙ checked_refused r p q images c is n e))
+      go (some n) e = absurd (checked_refused r p q images c is n e false y)
 
-  is-yes : (pair_refusal r p q ≡ none) × IsMapping (query_at r q) (query_at r p) (images_of images) → c ≡ Yes
+  is-yes : (pair_refusal r p q ≡ none) × IsMapping (query_at r q) (query_at r p) (images_of images) → c ≡ Ok true
   is-yes both =
-      ⊎_elim (λ (h : (c ≡ Yes) × IsMapping (query_at r q) (query_at r p) (images_of images)). h.0)
-      (λ (h : (c ≡ No) × (IsMapping (query_at r q) (query_at r p) (images_of images) → ⊥)). absurd (h.1 both.1))
+      ⊎_elim (λ (h : (c ≡ Ok true) × IsMapping (query_at r q) (query_at r p) (images_of images)). h.0)
+      (λ (h : (c ≡ Ok false) × (IsMapping (query_at r q) (query_at r p) (images_of images) → ⊥)). absurd (h.1 both.1))
       (checked-decided r p q images c is both.0)
 
-  is-no : (pair_refusal r p q ≡ none) × (IsMapping (query_at r q) (query_at r p) (images_of images) → ⊥) → c ≡ No
+  is-no : (pair_refusal r p q ≡ none) × (IsMapping (query_at r q) (query_at r p) (images_of images) → ⊥) → c ≡ Ok false
   is-no both =
-      ⊎_elim (λ (h : (c ≡ Yes) × IsMapping (query_at r q) (query_at r p) (images_of images)). absurd (both.1 h.1))
-      (λ (h : (c ≡ No) × (IsMapping (query_at r q) (query_at r p) (images_of images) → ⊥)). h.0)
+      ⊎_elim (λ (h : (c ≡ Ok true) × IsMapping (query_at r q) (query_at r p) (images_of images)). absurd (both.1 h.1))
+      (λ (h : (c ≡ Ok false) × (IsMapping (query_at r q) (query_at r p) (images_of images) → ⊥)). h.0)
       (checked-decided r p q images c is both.0)
 
 pub check-means : CheckMeans

@@ -38,6 +38,9 @@ use Rattle.minimization.proofs.Search.{mappable-exact}
 use Rattle.joins.proofs.Theorems.{join-chase-computes, join-contained-obeying, join-chased-counterexample}
 use Rattle.comparison.specs.declared.Verdict.{Verdict}
 use Rattle.comparison.specs.declared.Verdict.TheVariants.{Never, Mapped, Apart, Refused}
+use Rattle.refusals.specs.declared.Refusal.{Refusal}
+use Rattle.refusals.specs.Refusal.{number_of}
+use Rattle.refusals.proofs.Numbered.{number-same}
 use Rattle.comparison.specs.Comparison.{outcome_at, chased_at, pair_refusal, comparison_refusal, not_contained, contained_by_mapping, contained_as_never}
 use Rattle.comparison.specs.Comparison.{verdict_reply, verdict_on, verdict_of, base, Compared}
 use Rattle.comparison.specs.internal.Pairs.{bare}
@@ -98,7 +101,7 @@ verdict-same Apart (Refused n) e = absurd (refused-gives (sym e))
 verdict-same (Refused n) Never e = absurd (refused-gives e)
 verdict-same (Refused n) Mapped e = absurd (refused-gives e)
 verdict-same (Refused n) Apart e = absurd (refused-gives e)
-verdict-same (Refused n) (Refused m) e = let z : n ≡ m = cc in ap Refused z
+verdict-same (Refused r) (Refused s) e = let z : number_of r ≡ number_of s = cc in ap Refused (number-same r s z)
 
 -- The verdicts are different
 never-mapped : Never ≡ Mapped → ⊥
@@ -110,16 +113,16 @@ never-apart e = let z : ◌≡◌ {A = ℕ} 0 1 = cc in omega arith
 mapped-apart : Mapped ≡ Apart → ⊥
 mapped-apart e = let z : ◌≡◌ {A = ℕ} 0 1 = cc in omega arith
 
-refused-mapped : (n : ℕ) → Refused n ≡ Mapped → ⊥
+refused-mapped : (n : Refusal) → Refused n ≡ Mapped → ⊥
 refused-mapped n e = let z : ◌≡◌ {A = ℕ} 0 1 = cc in omega arith
 
-pub refused-apart : (n : ℕ) → Refused n ≡ Apart → ⊥
+pub refused-apart : (n : Refusal) → Refused n ≡ Apart → ⊥
 refused-apart n e = let z : ◌≡◌ {A = ℕ} 0 1 = cc in omega arith
 
 -- ---- the cases
 
 -- Refused
-pub compared-refused : (r : Record) (p q n : ℕ) → comparison_refusal r p q ≡ some n → Compared r p q (bare (Refused n))
+pub compared-refused : (r : Record) (p q : ℕ) (n : Refusal) → comparison_refusal r p q ≡ some (number_of n) → Compared r p q (bare (Refused n))
 compared-refused r p q n refused =
     record {
       verdict = rw refused;

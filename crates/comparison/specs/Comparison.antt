@@ -1,5 +1,5 @@
 -- What comparing two places and checking a mapping promise (demand 2). Which mapping a comparison returns is free; everything else is determined.
-use Rattle.std.specs.Prelude.{◌≡◌, Bool, true, false, not, cond, List, [], ◌∷◌, ◌++◌, ℕ, eqb, replicate}
+use Rattle.std.specs.Prelude.{Result, ◌≡◌, Bool, true, false, not, cond, List, [], ◌∷◌, ◌++◌, ℕ, eqb, replicate}
 use Rattle.std.proofs.Math.Option.{Option}
 use Rattle.query.specs.declared.Cell.{Cell}
 use Rattle.record.specs.declared.Record.{Record}
@@ -11,8 +11,8 @@ use Rattle.record.specs.Calls.{broken_record, unknown_place, vacant, stored_at, 
 use Rattle.comparison.specs.declared.Verdict.{Verdict}
 use Rattle.comparison.specs.declared.Verdict.TheVariants.{Never, Mapped, Apart, Refused}
 use Rattle.comparison.specs.declared.Comparison.{Comparison}
-use Rattle.comparison.specs.declared.Checked.{Checked}
-use Rattle.comparison.specs.declared.Checked.TheVariants as checked
+use Rattle.refusals.specs.declared.Refusal.{Refusal}
+use Rattle.refusals.specs.Refusal.{number_of, reply_of}
 use Rattle.theory.specs.Query as theory
 use Rattle.theory.specs.Answer as answer
 use Rattle.theory.specs.Containment as containment
@@ -73,7 +73,7 @@ abbrev pub verdict_reply : Verdict → Reply ℕ
 verdict_reply Apart = gives not_contained
 verdict_reply Mapped = gives contained_by_mapping
 verdict_reply Never = gives contained_as_never
-verdict_reply (Refused n) = refused n
+verdict_reply (Refused refusal) = refused (number_of refusal)
 
 -- The verdict on a chased query: never is contained, without a mapping; otherwise it is contained exactly when the second query can be mapped to it
 abbrev pub verdict_on : List (theory.Row theory.Entry) → Bool → ℕ
@@ -93,7 +93,7 @@ abbrev pub SaysContained : Verdict → Type 0
 SaysContained Never = Unit {0}
 SaysContained Mapped = Unit {0}
 SaysContained Apart = ⊥
-SaysContained (Refused n) = ⊥
+SaysContained (Refused refusal) = ⊥
 
 -- What comparing places p and q promises.
 -- The verdict, and what it holds: a mapping from q's query to p's chased query where it is contained with one, p's chased query where it is not contained,
@@ -111,13 +111,7 @@ pub record Compared (r : Record) (p q : ℕ) (c : Comparison) : Type 0 where
       → containment.Counterexample (LegalForBoth (schema_of r) (dependencies_of r) (joins_of r)) (query_at r p) (query_at r q)
       (containment.frozen_rows base (query_of (schema_of r) (as_query c.query))) (containment.frozen_head base (query_of (schema_of r) (as_query c.query)))
 
--- What each case of a check says: refused with a number, or yes or no
-abbrev pub check_reply : Checked → Reply Bool
-check_reply checked.Yes = gives true
-check_reply checked.No = gives false
-check_reply (checked.Refused n) = refused n
-
 -- What checking a mapping for places p and q promises: the refusal, or yes exactly when the images are a mapping from q's query to p's query as it is stored.
 -- `maps_to` is a test that says yes exactly to the mappings (`minimization/specs/Checking`)
-abbrev pub CheckedMapping : Record → ℕ → ℕ → List Cell → Checked → Type 0
-CheckedMapping r p q images c = check_reply c ≡ reply (pair_refusal r p q) (maps_to (query_at r q) (query_at r p) (entries_of images))
+abbrev pub CheckedMapping : Record → ℕ → ℕ → List Cell → Result Bool Refusal → Type 0
+CheckedMapping r p q images c = reply_of c ≡ reply (pair_refusal r p q) (maps_to (query_at r q) (query_at r p) (entries_of images))

@@ -1,5 +1,5 @@
 -- What the promises of the two calls come to. Each statement is proved in `proofs/Meaning`.
-use Rattle.std.specs.Prelude.{◌≡◌, ◌↔◌, true, List, ℕ}
+use Rattle.std.specs.Prelude.{Result, Ok, Bool, true, false, ◌≡◌, ◌↔◌, true, List, ℕ}
 use Rattle.std.proofs.Math.Option.{none}
 use Rattle.theory.specs.Answer.{IsMapping}
 use Rattle.theory.specs.Chase.{chase}
@@ -13,22 +13,21 @@ use Rattle.record.specs.View.{schema_of, dependencies_of, joins_of}
 use Rattle.record.specs.Rule.{good_record}
 use Rattle.record.specs.Calls.{query_at}
 use Rattle.comparison.specs.declared.Comparison.{Comparison}
-use Rattle.comparison.specs.declared.Checked.{Checked}
-use Rattle.comparison.specs.declared.Checked.TheVariants as checked
+use Rattle.refusals.specs.declared.Refusal.{Refusal}
 use Rattle.comparison.specs.Comparison.{pair_refusal, outcome_at, Compared, CheckedMapping}
 
 -- Checking says yes exactly when the two places are not refused and the images are a mapping from q's query to p's, both as they are stored. A mapping takes
 -- each variable that q's query does not have to constant 0
 abbrev pub CheckMeans : Type 0
 CheckMeans =
-    (r : Record) (p q : ℕ) (images : List Cell) (c : Checked) → CheckedMapping r p q images c
-    → (c ≡ checked.Yes) ↔ ((pair_refusal r p q ≡ none) × IsMapping (query_at r q) (query_at r p) (images_of images))
+    (r : Record) (p q : ℕ) (images : List Cell) (c : Result Bool Refusal) → CheckedMapping r p q images c
+    → (c ≡ Ok true) ↔ ((pair_refusal r p q ≡ none) × IsMapping (query_at r q) (query_at r p) (images_of images))
 
 -- It says no exactly when they are not refused and the images are no such mapping
 abbrev pub CheckDenies : Type 0
 CheckDenies =
-    (r : Record) (p q : ℕ) (images : List Cell) (c : Checked) → CheckedMapping r p q images c
-    → (c ≡ checked.No) ↔ ((pair_refusal r p q ≡ none) × (IsMapping (query_at r q) (query_at r p) (images_of images) → ⊥))
+    (r : Record) (p q : ℕ) (images : List Cell) (c : Result Bool Refusal) → CheckedMapping r p q images c
+    → (c ≡ Ok false) ↔ ((pair_refusal r p q ≡ none) × (IsMapping (query_at r q) (query_at r p) (images_of images) → ⊥))
 
 -- Two comparisons of the same places, with arrays as long as their types say, have the same verdict and the same query
 abbrev pub ComparedOnce : Type 0

@@ -4,19 +4,14 @@
 ghost use Rattle.std.specs.Prelude.{◌≡◌};
 ghost use Rattle.std.proofs.Math.Option.{none};
 ghost use Rattle.comparison.specs.Comparison.{pair_refusal, Compared, CheckedMapping};
-ghost use Rattle.comparison.specs.internal.Pairs.{paired, number_in, bare};
+ghost use Rattle.refusals.specs.Refusal.{reply_of};
+ghost use Rattle.comparison.specs.internal.Pairs.{looked_up, bare};
 
 use query::{Cell, Tableau};
-use record::calls::{number, place_at, stored};
-use record::{Lookup, Record};
-use tableaux::{from_query, no_tableau};
-
-// Two places to be read whose heads have one length, or the number of the refusal.
-#[derive(Clone, Copy)]
-pub enum Pair {
-    Places(usize, usize),
-    Refused(u8),
-}
+use record::Record;
+use record::calls::{place_at, stored};
+use refusals::Refusal;
+use tableaux::from_query;
 
 // A verdict as a number: not contained.
 pub const NOT_CONTAINED: u8 = 0;
@@ -25,13 +20,13 @@ pub const CONTAINED_BY_MAPPING: u8 = 1;
 // Contained because the first query chases to never.
 pub const CONTAINED_AS_NEVER: u8 = 2;
 
-// What a comparison says: contained because the first query chases to never, contained by a mapping, not contained, or refused with a number.
+// What a comparison says: contained because the first query chases to never, contained by a mapping, not contained, or refused.
 #[derive(Clone, Copy)]
 pub enum Verdict {
     Never,
     Mapped,
     Apart,
-    Refused(u8),
+    Refused(Refusal),
 }
 
 // A comparison: its verdict, the mapping where it is contained by one, and the first query, chased, where it is not contained.
@@ -42,53 +37,35 @@ pub struct Comparison {
     pub query: Tableau,
 }
 
-// What checking a mapping says.
-#[derive(Clone, Copy)]
-pub enum Checked {
-    Yes,
-    No,
-    Refused(u8),
-}
-
-// The refusals of a call on two places, in the order of SPECIFICATION, Refusals.
-fn filled_pair(given: Record, p: usize, q: usize) -> Pair
-    ensures { result ≡ paired (pair_refusal given p q) p q }
+// Two places to be read whose heads have one length, or the refusal, in the order of SPECIFICATION, Refusals.
+fn filled_pair(given: Record, p: usize, q: usize) -> Result<(usize, usize), Refusal>
+    ensures { reply_of result ≡ looked_up given p q }
 {
     if !given.is_good() {
-        return Pair::Refused(refusals::BAD_RECORD);
+        return Err(Refusal::BadRecord);
     }
     let found = place_at(p);
-    let Lookup::At(_) = found else {
-        return Pair::Refused(number(found));
+    let Ok(_) = found else {
+        return Err(found.unwrap_err());
     };
     let found = place_at(q);
-    let Lookup::At(_) = found else {
-        return Pair::Refused(number(found));
+    let Ok(_) = found else {
+        return Err(found.unwrap_err());
     };
     let found = given.filled_place(p);
-    let Lookup::At(first) = found else {
-        return Pair::Refused(number(found));
+    let Ok(first) = found else {
+        return Err(found.unwrap_err());
     };
     let found = given.filled_place(q);
-    let Lookup::At(second) = found else {
-        return Pair::Refused(number(found));
+    let Ok(second) = found else {
+        return Err(found.unwrap_err());
     };
     let a = stored(given, first);
     let b = stored(given, second);
     if a.arity != b.arity {
-        return Pair::Refused(refusals::HEADS_DIFFER);
+        return Err(Refusal::HeadsDiffer);
     }
-    Pair::Places(first, second)
-}
-
-// The number with which two places are refused, 0 where they are not.
-fn refusal(found: Pair) -> u8
-    ensures { result ≡ number_in found }
-{
-    match found {
-        Pair::Places(_, _) => 0,
-        Pair::Refused(n) => n,
-    }
+    Ok((first, second))
 }
 
 // A comparison with nothing but its verdict.
@@ -99,7 +76,7 @@ fn only(verdict: Verdict) -> Comparison
     Comparison {
         verdict: verdict,
         images: [blank; 96],
-        query: no_tableau(),
+        query: Tableau::never(0),
     }
 }
 
@@ -121,7 +98,7 @@ fn compare_places(given: Record, p: usize, q: usize) -> Comparison
         given.joined as usize,
     );
     if chased.over {
-        return only(Verdict::Refused(refusals::TOO_MANY_ROWS));
+        return only(Verdict::Refused(Refusal::TooManyRows));
     }
     let query = chased.query;
     if query.size == 0 {
@@ -133,7 +110,7 @@ fn compare_places(given: Record, p: usize, q: usize) -> Comparison
         return Comparison {
             verdict: Verdict::Mapped,
             images: images,
-            query: no_tableau(),
+            query: Tableau::never(0),
         };
     }
     Comparison {
@@ -148,23 +125,19 @@ pub fn compare(given: Record, p: usize, q: usize) -> Comparison
     ensures { Compared given p q result }
 {
     let found = filled_pair(given, p, q);
-    let Pair::Places(first, second) = found else {
-        return only(Verdict::Refused(refusal(found)));
+    let Ok((first, second)) = found else {
+        return only(Verdict::Refused(found.unwrap_err()));
     };
     compare_places(given, first, second)
 }
 
 // Whether the images are a mapping from the query of place q to that of place p, as they are stored.
-pub fn check_mapping(given: Record, p: usize, q: usize, images: [Cell; 96]) -> Checked
+pub fn check_mapping(given: Record, p: usize, q: usize, images: [Cell; 96]) -> Result<bool, Refusal>
     ensures { CheckedMapping given p q images result }
 {
     let found = filled_pair(given, p, q);
-    let Pair::Places(first, second) = found else {
-        return Checked::Refused(refusal(found));
+    let Ok((first, second)) = found else {
+        return Err(found.unwrap_err());
     };
-    if mapping::check(stored(given, second), stored(given, first), images) {
-        Checked::Yes
-    } else {
-        Checked::No
-    }
+    Ok(mapping::check(stored(given, second), stored(given, first), images))
 }

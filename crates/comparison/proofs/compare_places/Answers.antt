@@ -105,7 +105,7 @@ returns-then-mapped c =
     let finds : Finds (stored_at a.given a.q) c.chase-chased.result.query c.find-mapped.result = rw c.stored-2.ensures at c.find-mapped.ensures in
     subst
     (λ (t : Tableau). Compared a.given a.p a.q (record { verdict = Mapped; images = c.find-mapped.result.images; query = t }))
-    (sym c.no_tableau.ensures)
+    (sym c.never.ensures)
     (answers-contained a.given a.p a.q c.requires (sized from) (shaped after) c.chase-chased.result
     (chased after) c.if-chased.false c.find-mapped.result finds c.if-mapped.true)
 

@@ -5,9 +5,8 @@ use mathlib.Core.Bool.{true}
 use Prim.Native.Nat.{◌<◌}
 use native.Mathlib.Omega.{arith}
 use Rattle.record.specs.Rule.{good_record}
-use Rattle.record.specs.internal.Lookup.{number_of}
+use Rattle.refusals.specs.Refusal.{number_of, reply_of}
 use Rattle.record.proofs.Refusals.{place-at, filled_at}
-use Rattle.comparison.specs.declared.Pair.TheVariants.{Refused}
 use Rattle.comparison.proofs.Pairs.{pair-broken, first_above, second_above, first-vacant, second-vacant, found-differ, found-stand}
 use Rattle.comparison.proofs.filled_pair.Goals as goal
 
@@ -23,9 +22,7 @@ returns-in_default c =
     let q = c.args.q in
     let good : good_record given ≡ true = sym c.is_good.ensures
     ∙ c.if-not-is_good.false in
-    let told = c.in_default in
-    let is : Refused c.number.result ≡ Refused told.field-0 = ap Refused (c.number.ensures ∙ ap number_of told.is) in
-    is ∙ first_above given p q good told.field-0 (sym c.place_at-found.ensures ∙ told.is)
+    first_above given p q good (number_of c.unwrap_err.result) (sym c.place_at-found.ensures ∙ ap reply_of c.unwrap_err.ensures)
 
 pub returns-in_default-found : goal.returns-in_default-found
 returns-in_default-found c =
@@ -35,10 +32,8 @@ returns-in_default-found c =
     let good : good_record given ≡ true = sym c.is_good.ensures
     ∙ c.if-not-is_good.false in
     let low-p : p < 8 = (place-at p _ (sym c.place_at-found.ensures
-    ∙ c.in-At.is)).1 in
-    let told = c.in_default-found in
-    let is : Refused c.number-in_default-found.result ≡ Refused told.field-0 = ap Refused (c.number-in_default-found.ensures ∙ ap number_of told.is) in
-    is ∙ second_above given p q good low-p told.field-0 (sym c.place_at-found-2.ensures ∙ told.is)
+    ∙ ap reply_of c.in-Ok.is)).1 in
+    second_above given p q good low-p (number_of c.unwrap_err-in_default-found.result) (sym c.place_at-found-2.ensures ∙ ap reply_of c.unwrap_err-in_default-found.ensures)
 
 pub returns-in_default-found-2 : goal.returns-in_default-found-2
 returns-in_default-found-2 c =
@@ -48,12 +43,10 @@ returns-in_default-found-2 c =
     let good : good_record given ≡ true = sym c.is_good.ensures
     ∙ c.if-not-is_good.false in
     let low-p : p < 8 = (place-at p _ (sym c.place_at-found.ensures
-    ∙ c.in-At.is)).1 in
+    ∙ ap reply_of c.in-Ok.is)).1 in
     let low-q : q < 8 = (place-at q _ (sym c.place_at-found-2.ensures
-    ∙ c.in-At-found.is)).1 in
-    let told = c.in_default-found-2 in
-    let is : Refused c.number-in_default-found-2.result ≡ Refused told.field-0 = ap Refused (c.number-in_default-found-2.ensures ∙ ap number_of told.is) in
-    is ∙ first-vacant given p q good low-p low-q told.field-0 (sym c.filled_place-found.ensures ∙ told.is)
+    ∙ ap reply_of c.in-Ok-found.is)).1 in
+    first-vacant given p q good low-p low-q (number_of c.unwrap_err-in_default-found-2.result) (sym c.filled_place-found.ensures ∙ ap reply_of c.unwrap_err-in_default-found-2.ensures)
 
 pub returns-in_default-found-3 : goal.returns-in_default-found-3
 returns-in_default-found-3 c =
@@ -61,14 +54,12 @@ returns-in_default-found-3 c =
     let p = c.args.p in
     let q = c.args.q in
     let good : good_record given ≡ true = sym c.is_good.ensures ∙ c.if-not-is_good.false in
-    let low-p : p < 8 = (place-at p _ (sym c.place_at-found.ensures ∙ c.in-At.is)).1 in
+    let low-p : p < 8 = (place-at p _ (sym c.place_at-found.ensures ∙ ap reply_of c.in-Ok.is)).1 in
     let low-q : q < 8 = (place-at q _ (sym c.place_at-found-2.ensures
-    ∙ c.in-At-found.is)).1 in
+    ∙ ap reply_of c.in-Ok-found.is)).1 in
     let at = filled_at given p _ (sym c.filled_place-found.ensures
-    ∙ c.in-At-found-2.is) in
-    let told = c.in_default-found-3 in
-    let is : Refused c.number-in_default-found-3.result ≡ Refused told.field-0 = ap Refused (c.number-in_default-found-3.ensures ∙ ap number_of told.is) in
-    is ∙ second-vacant given p q good low-p low-q at.2 told.field-0 (sym c.filled_place-found-2.ensures ∙ told.is)
+    ∙ ap reply_of c.in-Ok-found-2.is) in
+    second-vacant given p q good low-p low-q at.2 (number_of c.unwrap_err-in_default-found-3.result) (sym c.filled_place-found-2.ensures ∙ ap reply_of c.unwrap_err-in_default-found-3.ensures)
 
 pub stored-a-requires : goal.stored-a-requires
 stored-a-requires c =
@@ -76,7 +67,7 @@ stored-a-requires c =
     let p = c.args.p in
     let q = c.args.q in
     let at = filled_at given p _ (sym c.filled_place-found.ensures
-    ∙ c.in-At-found-2.is) in
+    ∙ ap reply_of c.in-Ok-found-2.is) in
     omega (arith, at.0, at.1)
 
 pub stored-b-requires : goal.stored-b-requires
@@ -84,7 +75,7 @@ stored-b-requires c =
     let given = c.args.given in
     let p = c.args.p in
     let q = c.args.q in
-    let at = filled_at given q _ (sym c.filled_place-found-2.ensures ∙ c.in-At-found-3.is) in
+    let at = filled_at given q _ (sym c.filled_place-found-2.ensures ∙ ap reply_of c.in-Ok-found-3.is) in
     omega (arith, at.0, at.1)
 
 pub returns-then-a-b : goal.returns-then-a-b
@@ -94,9 +85,9 @@ returns-then-a-b c =
     let q = c.args.q in
     let good : good_record given ≡ true = sym c.is_good.ensures
     ∙ c.if-not-is_good.false in
-    found-differ given p q good _ _ (sym c.filled_place-found.ensures ∙ c.in-At-found-2.is)
+    found-differ given p q good _ _ (sym c.filled_place-found.ensures ∙ ap reply_of c.in-Ok-found-2.is)
     (sym c.filled_place-found-2.ensures
-    ∙ c.in-At-found-3.is)
+    ∙ ap reply_of c.in-Ok-found-3.is)
     _ _ c.stored-a.ensures c.stored-b.ensures c.if-a-b.true
 
 pub returns : goal.returns
@@ -106,7 +97,7 @@ returns c =
     let q = c.args.q in
     let good : good_record given ≡ true = sym c.is_good.ensures
     ∙ c.if-not-is_good.false in
-    found-stand given p q good _ _ (sym c.filled_place-found.ensures ∙ c.in-At-found-2.is)
+    found-stand given p q good _ _ (sym c.filled_place-found.ensures ∙ ap reply_of c.in-Ok-found-2.is)
     (sym c.filled_place-found-2.ensures
-    ∙ c.in-At-found-3.is)
+    ∙ ap reply_of c.in-Ok-found-3.is)
     _ _ c.stored-a.ensures c.stored-b.ensures c.if-a-b.false

@@ -7,4 +7,4 @@ use Rattle.comparison.proofs.only.Goals as goal
 
 pub returns : goal.returns
 returns c =
-    ap (λ (query : Tableau). record { verdict = c.args.verdict; images = replicate 96 no_cell; query = query }) c.no_tableau.ensures
+    ap (λ (query : Tableau). record { verdict = c.args.verdict; images = replicate 96 no_cell; query = query }) c.never.ensures
