@@ -2,4 +2,4 @@
 #![tactic(auto)]
 
 pub use reader::read;
-pub use writer::{Written, write};
+pub use writer::write;

@@ -8,13 +8,12 @@ use Rattle.query.specs.declared.Dependency.{Dependency}
 use Rattle.query.specs.declared.Place.{Place}
 use Rattle.record.specs.declared.Record.{Record}
 use Rattle.std.specs.Prelude.{Ok, Err}
-use Rattle.record.specs.declared.Lookup.TheVariants as lookup
 use Rattle.query.specs.View.{query_of, as_query, held_of, images_of}
 use Rattle.record.specs.View.{schema_of, dependencies_of}
 use Rattle.lists.specs.Tests.{every, between}
 use Rattle.query.specs.Rule.{good_dependencies, good_query, head_safe, no_cell, no_place, place_with}
 use Rattle.record.specs.Rule.{good_record}
-use Rattle.refusals.specs.Refusals.{first_holding}
+use Rattle.refusals.specs.Refusals.{first_holding, refused, gives}
 use Rattle.record.specs.Calls.{unknown_place, vacant, is_filled, with_place, stored_at}
 use Rattle.record.specs.internal.Lookup.{place_at, filled_place, vacant_place}
 use Rattle.lists.proofs.Tests.{and_both}
@@ -24,7 +23,8 @@ use Rattle.query.proofs.Good.{good-query}
 use Rattle.query.proofs.Shape.{SizedFor}
 use Rattle.query.proofs.Stored.{well-formed}
 use Rattle.record.proofs.Kept.{filled-place, place_kept, place_read}
-use Rattle.record.proofs.Refusals.{found-refused, filled_at, vacant-at, place-refused, vacant-refused}
+use Rattle.refusals.proofs.Refusals.{reply-refused}
+use Rattle.record.proofs.Refusals.{filled_at, vacant-at, place-refused, vacant-refused}
 use Rattle.chase.specs.declared.Chased.{Chased}
 use Rattle.chase.specs.internal.Outcome.{IsChased}
 use Rattle.chase.proofs.Callers.{good-widths, width-le}
@@ -201,7 +201,7 @@ module _ (r : Record) (source target : ℕ) (o : Reduced) where
     high-target h false e = rw (good, e)
 
     -- A place above 7 has the same number whichever of the two it is
-    pub reduce-high : (n : ℕ) → place_at target ≡ lookup.Refused n → reduced_reply o ≡ refused_reduction r n → IsReduced r source target o
+    pub reduce-high : (n : ℕ) → place_at target ≡ refused n → reduced_reply o ≡ refused_reduction r n → IsReduced r source target o
     reduce-high n e =
         let f = place-refused target n e in
         refused-with r source target n o (high-target f.0 (ltb source 8) refl ∙ ap some (sym f.1))
@@ -217,12 +217,12 @@ module _ (r : Record) (source target : ℕ) (o : Reduced) where
       source-refuses n true false e f given = rw (good, e, f, lt-ltb target 8 low) (rw (e, f) at given)
       source-refuses n false f e is given = rw (good, e) (rw e at given)
 
-      pub reduce-source : (n : ℕ) → filled_place r source ≡ lookup.Refused n → reduced_reply o ≡ refused_reduction r n → IsReduced r source target o
+      pub reduce-source : (n : ℕ) → filled_place r source ≡ refused n → reduced_reply o ≡ refused_reduction r n → IsReduced r source target o
       reduce-source n e =
           refused-with r source target n o
-          (source-refuses n (ltb source 8) (is_filled r source) refl refl (found-refused (first_holding (unknown_place source ∷ vacant r source ∷ [])) source n e))
+          (source-refuses n (ltb source 8) (is_filled r source) refl refl (reply-refused (first_holding (unknown_place source ∷ vacant r source ∷ [])) source n e))
 
-      pub reduce-target : (from n : ℕ) → filled_place r source ≡ lookup.At from → vacant_place r target ≡ lookup.Refused n → reduced_reply o ≡ refused_reduction r n
+      pub reduce-target : (from n : ℕ) → filled_place r source ≡ gives from → vacant_place r target ≡ refused n → reduced_reply o ≡ refused_reduction r n
           → IsReduced r source target o
       unfolding reduction_refusal first_holding
       reduce-target from n at e =
@@ -231,7 +231,7 @@ module _ (r : Record) (source target : ℕ) (o : Reduced) where
           let refuses : reduction_refusal r source target ≡ some n = rw (good, lt-ltb source 8 f.1, lt-ltb target 8 low, f.2, g.0, g.1) in
           refused-with r source target n o refuses
 
-      accepted-none : (from to : ℕ) → filled_place r source ≡ lookup.At from → vacant_place r target ≡ lookup.At to → reduction_refusal r source target ≡ none
+      accepted-none : (from to : ℕ) → filled_place r source ≡ gives from → vacant_place r target ≡ gives to → reduction_refusal r source target ≡ none
       unfolding reduction_refusal first_holding
       accepted-none from to at free =
           let f = filled_at r source from at in
@@ -239,7 +239,7 @@ module _ (r : Record) (source target : ℕ) (o : Reduced) where
           rw (good, lt-ltb source 8 f.1, lt-ltb target 8 low, f.2, g.2)
 
       -- An accepted call
-      pub reduce-done : (from to : ℕ) → filled_place r source ≡ lookup.At from → vacant_place r target ≡ lookup.At to → ShortFormStored r from to o
+      pub reduce-done : (from to : ℕ) → filled_place r source ≡ gives from → vacant_place r target ≡ gives to → ShortFormStored r from to o
           → IsReduced r source target o
       reduce-done from to at free stored =
           let accepts : reduction_refusal r source target ≡ none = accepted-none from to at free in
@@ -252,7 +252,7 @@ module _ (r : Record) (source target : ℕ) (o : Reduced) where
           }
 
 -- What the lookups tell of an accepted call
-pub able : (r : Record) (source target from to : ℕ) → good_record r ≡ true → filled_place r source ≡ lookup.At from → vacant_place r target ≡ lookup.At to
+pub able : (r : Record) (source target from to : ℕ) → good_record r ≡ true → filled_place r source ≡ gives from → vacant_place r target ≡ gives to
     → Reducible r from to
 able r source target from to good at free =
     let f = filled_at r source from at in

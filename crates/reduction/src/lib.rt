@@ -6,19 +6,21 @@ ghost use Rattle.std.specs.Prelude.{◌≡◌, ℕ, true, List};
 ghost use Rattle.lists.specs.Tests.{every, between};
 ghost use Rattle.query.specs.Rule.{good_query, head_safe};
 ghost use Rattle.query.specs.View.{held_of};
+ghost use Rattle.refusals.specs.Refusal.{number_of};
 ghost use Rattle.reduction.specs.Reduced.{reduced_reply, refused_reduction, IsReduced, ShortFormStored};
 ghost use Rattle.reduction.specs.internal.Steps.{Shortenable, IsShortened, Reducible};
 
 use query::{Cell, Dependency, Place, Query};
 use record::calls::{stored, with_place};
-use record::{Lookup, Record, Status};
+use record::Record;
+use refusals::Refusal;
 use tableaux::{from_query, to_query};
 
 // What a reduction gives: its answer, the record after it, the number of replacements, and the mapping from the source query to the result.
 // Where there is no mapping, its images hold constant 0.
 #[derive(Clone, Copy)]
 pub struct Reduced {
-    pub answer: Status,
+    pub answer: Result<(), Refusal>,
     pub record: Record,
     pub count: u8,
     pub images: [Cell; 96],
@@ -32,13 +34,13 @@ struct Shortened {
     images: [Cell; 96],
 }
 
-// A reduction is refused with a number.
-fn refused(number: u8, given: Record) -> Reduced
-    ensures { reduced_reply result ≡ refused_reduction given number }
+// A reduction is refused.
+fn refused(refusal: Refusal, given: Record) -> Reduced
+    ensures { reduced_reply result ≡ refused_reduction given (number_of refusal) }
 {
     let blank = query::NO_CELL;
     Reduced {
-        answer: Status::Refused(number),
+        answer: Err(refusal),
         record: given,
         count: 0,
         images: [blank; 96],
@@ -80,7 +82,7 @@ fn store_reduced(given: Record, source: usize, target: usize) -> Reduced
         query: short,
     };
     Reduced {
-        answer: Status::Done,
+        answer: Ok(()),
         record: with_place(given, target, filled),
         count: shortened.count,
         images: images,
@@ -92,19 +94,19 @@ pub fn reduce(given: Record, source: usize, target: usize) -> Reduced
     ensures { IsReduced given source target result }
 {
     if !given.is_good() {
-        return refused(refusals::BAD_RECORD, given);
+        return refused(Refusal::BadRecord, given);
     }
     let found = record::calls::place_at(target);
-    let Lookup::At(_) = found else {
-        return refused(record::calls::number(found), given);
+    let Ok(_) = found else {
+        return refused(found.unwrap_err(), given);
     };
     let found = given.filled_place(source);
-    let Lookup::At(from) = found else {
-        return refused(record::calls::number(found), given);
+    let Ok(from) = found else {
+        return refused(found.unwrap_err(), given);
     };
     let found = given.vacant_place(target);
-    let Lookup::At(to) = found else {
-        return refused(record::calls::number(found), given);
+    let Ok(to) = found else {
+        return refused(found.unwrap_err(), given);
     };
     store_reduced(given, from, to)
 }
