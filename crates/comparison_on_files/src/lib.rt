@@ -15,7 +15,8 @@ use comparison::{Checked, Comparison, Verdict};
 use encoder::{put_query, query_length};
 use mapping_words::{put_mapping, read_mapping};
 use query::{Cell, Tableau};
-use record::{Record, Status};
+use record::Record;
+use refusals::Refusal;
 
 // ---- comparing
 
@@ -32,7 +33,7 @@ fn store_contained(
         mapping.old part.old size.old result verdict.new mapping.new part.new size.new }
 {
     if mapping.len() < 192 {
-        return refusals::BUFFER_TOO_SHORT;
+        return Refusal::BufferTooShort;
     }
     put_mapping(images, mapping);
     *verdict = code;
@@ -58,11 +59,11 @@ fn store_apart(
         size.new }
 {
     if mapping.len() < 192 {
-        return refusals::BUFFER_TOO_SHORT;
+        return Refusal::BufferTooShort;
     }
     let n = query_length(chased, count, widths);
     if part.len() < n {
-        return refusals::BUFFER_TOO_SHORT;
+        return Refusal::BufferTooShort;
     }
     put_query(part, 0, chased, count, widths);
     put_mapping(images, mapping);
@@ -75,9 +76,9 @@ fn store_apart(
 fn refusal_for(n: u8, words: usize) -> u8
     ensures { result ≡ cond (eqb n too_many_rows && ltb words 192) buffer_too_short n }
 {
-    if n == refusals::TOO_MANY_ROWS {
+    if n == Refusal::TooManyRows {
         if words < 192 {
-            return refusals::BUFFER_TOO_SHORT;
+            return Refusal::BufferTooShort;
         }
     }
     n
@@ -170,14 +171,14 @@ pub fn compare_in_file(
     let outcome = file::read(file);
     let answer = outcome.answer;
     match answer {
-        Status::Done => {
+        Ok(()) => {
             let given = outcome.record;
             let count = given.relations;
             let widths = given.widths;
             let compared = comparison::compare(given, p, q);
             store_comparison(compared, count, widths, verdict, mapping, part, size)
         }
-        Status::Refused(n) => n,
+        Err(refusal) => u8::from(refusal),
     }
 }
 
@@ -189,10 +190,10 @@ pub fn check_in_file(file: &[u8], p: usize, q: usize, mapping: &[u32], verdict: 
     let outcome = file::read(file);
     let answer = outcome.answer;
     match answer {
-        Status::Done => {
+        Ok(()) => {
             let given = outcome.record;
             check_words(given, p, q, mapping, verdict)
         }
-        Status::Refused(n) => n,
+        Err(refusal) => u8::from(refusal),
     }
 }

@@ -7,7 +7,6 @@ ghost use Rattle.admission.specs.Conditions.{test_conditions, search_conditions}
 ghost use Rattle.lent_numbers.specs.Lent.{returned, leaves};
 ghost use Rattle.database_on_files.specs.Databases.{tested_in, evaluated_in, answers_left, counted_in, UnusedInFile};
 
-use record::Status;
 
 // Tests a database against the dependencies. Working memory is lent for the tables.
 pub fn test_in_file_lent(
@@ -35,12 +34,12 @@ pub fn test_in_file_lent(
     let outcome = file::read(file);
     let answer = outcome.answer;
     match answer {
-        Status::Done => {
+        Ok(()) => {
             let given = outcome.record;
             let found = database::test_lent(given, words, heads, nodes);
             lent_numbers::leave_test(found, verdict, dependency, first, second, third, fourth)
         }
-        Status::Refused(n) => n,
+        Err(refusal) => u8::from(refusal),
     }
 }
 
@@ -66,12 +65,12 @@ pub fn test_in_file(
     let outcome = file::read(file);
     let answer = outcome.answer;
     match answer {
-        Status::Done => {
+        Ok(()) => {
             let given = outcome.record;
             let found = database::test(given, words);
             lent_numbers::leave_test(found, verdict, dependency, first, second, third, fourth)
         }
-        Status::Refused(n) => n,
+        Err(refusal) => u8::from(refusal),
     }
 }
 
@@ -99,14 +98,14 @@ pub fn evaluate_in_file_lent(
     let outcome = file::read(file);
     let answer = outcome.answer;
     match answer {
-        Status::Done => {
+        Ok(()) => {
             let given = outcome.record;
             let done = database::evaluate_lent(
                 given, place, words, answers, index, states, batch, scratch,
             );
             lent_numbers::leave_count(done, count)
         }
-        Status::Refused(n) => n,
+        Err(refusal) => u8::from(refusal),
     }
 }
 
@@ -126,12 +125,12 @@ pub fn evaluate_in_file(
     let outcome = file::read(file);
     let answer = outcome.answer;
     match answer {
-        Status::Done => {
+        Ok(()) => {
             let given = outcome.record;
             let done = database::evaluate(given, place, words, answers);
             lent_numbers::leave_count(done, count)
         }
-        Status::Refused(n) => n,
+        Err(refusal) => u8::from(refusal),
     }
 }
 
@@ -156,12 +155,12 @@ pub fn count_in_file_lent(
     let outcome = file::read(file);
     let answer = outcome.answer;
     match answer {
-        Status::Done => {
+        Ok(()) => {
             let given = outcome.record;
             let done = database::count_lent(given, place, words, index, states, batch, scratch);
             lent_numbers::leave_count(done, count)
         }
-        Status::Refused(n) => n,
+        Err(refusal) => u8::from(refusal),
     }
 }
 
@@ -173,11 +172,11 @@ pub fn count_in_file(file: &[u8], place: usize, words: &[u32], count: &mut usize
     let outcome = file::read(file);
     let answer = outcome.answer;
     match answer {
-        Status::Done => {
+        Ok(()) => {
             let given = outcome.record;
             let done = database::count(given, place, words);
             lent_numbers::leave_count(done, count)
         }
-        Status::Refused(n) => n,
+        Err(refusal) => u8::from(refusal),
     }
 }

@@ -3,7 +3,7 @@ ghost use Rattle.demands.specs.Demand2.{Decides, Evaluates, FileComesBack, Recor
 
 use comparison::Comparison;
 use file::Written;
-use record::{Outcome, Record, Status};
+use record::{Outcome, Record};
 use replies::Answered;
 
 // Contained exactly when it is so on every database that obeys the dependencies; otherwise one is shown on which it is not.
@@ -37,14 +37,14 @@ pub fn evaluate_lent(
 }
 
 // A file that is read, and its record written: the same bytes.
-pub fn write_back(file: &[u8], buffer: &mut [u8]) -> Written
+pub fn write_back(file: &[u8], buffer: &mut [u8]) -> Result<usize, Refusal>
     ensures { FileComesBack file.now buffer.old buffer.new result }
 {
     let read = file::read(file);
     let answer = read.answer;
     match answer {
-        Status::Done => file::write(read.record, buffer),
-        Status::Refused(n) => Written::Refused(n),
+        Ok(()) => file::write(read.record, buffer),
+        Err(refusal) => Err(refusal),
     }
 }
 
@@ -54,9 +54,9 @@ pub fn read_back(given: Record, buffer: &mut [u8]) -> Outcome
 {
     let written = file::write(given, buffer);
     match written {
-        Written::Length(n) => file::read(&buffer[..n]),
-        Written::Refused(n) => Outcome {
-            answer: Status::Refused(n),
+        Ok(n) => file::read(&buffer[..n]),
+        Err(refusal) => Outcome {
+            answer: Err(refusal),
             record: given,
         },
     }

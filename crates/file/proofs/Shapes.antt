@@ -10,6 +10,7 @@ use denote.Builtin.{u8}
 use denote.Laws.{Is}
 use denote.RattleType.{RattleType}
 use denote.Shadow.{shadow}
+use denote.Param.{number}
 use Rattle.query.specs.Types.{Query}
 use Rattle.query.specs.declared.Place.{Place}
 use Rattle.query.specs.declared.JoinDependency.{JoinDependency}
@@ -18,7 +19,7 @@ use Rattle.lists.specs.Tests.{every}
 use Rattle.query.specs.contracts.Cell as cell
 use Rattle.query.specs.contracts.Dependency as dependency
 use Rattle.query.specs.contracts.JoinDependency as joined
-use Rattle.query.specs.contracts.Query as query
+use Rattle.query.specs.contracts.ConjunctiveQuery as query
 use Rattle.query.specs.contracts.Place as place
 use Rattle.query.specs.Rule.{shaped_query, shaped_join}
 use Rattle.record.specs.contracts.Record as recorded
@@ -29,7 +30,7 @@ pub long : (R : RattleType) (n : ℕ) (xs : List R.Denot) (vs : List Val) → Is
 long R n xs vs p = p.1.0.1
 
 -- A query's arrays
-pub query-shaped : (q : Query) (vs : List Val) → Is query.the_row q vs → shaped_query q ≡ true
+pub query-shaped : (q : Query) (vs : List Val) → Is (query.the_row (number 12) (number 96)) q vs → shaped_query q ≡ true
 query-shaped q vs p =
     let head = long cell.the_row 8 q.head _ p.1.1.1.1.0 in
     let relations = long u8 12 q.relations _ p.1.1.1.1.1.0 in
@@ -67,3 +68,4 @@ record-shaped r vs p =
     let places = long place.the_row 8 r.places _ p.1.1.1.1.1.1.1.1.0 in
     let queries = places-shaped r.places _ p.1.1.1.1.1.1.1.1.0.1.1 in
     rw (widths, dependencies, joins, sets, places, queries)
+

@@ -13,7 +13,8 @@ ghost use Rattle.record_on_files.specs.internal.Steps.{GoodIfDone};
 use lent_numbers::{leave_columns, leave_length, number_of};
 use query::{Dependency, JoinDependency};
 use record::calls::refused;
-use record::{Outcome, Record, Status};
+use record::{Outcome, Record};
+use refusals::Refusal;
 use writer::write_good;
 
 // ---- what is stored
@@ -33,8 +34,8 @@ pub fn store_outcome(outcome: Outcome, out: &mut [u8], size: &mut usize) -> u8
 {
     let answer = outcome.answer;
     match answer {
-        Status::Done => store(outcome.record, out, size),
-        Status::Refused(n) => n,
+        Ok(()) => store(outcome.record, out, size),
+        Err(refusal) => u8::from(refusal),
     }
 }
 
@@ -44,18 +45,18 @@ pub fn put_part(given: Record, place: usize, part: &[u8]) -> Outcome
     ensures { (result_of (outcome_reply result) ≡ put_part place part.now given) × GoodIfDone result }
 {
     if 8 <= place {
-        return refused(refusals::NO_SUCH_PLACE, given);
+        return refused(Refusal::NoSuchPlace, given);
     }
     let widths = given.widths;
     let read = decoder::read_place(part, true, given.relations, widths);
     let answer = read.answer;
     match answer {
-        Status::Done => {
+        Ok(()) => {
             let p = read.place;
             let query = p.query;
             given.put(place, query)
         }
-        Status::Refused(n) => refused(n, given),
+        Err(refusal) => refused(refusal, given),
     }
 }
 
@@ -66,7 +67,7 @@ pub fn add_sets(given: Record, relation: u8, sets: &[u8]) -> Outcome
 {
     let count = sets.len();
     if 4 < count {
-        return refused(refusals::BAD_JOIN, given);
+        return refused(Refusal::BadJoin, given);
     }
     let padded = parsing::read_sets(sets, 0, count);
     let j = JoinDependency {
@@ -118,7 +119,7 @@ pub fn add_in_file(
     let outcome = file::read(file);
     let answer = outcome.answer;
     match answer {
-        Status::Done => {
+        Ok(()) => {
             let given = outcome.record;
             let d = Dependency {
                 relation,
@@ -127,7 +128,7 @@ pub fn add_in_file(
             };
             store_outcome(given.add_dependency(d), out, size)
         }
-        Status::Refused(n) => n,
+        Err(refusal) => u8::from(refusal),
     }
 }
 
@@ -145,11 +146,11 @@ pub fn add_join_in_file(
     let outcome = file::read(file);
     let answer = outcome.answer;
     match answer {
-        Status::Done => {
+        Ok(()) => {
             let given = outcome.record;
             store_outcome(add_sets(given, relation, sets), out, size)
         }
-        Status::Refused(n) => n,
+        Err(refusal) => u8::from(refusal),
     }
 }
 
@@ -161,11 +162,11 @@ pub fn put_in_file(file: &[u8], place: usize, query: &[u8], out: &mut [u8], size
     let outcome = file::read(file);
     let answer = outcome.answer;
     match answer {
-        Status::Done => {
+        Ok(()) => {
             let given = outcome.record;
             store_outcome(put_part(given, place, query), out, size)
         }
-        Status::Refused(n) => n,
+        Err(refusal) => u8::from(refusal),
     }
 }
 
@@ -177,11 +178,11 @@ pub fn drop_in_file(file: &[u8], place: usize, out: &mut [u8], size: &mut usize)
     let outcome = file::read(file);
     let answer = outcome.answer;
     match answer {
-        Status::Done => {
+        Ok(()) => {
             let given = outcome.record;
             store_outcome(record_calls::drop_query(given, place), out, size)
         }
-        Status::Refused(n) => n,
+        Err(refusal) => u8::from(refusal),
     }
 }
 
@@ -200,7 +201,7 @@ pub fn determined_in_file(
     let outcome = file::read(file);
     let answer = outcome.answer;
     match answer {
-        Status::Done => {
+        Ok(()) => {
             let given = outcome.record;
             leave_columns(
                 record_calls::determined(given, relation, left),
@@ -208,6 +209,6 @@ pub fn determined_in_file(
                 count,
             )
         }
-        Status::Refused(n) => n,
+        Err(refusal) => u8::from(refusal),
     }
 }

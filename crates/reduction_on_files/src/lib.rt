@@ -6,9 +6,9 @@ ghost use Rattle.reduction_on_files.specs.Shortening.{reduction_fits, ReductionG
 ghost use Rattle.reduction_on_files.specs.internal.Steps.{SoundReduction};
 
 use mapping_words::put_mapping;
-use record::Status;
 use reduction::Reduced;
-use writer::{Written, write_good};
+use refusals::Refusal;
+use writer::write_good;
 
 // Stores a reduction, unless it is refused: the file of its record, the count and the mapping.
 pub fn store_reduction(
@@ -24,24 +24,24 @@ pub fn store_reduction(
 {
     let answer = reduced.answer;
     match answer {
-        Status::Done => {
+        Ok(()) => {
             if mapping.len() < 192 {
-                return refusals::BUFFER_TOO_SHORT;
+                return Refusal::BufferTooShort;
             }
             let after = reduced.record;
             let images = reduced.images;
             let written = write_good(after, out);
             match written {
-                Written::Length(n) => {
+                Ok(n) => {
                     put_mapping(images, mapping);
                     *size = n;
                     *count = reduced.count;
                     0
                 }
-                Written::Refused(n) => n,
+                Err(refusal) => u8::from(refusal),
             }
         }
-        Status::Refused(n) => n,
+        Err(refusal) => u8::from(refusal),
     }
 }
 
@@ -61,11 +61,11 @@ pub fn reduce_in_file(
     let outcome = file::read(file);
     let answer = outcome.answer;
     match answer {
-        Status::Done => {
+        Ok(()) => {
             let given = outcome.record;
             let reduced = reduction::reduce(given, source, target);
             store_reduction(reduced, out, size, count, mapping)
         }
-        Status::Refused(n) => n,
+        Err(refusal) => u8::from(refusal),
     }
 }

@@ -10,6 +10,8 @@ use Rattle.std.specs.Prelude.{Ok, Err}
 use Rattle.record.specs.declared.Outcome.{Outcome}
 use Rattle.record.specs.Rule.{good_record}
 use Rattle.record.specs.Calls.{outcome_reply}
+use Rattle.refusals.specs.declared.Refusal.{Refusal}
+use Rattle.refusals.specs.Refusal.{number_of}
 use Rattle.refusals.specs.Refusals.{Reply}
 use Rattle.format.specs.File.{read_file, read_outcome}
 use Rattle.format.proofs.RoundTrip.{file-written-back}
@@ -42,12 +44,13 @@ module _ (file : List ℕ) (o : Outcome) (e : outcome_reply o ≡ read_outcome (
       }
 
   -- The line of a refused file is one
-  pub read-refused : (n : ℕ) → o.answer ≡ Err n → (before after : List ℕ) (end : ℕ) → WrittenAt before 0 (refused_text n) after end
-      → IsReport file before after end
-  read-refused n a before after end w =
+  pub read-refused : (why : Refusal) (n : ℕ) → n ≡ number_of why → o.answer ≡ Err why → (before after : List ℕ) (end : ℕ)
+      → WrittenAt before 0 (refused_text n) after end → IsReport file before after end
+  read-refused why n same a before after end w =
       record {
         text = refused_text n;
-        listing = subst (λ (x : Reply Record). ListingOf x (refused_text n)) (sym (outcome-refused (read_file file) o n e a)) refl;
+        listing =
+            subst (λ (x : Reply Record). ListingOf x (refused_text n)) (sym (outcome-refused (read_file file) o why e a)) (ap refused_text same);
         written = w.buffer;
         length-returned = omega (arith, w.position);
         fits = omega (arith, w.position, over-fits before (refused_text n), ap (λ (l : List ℕ). length l) w.buffer);

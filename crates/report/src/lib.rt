@@ -9,7 +9,7 @@ ghost use Rattle.text.specs.internal.Listable.{place_room};
 ghost use Rattle.report.specs.Report.{IsReport};
 ghost use Rattle.report.specs.internal.Places.{alone_in, other_place, LinesWritten, PlaceWritten, ListingWritten, Room};
 
-use record::{Record, Status};
+use record::Record;
 
 // The record with every place but one dropped.
 fn alone(given: Record, place: usize) -> Record
@@ -110,7 +110,7 @@ pub fn report(file: &[u8], buffer: &mut [u8]) -> usize
     let outcome = file::read(file);
     let answer = outcome.answer;
     match answer {
-        Status::Done => write_places(buffer, outcome.record),
-        Status::Refused(n) => text::write_refused(buffer, 0, n),
+        Ok(()) => write_places(buffer, outcome.record),
+        Err(refusal) => text::write_refused(buffer, 0, u8::from(refusal)),
     }
 }
