@@ -2,7 +2,7 @@
 // `schema` is the width of each relation.
 #![tactic(auto)]
 
-ghost use Rattle.std.specs.Prelude.{◌≡◌, true, ◌+◌, ◌^◌, ◌≤◌, ◌<◌, length, drop, get_or};
+ghost use Rattle.std.specs.Prelude.{◌≡◌, true, ◌+◌, ◌/◌, ◌%◌, ◌^◌, ◌≤◌, ◌<◌, eqb, length, drop, get_or};
 ghost use Rattle.query.specs.View.{dependency_of};
 ghost use Rattle.theory.specs.Chase.{first_passing};
 ghost use Rattle.words.specs.Words.{spells_rows};
@@ -49,22 +49,24 @@ pub fn value(words: &[u32], at: usize, column: usize) -> u32
     words[at + 1 + column]
 }
 
+// Whether a set of columns has column c: bit c of its mask is set.
+pub fn has_column(columns: u8, c: usize) -> bool
+    requires { c < 8 }
+    ensures { result ≡ eqb (columns / 2 ^ c % 2) 1 }
+{
+    (columns >> c) % 2 == 1
+}
+
 // Whether the rows at `a` and `b` agree on the left columns of the dependency.
 pub fn agrees_at(words: &[u32], width: usize, d: Dependency, a: usize, b: usize) -> bool
     requires width_in_bounds { (a + 1 + width ≤ length words.now) × (b + 1 + width ≤ length words.now) }
     requires width_bound { (width ≤ 8) × (d.left < 2 ^ width) }
     ensures { result ≡ agree_rows (dependency_of d) (span_at width words.now a) (span_at width words.now b) }
 {
-    let mut left = d.left;
-    let mut c: usize = 0;
-    while c < width {
-        if left % 2 == 1 {
-            if value(words, a, c) != value(words, b, c) {
-                return false;
-            }
+    for c in 0..width {
+        if has_column(d.left, c) && value(words, a, c) != value(words, b, c) {
+            return false;
         }
-        left = left / 2;
-        c += 1;
     }
     true
 }
@@ -83,27 +85,20 @@ pub fn breaks_at(words: &[u32], width: usize, d: Dependency, a: usize, b: usize)
     value(words, a, right) != value(words, b, right)
 }
 
-// The position of a row that is found.
-#[derive(Clone, Copy)]
-pub enum Partner {
-    At(usize),
-    Absent,
-}
-
-// The positions of a pair of rows that is found.
-#[derive(Clone, Copy)]
-pub enum RowPair {
-    At(usize, usize),
-    Absent,
-}
-
-// A dependency that is broken: a functional one by its position, and the positions of its pair of rows; or a join dependency by its position, and the
-// positions of the rows chosen for its sets, 0 where there is no set.
+// A dependency that is broken, by its position among those of its kind.
 #[derive(Clone, Copy)]
 pub enum Violation {
-    At(usize, usize, usize),
-    Joined(usize, usize, usize, usize, usize),
-    Absent,
+    // a functional one, and the positions of its pair of rows
+    Functional {
+        dependency: usize,
+        first: usize,
+        second: usize,
+    },
+    // a join dependency, and the positions of the rows chosen for its sets, 0 where there is no set
+    Join {
+        dependency: usize,
+        rows: [usize; 4],
+    },
 }
 
 // The first row that breaks the dependency with the row at `a`, among the rows from the one at `from` on, which stands at position `n`.
@@ -114,7 +109,7 @@ pub fn first_partner(
     a: usize,
     from: usize,
     n: usize,
-) -> Partner
+) -> Option<usize>
     requires testable { Testable schema.now d }
     requires a_value { (get_or words.now a 0 ≡ d.relation) × (a + 1 + get_or schema.now d.relation 0 ≤ length words.now) }
     requires from { From schema.now words.now from n }
@@ -127,13 +122,11 @@ pub fn first_partner(
     let mut j = n;
     while at < words.len() {
         let after = next(schema, words, at);
-        if words[at] == relation {
-            if breaks_at(words, width, d, a, at) {
-                return Partner::At(j);
-            }
+        if words[at] == relation && breaks_at(words, width, d, a, at) {
+            return Some(j);
         }
         at = after;
         j += 1;
     }
-    Partner::Absent
+    None
 }

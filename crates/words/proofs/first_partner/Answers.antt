@@ -14,35 +14,7 @@ use Rattle.words.specs.Testing.{breaks_rows, breaks_with}
 use Rattle.words.specs.internal.Found.{partner_of}
 use Rattle.words.proofs.Search.{breaks-second, passing-here, passing-later, passing-end}
 use Rattle.words.proofs.first_partner.Goals as goal
-
-pub bounds-schema-index : goal.bounds-schema-index
-bounds-schema-index c = omega (arith, c.requires.testable.known)
-
-pub overflow_cast-width : goal.overflow_cast-width
-overflow_cast-width c = omega (arith, c.type_inv.schema c.args.d.relation)
-
-pub loop-at-init : goal.loop-at-init
-loop-at-init c = (c.requires.from, refl)
-
-pub next-after-requires : goal.next-after-requires
-next-after-requires c = (c.loop-at-test.true, c.loop-at.invariant.0.good)
-
-pub breaks_at-requires : goal.breaks_at-requires
-breaks_at-requires c = let s = c in
-    let a = s.args in
-    let l = c.loop-at in
-    let W = a.words.now in
-    let S = a.schema.now in
-    let t = breaks_with (dependency_of a.d) (row_at S W a.a) in
-    let n = c.next-after.ensures in
-    let place : c.next-after.result ≡ l.at + 1 + get_or S a.d.relation 0 = n.place ∙ ap (λ (r : ℕ). l.at + 1 + get_or S r 0) c.if-words-at.true in
-    let room : l.at + 1 + get_or S a.d.relation 0 ≤ length W = omega (arith, n.fits) in
-    let T = s.requires.testable in
-    record {
-      a_value = (s.requires.a_value.0, c.if-words-at.true);
-      width_in_bounds = (s.requires.a_value.1, room);
-      width_bound = (T.narrow, T.left-fits, T.right-fits);
-    }
+use Rattle.words.proofs.first_partner.Goals.{else-words-at-via-then-words-at+else-breaks_at, else-words-at-via-else-words-at}
 
 pub returns-then-breaks_at : goal.returns-then-breaks_at
 returns-then-breaks_at c = let s = c in
@@ -68,9 +40,12 @@ loop-at-preserved c = let s = c in
     let t = breaks_with (dependency_of a.d) (row_at S W a.a) in
     let n = c.next-after.ensures in
     let fails : t (l.j, row_at S W l.at) ≡ false =
-    ⊎_elim (λ w. ap₂ {C = Bool} (λ (x y : Row ℕ). breaks_rows (dependency_of a.d) x y)
-    (ap (λ (r : ℕ). span_at (get_or S r 0) W a.a) s.requires.a_value.0) (ap (λ (r : ℕ). span_at (get_or S r 0) W l.at) w.if-words-at.true)
-    ∙ sym w.breaks_at.ensures ∙ w.if-breaks_at.false) (λ w. breaks-second (dependency_of a.d) (row_at S W a.a) (row_at S W l.at) w.if-words-at.false) c.if-words-at.branch-raw in (
+    elim c.else-words-at.branch [
+      | else-words-at-via-then-words-at+else-breaks_at w ↦ ap₂ {C = Bool} (λ (x y : Row ℕ). breaks_rows (dependency_of a.d) x y)
+          (ap (λ (r : ℕ). span_at (get_or S r 0) W a.a) s.requires.a_value.0) (ap (λ (r : ℕ). span_at (get_or S r 0) W l.at) w.if-words-at.true)
+          ∙ sym w.breaks_at.ensures ∙ w.if-breaks_at.false
+      | else-words-at-via-else-words-at w ↦ breaks-second (dependency_of a.d) (row_at S W a.a) (row_at S W l.at) w.if-words-at.false
+    ] in (
       record { inside = n.fits; counted = omega (arith, n.place, l.invariant.0.counted); good = n.good },
       l.invariant.1 ∙ passing-later S W t l.at c.next-after.result l.j n fails,
     )

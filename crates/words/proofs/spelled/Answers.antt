@@ -11,24 +11,11 @@ use Rattle.words.proofs.Spelling.{spells-unknown, spells-cut, spells-after}
 use borrow.Author.Rules.{rules}
 use Rattle.words.proofs.spelled.Goals as goal
 
-pub loop-at-init : goal.loop-at-init
-loop-at-init c = (search rules, refl)
-
-pub overflow_cast-relation : goal.overflow_cast-relation
-overflow_cast-relation c = omega (arith, c.type_inv.words c.loop-at.at)
-
 pub returns-then-schema-relation : goal.returns-then-schema-relation
 returns-then-schema-relation c =
     sym (c.loop-at.invariant.1 ∙ spells-unknown c.args.schema.now
     c.args.words.now
     c.loop-at.at (search rules) c.if-schema-relation.true)
-
-pub overflow_cast-width : goal.overflow_cast-width
-overflow_cast-width c = omega (
-  arith,
-  c.type_inv.schema
-      (get_or c.args.words.now c.loop-at.at 0),
-)
 
 pub returns-then-words-at : goal.returns-then-words-at
 returns-then-words-at c = let a = c.args in
