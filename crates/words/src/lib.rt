@@ -2,12 +2,14 @@
 // `schema` is the width of each relation.
 #![tactic(auto)]
 
-ghost use Rattle.std.specs.Prelude.{◌≡◌, true, ◌+◌, ◌/◌, ◌%◌, ◌^◌, ◌≤◌, ◌<◌, eqb, length, drop, get_or};
+ghost use Rattle.std.specs.Prelude.{◌≡◌, true, ◌+◌, ◌-◌, ◌/◌, ◌%◌, ◌^◌, ◌≤◌, ◌<◌, eqb, length, drop, get_or};
 ghost use Rattle.query.specs.View.{dependency_of};
 ghost use Rattle.theory.specs.Chase.{first_passing};
 ghost use Rattle.words.specs.Words.{spells_rows};
 ghost use Rattle.words.specs.internal.Rows.{span_at, row_at, Next, agree_rows, rows_at};
 ghost use Rattle.words.specs.Testing.{breaks_rows, breaks_with};
+ghost use Rattle.std.specs.Iterator.{at_most};
+ghost use Rattle.words.specs.internal.Walk.{Steps};
 ghost use Rattle.words.specs.internal.Found.{partner_of, Testable, From};
 
 use query::Dependency;
@@ -39,6 +41,55 @@ pub fn next(schema: &[u8], words: &[u32], at: usize) -> usize
     let relation = words[at] as usize;
     let width = schema[relation] as usize;
     at + 1 + width
+}
+
+// A row: the word at which it begins, and its position among the rows.
+#[derive(Clone, Copy)]
+pub struct Position {
+    pub at: usize,
+    pub number: usize,
+}
+
+// The rows of the words from a place on, one after another.
+#[derive(Drop)]
+pub struct Rows<'a> {
+    pub schema: &'a [u8],
+    pub words: &'a [u32],
+    pub place: Position,
+}
+
+impl<'a> Iterator for Rows<'a> {
+    type Item = Position;
+
+    ghost can_next = { λ s. From s.schema.now s.words.now s.place.at s.place.number };
+
+    ghost next_gives = { λ s r t. Steps s.schema.now s.words.now s.place r t.place × (t.schema.now ≡ s.schema.now) × (t.words.now ≡ s.words.now) };
+
+    ghost remaining = { λ s. at_most (length s.words.now - s.place.at) };
+
+    fn next(&mut self) -> Option<Position> {
+        let here = self.place;
+        if self.words.len() <= here.at {
+            return None;
+        }
+        self.place = Position {
+            at: next(self.schema, self.words, here.at),
+            number: here.number + 1,
+        };
+        Some(here)
+    }
+}
+
+// The rows of the words from a place on.
+pub fn each_row<'a>(schema: &'a [u8], words: &'a [u32], place: Position) -> Rows<'a>
+    requires { From schema.now words.now place.at place.number }
+    ensures { (result.schema.now ≡ schema.now) × (result.words.now ≡ words.now) × (result.place ≡ place) }
+{
+    Rows {
+        schema,
+        words,
+        place,
+    }
 }
 
 // The value in a column of the row of a database that begins at word `at`. Every value of a database is read here.
@@ -101,32 +152,26 @@ pub enum Violation {
     },
 }
 
-// The first row that breaks the dependency with the row at `a`, among the rows from the one at `from` on, which stands at position `n`.
+// The first row that breaks the dependency with the row at `a`, among the rows from `from` on.
 pub fn first_partner(
     schema: &[u8],
     words: &[u32],
     d: Dependency,
     a: usize,
-    from: usize,
-    n: usize,
+    from: Position,
 ) -> Option<usize>
     requires testable { Testable schema.now d }
     requires a_value { (get_or words.now a 0 ≡ d.relation) × (a + 1 + get_or schema.now d.relation 0 ≤ length words.now) }
-    requires from { From schema.now words.now from n }
-    ensures { result ≡ partner_of (first_passing (breaks_with (dependency_of d) (row_at schema.now words.now a)) (rows_at schema.now words.now from n)) }
+    requires from { From schema.now words.now from.at from.number }
+    ensures { result ≡ partner_of (first_passing (breaks_with (dependency_of d) (row_at schema.now words.now a)) (rows_at schema.now words.now from.at from.number)) }
 {
     let relation = d.relation as u32;
     let index = d.relation as usize;
     let width = schema[index] as usize;
-    let mut at = from;
-    let mut j = n;
-    while at < words.len() {
-        let after = next(schema, words, at);
-        if words[at] == relation && breaks_at(words, width, d, a, at) {
-            return Some(j);
+    for row in each_row(schema, words, from) {
+        if words[row.at] == relation && breaks_at(words, width, d, a, row.at) {
+            return Some(row.number);
         }
-        at = after;
-        j += 1;
     }
     None
 }
