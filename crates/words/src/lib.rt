@@ -18,17 +18,16 @@ use query::Dependency;
 pub fn spelled(schema: &[u8], words: &[u32]) -> bool
     ensures { result ≡ spells_rows schema.now words.now }
 {
-    let mut at: usize = 0;
-    while at < words.len() {
-        let relation = words[at] as usize;
-        if schema.len() <= relation {
+    let mut rest = words;
+    while let Some((relation, values)) = rest.split_first() {
+        let Some(width) = schema.get(*relation as usize) else {
+            return false;
+        };
+        let width = *width as usize;
+        if values.len() < width {
             return false;
         }
-        let width = schema[relation] as usize;
-        if words.len() - at - 1 < width {
-            return false;
-        }
-        at = at + 1 + width;
+        rest = &values[width..];
     }
     true
 }

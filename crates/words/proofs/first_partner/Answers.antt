@@ -48,7 +48,7 @@ loop-row-preserved c =
     let width : ℕ = get_or S a.d.relation 0 in
     let fails : t (l.row-iterator.place.number, row_at S W at) ≡ false =
     elim c.else-words-row.branch [
-      else-words-row-via-then-words-row+else-breaks_at w ↦ ap₂ {C = Bool} (λ (x y : Row ℕ). breaks_rows (dependency_of a.d) x y)
+      | else-words-row-via-then-words-row+else-breaks_at w ↦ ap₂ {C = Bool} (λ (x y : Row ℕ). breaks_rows (dependency_of a.d) x y)
           (ap (λ (r : ℕ). span_at (get_or S r 0) W a.a) c.requires.a_value.0)
           (ap (λ (r : ℕ). span_at (get_or S r 0) W at) (sym same ∙ w.if-words-row.true) ∙ ap (λ (r : Position). span_at width W r.at) (sym step.row))
           ∙ sym w.breaks_at.ensures ∙ w.if-breaks_at.false
