@@ -49,6 +49,9 @@ pub struct Position {
     pub number: usize,
 }
 
+// The first row, or the end of the words where there is none.
+pub const FIRST: Position = Position { at: 0, number: 0 };
+
 // The rows of the words from a place on, one after another.
 #[derive(Drop)]
 pub struct Rows<'a> {
