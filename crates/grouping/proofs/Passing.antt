@@ -12,7 +12,7 @@ use Rattle.theory.specs.Query.{Row, column}
 use Rattle.theory.specs.Database.{Database}
 use Rattle.query.specs.View.{dependency_of}
 use Rattle.query.specs.declared.Dependency.{Dependency}
-use Rattle.words.specs.Words.{spells_rows, rows_from, database_of, spells_rows_from}
+use Rattle.words.specs.Words.{spells_rows, rows_from, database_of}
 use Rattle.words.specs.internal.Rows.{span_at, row_at, Next}
 use mathlib.Core.Option.{none}
 use Rattle.theory.specs.Chase.{first_pair}

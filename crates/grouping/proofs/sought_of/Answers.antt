@@ -1,10 +1,9 @@
 -- `sought_of` takes two hashes of a row's left values, and its right value. Invariant: the hashes of what is left of the left set, begun with h and tag,
 -- are the whole hashes.
 -- Assumes nothing.
-use mathlib.Core.Path.{◌≡◌, refl, sym, ap, subst, ◌∙◌}
+use mathlib.Core.Path.{◌≡◌, sym, ap, subst, ◌∙◌}
 use mathlib.Core.Logic.{⊎_elim, inl, inr}
 use Prim.Native.Nat.{ℕ, ◌-◌, ◌+◌, ◌*◌, ◌/◌, ◌%◌, ◌^◌, ◌<◌}
-use native.Mathlib.Nat.{mod-lt, div-le_self}
 use native.Mathlib.Omega.{arith}
 use Rattle.theory.specs.Query.{column}
 use Rattle.query.specs.View.{columns_of}
@@ -12,7 +11,6 @@ use Rattle.words.specs.internal.Rows.{span_at}
 use Rattle.grouping.specs.internal.Hash.{hash_from, spread}
 use Rattle.grouping.specs.declared.Sought.{Sought}
 use Rattle.grouping.proofs.Hashes.{mask-some, mask-half, span_value, Mixed, hash-start, hash-on, hash-low, hash-end}
-use borrow.Author.Rules.{rules}
 use Rattle.grouping.proofs.sought_of.Goals as goal
 use Rattle.grouping.proofs.sought_of.Goals.{In-loop-left, Joined-left-eq1}
 

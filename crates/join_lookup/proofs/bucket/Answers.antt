@@ -1,6 +1,6 @@
 -- `bucket` mixes the values of the columns. Invariant: the number of what is left, begun with h, is the whole number.
 -- Assumes nothing.
-use mathlib.Core.Path.{◌≡◌, refl, ap, sym, ◌∙◌}
+use mathlib.Core.Path.{◌≡◌, ap, sym, ◌∙◌}
 use mathlib.Core.Bool.{false≢true}
 use Prim.Native.Nat.{ℕ, ◌+◌, ◌*◌, ◌/◌, ◌%◌, ◌^◌, ◌<◌, ◌≤◌}
 use native.Mathlib.Nat.{div-one, mod-lt, mul-lt-mul_of_pos_right, div-lt_iff_lt-mul}

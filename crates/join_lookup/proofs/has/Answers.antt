@@ -1,14 +1,10 @@
 -- `has` compares column by column. Invariant: the columns before c have the values.
 -- Assumes nothing.
-use mathlib.Core.Path.{◌≡◌, sym, ap, ◌∙◌}
+use mathlib.Core.Path.{sym, ◌∙◌}
 use mathlib.Core.Bool.{true≢false, false≢true}
-use mathlib.Core.Logic.{⊎_elim}
-use Prim.Native.Nat.{ℕ, ◌+◌, ◌/◌, ◌%◌, ◌^◌, ◌<◌}
-use native.Mathlib.Nat.{div-one}
+use Prim.Native.Nat.{◌<◌}
 use native.Mathlib.Omega.{arith}
-use lib.ListN.{length, get_or}
-use Rattle.lists.proofs.Tests.{below-or-past}
-use Rattle.tables.proofs.Buckets.{shifted}
+use lib.ListN.{length}
 use Rattle.join_lookup.proofs.Having.{begins-inside, begins-room, made-has, other-relation, other-column}
 use borrow.Author.Tests.{eqb-true, eq-eqb}
 use borrow.Author.Count.{below_more}
@@ -60,7 +56,7 @@ pub loop-c-preserved : goal.loop-c-preserved
 loop-c-preserved c =
     let a = c.args in
     below_more _ _ c.loop-c.invariant (elim c.else-has_column.branch [
-      else-has_column-via-then-has_column+else-value-values w ↦ λ bit. sym w.value.ensures ∙ w.if-value-values.false
+      | else-has_column-via-then-has_column+else-value-values w ↦ λ bit. sym w.value.ensures ∙ w.if-value-values.false
       | else-has_column-via-else-has_column w ↦ λ bit. absurd (false≢true (sym w.if-has_column.false ∙ c.has_column.ensures ∙ eq-eqb _ 1 bit))
     ])
 

@@ -1,6 +1,5 @@
 -- `fill` makes the table of set after set, and last table 0 by all their columns. Invariant: the first k sets have their tables. Assumes nothing.
 use mathlib.Core.Path.{◌≡◌}
-use Prim.Native.Nat.{◌-◌}
 use lib.ListN.{length}
 use Rattle.join_tables.proofs.Filling.{Levelled}
 use Rattle.join_tables.proofs.fill.Given as goal

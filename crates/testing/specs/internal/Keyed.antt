@@ -1,5 +1,5 @@
 -- Dependencies whose left columns are keys of the rows.
-use Rattle.std.specs.Prelude.{List, ℕ, ◌<◌, length, Option, None, Some, get_or}
+use Rattle.std.specs.Prelude.{List, ℕ, Option, None, Some, get_or}
 use Rattle.theory.specs.Database.{Database}
 use Rattle.query.specs.View.{dependency_of}
 use Rattle.query.specs.declared.Dependency.{Dependency}
