@@ -12,18 +12,23 @@ use Rattle.theory.specs.Query.{Row, column}
 use Rattle.theory.specs.Database.{Database}
 use Rattle.query.specs.View.{dependency_of}
 use Rattle.query.specs.declared.Dependency.{Dependency}
-use Rattle.words.specs.Words.{spells_rows, rows_from, database_of, spells_rows_from}
+use Rattle.words.specs.Words.{spells_rows, rows_from, database_of}
 use Rattle.words.specs.internal.Rows.{span_at, row_at, Next}
-use Rattle.words.specs.Testing.{first_pair_from}
+use mathlib.Core.Option.{none}
+use Rattle.theory.specs.Chase.{first_pair}
+use Rattle.words.specs.Testing.{numbered_from, first_pair_from}
 use Rattle.words.specs.internal.Found.{From}
+use Rattle.std.specs.Prelude.{Option, None, Some}
+use Rattle.words.specs.internal.Walk.{Steps}
 use Rattle.words.proofs.Spelling.{next_row}
+use Rattle.words.proofs.Search.{pair_end}
 use Rattle.grouping.specs.internal.Hash.{bucket_for, tag_of}
 use Rattle.grouping.specs.internal.Chains.{Chained}
 use Rattle.grouping.specs.internal.Leaders.{sought_of, link_of, position_of, right_in, tag_in, with_leader, leader_of, key_of, LeaderFor}
 use Rattle.grouping.specs.internal.Groups.{Together, Groups, KeyBelow, Key}
 use Rattle.words.specs.Broken.{nth_row}
-use Rattle.grouping.specs.internal.Walked.{RowBegins, Walked, Skips}
-use Rattle.grouping.specs.declared.Position.{Position}
+use Rattle.grouping.specs.internal.Walked.{RowBegins, Walked, Skips, SkipsTo, Located}
+use Rattle.words.specs.declared.Position.{Position}
 use Rattle.grouping.specs.declared.Sought.{Sought}
 use Rattle.grouping.specs.declared.Walk.{Walk}
 use Rattle.grouping.proofs.Entering.{enter-length, enter-below, enter-link, enter-number, enter-right, enter-tag}
@@ -31,7 +36,7 @@ use Rattle.grouping.proofs.Chains.{chained-none, chained-agree, chained_more}
 use Rattle.grouping.proofs.Leading.{groups-start, groups-other, groups-member, groups-full, groups-new, key-other, key-new, pairs-skip}
 
 -- there are no more rows than words
-rows_few : (schema : List ℕ) (due : ℕ) (words : List ℕ) → length (rows_from schema due words) ≤ length words
+pub rows_few : (schema : List ℕ) (due : ℕ) (words : List ℕ) → length (rows_from schema due words) ≤ length words
 unfolding rows_from
 rows_few schema due [] = omega arith
 rows_few schema zero (relation ∷ words) = let i : length (rows_from schema (get_or schema relation 0) words) ≤ length words = rows_few schema
@@ -44,17 +49,6 @@ module _ (schema words : List ℕ) where
   -- the first row
   pub placed-start : spells_rows schema words ≡ true → RowBegins schema words 0 0
   placed-start good = record { from = record { inside = omega arith; counted = omega arith; good = good }; read = refl }
-
-  -- the end of the words
-  pub placed_end : RowBegins schema words (length words) (length words)
-  unfolding spells_rows_from rows_from
-  placed_end =
-      let none : drop (length words) words ≡ [] = drop-length words in
-      let few : length (database_of schema words) ≤ length words = rows_few schema 0 words in
-      record {
-        from = record { inside = omega arith; counted = omega arith; good = ap (λ (l : List ℕ). spells_rows schema l) none };
-        read = drop_of_length-le (database_of schema words) {i = length words} few ∙ sym (ap (λ (l : List ℕ). database_of schema l) none);
-      }
 
   -- the row after the one at `at`
   pub placed-next : (at after n : ℕ) → RowBegins schema words at n → Next schema words at after → RowBegins schema words after (n + 1)
@@ -71,6 +65,15 @@ module _ (schema words : List ℕ) where
       let e : n + 0 ≡ n = omega arith in
       ap (λ (m : ℕ). get_or (database_of schema words) m z) (sym e) ∙ sym (get_or-drop n (database_of schema words) 0 z)
       ∙ ap (λ (l : Database). get_or l 0 z) (p.read ∙ next.read)
+
+  -- no more rows than n where the words end
+  pub all-placed : (at n : ℕ) → RowBegins schema words at n → length words ≤ at → length (database_of schema words) ≤ n
+  unfolding rows_from
+  all-placed at n p end =
+      let none : drop n (database_of schema words) ≡ [] = p.read ∙ ap (λ (l : List ℕ). database_of schema l) (drop_of_length-le words {i = at} end) in
+      let size : length (drop n (database_of schema words)) ≡ length (database_of schema words) - n = length-drop n (database_of schema words) in
+      let zero-size : length (drop n (database_of schema words)) ≡ 0 = ap (λ (l : Database). length l) none in
+      omega arith
 
 -- The row at `at`, at position n, is of the dependency's relation
 pub record Member (schema words : List ℕ) (d : Dependency) (at n : ℕ) : Type 0 where
@@ -95,16 +98,20 @@ module _ (schema words : List ℕ) (d : Dependency) where
 
   -- ---- one more row
 
-  module _ (w : Walk) (H N : List ℕ) (h : Walked schema words d w H N) (after : ℕ) (next : Next schema words w.row.at after) where
+  pub row_room : (row : Position) (w : Walk) (H N : List ℕ) → Walked schema words d row w H N → row.at < length words → get_or words row.at 0 ≡ d.relation
+      → row.at + 1 + get_or schema d.relation 0 ≤ length words
+  row_room row w H N h inside relation = member-room row.at row.number (record { placed = h.placed; inside = inside; relation = relation })
+
+  module _ (row : Position) (w : Walk) (H N : List ℕ) (h : Walked schema words d row w H N) (after : ℕ) (next : Next schema words row.at after) where
     -- no leader is new
     walked_on : (p : ℕ) (b : Bool)
-        → Groups (length H) (dependency_of d) (database_of schema words) (w.row.number + 1) p w.count (position_of N)
-        → (b ≡ true → (p ≡ length words) × KeyBelow (dependency_of d) (database_of schema words) (w.row.number + 1))
-        → Walked schema words d (record { row = record { at = after; number = w.row.number + 1 }; count = w.count; least = p; key = b }) H N
+        → Groups (length H) (dependency_of d) (database_of schema words) (row.number + 1) p w.count (position_of N)
+        → (b ≡ true → (p ≡ length words) × KeyBelow (dependency_of d) (database_of schema words) (row.number + 1))
+        → Walked schema words d (record { at = after; number = row.number + 1 }) (record { count = w.count; least = p; key = b }) H N
     walked_on p b groups key =
         record {
           bucket = h.bucket;
-          placed = placed-next schema words w.row.at after w.row.number h.placed next;
+          placed = placed-next schema words row.at after row.number h.placed next;
           few = omega (arith, h.few);
           table = h.table;
           groups = groups;
@@ -112,73 +119,70 @@ module _ (schema words : List ℕ) (d : Dependency) where
         }
 
     -- the row is of another relation
-    pub walked-other : (get_or words w.row.at 0 ≡ d.relation → ⊥)
-        → Walked schema words d (record { row = record { at = after; number = w.row.number + 1 }; count = w.count; least = w.least; key = w.key }) H N
+    pub walked-other : (get_or words row.at 0 ≡ d.relation → ⊥)
+        → Walked schema words d (record { at = after; number = row.number + 1 }) (record { count = w.count; least = w.least; key = w.key }) H N
     walked-other other =
         let D : Database = database_of schema words in
-        let n : ℕ = w.row.number in
+        let n : ℕ = row.number in
         let differs : (nth_row D n).relation ≡ d.relation → ⊥ =
-        λ e. other (sym (ap (λ (r : Row ℕ). r.relation) (placed_row schema words w.row.at after n h.placed next)) ∙ e) in
+        λ e. other (sym (ap (λ (r : Row ℕ). r.relation) (placed_row schema words row.at after n h.placed next)) ∙ e) in
         walked_on w.least w.key
         (groups-other (length H) (dependency_of d) D n w.least w.count (position_of N) h.groups differs)
         (λ t. ((h.key t).0, key-other (length H) (dependency_of d) D n w.least w.count (position_of N) h.groups differs (h.key t).1))
 
-    module _ (relation : get_or words w.row.at 0 ≡ d.relation) where
-      member : Member schema words d w.row.at w.row.number
+    module _ (relation : get_or words row.at 0 ≡ d.relation) where
+      member : Member schema words d row.at row.number
       member = record { placed = h.placed; inside = omega (arith, next.place, next.fits); relation = relation }
 
-      pub row_room : w.row.at + 1 + get_or schema d.relation 0 ≤ length words
-      row_room = member-room w.row.at w.row.number member
-
       -- the row, as it is compared with the leaders
-      module _ (q : Sought) (is : q ≡ sought_of (length H) (dependency_of d) (span_at (get_or schema d.relation 0) words w.row.at)) where
-        row_is : q ≡ sought_of (length H) (dependency_of d) (nth_row (database_of schema words) w.row.number)
-        row_is = is ∙ ap (sought_of (length H) (dependency_of d)) (sym (member-row w.row.at w.row.number member))
+      module _ (q : Sought) (is : q ≡ sought_of (length H) (dependency_of d) (span_at (get_or schema d.relation 0) words row.at)) where
+        row_is : q ≡ sought_of (length H) (dependency_of d) (nth_row (database_of schema words) row.number)
+        row_is = is ∙ ap (sought_of (length H) (dependency_of d)) (sym (member-row row.at row.number member))
 
-        bucket-is : q.bucket ≡ bucket_for (length H) (dependency_of d) (nth_row (database_of schema words) w.row.number)
+        bucket-is : q.bucket ≡ bucket_for (length H) (dependency_of d) (nth_row (database_of schema words) row.number)
         bucket-is = ap (λ (x : Sought). x.bucket) row_is
 
-        tag_is : q.tag ≡ tag_of (dependency_of d) (nth_row (database_of schema words) w.row.number)
+        tag_is : q.tag ≡ tag_of (dependency_of d) (nth_row (database_of schema words) row.number)
         tag_is = ap (λ (x : Sought). x.tag) row_is
 
-        right_is : q.right ≡ column 0 (nth_row (database_of schema words) w.row.number) d.right
+        right_is : q.right ≡ column 0 (nth_row (database_of schema words) row.number) d.right
         right_is = ap (λ (x : Sought). x.right) row_is
 
         -- leader s is that of its group
         grouped : (s : ℕ) → s < w.count → LeaderFor (key_of (dependency_of d) (database_of schema words) (length H) N) N q s
-            → Together (length H) (dependency_of d) (leader_of (database_of schema words) N s) (nth_row (database_of schema words) w.row.number)
+            → Together (length H) (dependency_of d) (leader_of (database_of schema words) N s) (nth_row (database_of schema words) row.number)
         grouped s below leads = (leads.0 ∙ bucket-is, sym (h.table.tags s below) ∙ leads.1 ∙ tag_is)
 
         -- and has its right value
         pub walked_same : (s : ℕ) → s < w.count → LeaderFor (key_of (dependency_of d) (database_of schema words) (length H) N) N q s → right_in N s ≡ q.right
-            → Walked schema words d (record { row = record { at = after; number = w.row.number + 1 }; count = w.count; least = w.least; key = false }) H N
+            → Walked schema words d (record { at = after; number = row.number + 1 }) (record { count = w.count; least = w.least; key = false }) H N
         walked_same s below leads same =
             walked_on w.least false
-            (groups-member (length H) (dependency_of d) (database_of schema words) w.row.number w.least w.count (position_of N) h.groups
+            (groups-member (length H) (dependency_of d) (database_of schema words) row.number w.least w.count (position_of N) h.groups
             w.least s (omega arith) below (grouped s below leads) (λ _. sym (h.table.rights s below) ∙ same ∙ right_is))
             (λ t. absurd (false≢true t))
 
         -- and may have another
         pub walked-differ : (s : ℕ) → s < w.count → LeaderFor (key_of (dependency_of d) (database_of schema words) (length H) N) N q s
             → (p : ℕ) → p ≤ w.least → p ≤ position_of N s
-            → Walked schema words d (record { row = record { at = after; number = w.row.number + 1 }; count = w.count; least = p; key = false }) H N
+            → Walked schema words d (record { at = after; number = row.number + 1 }) (record { count = w.count; least = p; key = false }) H N
         walked-differ s below leads p left right =
             walked_on p false
-            (groups-member (length H) (dependency_of d) (database_of schema words) w.row.number w.least w.count (position_of N) h.groups
+            (groups-member (length H) (dependency_of d) (database_of schema words) row.number w.least w.count (position_of N) h.groups
             p s left below (grouped s below leads) (λ i. absurd (omega arith)))
             (λ t. absurd (false≢true t))
 
         module _ (absent : (s : ℕ) → s < w.count → LeaderFor (key_of (dependency_of d) (database_of schema words) (length H) N) N q s → ⊥) where
           alone : (s : ℕ) → s < w.count
-              → Together (length H) (dependency_of d) (leader_of (database_of schema words) N s) (nth_row (database_of schema words) w.row.number) → ⊥
+              → Together (length H) (dependency_of d) (leader_of (database_of schema words) N s) (nth_row (database_of schema words) row.number) → ⊥
           alone s below t = absent s below (t.0 ∙ sym bucket-is, h.table.tags s below ∙ t.1 ∙ sym tag_is)
 
           -- it would be a leader, and there is no room for it
-          pub walked-full : (p : ℕ) → p ≤ w.least → p ≤ w.row.number
-              → Walked schema words d (record { row = record { at = after; number = w.row.number + 1 }; count = w.count; least = p; key = false }) H N
+          pub walked-full : (p : ℕ) → p ≤ w.least → p ≤ row.number
+              → Walked schema words d (record { at = after; number = row.number + 1 }) (record { count = w.count; least = p; key = false }) H N
           walked-full p left right =
               walked_on p false
-              (groups-full (length H) (dependency_of d) (database_of schema words) w.row.number w.least w.count (position_of N) h.groups
+              (groups-full (length H) (dependency_of d) (database_of schema words) row.number w.least w.count (position_of N) h.groups
               p left right alone)
               (λ t. absurd (false≢true t))
 
@@ -188,22 +192,22 @@ module _ (schema words : List ℕ) (d : Dependency) where
             heads = set H q.bucket (w.count + 1)
 
             nodes : List ℕ
-            nodes = with_leader N w.count (get_or H q.bucket 0) w.row.number q
+            nodes = with_leader N w.count (get_or H q.bucket 0) row.number q
 
             old-word : (i : ℕ) → i < 4 * w.count → get_or nodes i 0 ≡ get_or N i 0
             unfolding nodes
-            old-word = enter-below N w.count (get_or H q.bucket 0) w.row.number q
+            old-word = enter-below N w.count (get_or H q.bucket 0) row.number q
 
             old-number : (s : ℕ) → s < w.count → position_of nodes s ≡ position_of N s
             old-number s low = old-word (4 * s + 1) (omega arith)
 
-            new-number : position_of nodes w.count ≡ w.row.number
+            new-number : position_of nodes w.count ≡ row.number
             unfolding nodes
-            new-number = enter-number N w.count (get_or H q.bucket 0) w.row.number q room
+            new-number = enter-number N w.count (get_or H q.bucket 0) row.number q room
 
             -- what holds of the words of the leaders before it, and of its own, holds of all
             all-leaders : (f : ℕ → ℕ) (g : Row ℕ → ℕ) → ((s : ℕ) → s < w.count → f s ≡ g (leader_of (database_of schema words) N s))
-                → f w.count ≡ g (nth_row (database_of schema words) w.row.number)
+                → f w.count ≡ g (nth_row (database_of schema words) row.number)
                 → (s : ℕ) → s < w.count + 1 → (t : Bool) → eqb s w.count ≡ t → f s ≡ g (leader_of (database_of schema words) nodes s)
             all-leaders f g old new s below true e =
                 subst (λ (x : ℕ). f x ≡ g (leader_of (database_of schema words) nodes x)) (sym (eqb-true s w.count e))
@@ -225,47 +229,47 @@ module _ (schema words : List ℕ) (d : Dependency) where
                 (λ s low. ap₂ {C = ℕ} (λ (x y : ℕ). bucket_for x (dependency_of d) (nth_row D y)) (sym size) (sym (old-number s low))))
                 q.bucket inside (ap₂ {C = ℕ} (λ (x y : ℕ). bucket_for x (dependency_of d) (nth_row D y)) size new-number ∙ sym bucket-is) (link_of nodes)
                 (λ s low. old-word (4 * s) (omega arith))
-                (enter-link N w.count (get_or H q.bucket 0) w.row.number q room)
+                (enter-link N w.count (get_or H q.bucket 0) row.number q room)
 
-            new-key : w.key ≡ true → (w.least ≡ length words) × KeyBelow (dependency_of d) (database_of schema words) (w.row.number + 1)
+            new-key : w.key ≡ true → (w.least ≡ length words) × KeyBelow (dependency_of d) (database_of schema words) (row.number + 1)
             new-key t =
                 let all : w.least ≡ length words = (h.key t).0 in
-                let low : w.row.number ≤ w.least = omega (arith, h.placed.from.counted, h.placed.from.inside) in (
+                let low : row.number ≤ w.least = omega (arith, h.placed.from.counted, h.placed.from.inside) in (
                   all,
-                  key-new (length H) (dependency_of d) (database_of schema words) w.row.number w.least w.count (position_of N) h.groups low alone
+                  key-new (length H) (dependency_of d) (database_of schema words) row.number w.least w.count (position_of N) h.groups low alone
                       (h.key t).1,
                 )
 
-            new-groups : Groups (length heads) (dependency_of d) (database_of schema words) (w.row.number + 1) w.least (w.count + 1) (position_of nodes)
+            new-groups : Groups (length heads) (dependency_of d) (database_of schema words) (row.number + 1) w.least (w.count + 1) (position_of nodes)
             unfolding heads
             new-groups =
                 subst
-                (λ (x : ℕ). Groups x (dependency_of d) (database_of schema words) (w.row.number + 1) w.least (w.count + 1) (position_of nodes))
+                (λ (x : ℕ). Groups x (dependency_of d) (database_of schema words) (row.number + 1) w.least (w.count + 1) (position_of nodes))
                 (sym (length-set H q.bucket (w.count + 1)))
-                (groups-new (length H) (dependency_of d) (database_of schema words) w.row.number w.least w.count (position_of N) h.groups
+                (groups-new (length H) (dependency_of d) (database_of schema words) row.number w.least w.count (position_of N) h.groups
                 (position_of nodes) old-number new-number alone)
 
             pub walked-new : Walked schema words d
-                (record { row = record { at = after; number = w.row.number + 1 }; count = w.count + 1; least = w.least; key = w.key })
-                (set H q.bucket (w.count + 1)) (with_leader N w.count (get_or H q.bucket 0) w.row.number q)
+                (record { at = after; number = row.number + 1 }) (record { count = w.count + 1; least = w.least; key = w.key })
+                (set H q.bucket (w.count + 1)) (with_leader N w.count (get_or H q.bucket 0) row.number q)
             unfolding heads nodes
             walked-new =
                 let some : 0 < length H = h.bucket in
                 let size_h : length heads ≡ length H = length-set H q.bucket (w.count + 1) in
-                let size_n : length nodes ≡ length N = enter-length N w.count (get_or H q.bucket 0) w.row.number q in
+                let size_n : length nodes ≡ length N = enter-length N w.count (get_or H q.bucket 0) row.number q in
                 record {
                   bucket = omega arith;
-                  placed = placed-next schema words w.row.at after w.row.number h.placed next;
+                  placed = placed-next schema words row.at after row.number h.placed next;
                   few = omega (arith, h.few);
                   table = record {
                     stored = omega arith;
                     rights = λ s low.
                         all-leaders (right_in nodes) (λ (r : Row ℕ). column 0 r d.right)
                         (λ t l. old-word (4 * t + 2) (omega arith) ∙ h.table.rights t l)
-                        (enter-right N w.count (get_or H q.bucket 0) w.row.number q room ∙ right_is) s low (eqb s w.count) refl;
+                        (enter-right N w.count (get_or H q.bucket 0) row.number q room ∙ right_is) s low (eqb s w.count) refl;
                     tags = λ s low.
                         all-leaders (tag_in nodes) (tag_of (dependency_of d)) (λ t l. old-word (4 * t + 3) (omega arith) ∙ h.table.tags t l)
-                        (enter-tag N w.count (get_or H q.bucket 0) w.row.number q room ∙ tag_is) s low (eqb s w.count) refl;
+                        (enter-tag N w.count (get_or H q.bucket 0) row.number q room ∙ tag_is) s low (eqb s w.count) refl;
                     chained = new-chained;
                   };
                   groups = new-groups;
@@ -276,7 +280,7 @@ module _ (schema words : List ℕ) (d : Dependency) where
 
   -- no row is passed
   pub walked_start : (H N : List ℕ) → spells_rows schema words ≡ true → 0 < length H → ((b : ℕ) → b < length H → get_or H b 0 ≡ 0)
-      → Walked schema words d (record { row = record { at = 0; number = 0 }; count = 0; least = length words; key = true }) H N
+      → Walked schema words d (record { at = 0; number = 0 }) (record { count = 0; least = length words; key = true }) H N
   walked_start H N good bucket clear =
       record {
         bucket = bucket;
@@ -293,21 +297,14 @@ module _ (schema words : List ℕ) (d : Dependency) where
       }
 
   -- all rows are passed
-  all-passed : (w : Walk) (H N : List ℕ) → Walked schema words d w H N → length words ≤ w.row.at → length (database_of schema words) ≤ w.row.number
-  unfolding rows_from
-  all-passed w H N h end =
-      let n : ℕ = w.row.number in
-      let none : drop n (database_of schema words) ≡ [] =
-      h.placed.read ∙ ap (λ (l : List ℕ). database_of schema l) (drop_of_length-le words {i = w.row.at} end) in
-      let size : length (drop n (database_of schema words)) ≡ length (database_of schema words) - n = length-drop n (database_of schema words) in
-      let zero-size : length (drop n (database_of schema words)) ≡ 0 = ap (λ (l : Database). length l) none in
-      omega arith
+  all-passed : (row : Position) (w : Walk) (H N : List ℕ) → Walked schema words d row w H N → length words ≤ row.at → length (database_of schema words) ≤ row.number
+  all-passed row w H N h end = all-placed schema words row.at row.number h.placed end
 
   -- no row before one that is not beyond the least is the first of a broken pair
-  pub walked_end : (w : Walk) (H N : List ℕ) → Walked schema words d w H N → length words ≤ w.row.at → (p : Position)
+  pub walked_end : (row : Position) (w : Walk) (H N : List ℕ) → Walked schema words d row w H N → length words ≤ row.at → (p : Position)
       → RowBegins schema words p.at p.number → p.number ≤ w.least → Skips schema words d p
-  walked_end w H N h end p placed low =
-      let all : length (database_of schema words) ≤ w.row.number = all-passed w H N h end in
+  walked_end row w H N h end p placed low =
+      let all : length (database_of schema words) ≤ row.number = all-passed row w H N h end in
       record {
         from = placed.from;
         same = λ m.
@@ -317,19 +314,57 @@ module _ (schema words : List ℕ) (d : Dependency) where
       }
 
   -- and the left columns told them apart
-  pub walked-key : (w : Walk) (H N : List ℕ) → Walked schema words d w H N → length words ≤ w.row.at → w.key ≡ true
+  pub walked-key : (row : Position) (w : Walk) (H N : List ℕ) → Walked schema words d row w H N → length words ≤ row.at → w.key ≡ true
       → Key (dependency_of d) (database_of schema words)
-  walked-key w H N h end t =
-      let all : length (database_of schema words) ≤ w.row.number = all-passed w H N h end in
+  walked-key row w H N h end t =
+      let all : length (database_of schema words) ≤ row.number = all-passed row w H N h end in
       λ i j before below. (h.key t).1 i j before (omega arith)
 
+  -- where the least is beyond the last row, none is
+  pub walked-none : (row : Position) (w : Walk) (H N : List ℕ) → Walked schema words d row w H N → length words ≤ row.at
+      → length (database_of schema words) ≤ w.least → (n : ℕ) → first_pair_from (dependency_of d) n (database_of schema words) ≡ none
+  unfolding first_pair numbered_from
+  walked-none row w H N h end low n =
+      let D : Database = database_of schema words in
+      let all : length D ≤ row.number = all-passed row w H N h end in
+      pairs-skip (dependency_of d) n (length D) D (λ k j before below first. h.groups.kept k j before (omega arith) (omega arith))
+      ∙ ap (λ (l : Database). first_pair_from (dependency_of d) (n + length D) l) (drop-length D)
+
   -- no row is skipped
-  pub skips-none : spells_rows schema words ≡ true → Skips schema words d (record { at = 0; number = 0 })
-  skips-none good =
+  pub skips-first : spells_rows schema words ≡ true → Skips schema words d (record { at = 0; number = 0 })
+  skips-first good =
       record {
         from = (placed-start schema words good).from;
         same = λ m. let e : m ≡ m + 0 = omega arith in ap (λ (x : ℕ). first_pair_from (dependency_of d) x (database_of schema words)) e;
       }
+
+module _ (schema words : List ℕ) (d : Dependency) where
+  -- ---- along a walk over the rows
+
+  -- what is known of a row's end is known where the walk goes on
+  pub walked-next : (p r q : Position) (w : Walk) (H N : List ℕ) → r ≡ p → Next schema words p.at q.at → q.number ≡ p.number + 1
+      → ((after : ℕ) → Next schema words r.at after → Walked schema words d (record { at = after; number = r.number + 1 }) w H N) → Walked schema words d q w H N
+  walked-next p r q w H N e next number f =
+      subst (λ (n : ℕ). Walked schema words d (record { at = q.at; number = n }) w H N) (ap (λ (x : Position). x.number + 1) e ∙ sym number)
+      (f q.at (subst (λ (x : Position). Next schema words x.at q.at) (sym e) next))
+
+  -- the first row, where nothing is known
+  pub skips-start : spells_rows schema words ≡ true → (S W S' W' : List ℕ) (p q : Position) (r : Option Position) → W ≡ words → p ≡ record { at = 0; number = 0 }
+      → Steps S W p r q × (S' ≡ S) × (W' ≡ W) → SkipsTo schema words d r
+  skips-start good S W S' W' p q None f e h =
+      let end : length words ≤ 0 = subst (λ (x : Position). length words ≤ x.at) e (rw f at h.0.0) in
+      λ n. pair_end schema words (dependency_of d) 0 n end
+  skips-start good S W S' W' p q (Some r) f e h =
+      let is : r ≡ record { at = 0; number = 0 } = h.0.0 ∙ e in (
+        subst (λ (x : Position). Skips schema words d x) (sym is) (skips-first schema words d good),
+        subst (λ (x : Position). x.at < length words) (sym h.0.0) (rw f at h.0.1),
+      )
+
+  -- all rows are passed: the row at the least position, or none
+  pub skips-located : (row : Position) (w : Walk) (H N : List ℕ) → Walked schema words d row w H N → length words ≤ row.at → (r : Option Position)
+      → Located schema words w.least r → SkipsTo schema words d r
+  skips-located row w H N h end None low = walked-none schema words d row w H N h end low
+  skips-located row w H N h end (Some p) found = (walked_end schema words d row w H N h end p found.0 (omega (arith, found.1)), found.2)
 
 -- the words from `at` on
 pub rest_all : (words : List ℕ) (at : ℕ) → take (length words - at) (drop at words) ≡ drop at words

@@ -11,34 +11,27 @@
 ghost use Rattle.std.specs.Prelude.{◌≡◌, true, ℕ, ◌+◌, ◌*◌, ◌^◌, ◌≤◌, ◌<◌, length, get_or, set};
 ghost use Rattle.query.specs.View.{dependency_of};
 ghost use Rattle.words.specs.Words.{spells_rows, database_of};
-ghost use Rattle.words.specs.internal.Rows.{span_at};
+ghost use Rattle.words.specs.internal.Rows.{span_at, Next};
 ghost use Rattle.words.specs.internal.Found.{Testable};
 ghost use Rattle.grouping.specs.internal.Chains.{Chained};
 ghost use Rattle.grouping.specs.internal.Leaders.{link_of, sought_of, BesideSays, with_leader};
 ghost use Rattle.grouping.specs.internal.Groups.{Key};
-ghost use Rattle.grouping.specs.internal.Walked.{RowBegins, Walked, Skips};
+ghost use Rattle.grouping.specs.internal.Walked.{Located, Walked, SkipsTo};
 
 use query::Dependency;
+use words::Position;
 
-// A row: the word at which it begins, and its position among the rows.
-#[derive(Clone, Copy)]
-pub struct Position {
-    pub at: usize,
-    pub number: usize,
-}
-
-// Where a walk leads to: a row that may be the first of a broken pair, or the end; and whether the left columns were seen to be a key.
+// Where a walk leads to: the row found that may be the first of a broken pair, and whether the left columns were seen to be a key.
 #[derive(Clone, Copy)]
 pub struct Skipped {
-    pub row: Position,
+    pub row: Option<Position>,
     pub key: bool,
 }
 
-// How far a walk is: the row that comes next, how many leaders are entered, the position of the first row known that may be the first of a broken
-// pair, and whether every row of the relation was entered.
+// What a walk knows: how many leaders are entered, the position of the first row known that may be the first of a broken pair, and whether every row of
+// the relation was entered.
 #[derive(Clone, Copy)]
 struct Walk {
-    row: Position,
     count: usize,
     least: usize,
     key: bool,
@@ -60,18 +53,6 @@ enum Beside {
     Alone,
 }
 
-// Makes all chains empty.
-fn clear(heads: &mut [u32])
-    ensures heads_len_unchanged { length heads.new ≡ length heads.old }
-    ensures by_index { (b : ℕ) → b < length heads.new → get_or heads.new b 0 ≡ 0 }
-{
-    let mut b: usize = 0;
-    while b < heads.len() {
-        heads[b] = 0;
-        b += 1;
-    }
-}
-
 // What is compared of the row at `a`. Neighbouring values of one column are in neighbouring buckets, and are their own tags.
 fn sought_of(words: &[u32], width: usize, d: Dependency, a: usize, buckets: usize) -> Sought
     requires width_in_bounds { a + 1 + width ≤ length words.now }
@@ -83,6 +64,7 @@ fn sought_of(words: &[u32], width: usize, d: Dependency, a: usize, buckets: usiz
     let mut tag: u64 = 0;
     let mut left = d.left;
     let mut c: usize = 0;
+    // Kept as it is: (d) the loop ends at the last column of the set, and a `for` over the columns would go on to the width for each row
     while left != 0 {
         if left % 2 == 1 {
             let x = words::value(words, a, c) as u64;
@@ -138,97 +120,66 @@ fn enter(heads: &mut [u32], nodes: &mut [u32], count: usize, sought: Sought, num
     heads[bucket] = (count + 1) as u32;
 }
 
-// The lesser of two positions.
-fn lesser(p: usize, q: usize) -> usize
-    ensures { (result ≤ p) × (result ≤ q) }
-{
-    if q < p { q } else { p }
-}
-
-// Passes one row. If it is of the dependency's relation, it is compared with the leader of its group, or is a leader.
+// Passes the row `row`. If it is of the dependency's relation, it is compared with the leader of its group, or is a leader.
 fn step(
     schema: &[u8],
     words: &[u32],
     d: Dependency,
+    row: Position,
     walk: Walk,
     heads: &mut [u32],
     nodes: &mut [u32],
 ) -> Walk
     requires testable { Testable schema.now d }
-    requires at_in_bounds { walk.row.at < length words.now }
-    requires walked { Walked schema.now words.now d walk heads.old nodes.old }
-    ensures walked_2 { Walked schema.now words.now d result heads.new nodes.new }
-    ensures at_lt_at { walk.row.at < result.row.at }
+    requires at_in_bounds { row.at < length words.now }
+    requires walked { Walked schema.now words.now d row walk heads.old nodes.old }
+    ensures { (after : ℕ) → Next schema.now words.now row.at after
+        → Walked schema.now words.now d (record { at = after; number = row.number + 1 }) result heads.new nodes.new }
 {
-    let at = walk.row.at;
-    let number = walk.row.number;
-    let row = Position {
-        at: words::next(schema, words, at),
-        number: number + 1,
-    };
-    let count = walk.count;
-    let least = walk.least;
-    let key = walk.key;
     let index = d.relation as usize;
-    if words[at] as usize != index {
-        return Walk {
-            row,
-            count,
-            least,
-            key,
-        };
+    if words[row.at] as usize != index {
+        return walk;
     }
     let width = schema[index] as usize;
-    let sought = sought_of(words, width, d, at, heads.len());
-    let found = compare(sought, heads, nodes, count);
-    match found {
-        Beside::Same => Walk {
-            row,
-            count,
-            least,
-            key: false,
-        },
+    let sought = sought_of(words, width, d, row.at, heads.len());
+    match compare(sought, heads, nodes, walk.count) {
+        Beside::Same => Walk { key: false, ..walk },
         Beside::Differs(p) => Walk {
-            row,
-            count,
-            least: lesser(least, p),
+            least: walk.least.min(p),
             key: false,
+            ..walk
         },
         Beside::Alone => {
-            if 4 <= nodes.len() - 4 * count && number < 4294967295 {
-                enter(heads, nodes, count, sought, number);
+            if 4 <= nodes.len() - 4 * walk.count && row.number < 4294967295 {
+                enter(heads, nodes, walk.count, sought, row.number);
                 return Walk {
-                    row,
-                    count: count + 1,
-                    least,
-                    key,
+                    count: walk.count + 1,
+                    ..walk
                 };
             }
             Walk {
-                row,
-                count,
-                least: lesser(least, number),
+                least: walk.least.min(row.number),
                 key: false,
+                ..walk
             }
         }
     }
 }
 
-// The row at position `number`, or the end of the words if there are fewer rows.
-fn locate(schema: &[u8], words: &[u32], number: usize) -> Position
+// The row at position `number`, if there are so many rows.
+fn locate(schema: &[u8], words: &[u32], number: usize) -> Option<Position>
     requires { spells_rows schema.now words.now ≡ true }
-    ensures { RowBegins schema.now words.now result.at result.number × (result.number ≤ number) }
+    ensures { Located schema.now words.now number result }
 {
-    let mut at: usize = 0;
-    let mut n: usize = 0;
-    while n < number && at < words.len() {
-        at = words::next(schema, words, at);
-        n += 1;
+    for row in words::each_row(schema, words, words::FIRST) {
+        if row.number == number {
+            return Some(row);
+        }
     }
-    Position { at, number: n }
+    None
 }
 
-// A row before which none is the first of a broken pair, or the end of the words. With room for all leaders it is, but for rows that share a bucket
+// A row before which none is the first of a broken pair, if there is a broken pair. With room for all leaders it is, but for rows that share a bucket
 // and a tag by chance, the first row of the first broken pair, and a key is seen; without a bucket it is the first row.
 pub fn skip(
     schema: &[u8],
@@ -239,42 +190,32 @@ pub fn skip(
 ) -> Skipped
     requires testable { Testable schema.now d }
     requires words_value { spells_rows schema.now words.now ≡ true }
-    ensures skips { Skips schema.now words.now d result.row }
+    ensures skips { SkipsTo schema.now words.now d result.row }
     ensures key { result.key ≡ true → Key (dependency_of d) (database_of schema.now words.now) }
 {
-    let first = Position { at: 0, number: 0 };
-    if heads.len() == 0 {
+    if heads.is_empty() {
         return Skipped {
-            row: first,
+            row: words::each_row(schema, words, words::FIRST).next(),
             key: false,
         };
     }
     // no more buckets than rows of the relation at most: few stay in the caches
-    let mut buckets = words.len() / (schema[d.relation as usize] as usize + 1) + 1;
-    if heads.len() < buckets {
-        buckets = heads.len();
-    }
+    let rows = words.len() / (schema[d.relation as usize] as usize + 1) + 1;
+    let buckets = rows.min(heads.len());
     let used = &mut heads[..buckets];
-    clear(used);
+    used.fill(0);
     let mut walk = Walk {
-        row: first,
         count: 0,
         least: words.len(),
         key: true,
     };
-    while walk.row.at < words.len() {
-        walk = step(schema, words, d, walk, used, nodes);
+    for row in words::each_row(schema, words, words::FIRST) {
+        walk = step(schema, words, d, row, walk, used, nodes);
     }
-    let key = walk.key;
-    if walk.least == words.len() {
-        return Skipped {
-            row: Position {
-                at: words.len(),
-                number: words.len(),
-            },
-            key,
-        };
-    }
-    let row = locate(schema, words, walk.least);
-    Skipped { row, key }
+    let row = if walk.least == words.len() {
+        None
+    } else {
+        locate(schema, words, walk.least)
+    };
+    Skipped { row, key: walk.key }
 }

@@ -28,16 +28,10 @@ pub fn has(words: &[u32], schema: &[u8], x: Index, at: usize, columns: u8, value
     if words[at] != x.relation {
         return false;
     }
-    let mut left = columns;
-    let mut c: usize = 0;
-    while c < x.width {
-        if left % 2 == 1 {
-            if words::value(words, at, c) != values[c] {
-                return false;
-            }
+    for c in 0..x.width {
+        if words::has_column(columns, c) && words::value(words, at, c) != values[c] {
+            return false;
         }
-        left = left / 2;
-        c += 1;
     }
     true
 }
@@ -48,14 +42,10 @@ pub fn bucket(columns: u8, values: [u32; 8], width: usize, buckets: usize) -> us
     ensures { (result ≡ bucket_of buckets columns (take width values)) × (result < buckets) }
 {
     let mut h: u64 = 0;
-    let mut left = columns;
-    let mut c: usize = 0;
-    while c < width {
-        if left % 2 == 1 {
+    for c in 0..width {
+        if words::has_column(columns, c) {
             h = (h * 2654435769 + values[c] as u64) % 4294967296;
         }
-        left = left / 2;
-        c += 1;
     }
     let spread = h * 2654435769 % 4294967296;
     (spread * buckets as u64 / 4294967296) as usize
@@ -137,14 +127,10 @@ pub fn with_row(words: &[u32], x: Index, at: usize, set: u8, values: [u32; 8]) -
     ensures by_index_2 { (c : ℕ) → (set / 2 ^ c % 2 ≡ 1 → ⊥) → get_or result c 0 ≡ get_or values c 0 }
 {
     let mut row = values;
-    let mut left = set;
-    let mut c: usize = 0;
-    while c < x.width {
-        if left % 2 == 1 {
+    for c in 0..x.width {
+        if words::has_column(set, c) {
             row[c] = words::value(words, at, c);
         }
-        left = left / 2;
-        c += 1;
     }
     row
 }
@@ -155,11 +141,12 @@ pub fn position_of(words: &[u32], schema: &[u8], at: usize) -> usize
     requires by_index { (p : ℕ) × (at ≡ start_of schema.now words.now p) × (p ≤ row_count schema.now words.now) }
     ensures { at ≡ start_of schema.now words.now result }
 {
-    let mut here: usize = 0;
-    let mut n: usize = 0;
-    while here < at {
-        here = words::next(schema, words, here);
-        n += 1;
+    let mut number: usize = 0;
+    for row in words::each_row(schema, words, words::FIRST) {
+        if row.at == at {
+            return row.number;
+        }
+        number = row.number + 1;
     }
-    n
+    number
 }

@@ -1,11 +1,13 @@
 -- A swap of two sets keeps them. Assumes nothing.
-use mathlib.Core.Path.{◌≡◌, refl, sym, ◌∙◌, ap}
+use mathlib.Core.Path.{◌≡◌, refl, sym, ◌∙◌, ap, subst}
 use mathlib.Core.List.{List}
 use Prim.Native.Nat.{ℕ, ◌≤◌, ◌<◌}
 use native.Mathlib.Decide.{ℕ_discrete}
 use native.Mathlib.Omega.{arith}
 use lib.ListN.{length, get_or, set, length-set}
 use lib.Seq.{get_or-set_same, get_or-set_other}
+use Rattle.std.specs.List as lists
+use Rattle.std.proofs.lemmas.List.Edits.{swap_is}
 use Rattle.query.specs.declared.JoinDependency.{JoinDependency}
 use Rattle.join_order.specs.internal.Arranged.{Arranged}
 
@@ -52,16 +54,17 @@ module _ (xs : List ℕ) (i l : ℕ) (in-i : i < length xs) (in-l : l < length x
       go (no n) (yes e) = (i, low-i, high-i, ap (λ (n : ℕ). get_or swap n 0) e ∙ at-l, ap (λ (n : ℕ). get_or xs n 0) e ∙ sym at_i)
       go (no n) (no m) = (k, low, high, at_other k n m, sym (at_other k n m))
 
-pub arranged_swap : (j r : JoinDependency) (first i l : ℕ) → Arranged j r first → first ≤ i → i < j.count → first ≤ l → l < j.count → j.count ≤ 4
-    → Arranged j (record { relation = j.relation; count = j.count; sets = set (set r.sets l (get_or r.sets i 0)) i (get_or r.sets l 0) }) first
-arranged_swap j r first i l a low-i high-i low-l high-l few =
+pub arranged_swap : (j r : JoinDependency) (first i l : ℕ) (ys : List ℕ) → Arranged j r first → first ≤ i → i < j.count → first ≤ l → l < j.count → j.count ≤ 4
+    → ys ≡ lists.swap r.sets l i → Arranged j (record { relation = r.relation; count = r.count; sets = ys }) first
+arranged_swap j r first i l ys a low-i high-i low-l high-l few e =
     let xs : List ℕ = r.sets in
     let size : length xs ≡ 4 = a.shaped in
     let in-i : i < length xs = omega arith in
     let in-l : l < length xs = omega arith in
-    record {
-      relation = refl;
-      count = refl;
+    subst (λ (zs : List ℕ). Arranged j (record { relation = r.relation; count = r.count; sets = zs }) first) (swap_is xs l i 0 in-l in-i ∙ sym e)
+    (record {
+      relation = a.relation;
+      count = a.count;
       shaped = length-set (set xs l (get_or xs i 0)) i (get_or xs l 0) ∙ length-set xs l (get_or xs i 0) ∙ size;
       stay = λ k h. at_other xs i l in-i in-l k (λ e. omega arith) (λ e. omega arith) ∙ a.stay k h;
       from =
@@ -75,4 +78,4 @@ arranged_swap j r first i l a low-i high-i low-l high-l few =
           let s = swap-from xs i l in-i in-l first j.count f.0 low-i high-i low-l high-l f.1 f.2 in
           (s.0, s.1, s.2, f.3 ∙ s.4);
       past = λ k h. at_other xs i l in-i in-l k (λ e. omega arith) (λ e. omega arith) ∙ a.past k h;
-    }
+    })

@@ -12,19 +12,10 @@ fn closest(j: JoinDependency, i: usize, filled: u8) -> usize
     requires { (i < j.count) × (j.count ≤ 4) × (length j.sets ≡ 4) }
     ensures { (i ≤ result) × (result < j.count) }
 {
-    let count = j.count as usize;
-    let mut best = i;
-    let mut most = u8::count_ones(j.sets[i] & filled);
-    let mut l = i + 1;
-    while l < count {
-        let here = u8::count_ones(j.sets[l] & filled);
-        if most < here {
-            best = l;
-            most = here;
-        }
-        l += 1;
-    }
-    best
+    (i..j.count as usize)
+        .rev()
+        .max_by_key(|l| (j.sets[*l] & filled).count_ones())
+        .unwrap_or(i)
 }
 
 // The sets from set `first` on in the order of the search: the next is the one that has most columns of those before it.
@@ -32,23 +23,12 @@ pub fn arrange(j: JoinDependency, first: usize, filled: u8) -> JoinDependency
     requires { (first ≤ j.count) × (j.count ≤ 4) × (length j.sets ≡ 4) }
     ensures { Arranged j result first }
 {
-    let count = j.count as usize;
     let mut arranged = j;
     let mut known = filled;
-    let mut i = first;
-    while i < count {
+    for i in first..j.count as usize {
         let l = closest(arranged, i, known);
-        let mut sets = arranged.sets;
-        let next = sets[l];
-        sets[l] = sets[i];
-        sets[i] = next;
-        arranged = JoinDependency {
-            relation: j.relation,
-            count: j.count,
-            sets,
-        };
-        known = known | next;
-        i += 1;
+        arranged.sets.swap(l, i);
+        known |= arranged.sets[i];
     }
     arranged
 }

@@ -20,10 +20,8 @@ fn clear(heads: &mut [u32], t: usize, buckets: usize, end: u32)
     ensures by_index { (b : ℕ) → b < buckets → get_or heads.new (5 * b + t) 0 ≡ end }
     ensures by_index_2 { (b u : ℕ) → u < 5 → (u ≡ t → ⊥) → get_or heads.new (5 * b + u) 0 ≡ get_or heads.old (5 * b + u) 0 }
 {
-    let mut b: usize = 0;
-    while b < buckets {
+    for b in 0..buckets {
         heads[5 * b + t] = end;
-        b += 1;
     }
 }
 
@@ -33,11 +31,9 @@ fn thread(words: &[u32], schema: &[u8], nodes: &mut [u32])
     ensures threaded { Threaded schema.now words.now nodes.new }
     ensures nodes_len_unchanged { length nodes.new ≡ length nodes.old }
 {
-    let mut at: usize = 0;
-    while at < words.len() {
-        let after = words::next(schema, words, at);
-        nodes[6 * (after - 1)] = at as u32;
-        at = after;
+    let mut rows = words::each_row(schema, words, words::FIRST);
+    while let Some(row) = rows.next() {
+        nodes[6 * (rows.place.at - 1)] = row.at as u32;
     }
 }
 
@@ -144,12 +140,10 @@ fn fill(
     thread(words, schema, nodes);
     let count = j.count as usize;
     let mut filled: u8 = 0;
-    let mut k: usize = 0;
-    while k < count {
+    for k in 0..count {
         let set = j.sets[k];
         enter_set(words, schema, x, k, set, set & filled, heads, nodes);
-        filled = filled | set;
-        k += 1;
+        filled |= set;
     }
     enter(words, schema, x, 0, filled, 0, heads, nodes);
 }
@@ -176,10 +170,8 @@ pub fn build(
         };
     }
     // no more buckets than rows of the relation at most
-    let mut buckets = words.len() / (width + 1) + 1;
-    if heads.len() / 5 < buckets {
-        buckets = heads.len() / 5;
-    }
+    let rows = words.len() / (width + 1) + 1;
+    let buckets = rows.min(heads.len() / 5);
     let x = Index {
         relation,
         width,

@@ -2,7 +2,6 @@
 -- 3. The first choice, from its first position and the first choice after it. Assumes nothing.
 use mathlib.Core.Path.{◌≡◌, refl, sym, ◌∙◌, ap, subst}
 use mathlib.Core.Logic.{inl, ⊎_elim}
-use mathlib.Core.Bool.{true, false, true≢false}
 use mathlib.Core.List.Memᴰ
 use mathlib.Core.List.{List, [], ◌∷◌}
 use Prim.Native.Nat.{ℕ, zero, suc, ◌+◌, ◌≤◌, ◌<◌}
@@ -13,14 +12,14 @@ use lib.ListN.{length, take, get_or, set}
 use Rattle.lists.proofs.Tests.{below-or-past}
 use Rattle.theory.specs.Query.{Row, ◌∈◌}
 use Rattle.theory.specs.Database.{Database, Agree}
-use Rattle.theory.proofs.Lists.{bool_cases, mem-cases}
+use Rattle.theory.proofs.Lists.{mem-cases}
 use Rattle.query.specs.View.{columns_of, join_of}
 use Rattle.query.specs.declared.JoinDependency.{JoinDependency}
 use Rattle.words.specs.Broken.{nth_row}
 use Rattle.words.specs.Words.{database_of}
 use Rattle.join_testing.specs.Meaning.{GoWith, Earlier}
 use Rattle.join_lookup.specs.declared.Index.{Index}
-use Rattle.join_testing.specs.declared.Found.{Found}
+use Rattle.std.specs.Prelude.{Option, None, Some}
 use Rattle.join_lookup.specs.internal.Starts.{start_of, row_count, BeginsAt, row_with, Has}
 use Rattle.join_tables.specs.internal.Indexed.{filled_to, shared_at, Searchable, Indexed}
 use Rattle.join_testing.specs.internal.Search.{sets_from, BreaksFrom, FirstFrom, Searched, plainly}
@@ -144,22 +143,21 @@ breaks-index {j = j} x y s k values ps b =
     }
 
 -- What a search finds does not depend on the tables
-pub searched-index : {schema words : List ℕ} {j : JoinDependency} (x y : Index) → SameRelation x y → (k : ℕ) (values : List ℕ) (found : Found)
+pub searched-index : (schema words : List ℕ) (j : JoinDependency) (x y : Index) → SameRelation x y → (k : ℕ) (values : List ℕ) (found : Option (List ℕ))
     → Searched schema words j x k values found → Searched schema words j y k values found
-searched-index x y s k values found f =
+searched-index schema words j x y s k values None f =
+    let t : SameRelation y x = record { relation = sym s.relation; width = sym s.width } in λ ps b. f ps (breaks-index y x t k values ps b)
+searched-index schema words j x y s k values (Some at) f =
     let t : SameRelation y x = record { relation = sym s.relation; width = sym s.width } in
-    record {
-      size = f.size;
-      some =
-          λ e. let first = f.some e in
-          record {
-            positions = first.positions;
-            breaks = breaks-index x y s k values first.positions first.breaks;
-            before = λ qs less b. first.before qs less (breaks-index y x t k values qs b);
-            places = first.places;
-          };
-      none = λ e ps b. f.none e ps (breaks-index y x t k values ps b);
-    }
+    let first = f.1 in (
+      f.0,
+      record {
+        positions = first.positions;
+        breaks = breaks-index x y s k values first.positions first.breaks;
+        before = λ qs less b. first.before qs less (breaks-index y x t k values qs b);
+        places = first.places;
+      },
+    )
 
 module _ {schema words : List ℕ} (j r : JoinDependency) (k : ℕ) (a : Arranged j r (suc k)) (more : k < j.count) (g : Searchable schema words j)
     (h : Searchable schema words r) (x y : Index) (s : SameRelation x y) (values : List ℕ) where
@@ -216,8 +214,7 @@ index-plain {schema} j r x e i =
     }
 
 module _ {schema words heads nodes : List ℕ} (j r : JoinDependency) (k : ℕ) (a : Arranged j r (suc k)) (more : k < j.count) (g : Searchable schema words j)
-    (h : Searchable schema words r) (x : Index) (i : Indexed schema words r x heads nodes) (values : List ℕ) (found : Found)
-    (s : Searched schema words r x k values found) where
+    (h : Searchable schema words r) (x : Index) (i : Indexed schema words r x heads nodes) (values : List ℕ) where
   abbrev y : Index
   y = plainly schema j
 
@@ -242,80 +239,80 @@ module _ {schema words heads nodes : List ℕ} (j r : JoinDependency) (k : ℕ) 
   to-arranged q qs b = breaks-arranged r j k back more-r h g (plainly schema j) x swapped values q qs b
 
   -- Where nothing is found there is nothing
-  pub arranged-none : found.some ≡ false → Searched schema words j (plainly schema j) k values found
-  arranged-none e =
-      record { size = s.size; some = λ t. absurd (true≢false (sym t ∙ e)); none = λ f ps b. none ps b }
-    where
-      none : (ps : List ℕ) → BreaksFrom schema words j (plainly schema j) k values ps → ⊥
-      none [] b = breaks-some g plain k more values b
-      none (q ∷ qs) b = let c = to-arranged q qs b in s.none e (q ∷ c.0) c.1
+  pub arranged-none : Searched schema words r x k values None → Searched schema words j (plainly schema j) k values None
+  arranged-none s [] b = breaks-some g plain k more values b
+  arranged-none s (q ∷ qs) b = let c = to-arranged q qs b in s (q ∷ c.0) c.1
 
-  -- The first position for set k: some rows for the sets after it go with it, and none with one before
-  pub record FirstRow (p : ℕ) : Type 0 where
-    pub place : get_or found.at k 0 ≡ start_of schema words p
-    pub rest : List ℕ
-    pub breaks : BreaksFrom schema words j (plainly schema j) k values (p ∷ rest)
-    pub before : NoneBelow g plain k more values p
+  module _ (at : List ℕ) (s : Searched schema words r x k values (Some at)) where
+    -- The first position for set k: some rows for the sets after it go with it, and none with one before
+    pub record FirstRow (p : ℕ) : Type 0 where
+      pub place : get_or at k 0 ≡ start_of schema words p
+      pub rest : List ℕ
+      pub breaks : BreaksFrom schema words j (plainly schema j) k values (p ∷ rest)
+      pub before : NoneBelow g plain k more values p
 
-  pub first-row : found.some ≡ true → (p : ℕ) × FirstRow p
-  first-row e = go f.positions f.breaks f.before f.places
-    where
-      f : FirstFrom schema words r x k values found.at
-      f = s.some e
+    pub first-row : (p : ℕ) × FirstRow p
+    first-row = go f.positions f.breaks f.before f.places
+      where
+        f : FirstFrom schema words r x k values at
+        f = s.1
 
-      go : (ps : List ℕ) → BreaksFrom schema words r x k values ps
-          → ((qs : List ℕ) → Earlier qs ps → BreaksFrom schema words r x k values qs → ⊥)
-          → ((n : ℕ) → get_or found.at (k + n) 0 ≡ start_of schema words (get_or ps n 0)) → (p : ℕ) × FirstRow p
-      go [] b before places = absurd (breaks-some h i k more-r values b)
-      go (p ∷ ps) b before places =
-          let c = breaks-arranged j r k a more g h x (plainly schema j) same values p ps b in
-          let z : k + 0 ≡ k = omega arith in (
+        go : (ps : List ℕ) → BreaksFrom schema words r x k values ps
+            → ((qs : List ℕ) → Earlier qs ps → BreaksFrom schema words r x k values qs → ⊥)
+            → ((n : ℕ) → get_or at (k + n) 0 ≡ start_of schema words (get_or ps n 0)) → (p : ℕ) × FirstRow p
+        go [] b before places = absurd (breaks-some h i k more-r values b)
+        go (p ∷ ps) b before places =
+            let c = breaks-arranged j r k a more g h x (plainly schema j) same values p ps b in
+            let z : k + 0 ≡ k = omega arith in (
+              p,
+              record {
+                place = ap (λ (n : ℕ). get_or at n 0) (sym z) ∙ places 0;
+                rest = c.0;
+                breaks = c.1;
+                before = λ q qs low d. let t = to-arranged q qs d in before (q ∷ t.0) (inl low) t.1;
+              },
+            )
+
+    module _ (p : ℕ) (f : FirstRow p) where
+      -- Its row has the values that are known
+      pub row-has : Has schema words (plainly schema j) (shared_at j.sets k) values p
+      row-has = breaks-has g plain k more values p f.rest f.breaks
+
+      pub row-begins : BeginsAt schema words (get_or at k 0) p
+      row-begins = (f.place, inside)
+        where
+          inside : p < row_count schema words
+          inside =
+              (subst (λ (l : List (List ℕ)). GoWith l (database_of schema words) f.breaks.row (p ∷ f.rest))
+              (sets.sets-cons j g.shaped g.few k more) f.breaks.chosen).0
+
+      pub row-word : get_or words (get_or at k 0) 0 ≡ j.relation
+      row-word = has_word (plainly schema j) g (shared_at j.sets k) values (get_or at k 0) p row-begins row-has
+
+      -- The first choice after it makes it whole
+      pub chosen-first : (row : List ℕ) → Joins schema words (plainly schema j) (get_or j.sets k 0) p values row → (places : List ℕ)
+          → Searched schema words j (plainly schema j) (k + 1) row (Some places)
+          → Searched schema words j (plainly schema j) k values (Some (set places k (get_or at k 0)))
+      chosen-first row joins places t = going-some g plain k more values (get_or at k 0) way row places joins row-begins.1 row-has t
+        where
+          way : Going g plain k more values (get_or at k 0)
+          way = (
             p,
             record {
-              place = ap (λ (n : ℕ). get_or found.at n 0) (sym z) ∙ places 0;
-              rest = c.0;
-              breaks = c.1;
-              before = λ q qs low d. let t = to-arranged q qs d in before (q ∷ t.0) (inl low) t.1;
+              row = p;
+              place = f.place;
+              after = omega arith;
+              inside = omega (arith, row-begins.1);
+              here = λ some. absurd (omega arith);
+              passed = λ q low high. absurd (omega arith);
             },
+            f.before,
           )
 
-  module _ (p : ℕ) (f : FirstRow p) where
-    -- Its row has the values that are known
-    pub row-has : Has schema words (plainly schema j) (shared_at j.sets k) values p
-    row-has = breaks-has g plain k more values p f.rest f.breaks
-
-    pub row-begins : BeginsAt schema words (get_or found.at k 0) p
-    row-begins = (f.place, inside)
-      where
-        inside : p < row_count schema words
-        inside =
-            (subst (λ (l : List (List ℕ)). GoWith l (database_of schema words) f.breaks.row (p ∷ f.rest))
-            (sets.sets-cons j g.shaped g.few k more) f.breaks.chosen).0
-
-    pub row-word : get_or words (get_or found.at k 0) 0 ≡ j.relation
-    row-word = has_word (plainly schema j) g (shared_at j.sets k) values (get_or found.at k 0) p row-begins row-has
-
-    -- The first choice after it makes it whole
-    pub chosen-first : (row : List ℕ) → Joins schema words (plainly schema j) (get_or j.sets k 0) p values row → (rest : Found)
-        → Searched schema words j (plainly schema j) (k + 1) row rest
-        → Searched schema words j (plainly schema j) k values (record { some = true; at = set rest.at k (get_or found.at k 0) })
-    chosen-first row joins rest t =
-        going-some g plain k more values (get_or found.at k 0) way row rest joins row-begins.1 row-has t
-        (bool_cases rest.some (λ e. e)
-        (λ e. absurd (t.none e f.rest
-        (subst (λ (n : ℕ). BreaksFrom schema words j (plainly schema j) n row f.rest) (sym (add-one k))
-        (breaks-down g plain k more values p row joins f.rest f.breaks)))))
-      where
-        way : Going g plain k more values (get_or found.at k 0)
-        way = (
-          p,
-          record {
-            row = p;
-            place = f.place;
-            after = omega arith;
-            inside = omega (arith, row-begins.1);
-            here = λ some. absurd (omega arith);
-            passed = λ q low high. absurd (omega arith);
-          },
-          f.before,
-        )
+      -- And there is one
+      pub chosen-some : (row : List ℕ) → Joins schema words (plainly schema j) (get_or j.sets k 0) p values row
+          → Searched schema words j (plainly schema j) (k + 1) row None → ⊥
+      chosen-some row joins t =
+          t f.rest
+          (subst (λ (n : ℕ). BreaksFrom schema words j (plainly schema j) n row f.rest) (sym (add-one k))
+          (breaks-down g plain k more values p row joins f.rest f.breaks))

@@ -1,6 +1,5 @@
 -- From the search to the definition: the first choice for a join dependency, and the first join dependency with one. Assumes nothing.
 use mathlib.Core.Path.{◌≡◌, refl, sym, ◌∙◌, ap, subst}
-use mathlib.Core.Bool.{true, false}
 use mathlib.Core.List.Memᴰ
 use mathlib.Core.List.{List, [], ◌∷◌}
 use mathlib.Core.Option.{Option, none, some, or_else, map}
@@ -17,10 +16,9 @@ use Rattle.query.proofs.Stored.{no-columns}
 use Rattle.words.specs.Testing.{numbered_from}
 use Rattle.words.specs.Words.{database_of}
 use Rattle.words.proofs.Spelling.{rows-spelled}
-use Rattle.words.specs.declared.Violation.TheVariants as violation
+use Rattle.std.specs.Prelude.{None, Some}
+use Rattle.words.specs.declared.Violation.TheVariants.{Join}
 use Rattle.join_lookup.specs.declared.Index.{Index}
-use Rattle.join_testing.specs.declared.Found.{Found}
-use Rattle.join_testing.specs.declared.ChosenRows.TheVariants as chosen-rows
 use Rattle.join_testing.specs.Unmet.{first_choice, first_unmet_from, unmet_of}
 use Rattle.join_testing.specs.Meaning.{BreaksJoin}
 use Rattle.join_lookup.specs.internal.Starts.{row_count}
@@ -50,13 +48,12 @@ module _ {schema words : List ℕ} {j : stored.JoinDependency} {x : Index} {head
       }
 
   -- What the search finds is the first choice
-  pub searched-none : (found : Found) → Searched schema words j x 0 values found → found.some ≡ false → first_choice schema (join_of j) D ≡ none
-  searched-none found s e =
-      unbroken-none schema (join_of j) g.fits D (rows-spelled schema words g.spelled).1 (λ ps b. s.none e ps (to-first ps b))
+  pub searched-none : Searched schema words j x 0 values None → first_choice schema (join_of j) D ≡ none
+  searched-none s =
+      unbroken-none schema (join_of j) g.fits D (rows-spelled schema words g.spelled).1 (λ ps b. s ps (to-first ps b))
 
-  pub searched-some : (found : Found) → Searched schema words j x 0 values found → (e : found.some ≡ true) → (f : FirstFrom schema words j x 0 values found.at)
-      → first_choice schema (join_of j) D ≡ some f.positions
-  searched-some found s e f =
+  pub searched-some : (at : List ℕ) (f : FirstFrom schema words j x 0 values at) → first_choice schema (join_of j) D ≡ some f.positions
+  searched-some at f =
       first-found schema (join_of j) g.fits D (rows-spelled schema words g.spelled).1 f.positions
       (record { breaks = from_first f.positions f.breaks; before = λ qs less b. f.before qs less (to-first qs b) })
 
@@ -74,27 +71,24 @@ module _ {schema words : List ℕ} {j : stored.JoinDependency} {x : Index} {head
 
 -- ---- join dependencies in held order
 
-pub unmet-found : (schema : List ℕ) (D : Database) (j : JoinDependency) (js : List JoinDependency) (k a b c d : ℕ)
-    → chosen-rows.At a b c d ≡ rows_chosen (first_choice schema j D) → unmet_of (first_unmet_from k schema (j ∷ js) D) ≡ violation.Joined k a b c d
+pub unmet-found : (schema : List ℕ) (D : Database) (j : JoinDependency) (js : List JoinDependency) (k : ℕ) (rows : List ℕ)
+    → Some rows ≡ rows_chosen (first_choice schema j D) → unmet_of (first_unmet_from k schema (j ∷ js) D) ≡ Some (Join k rows)
 unfolding first_unmet_from first_found numbered_from or_else
-unmet-found schema D j js k a b c d h = go (first_choice schema j D) h
+unmet-found schema D j js k rows h = go (first_choice schema j D) h
   where
-    go : (o : Option (List ℕ)) → chosen-rows.At a b c d ≡ rows_chosen o
-        → unmet_of (or_else (map (λ x. ((k, j), x)) o) (first_unmet_from (suc k) schema js D)) ≡ violation.Joined k a b c d
+    go : (o : Option (List ℕ)) → Some rows ≡ rows_chosen o
+        → unmet_of (or_else (map (λ x. ((k, j), x)) o) (first_unmet_from (suc k) schema js D)) ≡ Some (Join k rows)
     go none e = absurd (let z : ◌≡◌ {A = ℕ} 0 1 = cc in omega arith)
     go (some ps) e =
-        let p : get_or ps 0 0 ≡ a = cc in
-        let q : get_or ps 1 0 ≡ b = cc in
-        let r : get_or ps 2 0 ≡ c = cc in
-        let s : get_or ps 3 0 ≡ d = cc in
-        λ i. violation.Joined k (p i) (q i) (r i) (s i)
+        let is : rows ≡ get_or ps 0 0 ∷ get_or ps 1 0 ∷ get_or ps 2 0 ∷ get_or ps 3 0 ∷ [] = cc in
+        ap (λ (l : List ℕ). Some (Join k l)) (sym is)
 
 pub unmet-later : (schema : List ℕ) (D : Database) (j : JoinDependency) (js : List JoinDependency) (k : ℕ)
-    → chosen-rows.Absent ≡ rows_chosen (first_choice schema j D) → first_unmet_from k schema (j ∷ js) D ≡ first_unmet_from (k + 1) schema js D
+    → None ≡ rows_chosen (first_choice schema j D) → first_unmet_from k schema (j ∷ js) D ≡ first_unmet_from (k + 1) schema js D
 unfolding first_unmet_from first_found numbered_from or_else
 unmet-later schema D j js k h = go (first_choice schema j D) h ∙ ap (λ (m : ℕ). first_unmet_from m schema js D) (sym (add-one k))
   where
-    go : (o : Option (List ℕ)) → chosen-rows.Absent ≡ rows_chosen o
+    go : (o : Option (List ℕ)) → None ≡ rows_chosen o
         → or_else (map (λ x. ((k, j), x)) o) (first_unmet_from (suc k) schema js D) ≡ first_unmet_from (suc k) schema js D
     go none e = refl
     go (some x) e = absurd (let z : ◌≡◌ {A = ℕ} 0 1 = cc in omega arith)

@@ -20,7 +20,8 @@ use Rattle.words.specs.Testing.{numbered_from, first_broken_from}
 use Rattle.words.specs.Broken.{violation_of}
 use Rattle.words.proofs.Broken.{broken-means, obeys-means}
 use Rattle.words.specs.declared.Violation.{Violation}
-use Rattle.words.specs.declared.Violation.TheVariants as violation
+use Rattle.std.specs.Prelude.{Option as Maybe, None, Some}
+use Rattle.words.specs.declared.Violation.TheVariants.{Functional, Join}
 use Rattle.join_testing.specs.Unmet.{first_choice, first_unmet_from, joined_at, unmet_of, or_joined, violation_in}
 use Rattle.join_testing.specs.Meaning.{nth_join, FirstUnmet, FewSets, ObeysMeans, BrokenFirst, JoinedMeans}
 use Rattle.join_testing.proofs.Choosing.{found_first, none-breaks, one-first, unbroken-none, obeys-unbroken, unbroken-obeys}
@@ -135,26 +136,25 @@ none-obeys schema D sound k (i ∷ js) fits e j at =
 -- ---- 3. the answer
 
 -- What is found first decides
-either-absent : (v w : Violation) → or_joined v w ≡ violation.Absent → (v ≡ violation.Absent) × (w ≡ violation.Absent)
-either-absent violation.Absent w e = (refl, e)
-either-absent (violation.At k i j) w e = absurd (let z : ◌≡◌ {A = ℕ} 0 1 = cc in omega arith)
-either-absent (violation.Joined k a b c d) w e = absurd (let z : ◌≡◌ {A = ℕ} 0 1 = cc in omega arith)
+either-absent : (v w : Maybe Violation) → or_joined v w ≡ None → (v ≡ None) × (w ≡ None)
+either-absent None w e = (refl, e)
+either-absent (Some v) w e = absurd (let z : ◌≡◌ {A = ℕ} 0 1 = cc in omega arith)
 
-unmet-absent : (o : Option ((ℕ × JoinDependency) × List ℕ)) → unmet_of o ≡ violation.Absent → o ≡ none
+unmet-absent : (o : Option ((ℕ × JoinDependency) × List ℕ)) → unmet_of o ≡ None → o ≡ none
 unmet-absent none e = refl
 unmet-absent (some found) e = absurd (let z : ◌≡◌ {A = ℕ} 0 1 = cc in omega arith)
 
 -- A functional dependency is named only by the first, and a join dependency only by the second
-first-names : (v : Violation) (o : Option ((ℕ × JoinDependency) × List ℕ)) (k i j : ℕ) → or_joined v (unmet_of o) ≡ violation.At k i j → v ≡ violation.At k i j
-first-names violation.Absent none k i j e = absurd (let z : ◌≡◌ {A = ℕ} 0 1 = cc in omega arith)
-first-names violation.Absent (some found) k i j e = absurd (let z : ◌≡◌ {A = ℕ} 0 1 = cc in omega arith)
-first-names (violation.At l a b) o k i j e = e
-first-names (violation.Joined l a b c d) o k i j e = absurd (let z : ◌≡◌ {A = ℕ} 0 1 = cc in omega arith)
+first-names : (v : Maybe Violation) (o : Option ((ℕ × JoinDependency) × List ℕ)) (k i j : ℕ) → or_joined v (unmet_of o) ≡ Some (Functional k i j)
+    → v ≡ Some (Functional k i j)
+first-names None none k i j e = absurd (let z : ◌≡◌ {A = ℕ} 0 1 = cc in omega arith)
+first-names None (some found) k i j e = absurd (let z : ◌≡◌ {A = ℕ} 0 1 = cc in omega arith)
+first-names (Some v) o k i j e = e
 
-second-names : (o : Option ((ℕ × Dependency) × ((ℕ × Row ℕ) × (ℕ × Row ℕ)))) (w : Violation) (k a b c d : ℕ)
-    → or_joined (violation_of o) w ≡ violation.Joined k a b c d → (violation_of o ≡ violation.Absent) × (w ≡ violation.Joined k a b c d)
-second-names none w k a b c d e = (refl, e)
-second-names (some found) w k a b c d e = absurd (let z : ◌≡◌ {A = ℕ} 0 1 = cc in omega arith)
+second-names : (o : Option ((ℕ × Dependency) × ((ℕ × Row ℕ) × (ℕ × Row ℕ)))) (w : Maybe Violation) (k : ℕ) (rows : List ℕ)
+    → or_joined (violation_of o) w ≡ Some (Join k rows) → (violation_of o ≡ None) × (w ≡ Some (Join k rows))
+second-names none w k rows e = (refl, e)
+second-names (some found) w k rows e = absurd (let z : ◌≡◌ {A = ℕ} 0 1 = cc in omega arith)
 
 -- As many positions as sets
 inside-length : (sets : List (List ℕ)) (n : ℕ) (ps : List ℕ) → Inside sets n ps → length ps ≡ length sets
@@ -190,7 +190,7 @@ obeys-both-means schema ds js D fits sound = (
         joins = none-obeys schema D sound 0 js fits (unmet-absent (first_unmet_from 0 schema js D) both.1);
       },
   λ obeys.
-      ap (λ (v : Violation). or_joined v (unmet_of (first_unmet_from 0 schema js D))) ((obeys-means ds D).1 obeys.functional)
+      ap (λ (v : Maybe Violation). or_joined v (unmet_of (first_unmet_from 0 schema js D))) ((obeys-means ds D).1 obeys.functional)
       ∙ ap unmet_of (obeys-none schema D sound js fits obeys.joins),
 )
 
@@ -198,35 +198,32 @@ pub broken-first : BrokenFirst
 unfolding violation_in
 broken-first schema ds js D k i j = (
   λ e. (broken-means ds D k i j).0 (first-names (violation_of (first_broken_from 0 ds D)) (first_unmet_from 0 schema js D) k i j e),
-  λ f. ap (λ (v : Violation). or_joined v (unmet_of (first_unmet_from 0 schema js D))) ((broken-means ds D k i j).1 f),
+  λ f. ap (λ (v : Maybe Violation). or_joined v (unmet_of (first_unmet_from 0 schema js D))) ((broken-means ds D k i j).1 f),
 )
 
 pub joined-means : JoinedMeans
 unfolding violation_in
 joined-means schema ds js D k a b c d fits small sound = (
   λ e.
-      let both = second-names (first_broken_from 0 ds D) (unmet_of (first_unmet_from 0 schema js D)) k a b c d e in
+      let both = second-names (first_broken_from 0 ds D) (unmet_of (first_unmet_from 0 schema js D)) k (a ∷ b ∷ c ∷ d ∷ []) e in
       let n = named both.1 in ((obeys-means ds D).0 both.0, n.0, n.1, n.2),
   λ given.
       let f = given.3 in
       let is : get_or given.1 0 0 ∷ get_or given.1 1 0 ∷ get_or given.1 2 0 ∷ get_or given.1 3 0 ∷ [] ≡ a ∷ b ∷ c ∷ d ∷ [] =
       sym (four given.1 (few schema js D small k given.1 f)) ∙ given.2 in
-      ap (λ (v : Violation). or_joined v (unmet_of (first_unmet_from 0 schema js D))) ((obeys-means ds D).1 given.0)
+      ap (λ (v : Maybe Violation). or_joined v (unmet_of (first_unmet_from 0 schema js D))) ((obeys-means ds D).1 given.0)
       ∙ unmet-answer schema D sound js fits k given.1 f
-      ∙ ap (λ (l : List ℕ). violation.Joined k (get_or l 0 0) (get_or l 1 0) (get_or l 2 0) (get_or l 3 0)) is,
+      ∙ ap (λ (l : List ℕ). Some (Join k l)) is,
 )
   where
-    named : unmet_of (first_unmet_from 0 schema js D) ≡ violation.Joined k a b c d
+    named : unmet_of (first_unmet_from 0 schema js D) ≡ Some (Join k (a ∷ b ∷ c ∷ d ∷ []))
         → (ps : List ℕ) × (pad 4 0 ps ≡ a ∷ b ∷ c ∷ d ∷ []) × FirstUnmet schema js D k ps
     named e =
         option_cases (first_unmet_from 0 schema js D)
         (λ found is.
-        let v : joined_at found.0.0 found.1 ≡ violation.Joined k a b c d = ap unmet_of (sym is) ∙ e in
+        let v : joined_at found.0.0 found.1 ≡ Some (Join k (a ∷ b ∷ c ∷ d ∷ [])) = ap unmet_of (sym is) ∙ e in
         let l : found.0.0 ≡ k = cc in
-        let p : get_or found.1 0 0 ≡ a = cc in
-        let q : get_or found.1 1 0 ≡ b = cc in
-        let r : get_or found.1 2 0 ≡ c = cc in
-        let s : get_or found.1 3 0 ≡ d = cc in
+        let rows : get_or found.1 0 0 ∷ get_or found.1 1 0 ∷ get_or found.1 2 0 ∷ get_or found.1 3 0 ∷ [] ≡ a ∷ b ∷ c ∷ d ∷ [] = cc in
         let f = subst (λ (x : ℕ). FirstUnmet schema js D x found.1) l (found-unmet schema D sound js fits found is) in
-        (found.1, four found.1 (few schema js D small k found.1 f) ∙ (λ i. p i ∷ q i ∷ r i ∷ s i ∷ []), f))
-        (λ is. absurd (let v : violation.Absent ≡ violation.Joined k a b c d = ap unmet_of (sym is) ∙ e in let z : ◌≡◌ {A = ℕ} 0 1 = cc in omega arith))
+        (found.1, four found.1 (few schema js D small k found.1 f) ∙ rows, f))
+        (λ is. absurd (let v : None ≡ Some (Join k (a ∷ b ∷ c ∷ d ∷ [])) = ap unmet_of (sym is) ∙ e in let z : ◌≡◌ {A = ℕ} 0 1 = cc in omega arith))

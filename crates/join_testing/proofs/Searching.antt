@@ -2,7 +2,7 @@
 -- passed. Assumes nothing.
 use mathlib.Core.Path.{◌≡◌, refl, sym, ◌∙◌, ap, subst}
 use mathlib.Core.Logic.{inl, inr, ⊎_elim}
-use mathlib.Core.Bool.{true, false, true≢false}
+use mathlib.Core.Bool.{Bool, true, false}
 use mathlib.Core.List.Memᴰ
 use mathlib.Core.List.{List, [], ◌∷◌}
 use Prim.Native.Nat.{ℕ, zero, suc, ◌+◌, ◌≤◌, ◌<◌}
@@ -22,7 +22,8 @@ use Rattle.query.specs.View.{columns_of}
 use Rattle.query.specs.declared.JoinDependency.{JoinDependency}
 use Rattle.words.specs.Words.{database_of}
 use Rattle.join_lookup.specs.declared.Index.{Index}
-use Rattle.join_testing.specs.declared.Found.{Found}
+use Rattle.std.specs.Prelude.{None, Some}
+use Rattle.std.specs.Bool.{then_some}
 use Rattle.join_testing.specs.Meaning.{GoWith, Earlier}
 use Rattle.join_lookup.specs.internal.Starts.{start_of, row_count, BeginsAt, row_of, row_with, Of, Has}
 use Rattle.join_lookup.specs.internal.Tables.{Reaches, FirstWith}
@@ -109,9 +110,6 @@ module _ {schema words : List ℕ} {j : JoinDependency} {x : Index} {heads nodes
         λ t. record { relation = f t; values = e t }
 
     module _ (k : ℕ) (last : k ≡ j.count) (end : ℕ) (f : FirstWith schema words x (filled_to j.sets k) values end) where
-      abbrev nothing : Found
-      nothing = record { some = true; at = replicate 4 0 }
-
       leaf-absent : end ≡ length words → row_with x values ∈ D → ⊥
       leaf-absent e at =
           let z : Row ℕ = record { relation = 0; values = [] } in
@@ -351,26 +349,21 @@ module _ {schema words : List ℕ} {j : JoinDependency} {x : Index} {heads nodes
 
     module _ (at : ℕ) (w : Going at) where
       -- What the search from the next set on finds decides
-      pub going-nothing : (row : List ℕ) (found : Found) → Joins schema words x mask w.1.row values row → Searched schema words j x (k + 1) row found
-          → found.some ≡ false → NoneBelow (suc w.1.row)
-      going-nothing row found joins s e =
+      pub going-nothing : (row : List ℕ) → Joins schema words x mask w.1.row values row → Searched schema words j x (k + 1) row None → NoneBelow (suc w.1.row)
+      going-nothing row joins s =
           going-none at w row joins
-          (λ qs b. s.none e qs (subst (λ (n : ℕ). BreaksFrom schema words j x n row qs) (sym (add-one k)) b))
+          (λ qs b. s qs (subst (λ (n : ℕ). BreaksFrom schema words j x n row qs) (sym (add-one k)) b))
 
-      pub going-some : (row : List ℕ) (found : Found) → Joins schema words x mask w.1.row values row → w.1.row < row_count schema words
-          → Has schema words x shared values w.1.row → Searched schema words j x (k + 1) row found → found.some ≡ true
-          → Searched schema words j x k values (record { some = true; at = set found.at k at })
-      going-some row found joins inside has s e =
-          record {
-            size = length-set found.at k at ∙ s.size;
-            some =
-                λ t. going-found at w row found.at joins inside has s.size
-                (subst (λ (n : ℕ). FirstFrom schema words j x n row found.at) (add-one k) (s.some e));
-            none = λ f. absurd (true≢false f);
-          }
+      pub going-some : (row places : List ℕ) → Joins schema words x mask w.1.row values row → w.1.row < row_count schema words
+          → Has schema words x shared values w.1.row → Searched schema words j x (k + 1) row (Some places)
+          → Searched schema words j x k values (Some (set places k at))
+      going-some row places joins inside has s = (
+        length-set places k at ∙ s.0,
+        going-found at w row places joins inside has s.0 (subst (λ (n : ℕ). FirstFrom schema words j x n row places) (add-one k) s.1),
+      )
 
-      pub going-over : length words ≤ at → Searched schema words j x k values (record { some = false; at = replicate 4 0 })
-      going-over past = record { size = refl; some = λ t. absurd (true≢false (sym t)); none = λ f. going_end at w past }
+      pub going-over : length words ≤ at → Searched schema words j x k values None
+      going-over past = going_end at w past
 
       -- The way goes on
       pub going_next : NoneBelow (suc w.1.row) → (r : ℕ) → Reaches schema words x (k + 1) shared mask values (suc w.1.row) r → Going r
@@ -378,13 +371,12 @@ module _ {schema words : List ℕ} {j : JoinDependency} {x : Index} {heads nodes
 
   -- After the last set it is decided whether the row is there
   pub last_set : (values : List ℕ) → length values ≡ 8 → (k : ℕ) → k ≡ j.count → (end : ℕ) → FirstWith schema words x (filled_to j.sets k) values end
-      → Searched schema words j x k values (record { some = eqb end (length words); at = replicate 4 0 })
-  last_set values wide k last end f =
-      record {
-        size = refl;
-        some = λ t. leaf-some values wide k last end f (eqb-true end (length words) t);
-        none = λ t. leaf-none values wide k last end f (eqb-false end (length words) t);
-      }
+      → Searched schema words j x k values (then_some (eqb end (length words)) (replicate 4 0))
+  last_set values wide k last end f = go (eqb end (length words)) refl
+    where
+      go : (b : Bool) → eqb end (length words) ≡ b → Searched schema words j x k values (then_some b (replicate 4 0))
+      go true t = (refl, leaf-some values wide k last end f (eqb-true end (length words) t))
+      go false t = leaf-none values wide k last end f (eqb-false end (length words) t)
 
 -- A row that has values begins with the relation
 pub has_word : {schema words : List ℕ} {j : JoinDependency} (x : Index) → Searchable schema words j → (columns : ℕ) (values : List ℕ) (at p : ℕ)

@@ -1,11 +1,11 @@
 -- What the answer of a test means where join dependencies are held: which is broken first, and by which rows first. `proofs/Means` has the proofs.
-use Rattle.std.specs.Prelude.{◌≡◌, ◌⊎◌, ◌↔◌, List, [], ◌∷◌, ℕ, ◌≤◌, ◌<◌, length, get_or}
+use Rattle.std.specs.Prelude.{◌≡◌, ◌⊎◌, ◌↔◌, List, [], ◌∷◌, ℕ, ◌≤◌, ◌<◌, length, get_or, None, Some}
 use Rattle.lists.specs.Over.{pad}
 use Rattle.theory.specs.Query.{Row, FitsSchema, ◌∈◌}
 use Rattle.theory.specs.Database.{Database, Dependency, JoinDependency, Agree, Obeys, Sound}
 use Rattle.joins.specs.Join.{JoinsFit, ObeysBoth}
 use Rattle.words.specs.Broken.{nth_row, FirstBroken}
-use Rattle.words.specs.declared.Violation.TheVariants as violation
+use Rattle.words.specs.declared.Violation.TheVariants.{Functional, Join}
 use Rattle.join_testing.specs.Unmet.{violation_in}
 
 -- The rows at some positions, one for each set, are of the relation of a row, and each agrees with it on its set
@@ -53,17 +53,17 @@ FewSets js = (j : JoinDependency) → j ∈ js → length j.sets ≤ 4
 abbrev pub ObeysMeans : Type 0
 ObeysMeans =
     (schema : List ℕ) (ds : List Dependency) (js : List JoinDependency) (D : Database) → JoinsFit schema js → Sound schema D
-    → (violation_in schema ds js D ≡ violation.Absent) ↔ ObeysBoth schema ds js D
+    → (violation_in schema ds js D ≡ None) ↔ ObeysBoth schema ds js D
 
 -- It answers functional dependency k and rows i and j exactly when they are the first, whatever join dependencies are held
 abbrev pub BrokenFirst : Type 0
 BrokenFirst =
     (schema : List ℕ) (ds : List Dependency) (js : List JoinDependency) (D : Database) (k i j : ℕ)
-    → (violation_in schema ds js D ≡ violation.At k i j) ↔ FirstBroken ds D k i j
+    → (violation_in schema ds js D ≡ Some (Functional k i j)) ↔ FirstBroken ds D k i j
 
 -- It answers join dependency k and some rows exactly when the functional dependencies are obeyed and they are the first, with 0 where there is no set
 abbrev pub JoinedMeans : Type 0
 JoinedMeans =
     (schema : List ℕ) (ds : List Dependency) (js : List JoinDependency) (D : Database) (k a b c d : ℕ) → JoinsFit schema js → FewSets js → Sound schema D
-    → (violation_in schema ds js D ≡ violation.Joined k a b c d)
+    → (violation_in schema ds js D ≡ Some (Join k (a ∷ b ∷ c ∷ d ∷ [])))
     ↔ (Obeys ds D × (ps : List ℕ) × (pad 4 0 ps ≡ a ∷ b ∷ c ∷ d ∷ []) × FirstUnmet schema js D k ps)

@@ -1,6 +1,7 @@
 -- Testing a database against join dependencies: the first in held order that it does not obey, with its first choice of rows. The choices are the chase's
 -- own, by the positions of the rows.
 use Rattle.std.specs.Prelude.{Bool, true, List, [], ◌∷◌, map, ℕ, length, get_or}
+use Rattle.std.specs.Prelude.{Option as Maybe, None, Some}
 use Rattle.std.proofs.Math.Option.{Option, none, some}
 use Rattle.lists.specs.Numbers.{numbers_where}
 use Rattle.theory.specs.Query.{constant, map_row}
@@ -10,7 +11,7 @@ use Rattle.joins.specs.JoinChase.{picks, Choice, missing}
 use Rattle.words.specs.Testing.{numbered_from, first_broken_from}
 use Rattle.words.specs.Broken.{nth_row, violation_of}
 use Rattle.words.specs.declared.Violation.{Violation}
-use Rattle.words.specs.declared.Violation.TheVariants as violation
+use Rattle.words.specs.declared.Violation.TheVariants.{Join}
 
 -- The rows at some positions, one for each set of columns, as rows of constants
 unfoldable pub chosen_at : List (List ℕ) → Database → List ℕ → Choice
@@ -35,20 +36,19 @@ unfoldable pub first_unmet_from : ℕ → List ℕ → List JoinDependency → D
 first_unmet_from k schema js D = first_found (λ j. first_choice schema j.1 D) (numbered_from k js)
 
 -- Position k of a join dependency and the positions of the rows chosen for its sets, 0 where there is no set
-abbrev pub joined_at : ℕ → List ℕ → Violation
-joined_at k ps = violation.Joined k (get_or ps 0 0) (get_or ps 1 0) (get_or ps 2 0) (get_or ps 3 0)
+abbrev pub joined_at : ℕ → List ℕ → Maybe Violation
+joined_at k ps = Some (Join k (get_or ps 0 0 ∷ get_or ps 1 0 ∷ get_or ps 2 0 ∷ get_or ps 3 0 ∷ []))
 
 -- The positions of a join dependency and of its choice of rows that are found
-abbrev pub unmet_of : Option ((ℕ × JoinDependency) × List ℕ) → Violation
-unmet_of none = violation.Absent
+abbrev pub unmet_of : Option ((ℕ × JoinDependency) × List ℕ) → Maybe Violation
+unmet_of none = None
 unmet_of (some found) = joined_at found.0.0 found.1
 
 -- What is found first, or, where nothing is, what is found second
-abbrev pub or_joined : Violation → Violation → Violation
-or_joined violation.Absent second = second
-or_joined (violation.At k i j) second = violation.At k i j
-or_joined (violation.Joined k a b c d) second = violation.Joined k a b c d
+abbrev pub or_joined : Maybe Violation → Maybe Violation → Maybe Violation
+or_joined None second = second
+or_joined (Some first) second = Some first
 
 -- What a test finds: the first functional dependency that is broken, or, where none is, the first join dependency
-unfoldable pub violation_in : List ℕ → List Dependency → List JoinDependency → Database → Violation
+unfoldable pub violation_in : List ℕ → List Dependency → List JoinDependency → Database → Maybe Violation
 violation_in schema ds js D = or_joined (violation_of (first_broken_from 0 ds D)) (unmet_of (first_unmet_from 0 schema js D))

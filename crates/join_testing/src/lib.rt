@@ -16,14 +16,8 @@ use join_lookup::Index;
 use query::JoinDependency;
 use words::Violation;
 
-// Whether a choice of rows is found, and the words at which its rows begin.
-#[derive(Clone, Copy)]
-struct Found {
-    some: bool,
-    at: [usize; 4],
-}
-
-// The first choice of rows for the sets from set k on that goes with the values in the columns of the sets before, and yields a row that is not there.
+// The first choice of rows for the sets from set k on that goes with the values in the columns of the sets before, and yields a row that is not there: the
+// words at which its rows begin.
 fn search(
     words: &[u32],
     schema: &[u8],
@@ -34,17 +28,14 @@ fn search(
     values: [u32; 8],
     heads: &[u32],
     nodes: &[u32],
-) -> Found
+) -> Option<[usize; 4]>
     requires searchable { Searchable schema.now words.now j × Indexed schema.now words.now j x heads.now nodes.now }
     requires k_le_count { (k ≤ j.count) × (filled ≡ filled_to j.sets k) }
     ensures { Searched schema.now words.now j x k values result }
 {
     if k == j.count as usize {
         let end = join_lookup::find(words, schema, x, filled, values, heads, nodes);
-        return Found {
-            some: end == words.len(),
-            at: [0; 4],
-        };
+        return (end == words.len()).then_some([0; 4]);
     }
     let set = j.sets[k];
     let shared = set & filled;
@@ -53,21 +44,14 @@ fn search(
         if join_lookup::has(words, schema, x, at, shared, values) {
             let row = join_lookup::with_row(words, x, at, set, values);
             let found = search(words, schema, j, x, k + 1, filled | set, row, heads, nodes);
-            if found.some {
-                let mut list = found.at;
-                list[k] = at;
-                return Found {
-                    some: true,
-                    at: list,
-                };
+            if let Some(mut places) = found {
+                places[k] = at;
+                return Some(places);
             }
         }
         at = join_lookup::following(words, schema, x, k + 1, at, nodes);
     }
-    Found {
-        some: false,
-        at: [0; 4],
-    }
+    None
 }
 
 // The first choice of rows for the sets from set k on, found set by set: whether rows for the sets after k can be chosen does not depend on the order in
@@ -82,7 +66,7 @@ fn choose(
     values: [u32; 8],
     heads: &mut [u32],
     nodes: &mut [u32],
-) -> Found
+) -> Option<[usize; 4]>
     requires { Searchable schema.now words.now j × (k < j.count) × (filled ≡ filled_to j.sets k) }
     ensures { Searched schema.now words.now j (plainly schema.now j) k values result }
 {
@@ -93,50 +77,31 @@ fn choose(
     }
     let arranged = join_order::arrange(j, k + 1, filled | set);
     let x = join_tables::build(words, schema, arranged, heads, nodes);
-    let found = search(words, schema, arranged, x, k, filled, values, heads, nodes);
-    if !found.some {
-        return found;
-    }
-    let at = found.at;
-    let here = at[k];
+    let found = search(words, schema, arranged, x, k, filled, values, heads, nodes)?;
+    let here = found[k];
     let row = join_lookup::with_row(words, x, here, set, values);
-    let rest = choose(words, schema, j, k + 1, filled | set, row, heads, nodes);
-    let mut list = rest.at;
-    list[k] = here;
-    Found {
-        some: true,
-        at: list,
-    }
+    let mut places = choose(words, schema, j, k + 1, filled | set, row, heads, nodes)?;
+    places[k] = here;
+    Some(places)
 }
 
-// The positions of the rows that are chosen for the sets of a join dependency, 0 where there is no set.
-#[derive(Clone, Copy)]
-pub enum ChosenRows {
-    At(usize, usize, usize, usize),
-    Absent,
-}
-
-// The first choice of rows for a join dependency that yields a row that is not there.
+// The first choice of rows for a join dependency that yields a row that is not there: their positions, 0 where there is no set.
 fn first_choice(
     words: &[u32],
     schema: &[u8],
     j: JoinDependency,
     heads: &mut [u32],
     nodes: &mut [u32],
-) -> ChosenRows
+) -> Option<[usize; 4]>
     requires { Searchable schema.now words.now j }
     ensures { result ≡ rows_chosen (first_choice schema.now (join_of j) (database_of schema.now words.now)) }
 {
-    let found = choose(words, schema, j, 0, 0, [0; 8], heads, nodes);
-    if !found.some {
-        return ChosenRows::Absent;
-    }
-    let at = found.at;
+    let at = choose(words, schema, j, 0, 0, [0; 8], heads, nodes)?;
     let a = join_lookup::position_of(words, schema, at[0]);
     let b = join_lookup::position_of(words, schema, at[1]);
     let c = join_lookup::position_of(words, schema, at[2]);
     let d = join_lookup::position_of(words, schema, at[3]);
-    ChosenRows::At(a, b, c, d)
+    Some([a, b, c, d])
 }
 
 // The first of the held join dependencies that the rows do not obey, with its first choice of rows.
@@ -147,18 +112,18 @@ pub fn first_unmet(
     joined: usize,
     heads: &mut [u32],
     nodes: &mut [u32],
-) -> Violation
+) -> Option<Violation>
     requires { (joined ≤ 4) × ((k : ℕ) → k < joined → Searchable schema.now words.now (get_or joins k no_join)) }
     ensures { result ≡ unmet_of (first_unmet_from 0 schema.now (held_joins joins joined) (database_of schema.now words.now)) }
 {
-    let mut k: usize = 0;
-    while k < joined {
-        let j = joins[k];
-        let found = first_choice(words, schema, j, heads, nodes);
-        if let ChosenRows::At(a, b, c, d) = found {
-            return Violation::Joined(k, a, b, c, d);
+    for k in 0..joined {
+        let found = first_choice(words, schema, joins[k], heads, nodes);
+        if let Some(rows) = found {
+            return Some(Violation::Join {
+                dependency: k,
+                rows,
+            });
         }
-        k += 1;
     }
-    Violation::Absent
+    None
 }

@@ -2,11 +2,11 @@
 use mathlib.Core.Path.{◌≡◌, refl, sym, ap, subst, ◌∙◌}
 use mathlib.Core.Bool.{Bool, true, false}
 use mathlib.Core.Option.{none}
-use Prim.Native.Nat.{ℕ, ◌+◌, ◌<◌}
-use native.Mathlib.Omega.{arith}
+use mathlib.Core.List.{List}
+use Prim.Native.Nat.{ℕ, zero, suc, ◌+◌, ◌<◌}
 use lib.Bits.{bit_and}
 use lib.Dec.{eqb}
-use lib.ListN.{length, get_or, set}
+use lib.ListN.{length, get_or, set, replicate}
 use lib.Seq.{drop-length, get_or-set_same, get_or-set_other}
 use borrow.Author.Tests.{eqb-true, eqb-false, eq-eqb}
 use Rattle.theory.specs.Database.{Database, Dependency}
@@ -14,13 +14,12 @@ use Rattle.theory.specs.Chase.{first_pair}
 use Rattle.theory.proofs.Lists.{subset-true}
 use Rattle.closure.proofs.Masks.{same-columns, subset-mask}
 use Rattle.query.specs.View.{dependency_of, columns_of}
-use Rattle.query.specs.Rule.{no_dependency}
 use Rattle.query.specs.declared.Dependency as stored
 use Rattle.words.specs.Testing.{numbered_from, first_pair_from}
 use Rattle.grouping.specs.internal.Groups.{Key}
 use Rattle.grouping.proofs.Leading.{pairs-skip}
-use Rattle.testing.specs.declared.Keys.{Keys}
-use Rattle.testing.specs.internal.Keyed.{Keyed}
+use Rattle.std.specs.Prelude.{Option, None, Some}
+use Rattle.testing.specs.internal.Keyed.{KeyIn, Keyed}
 
 -- no two rows agree on the left columns: none break the dependency
 pub key-none : (d : Dependency) (n : ℕ) (D : Database) → Key d D → first_pair_from d n D ≡ none
@@ -38,20 +37,20 @@ key-contained e d D small-e small-d relation inside key =
     ∙ eq-eqb (bit_and e.left d.left) e.left inside) in
     λ i j before below p q a. key i j before below (p ∙ sym relation) (q ∙ sym relation) (λ c m. a c (part c m))
 
+-- no key is noted
+pub keyed-none : (D : Database) (n : ℕ) → Keyed D (replicate n None)
+keyed-none D zero k = tt
+keyed-none D (suc n) zero = tt
+keyed-none D (suc n) (suc k) = keyed-none D n k
+
 -- one more key is noted
-pub keyed-more : (D : Database) (keys : Keys) (d : stored.Dependency) → keys.count < 32 → length keys.list ≡ 32 → Keyed D keys → Key (dependency_of d) D
-    → Keyed D (record { list = set keys.list keys.count d; count = keys.count + 1 })
-keyed-more D keys d room size h key = record { few = omega arith; hold = λ k low. go k low (eqb k keys.count) refl }
+pub keyed-more : (D : Database) (keys : List (Option stored.Dependency)) (i : ℕ) (d : stored.Dependency) → i < length keys → Keyed D keys
+    → Key (dependency_of d) D → Keyed D (set keys i (Some d))
+keyed-more D keys i d room h key k = go (eqb k i) refl
   where
-    go : (k : ℕ) → k < keys.count + 1 → (b : Bool) → eqb k keys.count ≡ b
-        → Key (dependency_of (get_or (set keys.list keys.count d) k no_dependency)) D
-    go k low true e =
-        let here : k ≡ keys.count = eqb-true k keys.count e in
-        let it : get_or (set keys.list keys.count d) k no_dependency ≡ d =
-        ap (λ (i : ℕ). get_or (set keys.list keys.count d) i no_dependency) here
-        ∙ get_or-set_same keys.list keys.count d no_dependency (omega arith) in
-        subst (λ (x : stored.Dependency). Key (dependency_of x) D) (sym it) key
-    go k low false e =
-        let other : k ≡ keys.count → ⊥ = eqb-false k keys.count e in
-        subst (λ (x : stored.Dependency). Key (dependency_of x) D) (sym (get_or-set_other keys.list keys.count k d no_dependency other))
-        (h.hold k (omega arith))
+    go : (b : Bool) → eqb k i ≡ b → KeyIn D (get_or (set keys i (Some d)) k None)
+    go true e =
+        let it : get_or (set keys i (Some d)) k None ≡ Some d =
+        ap (λ (j : ℕ). get_or (set keys i (Some d)) j None) (eqb-true k i e) ∙ get_or-set_same keys i (Some d) None room in
+        subst (λ (x : Option stored.Dependency). KeyIn D x) (sym it) key
+    go false e = subst (λ (x : Option stored.Dependency). KeyIn D x) (sym (get_or-set_other keys i k (Some d) None (eqb-false k i e))) (h k)

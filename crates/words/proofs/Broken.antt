@@ -14,7 +14,8 @@ use Rattle.lists.proofs.Tests.{and_left, and_right, below-or-past}
 use Rattle.theory.specs.Query.{Row, constant, column, map_row, same_entry}
 use Rattle.theory.specs.Database.{Database, Dependency, Agree}
 use Rattle.theory.specs.Chase.{first_passing, first_pair, first_found, agree, breaks}
-use Rattle.words.specs.declared.Violation.TheVariants as violation
+use Rattle.std.specs.Prelude.{None, Some}
+use Rattle.words.specs.declared.Violation.TheVariants.{Functional}
 use Rattle.words.specs.Testing.{numbered_from, breaks_rows, breaks_with, first_pair_from, first_broken_from}
 use Rattle.words.specs.Broken.{violation_of}
 use Rattle.words.specs.Broken.{nth_row, nth_dependency, BrokenBy, FirstBroken, BrokenMeans, ObeysMeans}
@@ -267,10 +268,10 @@ no-dependency k (d ∷ ds) D e l m = go (first_pair_from d 0 D) refl l m (no-dep
     go none h (suc l) m later = later (sym (rw h) ∙ e) l (omega arith)
 
 -- The answer is the first
-answer-first : (ds : List Dependency) (D : Database) (k i j : ℕ) → violation_of (first_broken_from 0 ds D) ≡ violation.At k i j → FirstBroken ds D k i j
+answer-first : (ds : List Dependency) (D : Database) (k i j : ℕ) → violation_of (first_broken_from 0 ds D) ≡ Some (Functional k i j) → FirstBroken ds D k i j
 answer-first ds D k i j e = go (first_broken_from 0 ds D) refl e
   where
-    go : (o : Option ((ℕ × Dependency) × ((ℕ × Row ℕ) × (ℕ × Row ℕ)))) → first_broken_from 0 ds D ≡ o → violation_of o ≡ violation.At k i j
+    go : (o : Option ((ℕ × Dependency) × ((ℕ × Row ℕ) × (ℕ × Row ℕ)))) → first_broken_from 0 ds D ≡ o → violation_of o ≡ Some (Functional k i j)
         → FirstBroken ds D k i j
     go none h v = absurd (let z : ◌≡◌ {A = ℕ} 0 1 = cc in omega arith)
     go (some found) h v =
@@ -282,10 +283,10 @@ answer-first ds D k i j e = go (first_broken_from 0 ds D) refl e
         (subst (λ (x : ℕ). FirstBroken ds D found.0.0 found.1.0.0 x) r (found_first ds D found h)))
 
 -- And the first is the answer
-first-answer : (ds : List Dependency) (D : Database) (k i j : ℕ) → FirstBroken ds D k i j → violation_of (first_broken_from 0 ds D) ≡ violation.At k i j
+first-answer : (ds : List Dependency) (D : Database) (k i j : ℕ) → FirstBroken ds D k i j → violation_of (first_broken_from 0 ds D) ≡ Some (Functional k i j)
 first-answer ds D k i j f = go (first_broken_from 0 ds D) refl
   where
-    go : (o : Option ((ℕ × Dependency) × ((ℕ × Row ℕ) × (ℕ × Row ℕ)))) → first_broken_from 0 ds D ≡ o → violation_of o ≡ violation.At k i j
+    go : (o : Option ((ℕ × Dependency) × ((ℕ × Row ℕ) × (ℕ × Row ℕ)))) → first_broken_from 0 ds D ≡ o → violation_of o ≡ Some (Functional k i j)
     go none h =
         let b = f.broken in
         absurd (not-broken (no-pair (nth_dependency ds k) 0 D (no-dependency 0 ds D h k f.held) i j b.order b.inside) b)
@@ -293,7 +294,7 @@ first-answer ds D k i j f = go (first_broken_from 0 ds D) refl
         let g = found_first ds D found h in
         let p : found.0.0 ≡ k = one-dependency g f in
         let g' = subst (λ (x : ℕ). FirstBroken ds D x found.1.0.0 found.1.1.0) p g in
-        λ t. violation.At (p t) (one-first-row g' f t) (one-second-row g' f t)
+        λ t. Some (Functional (p t) (one-first-row g' f t) (one-second-row g' f t))
 
 pub broken-means : BrokenMeans
 broken-means ds D k i j = (answer-first ds D k i j, first-answer ds D k i j)
@@ -301,6 +302,6 @@ broken-means ds D k i j = (answer-first ds D k i j, first-answer ds D k i j)
 pub obeys-means : ObeysMeans
 obeys-means ds D = (λ e. none-obeys 0 ds D (absent (first_broken_from 0 ds D) e), λ h. ap violation_of (obeys-none 0 ds D h))
   where
-    absent : (o : Option ((ℕ × Dependency) × ((ℕ × Row ℕ) × (ℕ × Row ℕ)))) → violation_of o ≡ violation.Absent → o ≡ none
+    absent : (o : Option ((ℕ × Dependency) × ((ℕ × Row ℕ) × (ℕ × Row ℕ)))) → violation_of o ≡ None → o ≡ none
     absent none e = refl
     absent (some found) e = absurd (let z : ◌≡◌ {A = ℕ} 0 1 = cc in omega arith)

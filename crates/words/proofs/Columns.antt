@@ -1,12 +1,13 @@
 -- Two rows of words, column by column: the left set of a dependency is taken from its mask bit by bit. Assumes nothing.
-use mathlib.Core.Path.{◌≡◌, ap, ◌∙◌}
-use mathlib.Core.Bool.{Bool, true, false, not, ◌&&◌}
+use mathlib.Core.Path.{◌≡◌, refl, ap, sym, ◌∙◌}
+use mathlib.Core.Bool.{Bool, true, false, not, ◌&&◌, false≢true}
 use mathlib.Core.List.{List, ◌∷◌}
 use Prim.Native.Nat.{ℕ, zero, suc, ◌+◌, ◌-◌, ◌/◌, ◌%◌, ◌^◌, ◌≤◌, ◌<◌}
-use native.Mathlib.Nat.{div-lt_iff_lt-mul, pow-suc}
+use native.Mathlib.Nat.{div-lt_iff_lt-mul, div-div-eq-div-mul, pow-suc}
+use native.Mathlib.Numerals.{add-one}
 use native.Mathlib.Omega.{arith}
 use lib.Dec.{eqb}
-use borrow.Author.Tests.{eq-eqb, ne_eqb}
+use borrow.Author.Tests.{eqb-true, eq-eqb, ne_eqb}
 use lib.ListN.{take, drop, get_or, get_or-map}
 use lib.Seq.{get_or-take, get_or-drop}
 use Rattle.theory.specs.Query.{constant, column, map_row, same_entry}
@@ -37,6 +38,10 @@ columns-set start n mask h = rw (eq-eqb (mask % 2) 1 h)
 pub columns-clear : (start n mask : ℕ) → (mask % 2 ≡ 1 → ⊥) → columns_from start (suc n) mask ≡ columns_from (suc start) n (mask / 2)
 unfolding columns_from
 columns-clear start n mask h = rw (ne_eqb (mask % 2) 1 h)
+
+-- the mask without its first columns, one column on
+pub next-column : (mask c : ℕ) → mask / 2 ^ c / 2 ≡ mask / 2 ^ (c + 1)
+next-column mask c = div-div-eq-div-mul mask (2 ^ c) 2 ∙ ap (λ (k : ℕ). mask / k) (sym (pow-suc 2 c) ∙ ap (λ (n : ℕ). 2 ^ n) (sym (add-one c)))
 
 -- ---- the columns of a row
 
@@ -87,6 +92,15 @@ module _ (width : ℕ) (words : List ℕ) (a b : ℕ) where
   agree_differ c mask h bit differ =
       let e : width - c ≡ suc (width - (c + 1)) = omega arith in
       rw (e, columns-set c (width - (c + 1)) mask bit, same-column c h, ne_eqb (get_or words (a + 1 + c) 0) (get_or words (b + 1 + c) 0) differ)
+
+  -- past column c, where a column of the mask is the same in both rows
+  pub agree-next : (mask c : ℕ) → c < width → (eqb (mask / 2 ^ c % 2) 1 ≡ true → get_or words (a + 1 + c) 0 ≡ get_or words (b + 1 + c) 0)
+      → agree_from c (mask / 2 ^ c) ≡ agree_from (c + 1) (mask / 2 ^ (c + 1))
+  agree-next mask c h same = go (eqb (mask / 2 ^ c % 2) 1) refl ∙ ap (λ (m : ℕ). agree_from (c + 1) m) (next-column mask c)
+    where
+      go : (x : Bool) → eqb (mask / 2 ^ c % 2) 1 ≡ x → agree_from c (mask / 2 ^ c) ≡ agree_from (c + 1) (mask / 2 ^ c / 2)
+      go true e = agree_same c (mask / 2 ^ c) h (eqb-true (mask / 2 ^ c % 2) 1 e) (same e)
+      go false e = agree-skip c (mask / 2 ^ c) h (λ is. absurd (false≢true (sym e ∙ eq-eqb (mask / 2 ^ c % 2) 1 is)))
 
   pub agree-end : (c mask : ℕ) → width ≤ c → agree_from c mask ≡ true
   unfolding agree_from agree columns_from

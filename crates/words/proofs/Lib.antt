@@ -5,3 +5,4 @@ pub mod Search
 pub mod Obeys
 -- What the answer of a test means.
 pub mod Broken
+pub mod Walking

@@ -17,10 +17,9 @@ use Rattle.words.specs.internal.Rows.{row_at, Next, rows_at}
 use Rattle.words.specs.Testing.{numbered_from, breaks_rows, breaks_with, first_pair_from, first_broken_from}
 use Rattle.words.specs.Broken.{violation_of}
 use Rattle.words.specs.internal.Found.{partner_of, pair_of}
-use Rattle.words.specs.declared.Partner.TheVariants as partner
-use Rattle.words.specs.declared.RowPair.TheVariants as pair
+use Rattle.std.specs.Prelude.{Option as Maybe, None, Some}
 use Rattle.words.specs.declared.Violation.{Violation}
-use Rattle.words.specs.declared.Violation.TheVariants as violation
+use Rattle.words.specs.declared.Violation.TheVariants.{Functional}
 
 -- ---- two rows of which one is of another relation
 
@@ -77,24 +76,24 @@ module _ (schema words : List ℕ) where
   pairs-cons d at after n next = rw (rows-cons at after n next)
 
   pub pair_found : (d : Dependency) (at after n j : ℕ) → Next schema words at after
-      → partner.At j ≡ partner_of (first_passing (breaks_with d (row_at schema words at)) (rows_at schema words after (n + 1)))
-      → pair_of (first_pair_from d n (database_of schema (drop at words))) ≡ pair.At n j
+      → Some j ≡ partner_of (first_passing (breaks_with d (row_at schema words at)) (rows_at schema words after (n + 1)))
+      → pair_of (first_pair_from d n (database_of schema (drop at words))) ≡ Some (n, j)
   unfolding or_else
   pair_found d at after n j next h = ap pair_of (pairs-cons d at after n next) ∙ go
       (first_passing (breaks_with d (row_at schema words at)) (rows_at schema words after (n + 1))) h
     where
-      go : (o : Option (ℕ × Row ℕ)) → partner.At j ≡ partner_of o
-          → pair_of (or_else (map (λ y. ((n, row_at schema words at), y)) o) (first_pair_from d (n + 1) (database_of schema (drop after words)))) ≡ pair.At n j
+      go : (o : Option (ℕ × Row ℕ)) → Some j ≡ partner_of o
+          → pair_of (or_else (map (λ y. ((n, row_at schema words at), y)) o) (first_pair_from d (n + 1) (database_of schema (drop after words)))) ≡ Some (n, j)
       go none e = absurd (let z : ◌≡◌ {A = ℕ} 0 1 = cc in omega arith)
-      go (some x) e = let q : x.0 ≡ j = cc in ap (λ (m : ℕ). pair.At n m) q
+      go (some x) e = let q : x.0 ≡ j = cc in ap (λ (m : ℕ). Some (n, m)) q
 
   pub pair-later : (d : Dependency) (at after n : ℕ) → Next schema words at after
-      → partner.Absent ≡ partner_of (first_passing (breaks_with d (row_at schema words at)) (rows_at schema words after (n + 1)))
+      → None ≡ partner_of (first_passing (breaks_with d (row_at schema words at)) (rows_at schema words after (n + 1)))
       → first_pair_from d n (database_of schema (drop at words)) ≡ first_pair_from d (n + 1) (database_of schema (drop after words))
   unfolding or_else
   pair-later d at after n next h = pairs-cons d at after n next ∙ go (first_passing (breaks_with d (row_at schema words at)) (rows_at schema words after (n + 1))) h
     where
-      go : (o : Option (ℕ × Row ℕ)) → partner.Absent ≡ partner_of o
+      go : (o : Option (ℕ × Row ℕ)) → None ≡ partner_of o
           → or_else (map (λ y. ((n, row_at schema words at), y)) o) (first_pair_from d (n + 1) (database_of schema (drop after words)))
           ≡ first_pair_from d (n + 1) (database_of schema (drop after words))
       go none e = refl
@@ -114,22 +113,26 @@ module _ (schema words : List ℕ) where
 
 -- ---- dependencies
 
-pub violation-found : (rows : Database) (d : Dependency) (ds : List Dependency) (k i j : ℕ) → pair.At i j ≡ pair_of (first_pair_from d 0 rows)
-    → violation_of (first_broken_from k (d ∷ ds) rows) ≡ violation.At k i j
+pub violation-found : (rows : Database) (d : Dependency) (ds : List Dependency) (k i j : ℕ) → Some (i, j) ≡ pair_of (first_pair_from d 0 rows)
+    → violation_of (first_broken_from k (d ∷ ds) rows) ≡ Some (Functional k i j)
 unfolding first_broken_from first_found numbered_from or_else
 violation-found rows d ds k i j h = go (first_pair_from d 0 rows) h
   where
-    go : (o : Option ((ℕ × Row ℕ) × (ℕ × Row ℕ))) → pair.At i j ≡ pair_of o
-        → violation_of (or_else (map (λ x. ((k, d), x)) o) (first_broken_from (suc k) ds rows)) ≡ violation.At k i j
+    go : (o : Option ((ℕ × Row ℕ) × (ℕ × Row ℕ))) → Some (i, j) ≡ pair_of o
+        → violation_of (or_else (map (λ x. ((k, d), x)) o) (first_broken_from (suc k) ds rows)) ≡ Some (Functional k i j)
     go none e = absurd (let z : ◌≡◌ {A = ℕ} 0 1 = cc in omega arith)
-    go (some x) e = let p : x.0.0 ≡ i = cc in let q : x.1.0 ≡ j = cc in ap₂ {C = Violation} (λ (l m : ℕ). violation.At k l m) p q
+    go (some x) e =
+        let pair : (i, j) ≡ (x.0.0, x.1.0) = cc in
+        let p : x.0.0 ≡ i = sym (ap (λ (y : ℕ × ℕ). y.0) pair) in
+        let q : x.1.0 ≡ j = sym (ap (λ (y : ℕ × ℕ). y.1) pair) in
+        ap₂ {C = Maybe Violation} (λ (l m : ℕ). Some (Functional k l m)) p q
 
-pub violation-later : (rows : Database) (d : Dependency) (ds : List Dependency) (k : ℕ) → pair.Absent ≡ pair_of (first_pair_from d 0 rows)
+pub violation-later : (rows : Database) (d : Dependency) (ds : List Dependency) (k : ℕ) → None ≡ pair_of (first_pair_from d 0 rows)
     → first_broken_from k (d ∷ ds) rows ≡ first_broken_from (k + 1) ds rows
 unfolding first_broken_from first_found numbered_from or_else
 violation-later rows d ds k h = go (first_pair_from d 0 rows) h ∙ ap (λ (m : ℕ). first_broken_from m ds rows) (sym (add-one k))
   where
-    go : (o : Option ((ℕ × Row ℕ) × (ℕ × Row ℕ))) → pair.Absent ≡ pair_of o
+    go : (o : Option ((ℕ × Row ℕ) × (ℕ × Row ℕ))) → None ≡ pair_of o
         → or_else (map (λ x. ((k, d), x)) o) (first_broken_from (suc k) ds rows) ≡ first_broken_from (suc k) ds rows
     go none e = refl
     go (some x) e = absurd (let z : ◌≡◌ {A = ℕ} 0 1 = cc in omega arith)

@@ -103,6 +103,24 @@ spells-means schema words =
 pub rows_written : RowsWritten
 rows_written schema D sound = (refl, sound)
 
+-- ---- the first row of some words
+
+module _ (schema : List ℕ) (relation : ℕ) (values : List ℕ) where
+  -- it is of an unknown relation, or cut short
+  pub unknown-first : length schema ≤ relation → spells_rows schema (relation ∷ values) ≡ false
+  unfolding spells_rows_from
+  unknown-first h = rw (le-ltb relation (length schema) h)
+
+  pub cut-first : length values < get_or schema relation 0 → spells_rows schema (relation ∷ values) ≡ false
+  unfolding spells_rows_from
+  cut-first h = rw (spells-short schema (get_or schema relation 0) values h) (and-false (ltb relation (length schema)))
+
+  -- or judging goes on after it
+  pub after-first : relation < length schema → get_or schema relation 0 ≤ length values
+      → spells_rows schema (relation ∷ values) ≡ spells_rows schema (drop (get_or schema relation 0) values)
+  unfolding spells_rows_from
+  after-first known due = rw (lt-ltb relation (length schema) known) (spells-skip schema (get_or schema relation 0) values due)
+
 -- ---- at a place in the words
 
 module _ (schema words : List ℕ) (at : ℕ) (inside : at < length words) where
@@ -127,17 +145,6 @@ module _ (schema words : List ℕ) (at : ℕ) (inside : at < length words) where
       (lt-ltb (get_or words at 0) (length schema) known)
       ∙ spells-skip schema (get_or schema (get_or words at 0) 0) (drop (suc at) words) due
       ∙ ap (λ (l : List ℕ). spells_rows_from schema 0 l) (drop-drop (get_or schema (get_or words at 0) 0) (suc at) words ∙ ap (λ (n : ℕ). drop n words) far)
-
-  -- an unknown relation, and a row that is cut short
-  pub spells-unknown : length schema ≤ get_or words at 0 → spells_rows schema (drop at words) ≡ false
-  spells-unknown h = spells_at ∙ ap (λ (b : Bool). b && spells_rows_from schema (get_or schema (get_or words at 0) 0) (drop (suc at) words))
-      (le-ltb (get_or words at 0) (length schema) h)
-
-  pub spells-cut : (width : ℕ) → width ≡ get_or schema (get_or words at 0) 0 → length words < at + 1 + width → spells_rows schema (drop at words) ≡ false
-  spells-cut width e room =
-      let z : length (drop (suc at) words) ≡ length words - suc at = length-drop (suc at) words in
-      let short : length (drop (suc at) words) < get_or schema (get_or words at 0) 0 = omega (arith, z, e) in
-      spells_at ∙ rw (spells-short schema (get_or schema (get_or words at 0) 0) (drop (suc at) words) short) (and-false (ltb (get_or words at 0) (length schema)))
 
   -- of words that spell rows, the row at `at` and where the next begins
   pub next_row : (after : ℕ) → spells_rows schema (drop at words) ≡ true → after ≡ at + 1 + get_or schema (get_or words at 0) 0 → Next schema words at after

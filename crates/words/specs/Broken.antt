@@ -1,16 +1,17 @@
 -- What the answer of a test means: which dependency is broken first, and by which rows first. `proofs/Broken` has the proofs.
 use Rattle.std.specs.Prelude.{◌≡◌, ◌⊎◌, ◌↔◌, List, [], ℕ, ◌<◌, length, get_or}
+use Rattle.std.specs.Prelude.{Option as Maybe, None, Some}
 use Rattle.std.proofs.Math.Option.{Option, none, some}
 use Rattle.theory.specs.Query.{Row, column}
 use Rattle.theory.specs.Database.{Database, Dependency, Agree, Obeys}
 use Rattle.words.specs.declared.Violation.{Violation}
-use Rattle.words.specs.declared.Violation.TheVariants as violation
+use Rattle.words.specs.declared.Violation.TheVariants.{Functional}
 use Rattle.words.specs.Testing.{first_broken_from}
 
 -- The positions of a dependency and of its pair of rows that are found
-abbrev pub violation_of : Option ((ℕ × Dependency) × ((ℕ × Row ℕ) × (ℕ × Row ℕ))) → Violation
-violation_of none = violation.Absent
-violation_of (some found) = violation.At found.0.0 found.1.0.0 found.1.1.0
+abbrev pub violation_of : Option ((ℕ × Dependency) × ((ℕ × Row ℕ) × (ℕ × Row ℕ))) → Maybe Violation
+violation_of none = None
+violation_of (some found) = Some (Functional found.0.0 found.1.0.0 found.1.1.0)
 
 -- The row at a position of a database
 abbrev pub nth_row : Database → ℕ → Row ℕ
@@ -38,8 +39,8 @@ pub record FirstBroken (ds : List Dependency) (D : Database) (k i j : ℕ) : Typ
 
 -- A test answers dependency k and rows i and j exactly when they are the first
 abbrev pub BrokenMeans : Type 0
-BrokenMeans = (ds : List Dependency) (D : Database) (k i j : ℕ) → (violation_of (first_broken_from 0 ds D) ≡ violation.At k i j) ↔ FirstBroken ds D k i j
+BrokenMeans = (ds : List Dependency) (D : Database) (k i j : ℕ) → (violation_of (first_broken_from 0 ds D) ≡ Some (Functional k i j)) ↔ FirstBroken ds D k i j
 
 -- It finds nothing exactly when the database obeys the dependencies
 abbrev pub ObeysMeans : Type 0
-ObeysMeans = (ds : List Dependency) (D : Database) → (violation_of (first_broken_from 0 ds D) ≡ violation.Absent) ↔ Obeys ds D
+ObeysMeans = (ds : List Dependency) (D : Database) → (violation_of (first_broken_from 0 ds D) ≡ None) ↔ Obeys ds D

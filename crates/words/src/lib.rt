@@ -2,12 +2,14 @@
 // `schema` is the width of each relation.
 #![tactic(auto)]
 
-ghost use Rattle.std.specs.Prelude.{◌≡◌, true, ◌+◌, ◌^◌, ◌≤◌, ◌<◌, length, drop, get_or};
+ghost use Rattle.std.specs.Prelude.{◌≡◌, true, ◌+◌, ◌-◌, ◌/◌, ◌%◌, ◌^◌, ◌≤◌, ◌<◌, eqb, length, drop, get_or};
 ghost use Rattle.query.specs.View.{dependency_of};
 ghost use Rattle.theory.specs.Chase.{first_passing};
 ghost use Rattle.words.specs.Words.{spells_rows};
 ghost use Rattle.words.specs.internal.Rows.{span_at, row_at, Next, agree_rows, rows_at};
 ghost use Rattle.words.specs.Testing.{breaks_rows, breaks_with};
+ghost use Rattle.std.specs.Iterator.{at_most};
+ghost use Rattle.words.specs.internal.Walk.{Steps};
 ghost use Rattle.words.specs.internal.Found.{partner_of, Testable, From};
 
 use query::Dependency;
@@ -16,17 +18,16 @@ use query::Dependency;
 pub fn spelled(schema: &[u8], words: &[u32]) -> bool
     ensures { result ≡ spells_rows schema.now words.now }
 {
-    let mut at: usize = 0;
-    while at < words.len() {
-        let relation = words[at] as usize;
-        if schema.len() <= relation {
+    let mut rest = words;
+    while let Some((relation, values)) = rest.split_first() {
+        let Some(width) = schema.get(*relation as usize) else {
+            return false;
+        };
+        let width = *width as usize;
+        if values.len() < width {
             return false;
         }
-        let width = schema[relation] as usize;
-        if words.len() - at - 1 < width {
-            return false;
-        }
-        at = at + 1 + width;
+        rest = &values[width..];
     }
     true
 }
@@ -41,6 +42,58 @@ pub fn next(schema: &[u8], words: &[u32], at: usize) -> usize
     at + 1 + width
 }
 
+// A row: the word at which it begins, and its position among the rows.
+#[derive(Clone, Copy)]
+pub struct Position {
+    pub at: usize,
+    pub number: usize,
+}
+
+// The first row, or the end of the words where there is none.
+pub const FIRST: Position = Position { at: 0, number: 0 };
+
+// The rows of the words from a place on, one after another.
+#[derive(Drop)]
+pub struct Rows<'a> {
+    pub schema: &'a [u8],
+    pub words: &'a [u32],
+    pub place: Position,
+}
+
+impl<'a> Iterator for Rows<'a> {
+    type Item = Position;
+
+    ghost can_next = { λ s. From s.schema.now s.words.now s.place.at s.place.number };
+
+    ghost next_gives = { λ s r t. Steps s.schema.now s.words.now s.place r t.place × (t.schema.now ≡ s.schema.now) × (t.words.now ≡ s.words.now) };
+
+    ghost remaining = { λ s. at_most (length s.words.now - s.place.at) };
+
+    fn next(&mut self) -> Option<Position> {
+        let here = self.place;
+        if self.words.len() <= here.at {
+            return None;
+        }
+        self.place = Position {
+            at: next(self.schema, self.words, here.at),
+            number: here.number + 1,
+        };
+        Some(here)
+    }
+}
+
+// The rows of the words from a place on.
+pub fn each_row<'a>(schema: &'a [u8], words: &'a [u32], place: Position) -> Rows<'a>
+    requires { From schema.now words.now place.at place.number }
+    ensures { (result.schema.now ≡ schema.now) × (result.words.now ≡ words.now) × (result.place ≡ place) }
+{
+    Rows {
+        schema,
+        words,
+        place,
+    }
+}
+
 // The value in a column of the row of a database that begins at word `at`. Every value of a database is read here.
 pub fn value(words: &[u32], at: usize, column: usize) -> u32
     requires { at + 1 + column < length words.now }
@@ -49,22 +102,24 @@ pub fn value(words: &[u32], at: usize, column: usize) -> u32
     words[at + 1 + column]
 }
 
+// Whether a set of columns has column c: bit c of its mask is set.
+pub fn has_column(columns: u8, c: usize) -> bool
+    requires { c < 8 }
+    ensures { result ≡ eqb (columns / 2 ^ c % 2) 1 }
+{
+    (columns >> c) % 2 == 1
+}
+
 // Whether the rows at `a` and `b` agree on the left columns of the dependency.
 pub fn agrees_at(words: &[u32], width: usize, d: Dependency, a: usize, b: usize) -> bool
     requires width_in_bounds { (a + 1 + width ≤ length words.now) × (b + 1 + width ≤ length words.now) }
     requires width_bound { (width ≤ 8) × (d.left < 2 ^ width) }
     ensures { result ≡ agree_rows (dependency_of d) (span_at width words.now a) (span_at width words.now b) }
 {
-    let mut left = d.left;
-    let mut c: usize = 0;
-    while c < width {
-        if left % 2 == 1 {
-            if value(words, a, c) != value(words, b, c) {
-                return false;
-            }
+    for c in 0..width {
+        if has_column(d.left, c) && value(words, a, c) != value(words, b, c) {
+            return false;
         }
-        left = left / 2;
-        c += 1;
     }
     true
 }
@@ -83,57 +138,42 @@ pub fn breaks_at(words: &[u32], width: usize, d: Dependency, a: usize, b: usize)
     value(words, a, right) != value(words, b, right)
 }
 
-// The position of a row that is found.
-#[derive(Clone, Copy)]
-pub enum Partner {
-    At(usize),
-    Absent,
-}
-
-// The positions of a pair of rows that is found.
-#[derive(Clone, Copy)]
-pub enum RowPair {
-    At(usize, usize),
-    Absent,
-}
-
-// A dependency that is broken: a functional one by its position, and the positions of its pair of rows; or a join dependency by its position, and the
-// positions of the rows chosen for its sets, 0 where there is no set.
+// A dependency that is broken, by its position among those of its kind.
 #[derive(Clone, Copy)]
 pub enum Violation {
-    At(usize, usize, usize),
-    Joined(usize, usize, usize, usize, usize),
-    Absent,
+    // a functional one, and the positions of its pair of rows
+    Functional {
+        dependency: usize,
+        first: usize,
+        second: usize,
+    },
+    // a join dependency, and the positions of the rows chosen for its sets, 0 where there is no set
+    Join {
+        dependency: usize,
+        rows: [usize; 4],
+    },
 }
 
-// The first row that breaks the dependency with the row at `a`, among the rows from the one at `from` on, which stands at position `n`.
+// The first row that breaks the dependency with the row at `a`, among the rows from `from` on.
 pub fn first_partner(
     schema: &[u8],
     words: &[u32],
     d: Dependency,
     a: usize,
-    from: usize,
-    n: usize,
-) -> Partner
+    from: Position,
+) -> Option<usize>
     requires testable { Testable schema.now d }
     requires a_value { (get_or words.now a 0 ≡ d.relation) × (a + 1 + get_or schema.now d.relation 0 ≤ length words.now) }
-    requires from { From schema.now words.now from n }
-    ensures { result ≡ partner_of (first_passing (breaks_with (dependency_of d) (row_at schema.now words.now a)) (rows_at schema.now words.now from n)) }
+    requires from { From schema.now words.now from.at from.number }
+    ensures { result ≡ partner_of (first_passing (breaks_with (dependency_of d) (row_at schema.now words.now a)) (rows_at schema.now words.now from.at from.number)) }
 {
     let relation = d.relation as u32;
     let index = d.relation as usize;
     let width = schema[index] as usize;
-    let mut at = from;
-    let mut j = n;
-    while at < words.len() {
-        let after = next(schema, words, at);
-        if words[at] == relation {
-            if breaks_at(words, width, d, a, at) {
-                return Partner::At(j);
-            }
+    for row in each_row(schema, words, from) {
+        if words[row.at] == relation && breaks_at(words, width, d, a, row.at) {
+            return Some(row.number);
         }
-        at = after;
-        j += 1;
     }
-    Partner::Absent
+    None
 }

@@ -1,28 +1,31 @@
--- `locate` walks to a position. Invariant: the walk stands at row n, and that is not beyond the position.
+-- `locate` walks to a position.
 -- Assumes nothing.
+use mathlib.Core.Path.{◌≡◌, sym, ap, subst, ◌∙◌}
+use Prim.Native.Nat.{ℕ}
 use native.Mathlib.Omega.{arith}
-use Rattle.grouping.proofs.Passing.{placed-start, placed-next}
-use borrow.Author.Rules.{rules}
+use Rattle.words.proofs.Walking.{stepped, ended}
+use Rattle.words.specs.declared.Position.{Position}
+use Rattle.grouping.specs.internal.Walked.{RowBegins}
+use Rattle.grouping.proofs.Passing.{placed-next, all-placed}
 use Rattle.grouping.proofs.locate.Goals as goal
 
--- Where the call began
+pub loop-row-preserved : goal.loop-row-preserved
+loop-row-preserved c =
+    let a = c.args in
+    let l = c.loop-row in
+    let p = l.row-iterator.place in
+    let step = stepped l.invariant.0 l.invariant.1 c.in-Some.ensures.steps in
+    let other : p.number ≡ a.number → ⊥ = λ h. c.if-row-number.false (ap (λ (r : Position). r.number) step.row ∙ h) in (
+      step.schema-same,
+      step.words-same,
+      subst (λ (n : ℕ). RowBegins a.schema.now a.words.now c.next.new.self.place.at n) (sym step.number)
+          (placed-next a.schema.now a.words.now p.at c.next.new.self.place.at p.number l.invariant.2 step.next),
+      omega (arith, step.number, l.invariant.3),
+    )
 
-pub loop-n-init : goal.loop-n-init
-loop-n-init c = let s = c in
-    (placed-start s.args.schema.now s.args.words.now s.requires, omega arith)
-
-pub next-at-requires : goal.next-at-requires
-next-at-requires c = let l = c in
-    (c.if-at-words.true, l.loop-n.invariant.0.from.good)
-
-pub loop-n-preserved : goal.loop-n-preserved
-loop-n-preserved c = let i = c in
-    let l = i in
-    let a = l.args in
-    (placed-next a.schema.now a.words.now l.loop-n.at c.next-at.result l.loop-n.n l.loop-n.invariant.0 c.next-at.ensures, search rules)
-
-pub returns-else-at-words : goal.returns-else-at-words
-returns-else-at-words c = c.loop-n.invariant
-
-pub returns-after-loop-n : goal.returns-after-loop-n
-returns-after-loop-n c = c.loop-n.invariant
+pub returns : goal.returns
+returns c =
+    let l = c.loop-row in
+    let all = all-placed c.args.schema.now c.args.words.now l.row-iterator.place.at l.row-iterator.place.number l.invariant.2
+    (ended l.invariant.0 l.invariant.1 c.in-None.ensures.steps) in
+    omega (arith, all, l.invariant.3)

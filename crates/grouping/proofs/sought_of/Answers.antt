@@ -1,10 +1,9 @@
 -- `sought_of` takes two hashes of a row's left values, and its right value. Invariant: the hashes of what is left of the left set, begun with h and tag,
 -- are the whole hashes.
 -- Assumes nothing.
-use mathlib.Core.Path.{◌≡◌, refl, sym, ap, subst, ◌∙◌}
+use mathlib.Core.Path.{◌≡◌, sym, ap, subst, ◌∙◌}
 use mathlib.Core.Logic.{⊎_elim, inl, inr}
 use Prim.Native.Nat.{ℕ, ◌-◌, ◌+◌, ◌*◌, ◌/◌, ◌%◌, ◌^◌, ◌<◌}
-use native.Mathlib.Nat.{mod-lt, div-le_self}
 use native.Mathlib.Omega.{arith}
 use Rattle.theory.specs.Query.{column}
 use Rattle.query.specs.View.{columns_of}
@@ -12,11 +11,8 @@ use Rattle.words.specs.internal.Rows.{span_at}
 use Rattle.grouping.specs.internal.Hash.{hash_from, spread}
 use Rattle.grouping.specs.declared.Sought.{Sought}
 use Rattle.grouping.proofs.Hashes.{mask-some, mask-half, span_value, Mixed, hash-start, hash-on, hash-low, hash-end}
-use borrow.Author.Rules.{rules}
 use Rattle.grouping.proofs.sought_of.Goals as goal
 use Rattle.grouping.proofs.sought_of.Goals.{In-loop-left, Joined-left-eq1}
-
--- Equal parts make equal wholes
 
 abbrev made : ℕ → ℕ → ℕ → Sought
 made b t r = record { bucket = b; tag = t; right = r }
@@ -24,21 +20,10 @@ made b t r = record { bucket = b; tag = t; right = r }
 same : {b b' t t' r r' : ℕ} → b ≡ b' → t ≡ t' → r ≡ r' → made b t r ≡ made b' t' r'
 same {b} {b'} {t} {t'} {r} {r'} e f g = ap (λ (x : ℕ). made x t r) e ∙ ap (λ (x : ℕ). made b' x r) f ∙ ap (made b' t') g
 
-pub loop-left-init : goal.loop-left-init
-loop-left-init c = let s = c in
-    let all : s.args.width - 0 ≡ s.args.width = omega arith in
-    (search rules, subst (λ (n : ℕ). s.args.d.left < 2 ^ n) (sym all) s.requires.width_bound.1, search rules, search rules, refl, refl)
-
 -- A column of the left set is left
 inside : (c : In-loop-left) → c.loop-left.c < c.args.width
 inside c = let l = c.loop-left in
     omega (arith, mask-some (c.args.width - l.c) l.left l.invariant.1 c.loop-left-test.true)
-
-pub value-x-requires : goal.value-x-requires
-value-x-requires c = omega (arith, inside (goal.at.value-x-requires c).In-loop-left, c.requires.width_in_bounds)
-
-pub overflow_add-c : goal.overflow_add-c
-overflow_add-c c = omega (arith, inside (goal.at.overflow_add-c c).In-loop-left, c.ranges.width)
 
 -- What the passed column does to each hash
 mixed-h : (c : Joined-left-eq1) → Mixed 1000003 c.args.width c.args.words.now
@@ -66,14 +51,8 @@ loop-left-preserved c = let a = c.args in
       l.invariant.5 ∙ hash-on 2654435761 a.width W a.a l.c l.left l.tag c.if-left-eq1.tag low (mixed-tag (goal.at.loop-left-preserved c).Joined-left-eq1),
     )
 
-pub overflow_mul-result : goal.overflow_mul-result
-overflow_mul-result c = omega (arith, c.loop-left.invariant.2, div-le_self c.loop-left.h c.args.buckets)
-
-pub overflow_add-result : goal.overflow_add-result
-overflow_add-result c = omega (arith, c.loop-left.invariant.2, div-le_self c.loop-left.h c.args.buckets)
-
-pub returns : goal.returns
-returns c = let e = c in
+pub returns-clause-value : goal.returns-clause-value
+returns-clause-value c = let e = c in
     let l = e.loop-left in
     let s = e in
     let a = s.args in
@@ -87,7 +66,4 @@ returns c = let e = c in
     hash-start 2654435761 a.width W a.a a.d.left s.requires.width_bound.0 s.requires.width_bound.1 ∙ l.invariant.5
     ∙ hash-end 2654435761 a.width W a.a l.c l.left l.tag done in
     let right : column 0 r a.d.right ≡ c.value.result = span_value a.width W a.a a.d.right s.requires.width_bound.2 ∙ sym c.value.ensures in
-    record {
-      value = sym (same (ap (spread a.buckets) h) tag right);
-      bucket_lt_buckets = mod-lt (l.h + l.h / a.buckets * 2654435761) {m = a.buckets} s.requires.width_bound.3;
-    }
+    sym (same (ap (spread a.buckets) h) tag right)

@@ -1,18 +1,15 @@
 -- `has` compares column by column. Invariant: the columns before c have the values.
 -- Assumes nothing.
-use mathlib.Core.Path.{◌≡◌, sym, ap, ◌∙◌}
+use mathlib.Core.Path.{sym, ◌∙◌}
 use mathlib.Core.Bool.{true≢false, false≢true}
-use mathlib.Core.Logic.{⊎_elim}
-use Prim.Native.Nat.{ℕ, ◌+◌, ◌/◌, ◌%◌, ◌^◌, ◌<◌}
-use native.Mathlib.Nat.{div-one}
+use Prim.Native.Nat.{◌<◌}
 use native.Mathlib.Omega.{arith}
-use lib.ListN.{length, get_or}
-use Rattle.lists.proofs.Tests.{below-or-past}
-use Rattle.tables.proofs.Buckets.{shifted}
+use lib.ListN.{length}
 use Rattle.join_lookup.proofs.Having.{begins-inside, begins-room, made-has, other-relation, other-column}
-use borrow.Author.Rules.{rules}
+use borrow.Author.Tests.{eqb-true, eq-eqb}
+use borrow.Author.Count.{below_more}
 use Rattle.join_lookup.proofs.has.Goals as goal
-use Rattle.join_lookup.proofs.has.Goals.{Start}
+use Rattle.join_lookup.proofs.has.Goals.{Start, else-has_column-via-then-has_column+else-value-values, else-has_column-via-else-has_column}
 
 -- The row is there
 
@@ -35,59 +32,39 @@ returns-then-words-at c = let s = c in
     }
 
 pub loop-c-init : goal.loop-c-init
-loop-c-init c = let s = c in
-    (search rules, sym (div-one s.args.columns), λ d h. absurd (omega arith))
+loop-c-init c = λ d h. absurd (omega arith)
 
 pub value-requires : goal.value-requires
-value-requires c = let s = c in
-    let a = s.args in
-    let e = c in
-    let i = c in
+value-requires c = let a = c.args in
     omega (
       arith,
-      i.loop-c-test.true,
-      begins-room a.schema.now a.words.now s.requires.words_value.0 a.x s.requires.words_value.1 a.at s.requires.by_index.0 s.requires.by_index.1 e.if-words-at.false,
+      c.loop-c-test.true,
+      begins-room a.schema.now a.words.now c.requires.words_value.0 a.x c.requires.words_value.1 a.at c.requires.by_index.0 c.requires.by_index.1 c.if-words-at.false,
     )
 
-pub bounds-values-c : goal.bounds-values-c
-bounds-values-c c = let s = c in
-    let i = c in
-    omega (arith, i.loop-c-test.true, s.requires.words_value.1.narrow)
-
 pub returns-then-value-values : goal.returns-then-value-values
-returns-then-value-values c = let s = c in
-    let a = s.args in
-    let l = c in
-    let i = c in
-    let t = c in
-    let v = c in
+returns-then-value-values c =
+    let a = c.args in
     record {
       by_index_2 = λ p b t. absurd (false≢true t);
-      by_index_3 = λ p b w. other-column a.schema.now a.words.now s.requires.words_value.0 a.x s.requires.words_value.1 a.at p b a.columns a.values l.loop-c.c
-          s.ranges.columns.fits i.loop-c-test.true (ap (λ (n : ℕ). n % 2) (sym l.loop-c.invariant.1) ∙ t.if-left-eq1.true)
-          (λ h. c.if-value-values.true (v.value.ensures ∙ h));
+      by_index_3 = λ p b w. other-column a.schema.now a.words.now c.requires.words_value.0 a.x c.requires.words_value.1 a.at p b a.columns a.values c.loop-c.c
+          c.ranges.columns.fits c.loop-c-test.true (eqb-true _ 1 (sym c.has_column.ensures ∙ c.if-has_column.true))
+          (λ h. c.if-value-values.true (c.value.ensures ∙ h));
     }
 
 pub loop-c-preserved : goal.loop-c-preserved
-loop-c-preserved c = let s = c in
-    let a = s.args in
-    let l = c in
-    let i = c in (
-      search rules,
-      ap (λ (n : ℕ). n / 2) l.loop-c.invariant.1 ∙ shifted a.columns l.loop-c.c,
-      λ d h bit. ⊎_elim (λ low. l.loop-c.invariant.2 d low bit)
-          (λ high. let e : d ≡ l.loop-c.c = omega arith in
-          ⊎_elim (λ w. ap (λ (n : ℕ). get_or a.words.now (a.at + 1 + n) 0) e ∙ sym w.value.ensures ∙ w.if-value-values.false ∙ ap (λ (n : ℕ). get_or a.values n 0) (sym e)) (λ w. absurd (w.if-left-eq1.false (ap (λ (n : ℕ). n % 2) l.loop-c.invariant.1 ∙ ap (λ (n : ℕ). a.columns / 2 ^ n % 2) (sym e) ∙ bit))) c.if-left-eq1.branch-raw)
-          (below-or-past d l.loop-c.c),
-    )
+loop-c-preserved c =
+    let a = c.args in
+    below_more _ _ c.loop-c.invariant (elim c.else-has_column.branch [
+      | else-has_column-via-then-has_column+else-value-values w ↦ λ bit. sym w.value.ensures ∙ w.if-value-values.false
+      | else-has_column-via-else-has_column w ↦ λ bit. absurd (false≢true (sym w.if-has_column.false ∙ c.has_column.ensures ∙ eq-eqb _ 1 bit))
+    ])
 
 pub returns : goal.returns
-returns c = let s = c in
-    let a = s.args in
-    let l = c in
-    let e = c in
+returns c =
+    let a = c.args in
     record {
-      by_index_2 = λ p b t. made-has a.schema.now a.words.now s.requires.words_value.0 a.x s.requires.words_value.1 a.at p b e.if-words-at.false a.columns a.values
-          s.ranges.columns.fits (λ d h bit. l.loop-c.invariant.2 d (omega (arith, c.loop-c-test.false)) bit);
+      by_index_2 = λ p b t. made-has a.schema.now a.words.now c.requires.words_value.0 a.x c.requires.words_value.1 a.at p b c.if-words-at.false a.columns a.values
+          c.ranges.columns.fits (λ d h bit. c.loop-c.invariant d (omega (arith, c.loop-c-test.false)) bit);
       by_index_3 = λ p b t. absurd (true≢false t);
     }

@@ -1,14 +1,9 @@
--- `position_of` walks to where the row begins. Invariant: the walk stands at row n, not beyond it. Assumes nothing.
+-- `position_of` walks to where the row begins. Invariant: the walk stands at the row of its number, not beyond it. Assumes nothing.
 use mathlib.Core.Path.{◌≡◌}
-use mathlib.Core.Bool.{true}
-use Prim.Native.Nat.{ℕ, ◌-◌, ◌≤◌}
-use Rattle.words.specs.Words.{spells_rows}
-use Rattle.join_lookup.specs.internal.Starts.{start_of, row_count}
+use Prim.Native.Nat.{◌≤◌}
+use Rattle.join_lookup.specs.internal.Starts.{start_of}
 use Rattle.join_lookup.proofs.position_of.Given as goal
 
-abbrev pub invariant-loop-here : goal.invariant-loop-here
-invariant-loop-here l =
-    (spells_rows l.schema l.words ≡ true) × (p : ℕ) × (l.at ≡ start_of l.schema l.words p) × (p ≤ row_count l.schema l.words) × (l.here ≡ start_of l.schema l.words l.n) × (l.n ≤ p)
-
-abbrev pub decreases-loop-here : goal.decreases-loop-here
-decreases-loop-here l = l.at - l.here
+abbrev pub invariant-loop-row : goal.invariant-loop-row
+invariant-loop-row l = (l.row-iterator.schema.now ≡ l.schema) × (l.row-iterator.words.now ≡ l.words)
+    × (l.row-iterator.place.at ≡ start_of l.schema l.words l.row-iterator.place.number) × (l.row-iterator.place.at ≤ l.at) × (l.number ≡ l.row-iterator.place.number)

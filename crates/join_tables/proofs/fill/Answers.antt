@@ -4,10 +4,6 @@ use native.Mathlib.Omega.{arith}
 use Rattle.join_tables.proofs.Filling.{levelled-none, levelled-next, levelled-all}
 use Rattle.join_tables.proofs.fill.Goals as goal
 
-pub thread-requires : goal.thread-requires
-thread-requires c = let s = c in
-    (s.requires.searchable.0.spelled, s.requires.roomy.nodes-room, s.requires.roomy.short)
-
 pub loop-k-init : goal.loop-k-init
 loop-k-init c = let d = c in
     let s = d in
@@ -18,19 +14,6 @@ loop-k-init c = let d = c in
       refl,
       refl,
     )
-
-pub bounds-j-k : goal.bounds-j-k
-bounds-j-k c = let s = c in
-    omega (arith, c.loop-k-test.true, s.requires.searchable.0.few, s.requires.searchable.0.shaped)
-
-pub enter_set-requires : goal.enter_set-requires
-enter_set-requires c = let i = c in
-    let s = i in
-    let v = i.loop-k.invariant.0 in
-    record {
-      words_value = (s.requires.searchable.0.spelled, s.requires.searchable.1, omega (arith, i.loop-k-test.true, s.requires.searchable.0.few));
-      roomy = (v.room, v.thread);
-    }
 
 pub loop-k-preserved : goal.loop-k-preserved
 loop-k-preserved c = let u = c in
@@ -44,16 +27,6 @@ loop-k-preserved c = let u = c in
       u.enter_set.auto.heads ∙ l.invariant.1,
       u.enter_set.auto.nodes ∙ l.invariant.2,
     )
-
-pub enter-requires : goal.enter-requires
-enter-requires c = let e = c in
-    let s = e in
-    let v = e.loop-k.invariant.0 in
-    record {
-      words_value = (s.requires.searchable.0.spelled, s.requires.searchable.1, omega arith);
-      roomy = (v.room, v.thread);
-      table = λ some. absurd (some refl);
-    }
 
 pub returns : goal.returns
 returns c = let u = c in

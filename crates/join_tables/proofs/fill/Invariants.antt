@@ -1,6 +1,5 @@
 -- `fill` makes the table of set after set, and last table 0 by all their columns. Invariant: the first k sets have their tables. Assumes nothing.
 use mathlib.Core.Path.{◌≡◌}
-use Prim.Native.Nat.{◌-◌}
 use lib.ListN.{length}
 use Rattle.join_tables.proofs.Filling.{Levelled}
 use Rattle.join_tables.proofs.fill.Given as goal
@@ -8,6 +7,3 @@ use Rattle.join_tables.proofs.fill.Given as goal
 abbrev pub invariant-loop-k : goal.invariant-loop-k
 invariant-loop-k l =
     Levelled l.schema l.words l.j l.x l.heads l.nodes l.filled l.k × (length l.heads ≡ length l.initial.heads) × (length l.nodes ≡ length l.initial.nodes)
-
-abbrev pub decreases-loop-k : goal.decreases-loop-k
-decreases-loop-k l = l.count - l.k

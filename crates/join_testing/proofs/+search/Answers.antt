@@ -2,6 +2,9 @@
 -- the join dependency. The measures are the sets left and the words left. Assumes nothing.
 use mathlib.Core.Path.{◌≡◌, sym, ap, subst, ◌∙◌}
 use mathlib.Core.Bool.{true}
+use mathlib.Core.List.{List}
+use Rattle.std.specs.Prelude.{Option}
+use Rattle.join_testing.specs.internal.Search.{Searched}
 use Prim.Native.Nat.{ℕ, suc, ◌+◌, ◌<◌}
 use native.Mathlib.Omega.{arith}
 use lib.Bits.{bit_and, bit_or}
@@ -15,7 +18,7 @@ use Rattle.join_lookup.proofs.Reaching.{reach-less}
 use Rattle.join_testing.proofs.Searching.{NoneBelow, filled_next, shared-256, going-begins, going-other, going-nothing, going-some, going-over}
 use Rattle.join_testing.proofs.Searching.{going_next, last_set, made-joins, has_word}
 use Rattle.join_testing.proofs.+search.Goals as goal
-use Rattle.join_testing.proofs.+search.Goals.{Start, In-loop-at, After-has, After-following-at, then-has+else-found, else-has}
+use Rattle.join_testing.proofs.+search.Goals.{Start, In-loop-at, After-has, After-following-at, then-has+in_default, else-has}
 
 -- The columns that are shared, as the code has them
 shared-is : (t : ℕ) (c : Start t) → bit_and (get_or c.args.j.sets c.args.k 0) c.args.filled ≡ shared_at c.args.j.sets c.args.k
@@ -65,8 +68,9 @@ find-end-requires t c = let a = c.args in
 pub returns-then-k-j : goal.returns-then-k-j
 returns-then-k-j t c = let a = c.args in
     let wide : length a.values ≡ 8 = search rules in
-    last_set c.requires.searchable.0 c.requires.searchable.1 a.values wide a.k c.if-k-j.true c.find-end.result
-    (subst (λ (n : ℕ). FirstWith a.schema.now a.words.now a.x n a.values c.find-end.result) c.requires.k_le_count.1 c.find-end.ensures)
+    subst (λ (o : Option (List ℕ)). Searched a.schema.now a.words.now a.j a.x a.k a.values o) (sym c.then_some.ensures)
+    (last_set c.requires.searchable.0 c.requires.searchable.1 a.values wide a.k c.if-k-j.true c.find-end.result
+    (subst (λ (n : ℕ). FirstWith a.schema.now a.words.now a.x n a.values c.find-end.result) c.requires.k_le_count.1 c.find-end.ensures))
 
 -- ---- the loop
 
@@ -109,8 +113,8 @@ search-found-requires t c = let a = c.args in
     ap (λ (n : ℕ). bit_or n (get_or a.j.sets a.k 0)) c.requires.k_le_count.1 ∙ filled_next a.j.sets a.k in
     (omega (arith, v.2, c.decreases), ((v.0, v.1), (omega (arith, v.2), e)))
 
-pub returns-then-found : goal.returns-then-found
-returns-then-found t c = let p = goal.at.returns-then-found t c in
+pub returns-in-Some : goal.returns-in-Some
+returns-in-Some t c = let p = goal.at.returns-in-Some t c in
     let a = c.args in
     let v = c.loop-at.invariant in
     let r = c.with_row-row in
@@ -118,8 +122,9 @@ returns-then-found t c = let p = goal.at.returns-then-found t c in
     let s = shared-is t p.Start in
     let joins = made-joins v.0 v.1 a.k v.2 a.values c.loop-at.at v.3.1.row b (word t p.After-has s b c.if-has.true)
     r.result r.ensures.by_index r.ensures.by_index_2 in
-    going-some v.0 v.1 a.k v.2 a.values c.loop-at.at v.3 r.result c.search-found.result joins
-    b.1 (holds t p.After-has s b c.if-has.true) c.search-found.ensures c.if-found.true
+    going-some v.0 v.1 a.k v.2 a.values c.loop-at.at v.3 r.result c.in-Some.places joins
+    b.1 (holds t p.After-has s b c.if-has.true)
+    (subst (λ (o : Option (List ℕ)). Searched a.schema.now a.words.now a.j a.x (a.k + 1) r.result o) c.in-Some.is c.search-found.ensures)
 
 pub following-at-requires-clause-by_index : goal.following-at-requires-clause-by_index
 following-at-requires-clause-by_index t c = (c.loop-at.invariant.3.1.row, begun t (goal.at.following-at-requires-clause-by_index t c).In-loop-at)
@@ -143,10 +148,11 @@ loop-at-preserved t c = let p = goal.at.loop-at-preserved t c in
     let s = shared-is t p.Start in
     let none : NoneBelow v.0 v.1 a.k v.2 a.values (suc v.3.1.row) =
     elim c.if-has.branch [
-      | then-has+else-found w ↦
-          going-nothing v.0 v.1 a.k v.2 a.values c.loop-at.at v.3 w.with_row-row.result w.search-found.result
+      | then-has+in_default w ↦
+          going-nothing v.0 v.1 a.k v.2 a.values c.loop-at.at v.3 w.with_row-row.result
           (made-joins v.0 v.1 a.k v.2 a.values c.loop-at.at v.3.1.row b (word t p.After-has s b w.if-has.true)
-          w.with_row-row.result w.with_row-row.ensures.by_index w.with_row-row.ensures.by_index_2) w.search-found.ensures w.if-found.false
+          w.with_row-row.result w.with_row-row.ensures.by_index w.with_row-row.ensures.by_index_2)
+          (subst (λ (o : Option (List ℕ)). Searched a.schema.now a.words.now a.j a.x (a.k + 1) w.with_row-row.result o) w.in_default.is w.search-found.ensures)
       | else-has w ↦
           going-other v.0 v.1 a.k v.2 a.values c.loop-at.at v.3
           (λ has. c.has.ensures.by_index_3 v.3.1.row b w.if-has.false

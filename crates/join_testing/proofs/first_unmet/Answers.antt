@@ -34,12 +34,12 @@ onward c = let s = c in
     let l = c.loop-k in
     let size : length a.joins ≡ 4 = search rules in
     let room : a.joined ≤ length a.joins = omega (arith, s.requires.0) in
-    l.invariant.1
+    l.invariant.0
     ∙ ap (λ (x : List database.JoinDependency). first_unmet_from l.k a.schema.now x (database_of a.schema.now a.words.now))
     (ap (map join_of) (left-cons a.joined l.k a.joins unread c.loop-k-test.true room))
 
 pub loop-k-init : goal.loop-k-init
-loop-k-init c = (search rules, refl, refl, refl)
+loop-k-init c = (refl, refl, refl)
 
 pub first_choice-found-requires : goal.first_choice-found-requires
 first_choice-found-requires c = let s = c in
@@ -49,27 +49,26 @@ first_choice-found-requires c = let s = c in
     subst (Searchable s.args.schema.now s.args.words.now) (get_or_any s.args.joins k no_join unread (omega (arith, s.requires.0)))
     (s.requires.1 k low)
 
-pub returns-in-At : goal.returns-in-At
-returns-in-At c = let a = c.args in
+pub returns-in-Some : goal.returns-in-Some
+returns-in-Some c = let a = c.args in
     let k = c.loop-k.k in
-    sym (ap unmet_of (onward (goal.at.returns-in-At c).In-loop-k)
+    sym (ap unmet_of (onward (goal.at.returns-in-Some c).In-loop-k)
     ∙ unmet-found a.schema.now (database_of a.schema.now a.words.now) (join_of (get_or a.joins k unread))
-    (map join_of (drop (k + 1) (take a.joined a.joins))) k c.in-At.a c.in-At.b c.in-At.c c.in-At.d (sym c.in-At.is ∙ c.first_choice-found.ensures))
+    (map join_of (drop (k + 1) (take a.joined a.joins))) k c.in-Some.rows (sym c.in-Some.is ∙ c.first_choice-found.ensures))
 
 pub loop-k-preserved : goal.loop-k-preserved
 loop-k-preserved c = let l = c.loop-k in
     let a = c.args in (
-      search rules,
       onward (goal.at.loop-k-preserved c).In-loop-k
           ∙ unmet-later a.schema.now (database_of a.schema.now a.words.now) (join_of (get_or a.joins l.k unread))
           (map join_of (drop (l.k + 1) (take a.joined a.joins))) l.k (sym c.in_default.is ∙ c.first_choice-found.ensures),
-      c.first_choice-found.auto.nodes ∙ l.invariant.2,
-      c.first_choice-found.auto.heads ∙ l.invariant.3,
+      c.first_choice-found.auto.nodes ∙ l.invariant.1,
+      c.first_choice-found.auto.heads ∙ l.invariant.2,
     )
 
 pub returns : goal.returns
 returns c = let l = c.loop-k in
     let e = c in
     let a = c.args in
-    sym (ap unmet_of (l.invariant.1 ∙ ap (λ (x : List database.JoinDependency). first_unmet_from l.k a.schema.now x (database_of a.schema.now a.words.now))
+    sym (ap unmet_of (l.invariant.0 ∙ ap (λ (x : List database.JoinDependency). first_unmet_from l.k a.schema.now x (database_of a.schema.now a.words.now))
     (ap (map join_of) (left-none a.joined l.k a.joins e.loop-k-test.false)) ∙ unmet-end a.schema.now (database_of a.schema.now a.words.now) l.k))

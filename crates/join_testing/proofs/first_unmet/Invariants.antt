@@ -2,7 +2,6 @@
 -- Assumes nothing.
 use mathlib.Core.Path.{◌≡◌}
 use mathlib.Core.List.{map}
-use Prim.Native.Nat.{◌≤◌, ◌-◌}
 use lib.ListN.{length, take, drop}
 use Rattle.query.specs.View.{join_of}
 use Rattle.words.specs.Words.{database_of}
@@ -10,10 +9,6 @@ use Rattle.join_testing.specs.Unmet.{first_unmet_from}
 use Rattle.join_testing.proofs.first_unmet.Given as goal
 
 abbrev pub invariant-loop-k : goal.invariant-loop-k
-invariant-loop-k l = (l.k ≤ l.joined)
-    × (first_unmet_from 0 l.schema (map join_of (take l.joined l.joins)) (database_of l.schema l.words)
+invariant-loop-k l = (first_unmet_from 0 l.schema (map join_of (take l.joined l.joins)) (database_of l.schema l.words)
     ≡ first_unmet_from l.k l.schema (map join_of (drop l.k (take l.joined l.joins))) (database_of l.schema l.words))
     × (length l.nodes ≡ length l.initial.nodes) × (length l.heads ≡ length l.initial.heads)
-
-abbrev pub decreases-loop-k : goal.decreases-loop-k
-decreases-loop-k l = l.joined - l.k

@@ -1,5 +1,5 @@
 -- The search for a choice of rows: the sets are gone through in order, and the columns of those that have a row are known.
-use Rattle.std.specs.Prelude.{◌≡◌, true, false, List, ℕ, ◌+◌, length, drop, get_or}
+use Rattle.std.specs.Prelude.{◌≡◌, List, [], ◌∷◌, ℕ, ◌+◌, length, drop, get_or, Option as Maybe, None, Some}
 use Rattle.std.proofs.Math.Option.{Option, none, some}
 use Rattle.theory.specs.Query.{Row, FitsSchema, ◌∈◌}
 use Rattle.theory.specs.Database.{Agree}
@@ -8,9 +8,6 @@ use Rattle.query.specs.declared.JoinDependency.{JoinDependency}
 use Rattle.words.specs.Words.{database_of}
 use Rattle.join_testing.specs.Meaning.{GoWith, Earlier}
 use Rattle.join_lookup.specs.declared.Index.{Index}
-use Rattle.join_testing.specs.declared.Found.{Found}
-use Rattle.join_testing.specs.declared.ChosenRows.{ChosenRows}
-use Rattle.join_testing.specs.declared.ChosenRows.TheVariants as chosen-rows
 use Rattle.join_lookup.specs.internal.Starts.{start_of, row_with}
 use Rattle.join_tables.specs.internal.Indexed.{filled_to}
 
@@ -34,17 +31,16 @@ pub record FirstFrom (schema words : List ℕ) (j : JoinDependency) (x : Index) 
   pub before : (qs : List ℕ) → Earlier qs positions → BreaksFrom schema words j x k values qs → ⊥
   pub places : (i : ℕ) → get_or at (k + i) 0 ≡ start_of schema words (get_or positions i 0)
 
--- What a search from set k on finds
-pub record Searched (schema words : List ℕ) (j : JoinDependency) (x : Index) (k : ℕ) (values : List ℕ) (found : Found) : Type 0 where
-  pub size : length found.at ≡ 4
-  pub some : found.some ≡ true → FirstFrom schema words j x k values found.at
-  pub none : found.some ≡ false → (ps : List ℕ) → BreaksFrom schema words j x k values ps → ⊥
+-- What a search from set k on finds: the words at which the rows of the first choice begin, or that there is none
+abbrev pub Searched : List ℕ → List ℕ → JoinDependency → Index → ℕ → List ℕ → Maybe (List ℕ) → Type 0
+Searched schema words j x k values None = (ps : List ℕ) → BreaksFrom schema words j x k values ps → ⊥
+Searched schema words j x k values (Some at) = (length at ≡ 4) × FirstFrom schema words j x k values at
 
 -- The relation that is tested, without tables
 abbrev pub plainly : List ℕ → JoinDependency → Index
 plainly schema j = record { relation = j.relation; width = get_or schema j.relation 0; buckets = 0 }
 
--- The positions of the rows of a choice that is found
-abbrev pub rows_chosen : Option (List ℕ) → ChosenRows
-rows_chosen none = chosen-rows.Absent
-rows_chosen (some ps) = chosen-rows.At (get_or ps 0 0) (get_or ps 1 0) (get_or ps 2 0) (get_or ps 3 0)
+-- The positions of the rows of a choice that is found, 0 where there is no set
+abbrev pub rows_chosen : Option (List ℕ) → Maybe (List ℕ)
+rows_chosen none = None
+rows_chosen (some ps) = Some (get_or ps 0 0 ∷ get_or ps 1 0 ∷ get_or ps 2 0 ∷ get_or ps 3 0 ∷ [])

@@ -1,4 +1,4 @@
--- `first_pair` is the first pair of rows that break the dependency. Invariant: the search from `at` on finds what the whole search finds.
+-- `first_pair` is the first pair of rows that break the dependency. Invariant: the search from the place on finds what the whole search finds.
 -- Assumes nothing.
 use mathlib.Core.Path.{◌≡◌}
 use Prim.Native.Nat.{◌-◌}
@@ -9,10 +9,10 @@ use Rattle.words.specs.Testing.{first_pair_from}
 use Rattle.words.specs.internal.Found.{From}
 use Rattle.testing.proofs.first_pair.Given as goal
 
-abbrev pub invariant-loop-at : goal.invariant-loop-at
-invariant-loop-at l = From l.schema l.words l.at l.i
-    × (first_pair_from (dependency_of l.d) 0 (database_of l.schema l.words) ≡ first_pair_from (dependency_of l.d) l.i (database_of l.schema (drop l.at l.words)))
+abbrev pub invariant-loop-place : goal.invariant-loop-place
+invariant-loop-place l = From l.schema l.words l.place.at l.place.number
+    × (first_pair_from (dependency_of l.d) 0 (database_of l.schema l.words) ≡ first_pair_from (dependency_of l.d) l.place.number (database_of l.schema (drop l.place.at l.words)))
     × (length l.heads ≡ length l.initial.heads) × (length l.nodes ≡ length l.initial.nodes)
 
-abbrev pub decreases-loop-at : goal.decreases-loop-at
-decreases-loop-at l = length l.words - l.at
+abbrev pub decreases-loop-place : goal.decreases-loop-place
+decreases-loop-place l = length l.words - l.place.at

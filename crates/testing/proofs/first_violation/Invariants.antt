@@ -3,7 +3,6 @@
 -- Assumes nothing.
 use mathlib.Core.Path.{◌≡◌}
 use mathlib.Core.List.{map}
-use Prim.Native.Nat.{◌≤◌, ◌-◌}
 use lib.ListN.{length, take, drop}
 use Rattle.query.specs.View.{dependency_of}
 use Rattle.words.specs.Words.{database_of}
@@ -12,10 +11,6 @@ use Rattle.testing.specs.internal.Keyed.{Keyed}
 use Rattle.testing.proofs.first_violation.Given as goal
 
 abbrev pub invariant-loop-k : goal.invariant-loop-k
-invariant-loop-k l = (l.k ≤ l.held)
-    × (first_broken_from 0 (map dependency_of (take l.held l.dependencies)) (database_of l.schema l.words)
+invariant-loop-k l = (first_broken_from 0 (map dependency_of (take l.held l.dependencies)) (database_of l.schema l.words)
     ≡ first_broken_from l.k (map dependency_of (drop l.k (take l.held l.dependencies))) (database_of l.schema l.words))
     × Keyed (database_of l.schema l.words) l.keys × (length l.nodes ≡ length l.initial.nodes) × (length l.used ≡ length l.initial.used)
-
-abbrev pub decreases-loop-k : goal.decreases-loop-k
-decreases-loop-k l = l.held - l.k

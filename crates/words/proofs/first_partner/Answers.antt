@@ -1,85 +1,68 @@
 -- `first_partner` is the first row that breaks the dependency with the row at `a`.
--- Invariant: the search from `at` on finds what the search from the start finds.
 -- Assumes nothing.
-use mathlib.Core.Path.{◌≡◌, refl, sym, ap, ap₂, ◌∙◌}
+use mathlib.Core.Path.{◌≡◌, sym, ap, ap₂, ◌∙◌}
 use mathlib.Core.Bool.{Bool, true, false}
-use mathlib.Core.Logic.{⊎_elim}
-use Prim.Native.Nat.{ℕ, ◌≤◌, ◌+◌}
-use native.Mathlib.Omega.{arith}
-use lib.ListN.{length, get_or}
+use Prim.Native.Nat.{ℕ}
+use lib.ListN.{get_or}
 use Rattle.theory.specs.Query.{Row}
 use Rattle.query.specs.View.{dependency_of}
-use Rattle.words.specs.internal.Rows.{row_at, span_at}
+use Rattle.theory.specs.Chase.{first_passing}
+use Rattle.std.specs.Prelude.{Some}
+use Rattle.words.specs.declared.Position.{Position}
+use Rattle.words.specs.internal.Rows.{row_at, span_at, rows_at}
 use Rattle.words.specs.Testing.{breaks_rows, breaks_with}
 use Rattle.words.specs.internal.Found.{partner_of}
+use Rattle.words.proofs.Walking.{stepped, ended}
 use Rattle.words.proofs.Search.{breaks-second, passing-here, passing-later, passing-end}
 use Rattle.words.proofs.first_partner.Goals as goal
-
-pub bounds-schema-index : goal.bounds-schema-index
-bounds-schema-index c = omega (arith, c.requires.testable.known)
-
-pub overflow_cast-width : goal.overflow_cast-width
-overflow_cast-width c = omega (arith, c.type_inv.schema c.args.d.relation)
-
-pub loop-at-init : goal.loop-at-init
-loop-at-init c = (c.requires.from, refl)
-
-pub next-after-requires : goal.next-after-requires
-next-after-requires c = (c.loop-at-test.true, c.loop-at.invariant.0.good)
-
-pub breaks_at-requires : goal.breaks_at-requires
-breaks_at-requires c = let s = c in
-    let a = s.args in
-    let l = c.loop-at in
-    let W = a.words.now in
-    let S = a.schema.now in
-    let t = breaks_with (dependency_of a.d) (row_at S W a.a) in
-    let n = c.next-after.ensures in
-    let place : c.next-after.result ≡ l.at + 1 + get_or S a.d.relation 0 = n.place ∙ ap (λ (r : ℕ). l.at + 1 + get_or S r 0) c.if-words-at.true in
-    let room : l.at + 1 + get_or S a.d.relation 0 ≤ length W = omega (arith, n.fits) in
-    let T = s.requires.testable in
-    record {
-      a_value = (s.requires.a_value.0, c.if-words-at.true);
-      width_in_bounds = (s.requires.a_value.1, room);
-      width_bound = (T.narrow, T.left-fits, T.right-fits);
-    }
+use Rattle.words.proofs.first_partner.Goals.{else-words-row-via-then-words-row+else-breaks_at, else-words-row-via-else-words-row}
 
 pub returns-then-breaks_at : goal.returns-then-breaks_at
-returns-then-breaks_at c = let s = c in
-    let a = s.args in
-    let l = c.loop-at in
+returns-then-breaks_at c =
+    let a = c.args in
+    let l = c.loop-row in
     let W = a.words.now in
     let S = a.schema.now in
+    let at = l.row-iterator.place.at in
+    let step = stepped l.invariant.0 l.invariant.1 c.in-Some.ensures.steps in
+    let here : get_or W at 0 ≡ a.d.relation = ap (λ (r : Position). get_or W r.at 0) (sym step.row) ∙ c.if-words-row.true in
     let t = breaks_with (dependency_of a.d) (row_at S W a.a) in
     let width : ℕ = get_or S a.d.relation 0 in
-    let ra : row_at S W a.a ≡ span_at width W a.a = ap (λ (r : ℕ). span_at (get_or S r 0) W a.a) s.requires.a_value.0 in
-    let rb : row_at S W l.at ≡ span_at width W l.at = ap (λ (r : ℕ). span_at (get_or S r 0) W l.at) c.if-words-at.true in
-    let yes : t (l.j, row_at S W l.at) ≡ true =
+    let ra : row_at S W a.a ≡ span_at width W a.a = ap (λ (r : ℕ). span_at (get_or S r 0) W a.a) c.requires.a_value.0 in
+    let rb : row_at S W at ≡ span_at width W c.in-Some.row.at =
+    ap (λ (r : ℕ). span_at (get_or S r 0) W at) here ∙ ap (λ (r : Position). span_at width W r.at) (sym step.row) in
+    let yes : t (l.row-iterator.place.number, row_at S W at) ≡ true =
     ap₂ {C = Bool} (λ (x y : Row ℕ). breaks_rows (dependency_of a.d) x y) ra rb ∙ sym c.breaks_at.ensures ∙ c.if-breaks_at.true in
-    sym (ap partner_of (l.invariant.1 ∙ passing-here S W t l.at c.next-after.result l.j
-    c.next-after.ensures yes))
+    ap (λ (r : Position). Some r.number) step.row ∙ sym (ap partner_of (l.invariant.2 ∙ passing-here S W t at c.next.new.self.place.at l.row-iterator.place.number step.next yes))
 
-pub loop-at-preserved : goal.loop-at-preserved
-loop-at-preserved c = let s = c in
-    let a = s.args in
-    let l = c.loop-at in
+pub loop-row-preserved : goal.loop-row-preserved
+loop-row-preserved c =
+    let a = c.args in
+    let l = c.loop-row in
     let W = a.words.now in
     let S = a.schema.now in
+    let at = l.row-iterator.place.at in
+    let step = stepped l.invariant.0 l.invariant.1 c.in-Some.ensures.steps in
+    let same : get_or W c.in-Some.row.at 0 ≡ get_or W at 0 = ap (λ (r : Position). get_or W r.at 0) step.row in
     let t = breaks_with (dependency_of a.d) (row_at S W a.a) in
-    let n = c.next-after.ensures in
-    let fails : t (l.j, row_at S W l.at) ≡ false =
-    ⊎_elim (λ w. ap₂ {C = Bool} (λ (x y : Row ℕ). breaks_rows (dependency_of a.d) x y)
-    (ap (λ (r : ℕ). span_at (get_or S r 0) W a.a) s.requires.a_value.0) (ap (λ (r : ℕ). span_at (get_or S r 0) W l.at) w.if-words-at.true)
-    ∙ sym w.breaks_at.ensures ∙ w.if-breaks_at.false) (λ w. breaks-second (dependency_of a.d) (row_at S W a.a) (row_at S W l.at) w.if-words-at.false) c.if-words-at.branch-raw in (
-      record { inside = n.fits; counted = omega (arith, n.place, l.invariant.0.counted); good = n.good },
-      l.invariant.1 ∙ passing-later S W t l.at c.next-after.result l.j n fails,
+    let width : ℕ = get_or S a.d.relation 0 in
+    let fails : t (l.row-iterator.place.number, row_at S W at) ≡ false =
+    elim c.else-words-row.branch [
+      | else-words-row-via-then-words-row+else-breaks_at w ↦ ap₂ {C = Bool} (λ (x y : Row ℕ). breaks_rows (dependency_of a.d) x y)
+          (ap (λ (r : ℕ). span_at (get_or S r 0) W a.a) c.requires.a_value.0)
+          (ap (λ (r : ℕ). span_at (get_or S r 0) W at) (sym same ∙ w.if-words-row.true) ∙ ap (λ (r : Position). span_at width W r.at) (sym step.row))
+          ∙ sym w.breaks_at.ensures ∙ w.if-breaks_at.false
+      | else-words-row-via-else-words-row w ↦ breaks-second (dependency_of a.d) (row_at S W a.a) (row_at S W at) (λ h. w.if-words-row.false (same ∙ h))
+    ] in (
+      step.schema-same,
+      step.words-same,
+      l.invariant.2 ∙ passing-later S W t at c.next.new.self.place.at l.row-iterator.place.number step.next fails
+          ∙ ap (λ (n : ℕ). first_passing t (rows_at S W c.next.new.self.place.at n)) (sym step.number),
     )
 
 pub returns : goal.returns
-returns c = let s = c in
-    let a = s.args in
-    let l = c.loop-at in
-    let W = a.words.now in
-    let S = a.schema.now in
-    let t = breaks_with (dependency_of a.d) (row_at S W a.a) in
-    sym (ap partner_of (l.invariant.1 ∙ passing-end S W t l.at l.j c.loop-at-test.false))
+returns c =
+    let a = c.args in
+    let l = c.loop-row in
+    sym (ap partner_of (l.invariant.2 ∙ passing-end a.schema.now a.words.now (breaks_with (dependency_of a.d) (row_at a.schema.now a.words.now a.a))
+    l.row-iterator.place.at l.row-iterator.place.number (ended l.invariant.0 l.invariant.1 c.in-None.ensures.steps)))

@@ -1,7 +1,5 @@
 -- `next` finds the row after one of whole words.
 -- Assumes nothing.
--- `next` finds the row after one of whole words.
--- Assumes nothing.
 use Prim.Native.Nat.{◌+◌}
 use mathlib.Core.Path.{refl}
 use native.Mathlib.Omega.{arith}
@@ -9,23 +7,11 @@ use lib.ListN.{get_or}
 use Rattle.words.proofs.Spelling.{next_row}
 use Rattle.words.proofs.next.Goals as goal
 
-pub overflow_cast-relation : goal.overflow_cast-relation
-overflow_cast-relation c = omega (arith, c.type_inv.words c.args.at)
-
 pub bounds-schema-relation : goal.bounds-schema-relation
 bounds-schema-relation c = let a = c.args in
     let n = next_row a.schema.now a.words.now a.at c.requires.0 (a.at + 1 + get_or a.schema.now (get_or a.words.now a.at 0) 0)
     c.requires.1 refl in
     omega (arith, n.known)
-
-pub overflow_cast-width : goal.overflow_cast-width
-overflow_cast-width c = omega (arith, c.type_inv.schema (get_or c.args.words.now c.args.at 0))
-
-pub overflow_add-result-2 : goal.overflow_add-result-2
-overflow_add-result-2 c = let a = c.args in
-    let n = next_row a.schema.now a.words.now a.at c.requires.0 (a.at + 1 + get_or a.schema.now (get_or a.words.now a.at 0) 0)
-    c.requires.1 refl in
-    omega (arith, n.fits)
 
 pub returns : goal.returns
 returns c = let a = c.args in

@@ -1,53 +1,38 @@
--- `spelled` answers whether the words spell rows. Invariant: the words from `at` on are judged as all of them are.
+-- `spelled` answers whether the words spell rows.
 -- Assumes nothing.
-use mathlib.Core.Path.{◌≡◌, refl, sym, ap, ◌∙◌}
-use mathlib.Core.List.{List}
-use Prim.Native.Nat.{ℕ}
+use mathlib.Core.Path.{◌≡◌, sym, ap, ◌∙◌}
+use mathlib.Core.List.{[]}
 use native.Mathlib.Omega.{arith}
-use lib.ListN.{length, drop, get_or}
-use lib.Seq.{drop-length}
+use lib.ListN.{get_or}
+use Rattle.std.proofs.lemmas.Grind.{common_steps}
 use Rattle.words.specs.Words.{spells_rows, spells_rows_from}
-use Rattle.words.proofs.Spelling.{spells-unknown, spells-cut, spells-after}
-use borrow.Author.Rules.{rules}
+use Rattle.words.proofs.Spelling.{unknown-first, cut-first, after-first}
 use Rattle.words.proofs.spelled.Goals as goal
 
-pub loop-at-init : goal.loop-at-init
-loop-at-init c = (search rules, refl)
+pub returns-in_default-get : goal.returns-in_default-get
+returns-in_default-get c =
+    let S = c.args.schema.now in
+    sym (c.loop-relation.invariant ∙ ap (spells_rows S) c.in-Some.ensures.cases.0
+    ∙ unknown-first S c.in-Some.relation.now c.in-Some.values.now c.in_default-get.ensures.lookup.3)
 
-pub overflow_cast-relation : goal.overflow_cast-relation
-overflow_cast-relation c = omega (arith, c.type_inv.words c.loop-at.at)
+pub returns-then-values-width : goal.returns-then-values-width
+returns-then-values-width c =
+    let S = c.args.schema.now in
+    let width : c.in-Some-get.width.now ≡ get_or S c.in-Some.relation.now 0 = c.in-Some-get.ensures.lookup.4 (omega arith) 0 in
+    sym (c.loop-relation.invariant ∙ ap (spells_rows S) c.in-Some.ensures.cases.0
+    ∙ cut-first S c.in-Some.relation.now c.in-Some.values.now (omega arith))
 
-pub returns-then-schema-relation : goal.returns-then-schema-relation
-returns-then-schema-relation c =
-    sym (c.loop-at.invariant.1 ∙ spells-unknown c.args.schema.now
-    c.args.words.now
-    c.loop-at.at (search rules) c.if-schema-relation.true)
-
-pub overflow_cast-width : goal.overflow_cast-width
-overflow_cast-width c = omega (
-  arith,
-  c.type_inv.schema
-      (get_or c.args.words.now c.loop-at.at 0),
-)
-
-pub returns-then-words-at : goal.returns-then-words-at
-returns-then-words-at c = let a = c.args in
-    let at = c.loop-at.at in
-    sym (c.loop-at.invariant.1 ∙ spells-cut a.schema.now a.words.now at (search rules)
-    (get_or a.schema.now (get_or a.words.now at 0) 0) refl
-    (search rules))
-
-pub loop-at-preserved : goal.loop-at-preserved
-loop-at-preserved c = let a = c.args in
-    let at = c.loop-at.at in (
-      search rules,
-      c.loop-at.invariant.1 ∙ spells-after a.schema.now a.words.now at (search rules)
-          (get_or a.schema.now (get_or a.words.now at 0) 0) refl (search rules) (search rules),
-    )
+pub loop-relation-preserved : goal.loop-relation-preserved
+loop-relation-preserved c =
+    let S = c.args.schema.now in
+    let values = c.in-Some.values.now in
+    let width : c.in-Some-get.width.now ≡ get_or S c.in-Some.relation.now 0 = c.in-Some-get.ensures.lookup.4 (omega arith) 0 in
+    let step = c.loop-relation.invariant ∙ ap (spells_rows S) c.in-Some.ensures.cases.0
+    ∙ after-first S c.in-Some.relation.now values c.in-Some-get.ensures.lookup.3.0 (omega arith) in
+    grind (arith, common_steps, step)
 
 pub returns : goal.returns
 unfolding spells_rows_from
-returns c = let a = c.args in
-    let e : c.loop-at.at ≡ length a.words.now = search rules in
-    sym (c.loop-at.invariant.1 ∙ ap (λ (n : ℕ). spells_rows a.schema.now (drop n a.words.now)) e ∙ ap (λ (l : List ℕ). spells_rows a.schema.now l)
-    (drop-length a.words.now))
+returns c =
+    let none_left : c.loop-relation.rest.now ≡ [] = grind (arith, common_steps, c.in_default.ensures.cases) in
+    sym (c.loop-relation.invariant ∙ ap (spells_rows c.args.schema.now) none_left)

@@ -1,13 +1,12 @@
--- `spelled` answers whether the words spell rows. Invariant: the words from `at` on are judged as all of them are.
+-- `spelled` answers whether the words spell rows. Invariant: the rest of the words is judged as all of them are.
 -- Assumes nothing.
 use mathlib.Core.Path.{◌≡◌}
-use Prim.Native.Nat.{◌≤◌, ◌-◌}
-use lib.ListN.{length, drop}
+use lib.ListN.{length}
 use Rattle.words.specs.Words.{spells_rows}
 use Rattle.words.proofs.spelled.Given as goal
 
-abbrev pub invariant-loop-at : goal.invariant-loop-at
-invariant-loop-at l = (l.at ≤ length l.words) × (spells_rows l.schema l.words ≡ spells_rows l.schema (drop l.at l.words))
+abbrev pub invariant-loop-relation : goal.invariant-loop-relation
+invariant-loop-relation l = spells_rows l.schema l.words ≡ spells_rows l.schema l.rest
 
-abbrev pub decreases-loop-at : goal.decreases-loop-at
-decreases-loop-at l = length l.words - l.at
+abbrev pub decreases-loop-relation : goal.decreases-loop-relation
+decreases-loop-relation l = length l.rest
