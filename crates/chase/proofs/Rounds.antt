@@ -20,9 +20,9 @@ use Rattle.query.specs.Types.{Tableau}
 use Rattle.query.specs.View.{entry_of, entries_of, query_of, as_query, held_of}
 use Rattle.lists.specs.Tests.{every, between}
 use Rattle.query.specs.Rule.{good_entry, good_cell, blank_cell, good_up_to, good_tableau, never_tableau, no_cell}
-use Rattle.first_step.specs.declared.NextStep.TheVariants.{Rest, Step}
-use Rattle.replacement.specs.declared.Resolution.{Resolution}
-use Rattle.replacement.specs.declared.Resolution.TheVariants.{Clash, Replace}
+use Rattle.std.specs.Prelude.{None, Some}
+use Rattle.std.specs.Prelude as prelude
+use Rattle.replacement.specs.declared.Replacement.{Replacement}
 use Rattle.chase.specs.declared.Chased as stored-chased
 use Rattle.first_step.specs.internal.Wide.{wide_row, wide_rows, wide_query, first_differing, next_step_of, good_next_step}
 use Rattle.replacement.specs.internal.Replacement.{resolution_of, substitute_entry}
@@ -138,12 +138,12 @@ under-start q ds blank =
     }
 
 -- The step of a round from what the search found and how that was resolved
-pub step-some : (ds : List Dependency) (query : stored.Query) (a b : stored-entry.Entry) (r : Resolution)
-    → next_step_of (Step a b) ≡ first_differing ds (wide_query query).rows → resolution_of r ≡ resolve (in_head (wide_query query)) (entry_of a) (entry_of b)
+pub step-some : (ds : List Dependency) (query : stored.Query) (a b : stored-entry.Entry) (r : prelude.Option Replacement)
+    → next_step_of (Some (a, b)) ≡ first_differing ds (wide_query query).rows → resolution_of r ≡ resolve (in_head (wide_query query)) (entry_of a) (entry_of b)
     → step ds (wide_query query) ≡ some (resolution_of r)
 step-some ds query a b r found resolved = step-differing ds (wide_query query) ∙ rw (← found, resolved)
 
-pub step-none : (ds : List Dependency) (query : stored.Query) → next_step_of Rest ≡ first_differing ds (wide_query query).rows → step ds (wide_query query) ≡ none
+pub step-none : (ds : List Dependency) (query : stored.Query) → next_step_of None ≡ first_differing ds (wide_query query).rows → step ds (wide_query query) ≡ none
 step-none ds query found = step-differing ds (wide_query query) ∙ rw (← found)
 
 -- The entry that survives is one of the two, so it is good if they are
@@ -154,7 +154,7 @@ same_good (Variable v) (Constant n) is good = absurd (constant-variable n v (sym
 same_good (Variable v) (Variable w) is good = rw (variable-same is) good
 
 resolve-good : (shown : ℕ → Bool) (a b : stored-entry.Entry) (v : ℕ) (e : stored-entry.Entry) → good_entry a ≡ true → good_entry b ≡ true
-    → resolution_of (Replace v e) ≡ resolve shown (entry_of a) (entry_of b) → good_entry e ≡ true
+    → resolution_of (Some (record { variable = v; entry = e })) ≡ resolve shown (entry_of a) (entry_of b) → good_entry e ≡ true
 resolve-good shown a b v e good-a good-b is =
     ⊎_elim
     (λ p. same_good e b (sym p.1) good-b)
@@ -169,19 +169,19 @@ module _
     (a b : stored-entry.Entry)
     (v : ℕ)
     (e : stored-entry.Entry)
-    (found : next_step_of (Step a b) ≡ first_differing ds (wide_query query).rows)
-    (resolved : resolution_of (Replace v e) ≡ resolve (in_head (wide_query query)) (entry_of a) (entry_of b))
+    (found : next_step_of (Some (a, b)) ≡ first_differing ds (wide_query query).rows)
+    (resolved : resolution_of (Some (record { variable = v; entry = e })) ≡ resolve (in_head (wide_query query)) (entry_of a) (entry_of b))
   where
     one-replaced : chase ds (wide_query query) ≡ one_more (chase ds (wide_query (map_cells (substitute_cell v e) query)))
     one-replaced =
-        chase-at-replace ds (wide_query query) v (entry_of e) (step-some ds query a b (Replace v e) found resolved)
+        chase-at-replace ds (wide_query query) v (entry_of e) (step-some ds query a b (Some (record { variable = v; entry = e })) found resolved)
         ∙ ap (λ x. one_more (chase ds x)) (sym (wide_query-map (substitute_cell v e) (substitute v (entry_of e)) (substitute-stands v e) query))
 
     pub replaced-count : (chase ds (wide_query query)).count ≡ suc (chase ds (wide_query (map_cells (substitute_cell v e) query))).count
     replaced-count = ap (λ c. c.count) one-replaced
 
     pub under-replace : (count : ℕ) → Under q ds query count → q.size ≤ length q.relations
-        → (every good_cell query.cells ≡ true → good_next_step (Step a b) ≡ true) → Under q ds (map_cells (substitute_cell v e) query) (count + 1)
+        → (every good_cell query.cells ≡ true → good_next_step (Some (a, b)) ≡ true) → Under q ds (map_cells (substitute_cell v e) query) (count + 1)
     under-replace count under fits good =
         let after = chase ds (wide_query (map_cells (substitute_cell v e) query)) in
         let one : count + suc after.count ≡ count + 1 + after.count = omega arith in
@@ -251,7 +251,7 @@ module _
     (widths : every (between 1 8) schema ≡ true)
   where
     -- Where the chase rests
-    pub under_rest : next_step_of Rest ≡ first_differing (held_of dependencies held) (wide_query (as_query tableau)).rows
+    pub under_rest : next_step_of None ≡ first_differing (held_of dependencies held) (wide_query (as_query tableau)).rows
         → IsChased schema dependencies held t (record { query = tableau; count = count })
     under_rest found =
         let ds = held_of dependencies held in
@@ -275,8 +275,8 @@ module _
 
     -- Where it clashes
     pub under-clash : (a b : stored-entry.Entry) → t.arity ≤ 8 → t.arity ≤ length t.head
-        → next_step_of (Step a b) ≡ first_differing (held_of dependencies held) (wide_query (as_query tableau)).rows
-        → resolution_of Clash ≡ resolve (in_head (wide_query (as_query tableau))) (entry_of a) (entry_of b)
+        → next_step_of (Some (a, b)) ≡ first_differing (held_of dependencies held) (wide_query (as_query tableau)).rows
+        → resolution_of None ≡ resolve (in_head (wide_query (as_query tableau))) (entry_of a) (entry_of b)
         → IsChased schema dependencies held t (record { query = never_tableau t.arity; count = count })
     under-clash a b arity head found resolved =
         let ds = held_of dependencies held in
@@ -295,7 +295,7 @@ module _
         fits
         zero-le
         (under.chase-is
-        ∙ ap (later count) (chase-at-clash ds (wide_query query) (step-some ds query a b Clash found resolved))
+        ∙ ap (later count) (chase-at-clash ds (wide_query query) (step-some ds query a b None found resolved))
         ∙ ap₂ (λ x n. record { query = x; count = n }) (ap never shown ∙ sym (wide-never t.arity arity)) (add-zero count))
         (never-good schema t.arity arity)
         refl

@@ -7,9 +7,9 @@ ghost use Rattle.lists.specs.Tests.{every, between};
 ghost use Rattle.first_step.specs.internal.Wide.{Chasable};
 ghost use Rattle.chase.specs.internal.Outcome.{IsChased};
 
-use first_step::{NextStep, find_step};
+use first_step::find_step;
 use query::{Dependency, Tableau};
-use replacement::{Resolution, replace, resolve};
+use replacement::{replace, resolve};
 
 // A chased tableau and the number of replacements that led to it.
 #[derive(Clone, Copy)]
@@ -26,22 +26,15 @@ pub fn chase(t: Tableau, dependencies: [Dependency; 32], held: usize) -> Chased
 {
     let mut query = t;
     let mut count: u8 = 0;
-    loop {
-        let found = find_step(query, dependencies, held);
-        let NextStep::Step(a, b) = found else {
-            return Chased {
-                query: query,
-                count: count,
-            };
-        };
-        let resolution = resolve(query, a, b);
-        let Resolution::Replace(v, e) = resolution else {
+    while let Some((a, b)) = find_step(query, dependencies, held) {
+        let Some(replacement) = resolve(query, a, b) else {
             return Chased {
                 query: Tableau::never(t.arity),
-                count: count,
+                count,
             };
         };
-        query = replace(query, v, e);
+        query = replace(query, replacement);
         count += 1;
     }
+    Chased { query, count }
 }

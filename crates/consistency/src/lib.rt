@@ -5,7 +5,7 @@
 // (r * 24 + d) * 13 + q of a table is the mask of the candidates of row q that go together with candidate d of row r.
 #![tactic(auto)]
 
-ghost use Rattle.std.specs.Prelude.{◌≡◌, ◌<◌, ◌≤◌};
+ghost use Rattle.std.specs.Prelude.{◌≡◌, IfSome, ◌<◌, ◌≤◌};
 ghost use Rattle.consistency.specs.internal.Consistent.{NoBit, Below, Settles, Follows};
 ghost use Rattle.consistency.specs.internal.Steps.{Marked, After, Supports};
 
@@ -26,18 +26,9 @@ fn restricts(domain: &[u32; 13], table: &[u32; 4056], r: usize, q: usize) -> boo
 {
     let own = domain[r];
     let other = domain[q];
-    for d in 0..24 {
-        let rest = own >> d;
-        if rest == 0 {
-            return false;
-        }
-        if rest % 2 == 1 {
-            if (table[(r * 24 + d) * 13 + q] & other) != other {
-                return true;
-            }
-        }
-    }
-    false
+    // one past the last candidate
+    let end = 32u32.saturating_sub(own.leading_zeros()).min(24) as usize;
+    (0..end).any(|d| (own >> d) % 2 == 1 && table[(r * 24 + d) * 13 + q] & other != other)
 }
 
 // The other rows that have candidates which some candidate of row r excludes.
@@ -46,10 +37,8 @@ fn links_of(domain: &[u32; 13], table: &[u32; 4056], rows: usize, r: usize) -> u
 {
     let mut mask: u16 = 0;
     for q in 0..rows {
-        if q != r {
-            if restricts(domain, table, r, q) {
-                mask = mask | (1 << q);
-            }
+        if q != r && restricts(domain, table, r, q) {
+            mask |= 1 << q;
         }
     }
     mask
@@ -60,8 +49,8 @@ pub fn all_links(domain: &[u32; 13], table: &[u32; 4056], rows: usize) -> [u16; 
     requires { rows ≤ 13 }
 {
     let mut all = [0u16; 13];
-    for r in 0..rows {
-        all[r] = links_of(domain, table, rows, r);
+    for (r, links) in all[..rows].iter_mut().enumerate() {
+        *links = links_of(domain, table, rows, r);
     }
     all
 }
@@ -105,7 +94,7 @@ fn support(table: &[u32; 4056], own: u32, p: usize, q: usize) -> u32
             return mask;
         }
         if rest % 2 == 1 {
-            mask = mask | table[(p * 24 + d) * 13 + q];
+            mask |= table[(p * 24 + d) * 13 + q];
         }
     }
     mask
@@ -135,7 +124,7 @@ fn spread(links: &[u16; 13], table: &[u32; 4056], rows: usize, state: State, p: 
 {
     let near = links[p];
     let mut next = state;
-    next.changed = state.changed & (65535 - (1 << p));
+    next.changed = state.changed & !(1 << p);
     for q in 0..rows {
         if (near >> q) % 2 == 1 {
             next = revised(table, rows, next, p, q);
@@ -144,17 +133,12 @@ fn spread(links: &[u16; 13], table: &[u32; 4056], rows: usize, state: State, p: 
     next
 }
 
-// The first row of the mask, or `rows`.
-fn first_row(mask: u16, rows: usize) -> usize
-    requires { rows ≤ 13 }
-    ensures { result ≤ rows }
+// The first row of the mask, or none.
+fn first_row(mask: u16, rows: usize) -> Option<usize>
+    ensures { IfSome result (λ p. p < rows) }
 {
-    for p in 0..rows {
-        if (mask >> p) % 2 == 1 {
-            return p;
-        }
-    }
-    rows
+    let p = mask.trailing_zeros() as usize;
+    if p < rows { Some(p) } else { None }
 }
 
 // The state in which rows are compared until no row that is not placed has changed, or one has no candidate left. Each of 13
@@ -164,11 +148,10 @@ pub fn settled(links: &[u16; 13], table: &[u32; 4056], rows: usize, state: State
     ensures { Settles rows table.now state result }
 {
     let mut next = state;
-    for turn in 0..325usize {
-        let p = first_row(next.changed & (65535 - next.placed), rows);
-        if p == rows {
+    'turns: for _ in 0..325 {
+        let Some(p) = first_row(next.changed & !next.placed, rows) else {
             return next;
-        }
+        };
         if next.current[p] == 0 {
             return next;
         }

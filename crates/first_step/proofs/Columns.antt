@@ -1,14 +1,15 @@
 -- Laws of the wide rows: a column is a cell, whose mark tells its entry; agreement on the columns of a mask as a loop over its bits sees it; the test of
 -- a pair by its parts; and what is read from good cells.
 -- Assumes nothing.
-use mathlib.Core.Path.{◌≡◌, refl, ◌∙◌, ap}
+use mathlib.Core.Path.{◌≡◌, refl, sym, ◌∙◌, ap}
+use mathlib.Core.Logic.{◌↔◌}
 use mathlib.Core.Bool.{Bool, true, false}
 use mathlib.Core.List.{List, [], ◌∷◌}
-use Prim.Native.Nat.{ℕ, suc, ◌+◌, ◌*◌, ◌-◌, ◌/◌, ◌%◌, ◌≤◌, ◌<◌}
+use Prim.Native.Nat.{ℕ, zero, suc, ◌+◌, ◌*◌, ◌/◌, ◌%◌, ◌^◌, ◌<◌}
 use native.Mathlib.Decide.{ℕ_discrete}
-use native.Mathlib.Numerals.{add-one}
+use native.Mathlib.Nat.{zero-add, pow-succ', div-div-eq-div-mul}
 use native.Mathlib.Omega.{arith}
-use borrow.Author.Tests.{eq-eqb, ne_eqb}
+use borrow.Author.Tests.{eq-eqb, ne_eqb, eqb-true}
 use lib.Dec.{eqb}
 use lib.ListN.{take, drop, get_or, get_or-map}
 use lib.Seq.{get_or-take, get_or-drop}
@@ -21,9 +22,11 @@ use Rattle.query.specs.Rule.{no_cell, good_entry, good_cell}
 use Rattle.lists.specs.Tests.{every}
 use Rattle.lists.proofs.Positions.{every-get_or-else}
 use Rattle.first_step.specs.internal.Wide.{row_at, row_in}
-use Rattle.first_step.specs.internal.Marks.{mark_of, Marked}
+use Rattle.first_step.specs.internal.Marks.{mark_of, Marked, AgreeOn}
 use Rattle.theory.specs.Query.{Entry, constant, Row, column, same_entry}
 use Rattle.theory.specs.Chase.{agree, breaks}
+use Rattle.std.specs.Bool.{IsTrue}
+use Rattle.lists.proofs.Tests.{and_left, and_right, and_both}
 use Rattle.theory.proofs.Lists.{bool_cases}
 
 -- Column c of row i is cell 8 i + c
@@ -56,29 +59,66 @@ wide-same m n cells marks i j c marked first second h =
     rw (wide-column m cells i c h, wide-column n cells j c h, marked (8 * i + c) (omega arith), marked (8 * j + c) (omega arith))
     (mark-tells (get_or cells (8 * i + c) no_cell).entry (get_or cells (8 * j + c) no_cell).entry)
 
--- Whether two rows agree on the columns from c on of what is left of a mask
-abbrev pub agree_left : ℕ → ℕ → Row Entry → Row Entry → Bool
-agree_left c rest r s = agree (columns_from c (8 - c) rest) r s
+-- The digits of a mask after the first
+half-digit : (mask k : ℕ) → mask / 2 / 2 ^ k % 2 ≡ mask / 2 ^ suc k % 2
+half-digit mask k = ap (λ (n : ℕ). n % 2) (div-div-eq-div-mul mask 2 (2 ^ k) ∙ ap (λ (n : ℕ). mask / n) (sym (pow-succ' 2 k)))
 
-module _ (c rest : ℕ) (r s : Row Entry) (h : c < 8) where
-  one_less : 8 - c ≡ suc (8 - (c + 1))
-  one_less = omega arith
+first-digit : (mask : ℕ) → mask / 2 ^ 0 % 2 ≡ mask % 2
+first-digit mask = omega arith
 
-  pub agree-skip : (rest % 2 ≡ 1 → ⊥) → agree_left c rest r s ≡ agree_left (c + 1) (rest / 2) r s
-  unfolding columns_from
-  agree-skip out = rw (one_less, ne_eqb (rest % 2) 1 out, add-one)
+-- Agreement on the columns of a mask, digit by digit
+module _ (r s : Row Entry) where
+  abbrev pub SameAt : ℕ → Type 0
+  SameAt c = same_entry (column (constant 0) r c) (column (constant 0) s c) ≡ true
 
-  pub agree_same : rest % 2 ≡ 1 → same_entry (column (constant 0) r c) (column (constant 0) s c) ≡ true → agree_left c rest r s ≡ agree_left (c + 1) (rest / 2) r s
+  pub agree-digits : (n c mask : ℕ) → ((k : ℕ) → k < n → mask / 2 ^ k % 2 ≡ 1 → SameAt (c + k)) → agree (columns_from c n mask) r s ≡ true
   unfolding columns_from agree
-  agree_same within same = rw (one_less, eq-eqb (rest % 2) 1 within, same, add-one)
+  agree-digits zero c mask same = refl
+  agree-digits (suc n) c mask same =
+      let later : agree (columns_from (suc c) n (mask / 2)) r s ≡ true
+      = agree-digits n (suc c) (mask / 2)
+      (λ k h one. let shift : c + suc k ≡ suc c + k = omega arith in rw shift at (same (suc k) (omega arith) (sym (half-digit mask k) ∙ one))) in
+      let shift : c + 0 ≡ c = omega arith in
+      elim (ℕ_discrete (mask % 2) 1) [
+        | yes one ↦ rw (eq-eqb (mask % 2) 1 one) (and_both _ _ (rw shift at (same 0 (omega arith) (first-digit mask ∙ one))) later)
+        | no other ↦ rw (ne_eqb (mask % 2) 1 other) later
+      ]
 
-  pub agree_differ : rest % 2 ≡ 1 → same_entry (column (constant 0) r c) (column (constant 0) s c) ≡ false → false ≡ agree_left c rest r s
+  pub digits-agree : (n c mask : ℕ) → agree (columns_from c n mask) r s ≡ true → (k : ℕ) → k < n → mask / 2 ^ k % 2 ≡ 1 → SameAt (c + k)
   unfolding columns_from agree
-  agree_differ within same = rw (one_less, eq-eqb (rest % 2) 1 within, same)
+  digits-agree zero c mask whole k h one = absurd (omega arith)
+  digits-agree (suc n) c mask whole zero h one =
+      let shift : c + 0 ≡ c = omega arith in
+      let first : mask % 2 ≡ 1 = sym (first-digit mask) ∙ one in
+      rw shift (and_left _ _ (rw (eq-eqb (mask % 2) 1 first) at whole))
+  digits-agree (suc n) c mask whole (suc k) h one =
+      let shift : c + suc k ≡ suc c + k = omega arith in
+      rw shift (digits-agree n (suc c) (mask / 2) (go (ℕ_discrete (mask % 2) 1)) k (omega arith) (half-digit mask k ∙ one))
+    where
+      go : Dec (mask % 2 ≡ 1) → agree (columns_from (suc c) n (mask / 2)) r s ≡ true
+      go (yes is) = and_right _ _ (rw (eq-eqb (mask % 2) 1 is) at whole)
+      go (no other) = rw (ne_eqb (mask % 2) 1 other) at whole
 
-pub agree-end : (c rest : ℕ) (r s : Row Entry) → 8 ≤ c → true ≡ agree_left c rest r s
-unfolding columns_from agree
-agree-end c rest r s h = let none : 8 - c ≡ 0 = omega arith in rw none
+-- Two tests that pass together are the same
+same-truth : (a b : Bool) → (a ≡ true → b ≡ true) → (b ≡ true → a ≡ true) → a ≡ b
+same-truth true b to from = sym (to refl)
+same-truth false true to from = from refl
+same-truth false false to from = refl
+
+-- so rows agree on a set exactly when their marks do
+pub agree-marks : (cells : List Cell) (marks : List ℕ) (set i j : ℕ) (b : Bool) → Marked cells marks → i < 24 → j < 24 → (IsTrue b ↔ AgreeOn set marks i j)
+    → b ≡ agree (columns_of set) (row_at 0 cells i) (row_at 0 cells j)
+agree-marks cells marks set i j b marked first second says = same-truth _ _ to from
+  where
+    same : (c : ℕ) → c < 8 → same_entry (column (constant 0) (row_at 0 cells i) c) (column (constant 0) (row_at 0 cells j) c)
+        ≡ eqb (get_or marks (8 * i + c) 0) (get_or marks (8 * j + c) 0)
+    same c h = wide-same 0 0 cells marks i j c marked first second h
+
+    to : b ≡ true → agree (columns_of set) (row_at 0 cells i) (row_at 0 cells j) ≡ true
+    to e = agree-digits _ _ 8 0 set (λ k h one. rw zero-add (same k h ∙ eq-eqb _ _ (says.0 e k h one)))
+
+    from : agree (columns_of set) (row_at 0 cells i) (row_at 0 cells j) ≡ true → b ≡ true
+    from e = says.1 (λ c h one. eqb-true _ _ (sym (same c h) ∙ rw zero-add at (digits-agree _ _ 8 0 set e c h one)))
 
 -- Agreement does not look at the relations
 pub agree-relations : (m n : ℕ) (cells : List Cell) (i j : ℕ) (columns : List ℕ)

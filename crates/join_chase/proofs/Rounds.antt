@@ -2,9 +2,9 @@
 -- next round or no room. Assumes nothing.
 use mathlib.Core.Path.{◌≡◌, refl, sym, ◌∙◌, ap, subst}
 use mathlib.Core.Logic.{◌≢◌}
-use mathlib.Core.Bool.{Bool, true, false, cond, true≢false}
+use mathlib.Core.Bool.{true}
 use mathlib.Core.List.{List, [], ◌∷◌}
-use mathlib.Core.Option.{none, some}
+use mathlib.Core.Option.{some}
 use Prim.Native.Nat.{ℕ, ◌≤◌, ◌<◌}
 use native.Mathlib.Omega.{arith}
 use borrow.Author.Tests.{leb-true, le-leb}
@@ -25,16 +25,17 @@ use Rattle.query.specs.Types.{Tableau}
 use Rattle.query.specs.declared.Dependency.{Dependency}
 use Rattle.query.specs.declared.JoinDependency.{JoinDependency}
 use Rattle.query.specs.View.{query_of, as_query, held_of, join_of, held_joins}
-use Rattle.query.specs.Rule.{good_tableau, good_join, good_joins, blank_join, shaped_join, no_tableau}
+use Rattle.query.specs.Rule.{good_tableau, good_join, good_joins, blank_join, shaped_join}
 use Rattle.query.proofs.Good.{good-query, good-join}
 use Rattle.query.proofs.Shape.{row_count}
 use Rattle.chase.specs.declared.Chased.{Chased}
 use Rattle.chase.specs.internal.Outcome.{IsChased}
 use Rattle.chase.proofs.Callers.{good-widths, width-le}
 use Rattle.join_rule.proofs.Fitting.{good-joins-fit}
-use Rattle.join_chase.specs.internal.JoinChased.{rounds_left, JoinChasable, IsRound}
+use Rattle.join_chase.specs.internal.JoinChased.{rounds_left, JoinChasable, IsJoinChased, IsNextRound}
+use Rattle.std.specs.Prelude.{Option, None, Some}
 use Rattle.join_step.specs.declared.NextRow.{NextRow}
-use Rattle.join_step.specs.internal.Step.{with_row, distinct_to, next_of, IsNext}
+use Rattle.join_step.specs.internal.Step.{with_row, distinct_to, IsNext}
 use Rattle.join_step.proofs.Rows.{row_with, added-query, added-tableau, repeats-query, repeats-tableau, repeats-arity, repeats-long}
 
 -- A query without repeated rows, where some join dependency is held
@@ -103,33 +104,28 @@ module _ (schema : List ℕ) (widths : every (between 1 8) schema ≡ true) (dep
           let long = repeats-long schema narrow c.query relations-long cells-long is.good in
           ap (λ p. length p.rows) (sym settled_is) ∙ row_count schema (as_query s) (omega (arith, g.size, long.0))
 
-      module _ (n : NextRow) (next : IsNext schema (distinct_to c.query c.query.size) joins joined n) where
-        next-is : next_of schema n ≡ next_row schema js (settle ds js q).rows
+      -- No row is asked for
+      pub chase-ends : IsNext schema (distinct_to c.query c.query.size) joins joined None
+          → chased (query_of schema (as_query (distinct_to c.query c.query.size)))
+          ≡ join_chase schema (held_of dependencies held) (held_joins joins joined) 24 (query_of schema (as_query t))
+      unfolding s q ds js
+      chase-ends next =
+          ap chased settled_is ∙ sym (join-at-end schema ds js 24 fit q (sym (next.row_is ∙ ap (λ p. next_row schema js p.rows) settled_is)))
+
+      module _ (n : NextRow) (next : IsNext schema (distinct_to c.query c.query.size) joins joined (Some n)) where
+        asked : next_row schema js (settle ds js q).rows ≡ some (row_with schema n.relation n.row)
         unfolding s js
-        next-is = next.row_is ∙ ap (λ p. next_row schema js p.rows) settled_is
-
-        -- No row is asked for
-        pub chase-ends : n.found ≡ false
-            → chased (query_of schema (as_query (distinct_to c.query c.query.size)))
-            ≡ join_chase schema (held_of dependencies held) (held_joins joins joined) 24 (query_of schema (as_query t))
-        unfolding s q ds js
-        chase-ends out =
-            ap chased settled_is
-            ∙ sym (join-at-end schema ds js 24 fit q
-            (sym next-is ∙ ap (λ (b : Bool). cond b (some (row_with schema n.relation n.row)) none) out))
-
-        asked : n.found ≡ true → next_row schema js (settle ds js q).rows ≡ some (row_with schema n.relation n.row)
-        asked there = sym next-is ∙ ap (λ (b : Bool). cond b (some (row_with schema n.relation n.row)) none) there
+        asked = sym (next.row_is ∙ ap (λ p. next_row schema js p.rows) settled_is)
 
         -- One is, and there is no room
-        pub chase-over : n.found ≡ true → (distinct_to c.query c.query.size).size ≡ 24
+        pub chase-over : (distinct_to c.query c.query.size).size ≡ 24
             → overflow ≡ join_chase schema (held_of dependencies held) (held_joins joins joined) 24 (query_of schema (as_query t))
         unfolding s q ds js
-        chase-over there full =
-            sym (join-at-limit schema ds js 24 fit q (row_with schema n.relation n.row) (asked there) (omega (arith, settled-size, full)))
+        chase-over full =
+            sym (join-at-limit schema ds js 24 fit q (row_with schema n.relation n.row) asked (omega (arith, settled-size, full)))
 
         -- One is, and it is added
-        module _ (there : n.found ≡ true) (room : (distinct_to c.query c.query.size).size < 24) (eight : length n.row ≡ 8) where
+        module _ (room : (distinct_to c.query c.query.size).size < 24) (eight : length n.row ≡ 8) where
           lengths : (length s.relations ≡ 24) × (length s.cells ≡ 192)
           unfolding s
           lengths = repeats-long schema narrow c.query relations-long cells-long is.good
@@ -141,7 +137,7 @@ module _ (schema : List ℕ) (widths : every (between 1 8) schema ≡ true) (dep
               ∙ ap (λ p. add_row p (row_with schema n.relation n.row)) settled_is
 
           some-row : 0 < s.size
-          some-row = go (settle ds js q).rows settled-size (added-some schema js fit (next_row-found schema js (settle ds js q).rows _ (asked there)))
+          some-row = go (settle ds js q).rows settled-size (added-some schema js fit (next_row-found schema js (settle ds js q).rows _ asked))
             where
               go : (rows : List (Row Entry)) → length rows ≡ s.size → rows ≢ [] → 0 < s.size
               go [] long nonempty = absurd (nonempty refl)
@@ -150,21 +146,21 @@ module _ (schema : List ℕ) (widths : every (between 1 8) schema ≡ true) (dep
           pub more-good : good_tableau schema (with_row (distinct_to c.query c.query.size) n.relation n.row) ≡ true
           unfolding s
           more-good =
-              added-tableau schema narrow s lengths.0 lengths.1 settled-good room n.relation n.row eight some-row (next.good there)
+              added-tableau schema narrow s lengths.0 lengths.1 settled-good room n.relation n.row eight some-row next.good
 
           pub chase-goes-on : join_chase schema (held_of dependencies held) (held_joins joins joined) 24 (query_of schema (as_query t))
               ≡ join_chase schema (held_of dependencies held) (held_joins joins joined) 24
               (query_of schema (as_query (with_row (distinct_to c.query c.query.size) n.relation n.row)))
           unfolding s q ds js
           chase-goes-on =
-              join-at-row schema ds js 24 fit q (row_with schema n.relation n.row) (asked there) (omega (arith, settled-size, room))
+              join-at-row schema ds js 24 fit q (row_with schema n.relation n.row) asked (omega (arith, settled-size, room))
               ∙ ap (join_chase schema ds js 24) (sym more-is)
 
           pub fewer-rounds : rounds_left schema joins joined (with_row (distinct_to c.query c.query.size) n.relation n.row) < rounds_left schema joins joined t
           unfolding s q js rounds
           fewer-rounds =
               subst (λ p. rounds schema ds js 24 p < rounds schema ds js 24 q) (sym more-is)
-              (settled-falls schema ds js 24 fit q (row_with schema n.relation n.row) (asked there) (omega (arith, settled-size, room)))
+              (settled-falls schema ds js 24 fit q (row_with schema n.relation n.row) asked (omega (arith, settled-size, room)))
 
 -- ---- what a round promises
 
@@ -197,19 +193,12 @@ module _ (t : Tableau) (relations : ℕ) (given : List ℕ) (dependencies : List
   unfolding schema
   is = promised schema asked.tableau-good widths
 
-  pub made-functional : joined ≡ 0 → IsRound t relations given dependencies held joins joined (record { ended = true; over = false; query = c.query })
+  pub made-functional : joined ≡ 0 → IsJoinChased t relations given dependencies held joins joined (Some c.query)
   unfolding schema
   made-functional none-held = record {
-    end = λ _. record {
-      outcome-is = functional-only schema widths dependencies held joins joined shaped enough asked.joins-good t c is none-held;
-      good = λ _. is.good;
-      same-arity = λ _. is.same-arity;
-      blank = λ e. absurd (true≢false (sym e));
-    };
-    good = λ e. absurd (true≢false e);
-    same-arity = λ e. absurd (true≢false e);
-    same_outcome = λ e. absurd (true≢false e);
-    fewer-left = λ e. absurd (true≢false e);
+    outcome-is = functional-only schema widths dependencies held joins joined shaped enough asked.joins-good t c is none-held;
+    good = is.good;
+    same-arity = is.same-arity;
   }
 
   module _ (one : 0 < joined) (relations-long : length c.query.relations ≡ 24) (cells-long : length c.query.cells ≡ 192) (s : Tableau)
@@ -220,7 +209,7 @@ module _ (t : Tableau) (relations : ℕ) (given : List ℕ) (dependencies : List
         ap (good_tableau schema) is-settled
         ∙ settled-good schema widths dependencies held joins joined shaped enough asked.joins-good t c is one relations-long cells-long
 
-    module _ (n : NextRow) (promised-next : (schema : List ℕ) → ((i : ℕ) → get_or schema i 0 ≤ 8) → good_tableau schema s ≡ true
+    module _ (n : Option NextRow) (promised-next : (schema : List ℕ) → ((i : ℕ) → get_or schema i 0 ≤ 8) → good_tableau schema s ≡ true
         → good_joins schema joined joins ≡ true → IsNext schema s joins joined n) where
       next : IsNext schema (distinct_to c.query c.query.size) joins joined n
       unfolding schema
@@ -228,65 +217,55 @@ module _ (t : Tableau) (relations : ℕ) (given : List ℕ) (dependencies : List
           subst (λ (x : Tableau). IsNext schema x joins joined n) is-settled
           (promised-next schema (width-le schema widths) settled-tableau asked.joins-good)
 
-      pub made-end : n.found ≡ false → IsRound t relations given dependencies held joins joined (record { ended = true; over = false; query = s })
+      pub made-end : n ≡ None → IsJoinChased t relations given dependencies held joins joined (Some s)
       unfolding schema
       made-end out = record {
-        end = λ _. record {
-          outcome-is =
-              ap (λ (x : Tableau). chased (query_of schema (as_query x))) is-settled
-              ∙ chase-ends schema widths dependencies held joins joined shaped enough asked.joins-good t c is one relations-long cells-long n next out;
-          good = λ _. settled-tableau;
-          same-arity = λ _.
-              ap (λ (x : Tableau). x.arity) is-settled
-              ∙ settled-arity schema widths dependencies held joins joined shaped enough asked.joins-good t c is one relations-long cells-long;
-          blank = λ e. absurd (true≢false (sym e));
-        };
-        good = λ e. absurd (true≢false e);
-        same-arity = λ e. absurd (true≢false e);
-        same_outcome = λ e. absurd (true≢false e);
-        fewer-left = λ e. absurd (true≢false e);
+        outcome-is =
+            ap (λ (x : Tableau). chased (query_of schema (as_query x))) is-settled
+            ∙ chase-ends schema widths dependencies held joins joined shaped enough asked.joins-good t c is one relations-long cells-long
+            (subst (IsNext schema (distinct_to c.query c.query.size) joins joined) out next);
+        good = settled-tableau;
+        same-arity =
+            ap (λ (x : Tableau). x.arity) is-settled
+            ∙ settled-arity schema widths dependencies held joins joined shaped enough asked.joins-good t c is one relations-long cells-long;
       }
 
-      pub made-over : n.found ≡ true → s.size ≡ 24 → (x : Tableau) → x ≡ no_tableau
-          → IsRound t relations given dependencies held joins joined (record { ended = true; over = true; query = x })
-      unfolding schema
-      made-over there full x blank-is = record {
-        end = λ _. record {
+      module _ (row : NextRow) (there : n ≡ Some row) where
+        some-next : IsNext schema (distinct_to c.query c.query.size) joins joined (Some row)
+        unfolding schema
+        some-next = subst (IsNext schema (distinct_to c.query c.query.size) joins joined) there next
+
+        pub made-over : s.size ≡ 24 → IsJoinChased t relations given dependencies held joins joined None
+        unfolding schema
+        made-over full = record {
           outcome-is =
-              chase-over schema widths dependencies held joins joined shaped enough asked.joins-good t c is one relations-long cells-long n next there
+              chase-over schema widths dependencies held joins joined shaped enough asked.joins-good t c is one relations-long cells-long row some-next
               (sym (ap (λ (x : Tableau). x.size) is-settled) ∙ full);
-          good = λ e. absurd (true≢false e);
-          same-arity = λ e. absurd (true≢false e);
-          blank = λ _. blank-is;
-        };
-        good = λ e. absurd (true≢false e);
-        same-arity = λ e. absurd (true≢false e);
-        same_outcome = λ e. absurd (true≢false e);
-        fewer-left = λ e. absurd (true≢false e);
-      }
+          good = tt;
+          same-arity = tt;
+        }
 
-      pub made_more : n.found ≡ true → s.size < 24 → length n.row ≡ 8 → (x : Tableau) → x ≡ with_row s n.relation n.row
-          → IsRound t relations given dependencies held joins joined (record { ended = false; over = false; query = x })
-      unfolding schema
-      made_more there room eight x is-more =
-          let less : (distinct_to c.query c.query.size).size < 24 = subst (λ (y : Tableau). y.size < 24) is-settled room in
-          let same : x ≡ with_row (distinct_to c.query c.query.size) n.relation n.row =
-          is-more ∙ ap (λ (y : Tableau). with_row y n.relation n.row) is-settled in
-          record {
-            end = λ e. absurd (true≢false (sym e));
-            good = λ _.
-                ap (good_tableau schema) same
-                ∙ more-good schema widths dependencies held joins joined shaped enough asked.joins-good t c is one relations-long cells-long n next
-                there less eight;
-            same-arity = λ _.
-                ap (λ (y : Tableau). y.arity) same
-                ∙ settled-arity schema widths dependencies held joins joined shaped enough asked.joins-good t c is one relations-long cells-long;
-            same_outcome = λ _.
-                chase-goes-on schema widths dependencies held joins joined shaped enough asked.joins-good t c is one relations-long cells-long n next
-                there less eight
-                ∙ ap (λ (y : Tableau). join_chase schema (held_of dependencies held) (held_joins joins joined) 24 (query_of schema (as_query y))) (sym same);
-            fewer-left = λ _.
-                subst (λ (y : Tableau). rounds_left schema joins joined y < rounds_left schema joins joined t) (sym same)
-                (fewer-rounds schema widths dependencies held joins joined shaped enough asked.joins-good t c is one relations-long cells-long n next
-                there less eight);
-          }
+        pub made_more : s.size < 24 → length row.row ≡ 8 → (x : Tableau) → x ≡ with_row s row.relation row.row
+            → IsNextRound t relations given dependencies held joins joined x
+        unfolding schema
+        made_more room eight x is-more =
+            let less : (distinct_to c.query c.query.size).size < 24 = subst (λ (y : Tableau). y.size < 24) is-settled room in
+            let same : x ≡ with_row (distinct_to c.query c.query.size) row.relation row.row =
+            is-more ∙ ap (λ (y : Tableau). with_row y row.relation row.row) is-settled in
+            record {
+              good =
+                  ap (good_tableau schema) same
+                  ∙ more-good schema widths dependencies held joins joined shaped enough asked.joins-good t c is one relations-long cells-long row
+                  some-next less eight;
+              same-arity =
+                  ap (λ (y : Tableau). y.arity) same
+                  ∙ settled-arity schema widths dependencies held joins joined shaped enough asked.joins-good t c is one relations-long cells-long;
+              same_outcome =
+                  chase-goes-on schema widths dependencies held joins joined shaped enough asked.joins-good t c is one relations-long cells-long row
+                  some-next less eight
+                  ∙ ap (λ (y : Tableau). join_chase schema (held_of dependencies held) (held_joins joins joined) 24 (query_of schema (as_query y))) (sym same);
+              fewer-left =
+                  subst (λ (y : Tableau). rounds_left schema joins joined y < rounds_left schema joins joined t) (sym same)
+                  (fewer-rounds schema widths dependencies held joins joined shaped enough asked.joins-good t c is one relations-long cells-long row
+                  some-next less eight);
+            }

@@ -7,19 +7,11 @@ ghost use Rattle.join_chase.specs.internal.JoinChased.{JoinChasable, IsJoinChase
 use join_step::{next_row, with_row, without_repeats};
 use query::{Dependency, JoinDependency, Tableau};
 
-// A chased tableau. Where a row more than 24 would be added it is over, and there is no tableau.
+// What a round of the chase makes of a tableau: the end, with the chased tableau or none where a row more than 24 would be added, or the tableau of the next round.
 #[derive(Clone, Copy)]
-pub struct JoinChased {
-    pub over: bool,
-    pub query: Tableau,
-}
-
-// What a round of the chase makes of a tableau: the end, or the tableau of the next round.
-#[derive(Clone, Copy)]
-struct Round {
-    ended: bool,
-    over: bool,
-    query: Tableau,
+enum Round {
+    Ended(Option<Tableau>),
+    Next(Tableau),
 }
 
 // One round. The relations and widths only name the schema.
@@ -38,37 +30,19 @@ fn make_round(
     let chased = chase::chase(t, dependencies, held);
     let functional = chased.query;
     if joined == 0 {
-        return Round {
-            ended: true,
-            over: false,
-            query: functional,
-        };
+        return Round::Ended(Some(functional));
     }
     let settled = without_repeats(functional);
-    let next = next_row(settled, joins, joined);
-    if !next.found {
-        return Round {
-            ended: true,
-            over: false,
-            query: settled,
-        };
-    }
+    let Some(next) = next_row(settled, joins, joined) else {
+        return Round::Ended(Some(settled));
+    };
     if settled.size == 24 {
-        return Round {
-            ended: true,
-            over: true,
-            query: Tableau::never(0),
-        };
+        return Round::Ended(None);
     }
-    let row = next.row;
-    Round {
-        ended: false,
-        over: false,
-        query: with_row(settled, next.relation, row),
-    }
+    Round::Next(with_row(settled, next.relation, next.row))
 }
 
-// The chase. With no join dependency held it is the functional chase, repeated rows and all.
+// The chase, or none where a row more than 24 would be added. With no join dependency held it is the functional chase, repeated rows and all.
 pub fn chase(
     t: Tableau,
     relations: u8,
@@ -77,13 +51,13 @@ pub fn chase(
     held: usize,
     joins: [JoinDependency; 4],
     joined: usize,
-) -> JoinChased
+) -> Option<Tableau>
     requires { JoinChasable t relations widths dependencies held joins joined }
     ensures { IsJoinChased t relations widths dependencies held joins joined result }
 {
     let mut tableau = t;
     loop {
-        let round = make_round(
+        match make_round(
             tableau,
             relations,
             widths,
@@ -91,14 +65,9 @@ pub fn chase(
             held,
             joins,
             joined,
-        );
-        let query = round.query;
-        if round.ended {
-            return JoinChased {
-                over: round.over,
-                query: query,
-            };
+        ) {
+            Round::Ended(outcome) => return outcome,
+            Round::Next(query) => tableau = query,
         }
-        tableau = query;
     }
 }

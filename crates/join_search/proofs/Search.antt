@@ -20,7 +20,7 @@ use Rattle.theory.specs.Query.{member, ◌∈◌}
 use Rattle.theory.proofs.Lists.{bool_cases, member-mem}
 use Rattle.query.specs.View.{columns_of}
 use Rattle.query.specs.declared.JoinDependency.{JoinDependency}
-use Rattle.join_search.specs.declared.Missing.{Missing}
+use Rattle.std.specs.Prelude as prelude
 use Rattle.join_search.specs.internal.Search.{free, goes_at, goes, choose, row_goes, some_goes, all_go, extend_of, first_of, some_of, same_on, is_first, found_of, Spare}
 use Rattle.join_search.proofs.Turns.{columns-range}
 use Rattle.join_search.proofs.Rows.{choose-length, choose-column, goes-free, goes_same}
@@ -222,7 +222,7 @@ module _ (codes relations : List ℕ) (size relation : ℕ) where
   extend-start count k sets chosen less long = rw (left-cons count k sets 0 less long, sub-zero)
 
   -- What is found with a row that goes
-  pub find-goes : (mask : ℕ) (sets chosen next : List ℕ) (i : ℕ) (t : Bool) (m : Missing) → is_first codes relations relation mask i ≡ true
+  pub find-goes : (mask : ℕ) (sets chosen next : List ℕ) (i : ℕ) (t : Bool) (m : prelude.Option (List ℕ)) → is_first codes relations relation mask i ≡ true
       → t ≡ goes codes mask chosen i → t ≡ true → next ≡ choose codes mask chosen i
       → found_of m ≡ extend_of codes relations size relation sets next → find_with mask sets chosen i ≡ found_of m
   find-goes mask sets chosen next i t m first is holds chosen_is found =

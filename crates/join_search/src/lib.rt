@@ -3,25 +3,18 @@
 // stands in no set.
 #![tactic(auto)]
 
-ghost use Rattle.std.specs.Prelude.{◌≡◌, true, ◌+◌, ◌*◌, ◌≤◌, ◌<◌, length, take, drop};
+ghost use Rattle.std.specs.Prelude.{◌≡◌, true, ◌+◌, ◌*◌, ◌≤◌, ◌<◌, take, drop};
 ghost use Rattle.join_search.specs.internal.Search.{same_on, goes, choose, some_goes, all_go, is_first, extend_of, found_of, free_row};
-ghost use Rattle.join_search.specs.internal.Search.{Laid, Spare, Extendable};
+ghost use Rattle.join_search.specs.internal.Search.{Spare, Extendable};
 
 use query::JoinDependency;
 
 // No entry has this code.
-pub const FREE: u32 = 4294967295;
-
-// A row that was looked for: whether there is one, and its codes. A column that its relation does not have is `FREE`.
-#[derive(Clone, Copy)]
-pub struct Missing {
-    pub found: bool,
-    pub row: [u32; 8],
-}
+pub const FREE: u32 = u32::MAX;
 
 // Whether two rows have the same codes in the columns of a set.
-fn same_on(codes: &[u32], set: u8, i: usize, e: usize) -> bool
-    requires { (length codes.now ≡ 192) × (i < 24) × (e < 24) }
+fn same_on(codes: &[u32; 192], set: u8, i: usize, e: usize) -> bool
+    requires { (i < 24) × (e < 24) }
     ensures { result ≡ same_on codes.now set i e }
 {
     let mut rest = set;
@@ -37,8 +30,8 @@ fn same_on(codes: &[u32], set: u8, i: usize, e: usize) -> bool
 }
 
 // Whether row i has what is chosen in the columns of a set.
-fn goes(codes: &[u32], set: u8, chosen: [u32; 8], i: usize) -> bool
-    requires { (length codes.now ≡ 192) × (i < 24) }
+fn goes(codes: &[u32; 192], set: u8, chosen: [u32; 8], i: usize) -> bool
+    requires { i < 24 }
     ensures { result ≡ goes codes.now set chosen i }
 {
     let mut rest = set;
@@ -56,8 +49,8 @@ fn goes(codes: &[u32], set: u8, chosen: [u32; 8], i: usize) -> bool
 }
 
 // What is chosen with the columns of a set from row i.
-fn choose(codes: &[u32], set: u8, chosen: [u32; 8], i: usize) -> [u32; 8]
-    requires { (length codes.now ≡ 192) × (i < 24) }
+fn choose(codes: &[u32; 192], set: u8, chosen: [u32; 8], i: usize) -> [u32; 8]
+    requires { i < 24 }
     ensures { result ≡ choose codes.now set chosen i }
 {
     let mut next = chosen;
@@ -73,14 +66,14 @@ fn choose(codes: &[u32], set: u8, chosen: [u32; 8], i: usize) -> [u32; 8]
 
 // Whether some row of the relation has what is chosen in the columns of a set.
 fn some_goes(
-    codes: &[u32],
-    relations: &[u8],
+    codes: &[u32; 192],
+    relations: &[u8; 24],
     size: usize,
     relation: u8,
     set: u8,
     chosen: [u32; 8],
 ) -> bool
-    requires { Laid codes.now relations.now size }
+    requires { size ≤ 24 }
     ensures { result ≡ some_goes codes.now relations.now size relation set chosen }
 {
     for i in 0..size {
@@ -95,14 +88,14 @@ fn some_goes(
 
 // Whether each set from k on has a row that goes with what is chosen.
 fn all_go(
-    codes: &[u32],
-    relations: &[u8],
+    codes: &[u32; 192],
+    relations: &[u8; 24],
     size: usize,
     j: JoinDependency,
     k: usize,
     chosen: [u32; 8],
 ) -> bool
-    requires { Laid codes.now relations.now size × (j.count ≤ 4) }
+    requires { (size ≤ 24) × (j.count ≤ 4) }
     ensures { result ≡ all_go codes.now relations.now size j.relation (drop k (take j.count j.sets)) chosen }
 {
     let sets = j.sets;
@@ -116,8 +109,8 @@ fn all_go(
 }
 
 // Whether row i is of the relation, and no earlier row of the relation has the same codes in the columns of a set.
-pub fn is_first(codes: &[u32], relations: &[u8], relation: u8, set: u8, i: usize) -> bool
-    requires { Laid codes.now relations.now i × (i < 24) }
+pub fn is_first(codes: &[u32; 192], relations: &[u8; 24], relation: u8, set: u8, i: usize) -> bool
+    requires { i < 24 }
     ensures { result ≡ is_first codes.now relations.now relation set i }
 {
     if relations[i] != relation {
@@ -134,37 +127,36 @@ pub fn is_first(codes: &[u32], relations: &[u8], relation: u8, set: u8, i: usize
 }
 
 // Which rows are to be tried for each set: at t whether row t % 24 is for set t / 24.
-fn firsts(codes: &[u32], relations: &[u8], j: JoinDependency) -> [bool; 96]
-    requires { Laid codes.now relations.now 24 }
+fn firsts(codes: &[u32; 192], relations: &[u8; 24], j: JoinDependency) -> [bool; 96]
     ensures { Spare codes.now relations.now j result }
 {
-    let sets = j.sets;
+    // Kept as it is: of `array::from_fn` the clauses do not say that each call finds what the closure captured, so its proof does not close.
     let mut tried = [false; 96];
     for t in 0..96 {
-        tried[t] = is_first(codes, relations, j.relation, sets[t / 24], t % 24);
+        tried[t] = is_first(codes, relations, j.relation, j.sets[t / 24], t % 24);
     }
     tried
 }
 
 // The first row that a choice for the sets from k on yields with what is chosen, and that is not there.
 fn extend(
-    codes: &[u32],
-    relations: &[u8],
+    codes: &[u32; 192],
+    relations: &[u8; 24],
     size: usize,
     j: JoinDependency,
     tried: &[bool; 96],
     k: usize,
     chosen: [u32; 8],
-) -> Missing
+) -> Option<[u32; 8]>
     requires { Extendable codes.now relations.now size j tried.now k }
     ensures { found_of result ≡ extend_of codes.now relations.now size j.relation (drop k (take j.count j.sets)) chosen }
 {
     let count = j.count as usize;
     if k == count {
-        let there = some_goes(codes, relations, size, j.relation, 255, chosen);
-        return Missing {
-            found: !there,
-            row: chosen,
+        return if some_goes(codes, relations, size, j.relation, 255, chosen) {
+            None
+        } else {
+            Some(chosen)
         };
     }
     let sets = j.sets;
@@ -175,22 +167,24 @@ fn extend(
                 if goes(codes, set, chosen, i) {
                     let next = choose(codes, set, chosen, i);
                     let missing = extend(codes, relations, size, j, tried, k + 1, next);
-                    if missing.found {
-                        return missing;
+                    if let Some(row) = missing {
+                        return Some(row);
                     }
                 }
             }
         }
     }
-    Missing {
-        found: false,
-        row: chosen,
-    }
+    None
 }
 
-// The first row that a choice of rows yields and that is not there.
-pub fn first_missing(codes: &[u32], relations: &[u8], size: usize, j: JoinDependency) -> Missing
-    requires { Laid codes.now relations.now size × (j.count ≤ 4) }
+// The codes of the first row that a choice of rows yields and that is not there. A column that its relation does not have is `FREE`.
+pub fn first_missing(
+    codes: &[u32; 192],
+    relations: &[u8; 24],
+    size: usize,
+    j: JoinDependency,
+) -> Option<[u32; 8]>
+    requires { (size ≤ 24) × (j.count ≤ 4) }
     ensures { found_of result ≡ extend_of codes.now relations.now size j.relation (take j.count j.sets) free_row }
 {
     let tried = firsts(codes, relations, j);

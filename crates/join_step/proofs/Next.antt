@@ -1,7 +1,7 @@
 -- What the search for the next row promises, from what it finds for each join dependency in turn. Assumes nothing.
 use mathlib.Core.Path.{◌≡◌, sym, ◌∙◌, ap, subst}
 use mathlib.Core.Logic.{⊎_elim}
-use mathlib.Core.Bool.{Bool, true, false, cond, true≢false}
+use mathlib.Core.Bool.{true}
 use mathlib.Core.List.{List, map}
 use mathlib.Core.Option.{Option, none, some}
 use Prim.Native.Nat.{ℕ, ◌+◌, ◌≤◌, ◌<◌}
@@ -16,9 +16,8 @@ use Rattle.query.specs.View.{entries_of, query_of, as_query}
 use Rattle.query.specs.Rule.{good_tableau, good_joins, good_row}
 use Rattle.query.proofs.Good.{good-query}
 use Rattle.query.proofs.Shape.{row_count}
-use Rattle.join_search.specs.declared.Missing.{Missing}
-use Rattle.join_search.specs.internal.Search.{free_row, extend_of, found_of}
-use Rattle.join_step.specs.declared.NextRow.{NextRow}
+use Rattle.join_search.specs.internal.Search.{free_row, extend_of}
+use Rattle.std.specs.Prelude.{None, Some}
 use Rattle.join_step.specs.internal.Step.{codes_of, cell_of, IsNext}
 use Rattle.join_step.proofs.Choosing.{Coded}
 use Rattle.join_step.proofs.Coded.{tableau-coded}
@@ -36,14 +35,14 @@ NothingBefore codes relations size joins z k =
 
 -- Nor for k
 pub nothing-more : (codes relations : List ℕ) (size : ℕ) (joins : List JoinDependency) (z : JoinDependency) (k : ℕ) → NothingBefore codes relations size joins z k
-    → length (get_or joins k z).sets ≡ 4 → (m : Missing) → found_of m ≡ found_for codes relations size joins z k → m.found ≡ false
+    → length (get_or joins k z).sets ≡ 4 → none ≡ found_for codes relations size joins z k
     → NothingBefore codes relations size joins z (k + 1)
-nothing-more codes relations size joins z k before four m found out e less =
+nothing-more codes relations size joins z k before four found e less =
     ⊎_elim (before e)
     (λ past.
     let same : k ≡ e = omega arith in
     subst (λ (n : ℕ). (length (get_or joins n z).sets ≡ 4) × (found_for codes relations size joins z n ≡ none)) same
-    (four, sym found ∙ ap (λ (b : Bool). cond b (some m.row) none) out))
+    (four, sym found))
     (below-or-past e k)
 
 module _ (t : Tableau) (joins : List JoinDependency) (joined : ℕ) (codes : List ℕ) (is-codes : codes ≡ codes_of t.cells)
@@ -67,24 +66,23 @@ module _ (t : Tableau) (joins : List JoinDependency) (joined : ℕ) (codes : Lis
       ap (λ n. found_for (codes_of t.cells) t.relations n joins z k) (row_count schema (as_query t) (omega (arith, fits, relations-long)))
       ∙ ap (λ l. found_for l t.relations t.size joins z k) (sym is-codes) ∙ e
 
-  pub next-nothing : NothingBefore codes t.relations t.size joins z joined → (r : NextRow) → r.found ≡ false → IsNext schema t joins joined r
+  pub next-nothing : NothingBefore codes t.relations t.size joins z joined → IsNext schema t joins joined None
   unfolding rows
-  next-nothing nothing r out = record {
+  next-nothing nothing = record {
     row_is =
-        ap (λ (b : Bool). cond b (some (record { relation = r.relation; values = entries_of (take (get_or schema r.relation 0) r.row) })) none) out
-        ∙ next-none schema narrow rows (codes_of t.cells) t.relations coded joins joined good-joins enough z
+        next-none schema narrow rows (codes_of t.cells) t.relations coded joins joined good-joins enough z
         (λ e less. ((nothing e less).0, in_rows e none (nothing e less).1));
-    good = λ there. absurd (true≢false (sym there ∙ out));
+    good = tt;
   }
 
   pub next_one : (k : ℕ) → k < joined → NothingBefore codes t.relations t.size joins z k → length (get_or joins k z).sets ≡ 4
-      → (m : Missing) → found_of m ≡ found_for codes t.relations t.size joins z k → m.found ≡ true → (cells : List Cell) → cells ≡ map cell_of m.row
-      → IsNext schema t joins joined (record { found = true; relation = (get_or joins k z).relation; row = cells })
+      → (row : List ℕ) → some row ≡ found_for codes t.relations t.size joins z k → (cells : List Cell) → cells ≡ map cell_of row
+      → IsNext schema t joins joined (Some (record { relation = (get_or joins k z).relation; row = cells }))
   unfolding rows
-  next_one k h nothing four m found there cells is =
-      let both = next-found schema narrow rows (codes_of t.cells) t.relations coded joins joined good-joins enough z k m.row h
+  next_one k h nothing four row found cells is =
+      let both = next-found schema narrow rows (codes_of t.cells) t.relations coded joins joined good-joins enough z k row h
       (λ e less. ((nothing e less).0, in_rows e none (nothing e less).1)) four
-      (in_rows k (some m.row) (sym found ∙ ap (λ (b : Bool). cond b (some m.row) none) there)) in
+      (in_rows k (some row) (sym found)) in
       record {
         row_is =
             ap (λ (l : List Cell).
@@ -92,5 +90,5 @@ module _ (t : Tableau) (joins : List JoinDependency) (joined : ℕ) (codes : Lis
               relation = (get_or joins k z).relation;
               values = entries_of (take (get_or schema (get_or joins k z).relation 0) l);
             })) is ∙ both.0;
-        good = λ yes. ap (good_row schema (get_or joins k z).relation) is ∙ both.1;
+        good = ap (good_row schema (get_or joins k z).relation) is ∙ both.1;
       }

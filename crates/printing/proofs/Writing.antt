@@ -1,13 +1,13 @@
 -- Laws of writing: bytes that are written one part after another are written. A function that writes starts with `started`, goes on by `wrote` at each part
 -- and ends with `finished`; `part-fits` is what the next part asks. Assumes nothing.
 use mathlib.Core.Path.{◌≡◌, refl, sym, ap, ◌∙◌, subst}
-use mathlib.Core.List.{List, [], ◌∷◌, ◌++◌, append_assoc, append-nil}
-use Prim.Native.Nat.{ℕ, suc, ◌+◌, ◌≤◌, ◌<◌}
+use mathlib.Core.List.{List, [], ◌++◌, append_assoc, append-nil}
+use Prim.Native.Nat.{ℕ, ◌+◌, ◌≤◌}
 use native.Mathlib.Nat.{add-zero}
 use native.Mathlib.Omega.{arith}
-use lib.ListN.{length, set, length-append}
+use lib.ListN.{length, length-append}
 use Rattle.lists.specs.Over.{over}
-use Rattle.lists.proofs.Over.{over-nil, over-length, over-set, over-over}
+use Rattle.lists.proofs.Over.{over-nil, over-length, over-over}
 use Rattle.printing.specs.internal.Writing.{Fits, WrittenAt}
 
 -- ---- what is written so far
@@ -90,7 +90,3 @@ module _ {given : List ℕ} {first : ℕ} {text : List ℕ} where
   pub wrote-rest : {rest buffer buffer' : List ℕ} {at at' : ℕ} → Progress given first text rest buffer at → WrittenAt buffer at rest buffer' at'
       → WrittenAt given first text buffer' at'
   wrote-rest {rest} p w = finished (wrote p [] (sym (append-nil rest)) w)
-
--- one byte
-pub wrote-byte : (d : List ℕ) (i b : ℕ) → i < length d → WrittenAt d i (b ∷ []) (set d i b) (i + 1)
-wrote-byte d i b h = record { buffer = sym (over-nil (set d i b) (suc i)) ∙ over-set d i b [] h; position = refl }

@@ -10,11 +10,8 @@ pub fn put_bytes(buffer: &mut [u8], at: usize, bytes: &[u8]) -> usize
     requires { Fits buffer.old at bytes.now }
     ensures { WrittenAt buffer.old at bytes.now buffer.new result }
 {
-    let mut next = at;
-    for i in 0..bytes.len() {
-        buffer[next] = bytes[i];
-        next += 1;
-    }
+    let next = at + bytes.len();
+    buffer[at..next].copy_from_slice(bytes);
     next
 }
 
@@ -33,10 +30,10 @@ pub fn put_number(buffer: &mut [u8], at: usize, n: usize) -> usize
     ensures { WrittenAt buffer.old at (decimal n) buffer.new result }
 {
     if n < 10 {
-        return put_byte(buffer, at, 48 + n as u8);
+        return put_byte(buffer, at, b'0' + n as u8);
     }
     let next = put_number(buffer, at, n / 10);
-    put_byte(buffer, next, 48 + (n % 10) as u8)
+    put_byte(buffer, next, b'0' + (n % 10) as u8)
 }
 
 // Writes a word and a number right after it.

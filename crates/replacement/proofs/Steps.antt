@@ -1,23 +1,24 @@
 -- Laws of one step of the chase on stored entries: the replacement, the survivor, and what stands in a head. Assumes nothing.
 use mathlib.Core.Path.{◌≡◌, refl, ◌∙◌, ap, ap₂}
-use mathlib.Core.Bool.{Bool, true, false, cond}
-use mathlib.Core.List.{List, [], ◌∷◌, map}
-use Prim.Native.Nat.{ℕ, zero, suc, ◌+◌, ◌≤◌, ◌<◌}
-use lib.Dec.{ltb}
-use lib.ListN.{length, take, drop, get_or}
+use mathlib.Core.Bool.{Bool, true, false, beq}
+use mathlib.Core.List.{List, [], ◌∷◌, ◌++◌, map}
+use Prim.Native.Nat.{ℕ, zero, suc}
+use lib.Dec.{eqb, ltb}
+use lib.ListN.{take, drop, get_or}
 use borrow.Author.Tests.{eq-eqb, ne_eqb}
 use Rattle.query.specs.declared.Entry.{Entry}
 use Rattle.query.specs.declared.Entry.TheVariants.{Constant, Variable}
 use Rattle.query.specs.declared.Cell.{Cell}
 use Rattle.query.specs.View.{entry_of, entries_of}
-use Rattle.query.specs.Rule.{no_cell, blank_cell}
+use Rattle.query.specs.Rule.{blank_cell}
 use Rattle.lists.specs.Tests.{every}
 use Rattle.lists.proofs.Tests.{and_left, and_right}
 use Rattle.lists.proofs.Maps.{map_first}
 use Rattle.query.proofs.Shape.{blank-entry}
-use Rattle.lists.proofs.Positions.{left-cons, left-none}
-use Rattle.replacement.specs.internal.Replacement.{substitute_entry, substitute_cell, entry_in_head}
-use Rattle.theory.specs.Query.{variable, variables_of, member}
+use Rattle.theory.proofs.Lists.{bool_cases}
+use Rattle.replacement.specs.internal.Replacement.{substitute_entry, substitute_cell, entry_in_head, holds_variable}
+use Rattle.std.specs.List.{list_any}
+use Rattle.theory.specs.Query.{variables_of, member}
 use Rattle.theory.specs.Chase.{survives, resolve, clash, replace}
 
 -- A cell with another entry
@@ -41,24 +42,40 @@ substitute-other v e c w is other = ap cell_of (is ∙ rw (is, ne_eqb w v other)
 substitute-unused : (v : ℕ) (e : Entry) (c : Cell) → blank_cell c ≡ true → c ≡ substitute_cell v e c
 substitute-unused v e c blank = substitute-constant v e c 0 (blank-entry c.entry blank)
 
+-- An element that a loop has not come to is as it was
+pub map_first-here : {A : Type 0} (f : A → A) (k : ℕ) (xs : List A) (d : A) → get_or (map_first f k xs) k d ≡ get_or xs k d
+unfolding map_first
+map_first-here f zero xs d = refl
+map_first-here f (suc k) [] d = refl
+map_first-here f (suc k) (x ∷ xs) d = map_first-here f k xs d
+
 -- With all that is in use replaced, all cells are
-pub substitute-all : (v : ℕ) (e : Entry) (k : ℕ) (cells : List Cell) → every blank_cell (drop k cells) ≡ true
-    → map_first (substitute_cell v e) k cells ≡ map (substitute_cell v e) cells
-unfolding map_first every
-substitute-all v e zero [] blank = refl
-substitute-all v e zero (c ∷ cs) blank =
+pub substitute-used : (v : ℕ) (e : Entry) (k : ℕ) (cells : List Cell) → every blank_cell (drop k cells) ≡ true
+    → map (substitute_cell v e) (take k cells) ++ drop k cells ≡ map (substitute_cell v e) cells
+unfolding every
+substitute-used v e zero [] blank = refl
+substitute-used v e zero (c ∷ cs) blank =
     ap₂ ◌∷◌ (substitute-unused v e c (and_left (blank_cell c) (every blank_cell cs) blank))
-    (substitute-all v e zero cs (and_right (blank_cell c) (every blank_cell cs) blank))
-substitute-all v e (suc k) [] blank = refl
-substitute-all v e (suc k) (c ∷ cs) blank = ap (λ (l : List Cell). substitute_cell v e c ∷ l) (substitute-all v e k cs blank)
+    (substitute-used v e zero cs (and_right (blank_cell c) (every blank_cell cs) blank))
+substitute-used v e (suc k) [] blank = refl
+substitute-used v e (suc k) (c ∷ cs) blank = ap (λ (l : List Cell). substitute_cell v e c ∷ l) (substitute-used v e k cs blank)
 
 -- ---- the survivor
 
--- `survives` by what it asks of the head
-pub survives-is : (in_head : ℕ → Bool) (v w : ℕ) (a b : Bool) → in_head v ≡ a → in_head w ≡ b
-    → cond a (cond b (ltb v w) true) (cond b false (ltb v w)) ≡ survives in_head v w
+-- `survives` by what it asks of the head: where both variables stand there or neither does, the lower number survives, and else the one that does
+pub survives-same : (in_head : ℕ → Bool) (v w : ℕ) (a b : Bool) → in_head v ≡ a → in_head w ≡ b → beq a b ≡ true → ltb v w ≡ survives in_head v w
 unfolding survives
-survives-is in_head v w a b p q = rw (p, q)
+survives-same in_head v w true true p q same = rw (p, q)
+survives-same in_head v w false false p q same = rw (p, q)
+survives-same in_head v w true false p q same = cc
+survives-same in_head v w false true p q same = cc
+
+pub survives-other : (in_head : ℕ → Bool) (v w : ℕ) (a b : Bool) → in_head v ≡ a → in_head w ≡ b → beq a b ≡ false → a ≡ survives in_head v w
+unfolding survives
+survives-other in_head v w true false p q other = rw (p, q)
+survives-other in_head v w false true p q other = rw (p, q)
+survives-other in_head v w true true p q other = cc
+survives-other in_head v w false false p q other = cc
 
 -- A stored variable is in the head as its number is
 pub variable-in-head : (in_head : ℕ → Bool) (e : Entry) (v : ℕ) (b : Bool) → e ≡ Variable v → entry_in_head in_head (entry_of e) ≡ b → in_head v ≡ b
@@ -82,34 +99,28 @@ module _ (in_head : ℕ → Bool) (a b : Entry) where
   resolve_right v n p q = rw (p, q)
 
   pub resolve-first : (v w : ℕ) → a ≡ Variable v → b ≡ Variable w → survives in_head v w ≡ true
-      → replace w (variable v) ≡ resolve in_head (entry_of a) (entry_of b)
+      → replace w (entry_of a) ≡ resolve in_head (entry_of a) (entry_of b)
   unfolding resolve
   resolve-first v w p q s = rw (p, q, s)
 
   pub resolve-second : (v w : ℕ) → a ≡ Variable v → b ≡ Variable w → survives in_head v w ≡ false
-      → replace v (variable w) ≡ resolve in_head (entry_of a) (entry_of b)
+      → replace v (entry_of b) ≡ resolve in_head (entry_of a) (entry_of b)
   unfolding resolve
   resolve-second v w p q s = rw (p, q, s)
 
 -- ---- the head
 
--- Whether variable v stands in what is left of the first n entries of a head after k
-abbrev pub stands_left : ℕ → ℕ → ℕ → List Cell → Bool
-stands_left v n k head = member v (variables_of (entries_of (drop k (take n head))))
-
-module _ (v n k : ℕ) (head : List Cell) (h : k < n) (fits : n ≤ length head) where
-  pub stands-constant : (m : ℕ) → (get_or head k no_cell).entry ≡ Constant m → stands_left v n k head ≡ stands_left v n (k + 1) head
-  unfolding variables_of
-  stands-constant m is = rw (left-cons n k head no_cell h fits, is)
-
-  pub stands-other : (w : ℕ) → (get_or head k no_cell).entry ≡ Variable w → (v ≡ w → ⊥) → stands_left v n k head ≡ stands_left v n (k + 1) head
-  unfolding variables_of member
-  stands-other w is other = rw (left-cons n k head no_cell h fits, is, ne_eqb v w other)
-
-  pub stands_here : (w : ℕ) → (get_or head k no_cell).entry ≡ Variable w → v ≡ w → true ≡ stands_left v n k head
-  unfolding variables_of member
-  stands_here w is same = rw (left-cons n k head no_cell h fits, is, eq-eqb v w same)
-
-pub stands-end : (v n k : ℕ) (head : List Cell) → n ≤ k → false ≡ stands_left v n k head
+-- A variable stands in some cells exactly when it is one of their variables
+pub any-member : (v : ℕ) (cells : List Cell) → list_any (holds_variable v) cells ≡ member v (variables_of (entries_of cells))
 unfolding variables_of member
-stands-end v n k head h = rw (left-none n k head h)
+any-member v [] = refl
+any-member v (cell ∷ cells) = go cell.entry (any-member v cells)
+  where
+    go : (e : Entry) → list_any (holds_variable v) cells ≡ member v (variables_of (entries_of cells))
+        → list_any (holds_variable v) (cell_of e ∷ cells) ≡ member v (variables_of (entries_of (cell_of e ∷ cells)))
+    go (Constant n) later = later
+    go (Variable w) later = bool_cases (eqb v w) (λ p. rw p) (λ p. rw p later)
+
+pub any-in-head : (v n m : ℕ) (cells : List Cell) (b : Bool) → n ≡ m → b ≡ list_any (holds_variable v) (take n cells)
+    → b ≡ member v (variables_of (entries_of (take m cells)))
+any-in-head v n m cells b same is = rw (← same) (is ∙ any-member v (take n cells))

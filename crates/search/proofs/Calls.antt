@@ -2,7 +2,7 @@
 -- The work: placing asks for more than 26 for each row that is not placed, trying for 26 less what the candidates passed have
 -- cost, and each call takes 1. Assumes nothing.
 use mathlib.Core.Path.{◌≡◌, subst, subst⁻¹}
-use mathlib.Core.Bool.{Bool, true, false}
+use Rattle.std.specs.Prelude.{None, Some}
 use mathlib.Core.List.{List}
 use Prim.Native.Nat.{ℕ, ◌+◌, ◌-◌, ◌*◌, ◌^◌, ◌<◌, ◌≤◌}
 use native.Mathlib.Omega.{arith}
@@ -10,16 +10,12 @@ use lib.ListN.{get_or, length}
 use lib.Bits.{bit_or}
 use Rattle.consistency.specs.internal.Solution.{Bit, Solution}
 use Rattle.consistency.specs.internal.Consistent.{NoBit, Below, Refuted, Settles, Follows}
-use Rattle.search.specs.internal.Invariant.{missing, IsNext, IsCandidate, Excluded, Attempted, Placeable, Tryable}
+use Rattle.search.specs.internal.Invariant.{missing, IsNext, IsCandidate, Excluded, Placeable, Tryable}
 use Rattle.consistency.specs.declared.State.{State}
-use Rattle.search.specs.declared.Attempt.{Attempt}
 use Rattle.consistency.proofs.Masks.{bit-zero}
 use Rattle.search.proofs.Missing.{missing-less, missing-none}
 use Rattle.consistency.proofs.Steps.{below_set, jump, excludes}
-use Rattle.search.proofs.Steps.{exhausted, left-next, from_next, excluded-refuted}
-
-not-both : (b : Bool) → b ≡ true → b ≡ false → ⊥
-not-both b p q = let z : ◌≡◌ {A = ℕ} 0 1 = cc in omega arith
+use Rattle.search.proofs.Steps.{left-next, from_next, excluded-refuted}
 
 module _ (rows : ℕ) (domain table : List ℕ) (s : State) where
   -- ---- at the start
@@ -48,67 +44,54 @@ module _ (rows : ℕ) (domain table : List ℕ) (s : State) where
   no-solution none m fails f sol = fails f sol (λ q p b. absurd (bit-zero q (subst (λ (x : ℕ). Bit x q) none p)))
 
   -- ---- from placing a row
-  module _ (work r : ℕ) (pre : Placeable rows domain table s work) (next : IsNext rows s.placed r) where
+  module _ (work r : ℕ) (pre : Placeable rows domain table s work) (next : IsNext rows s.placed (Some r)) where
     -- the candidates of the next row can be tried from the first
-    pub tryable-first : 0 < work → (r ≡ rows → ⊥) → Tryable rows domain table s (work - 1) r 0 (get_or s.culprits r 0)
-    tryable-first some n =
-        let within : r ≤ rows = next.within in
-        let h : r < rows = omega arith in
+    pub tryable-first : Tryable rows domain table s (work - 1) r 0 (get_or s.culprits r 0)
+    tryable-first =
+        let h : r < rows = next.0 in
         let e : 26 * missing s.placed rows < work = pre.enough in
         record {
           rows_few = pre.rows_few;
           below = pre.below;
           sound = pre.sound;
           row_in = h;
-          free = next.free h;
+          free = next.1;
           from-few = omega arith;
           enough = omega arith;
           left = pre.sound r h;
           from = λ f sol ag. omega arith;
         }
 
-    -- all rows are placed, and their choices are in no solution
-    pub failed-full : r ≡ rows → (a : Attempt) → a.found ≡ false → Excluded rows domain table a.blame s.chosen → Attempted rows domain table s a
-    failed-full e a no-luck ex =
-        record {
-          solved = λ p. absurd (not-both a.found p no-luck);
-          failed = λ p. excluded-refuted rows domain table s.placed a.blame s.chosen (next.full (omega arith)) ex;
-        }
-
-  -- a solution is an answer to any call
-  pub solved-already : (a : Attempt) → a.found ≡ true → Solution rows domain table (λ q. get_or a.chosen q 0) → Attempted rows domain table s a
-  solved-already a luck sol = record { solved = λ p. sol; failed = λ p. absurd (not-both a.found luck p) }
+  -- all rows are placed, and their choices are in no solution
+  pub failed-full : IsNext rows s.placed None → (mask : ℕ) → Excluded rows domain table mask s.chosen → Refuted rows domain table s.placed mask s.chosen
+  failed-full full mask ex = excluded-refuted rows domain table s.placed mask s.chosen full ex
 
   -- ---- from trying a candidate
-  module _ (work row c blame d : ℕ) (pre : Tryable rows domain table s work row c blame) (is : IsCandidate (get_or s.current row 0) c d) where
-    -- none is left
-    pub failed-exhausted : d ≡ 24 → (a : Attempt) → a.found ≡ false → a.blame ≡ blame → Attempted rows domain table s a
-    failed-exhausted e a no-luck same =
-        record {
-          solved = λ p. absurd (not-both a.found p no-luck);
-          failed = λ p. subst⁻¹ (λ (m : ℕ). Refuted rows domain table s.placed m s.chosen) same
-              (exhausted rows domain table s.placed blame s.chosen row (get_or s.current row 0) c d is pre.left pre.from pre.row_in e);
-        }
+  -- none is left
+  pub failed-exhausted : (work row c blame : ℕ) → Tryable rows domain table s work row c blame → IsCandidate (get_or s.current row 0) c None
+      → Refuted rows domain table s.placed blame s.chosen
+  failed-exhausted work row c blame pre none f sol ag = none (f row) (pre.from f sol ag) (sol.below row pre.row_in) (pre.left f sol ag)
 
+  module _ (work row c blame d : ℕ) (pre : Tryable rows domain table s work row c blame) (is : IsCandidate (get_or s.current row 0) c (Some d)) where
     -- work is left
     fewer : missing (bit_or s.placed (2 ^ row)) rows < missing s.placed rows
     fewer = missing-less s.placed row rows pre.row_in pre.free
 
-    pub some-work : (d ≡ 24 → ⊥) → 2 < work
-    some-work n =
+    pub some-work : 2 < work
+    some-work =
         let a : 26 * missing s.placed rows ≤ work + c = pre.enough in
         let b : c ≤ d = is.from in
-        let w : d ≤ 24 = is.within in
+        let w : d < 24 = is.within in
         omega (arith, fewer)
 
     -- after the choice of candidate d
-    module _ (n : d ≡ 24 → ⊥) (t : State) (after : Follows rows table s t row d) (long : length s.chosen ≡ 13) where
+    module _ (t : State) (after : Follows rows table s t row d) (long : length s.chosen ≡ 13) where
       fits : row < length s.chosen
       fits = let a : row < rows = pre.row_in in let b : rows ≤ 13 = pre.rows_few in omega arith
 
       pub placeable-next : Placeable rows domain table t (work - 1)
       placeable-next =
-          let w : d ≤ 24 = is.within in
+          let w : d < 24 = is.within in
           let a : 26 * missing s.placed rows ≤ work + c = pre.enough in
           let b : c ≤ d = is.from in
           record {
@@ -118,22 +101,18 @@ module _ (rows : ℕ) (domain table : List ℕ) (s : State) where
             enough = subst⁻¹ (λ (p : ℕ). 26 * missing p rows < work - 1) after.placed (omega (arith, fewer));
           }
 
-      module _ (deeper : Attempt) (said : Attempted rows domain table t deeper) (no-luck : deeper.found ≡ false) where
+      module _ (more : ℕ) (said : Refuted rows domain table t.placed more t.chosen) where
         -- the failure does not blame this row
-        pub failed-jump : NoBit deeper.blame row → Attempted rows domain table s deeper
-        failed-jump no_row =
-            record {
-              solved = λ p. absurd (not-both deeper.found p no-luck);
-              failed = λ p. jump rows domain table s t row d after.chosen after.placed fits pre.free deeper.blame no_row (said.failed no-luck);
-            }
+        pub failed-jump : NoBit more row → Refuted rows domain table s.placed more s.chosen
+        failed-jump no_row = jump rows domain table s t row d after.chosen after.placed fits pre.free more no_row said
 
         -- the next candidate can be tried
-        pub tryable-next : Tryable rows domain table s (work - 1) row (d + 1) (bit_or blame deeper.blame)
+        pub tryable-next : Tryable rows domain table s (work - 1) row (d + 1) (bit_or blame more)
         tryable-next =
-            let w : d ≤ 24 = is.within in
+            let w : d < 24 = is.within in
             let a : 26 * missing s.placed rows ≤ work + c = pre.enough in
             let b : c ≤ d = is.from in
-            let ex = excludes rows domain table s t row d after.chosen after.placed fits pre.free deeper.blame (said.failed no-luck) in
+            let ex = excludes rows domain table s t row d after.chosen after.placed fits pre.free more said in
             record {
               rows_few = pre.rows_few;
               below = pre.below;
@@ -141,7 +120,7 @@ module _ (rows : ℕ) (domain table : List ℕ) (s : State) where
               row_in = pre.row_in;
               free = pre.free;
               from-few = omega arith;
-              enough = omega (arith, some-work n);
-              left = left-next rows domain table s.placed blame s.chosen row (get_or s.current row 0) c d is pre.left pre.from deeper.blame ex;
-              from = from_next rows domain table s.placed blame s.chosen row (get_or s.current row 0) c d is pre.left pre.from deeper.blame ex;
+              enough = omega (arith, some-work);
+              left = left-next rows domain table s.placed blame s.chosen row (get_or s.current row 0) c d is pre.left pre.from more ex;
+              from = from_next rows domain table s.placed blame s.chosen row (get_or s.current row 0) c d is pre.left pre.from more ex;
             }

@@ -11,11 +11,11 @@ use Rattle.consistency.specs.internal.Solution.{Bit, together, Solution}
 use Rattle.consistency.specs.internal.Consistent.{NoBit, HasChosen, Refuted, Left}
 use Rattle.consistency.proofs.Masks.{bit_or_left, bit_or_right}
 use Rattle.consistency.proofs.Steps.{apart, agrees-part}
-use Rattle.search.specs.internal.Invariant.{IsCandidate, Excluded}
+use Rattle.search.specs.internal.Invariant.{IsFirst, Excluded}
 
 -- ---- the candidates of a row, from c on
 
-module _ (rows : ℕ) (domain table : List ℕ) (placed blame : ℕ) (chosen : List ℕ) (row left c d : ℕ) (is : IsCandidate left c d)
+module _ (rows : ℕ) (domain table : List ℕ) (placed blame : ℕ) (chosen : List ℕ) (row left c d : ℕ) (is : IsFirst left c d)
     (bits : Left rows domain table placed blame chosen row left)
     (from : (f : ℕ → ℕ) → Solution rows domain table f → HasChosen placed blame chosen f → c ≤ f row) where
   -- no candidate is left out before d
@@ -25,13 +25,6 @@ module _ (rows : ℕ) (domain table : List ℕ) (placed blame : ℕ) (chosen : L
       go : Dec (f row < d) → d ≤ f row
       go (yes less) = absurd (is.first (f row) (from f sol ag) less (bits f sol ag))
       go (no more) = omega arith
-
-  -- where none is left, the rows to blame exclude all
-  pub exhausted : row < rows → d ≡ 24 → Refuted rows domain table placed blame chosen
-  exhausted h e f sol ag =
-      let far : d ≤ f row = reaches f sol ag in
-      let near : f row < 24 = sol.below row h in
-      omega arith
 
   module _ (m : ℕ) (excluded : (f : ℕ → ℕ) → Solution rows domain table f → HasChosen placed m chosen f → f row ≡ d → ⊥) where
     pub left-next : Left rows domain table placed (bit_or blame m) chosen row left

@@ -21,20 +21,8 @@ loop-a-init c =
     let eight : length c.args.t.head ≡ 8 = search (mapped-length, rules) in
     (room, eight, under-start _ _ c.requires.rest-blank)
 
-pub find_step-found-requires : goal.find_step-found-requires
-find_step-found-requires c =
-    let p = c.requires in
-    let u = c.loop-a.invariant.2 in
-    record {
-      arity-fits = rw u.same-arity p.arity-fits;
-      size_fits = rw u.same_size p.size_fits;
-      held_fits = p.held_fits;
-      right-fits = p.right-fits;
-      rest-blank = u.rest-blank;
-    }
-
-pub returns-in_default : goal.returns-in_default
-returns-in_default c =
+pub returns : goal.returns
+returns c =
     let s = c in
     let a = s.args in
     let l = c.loop-a in
@@ -51,13 +39,10 @@ returns-in_default c =
     schema
     good
     widths
-    (rw c.in_default.is at c.find_step-found.ensures.0)
+    (rw c.in_default.is at c.find_step.ensures.0)
 
-pub resolve-resolution-requires : goal.resolve-resolution-requires
-resolve-resolution-requires c = rw c.loop-a.invariant.2.same-arity c.requires.arity-fits
-
-pub returns-in_default-resolution : goal.returns-in_default-resolution
-returns-in_default-resolution c =
+pub returns-in_default-resolve : goal.returns-in_default-resolve
+returns-in_default-resolve c =
     let s = c in
     let a = s.args in
     let l = c.loop-a in
@@ -77,18 +62,12 @@ returns-in_default-resolution c =
     schema
     good
     widths
-    c.in-Step.a
-    c.in-Step.b
+    c.in-Some.a
+    c.in-Some.b
     s.requires.arity-fits
     (omega (arith, s.requires.arity-fits))
-    (rw c.in-Step.is at c.find_step-found.ensures.0)
-    (rw c.in_default-resolution.is at c.resolve-resolution.ensures))
-
-pub replace-query-requires : goal.replace-query-requires
-replace-query-requires c =
-    let s = c in
-    let l = c.loop-a in
-    (rw l.invariant.2.same_size s.requires.size_fits, l.invariant.2.rest-blank)
+    (rw c.in-Some.is at c.find_step.ensures.0)
+    (rw c.in_default-resolve.is at c.resolve.ensures))
 
 -- The dependencies and the query before a replacement
 abbrev held_at : goal.After-replace-query → List Dependency
@@ -105,12 +84,12 @@ fewer c =
     (as_query c.args.t)
     (held_at c)
     (query_at c)
-    c.in-Step.a
-    c.in-Step.b
-    c.in-Replace.v
-    c.in-Replace.e
-    (rw c.in-Step.is at c.find_step-found.ensures.0)
-    (rw c.in-Replace.is at c.resolve-resolution.ensures)
+    c.in-Some.a
+    c.in-Some.b
+    c.in-Some-resolve.replacement.variable
+    c.in-Some-resolve.replacement.entry
+    (rw c.in-Some.is at c.find_step.ensures.0)
+    (rw c.in-Some-resolve.is at c.resolve.ensures)
     ∙ ap (λ (x : Query). suc (chasing.chase (held_at c) (wide_query x)).count) (sym c.replace-query.ensures)
 
 pub overflow_add-count : goal.overflow_add-count
@@ -132,14 +111,14 @@ loop-a-preserved c =
     (as_query s.args.t)
     (held_at c)
     (query_at c)
-    c.in-Step.a
-    c.in-Step.b
-    c.in-Replace.v
-    c.in-Replace.e
-    (rw c.in-Step.is at c.find_step-found.ensures.0)
-    (rw c.in-Replace.is at c.resolve-resolution.ensures)
+    c.in-Some.a
+    c.in-Some.b
+    c.in-Some-resolve.replacement.variable
+    c.in-Some-resolve.replacement.entry
+    (rw c.in-Some.is at c.find_step.ensures.0)
+    (rw c.in-Some-resolve.is at c.resolve.ensures)
     l.count
     l.invariant.2
     (omega (arith, s.requires.size_fits))
-    (rw c.in-Step.is at c.find_step-found.ensures.1) in
+    (rw c.in-Some.is at c.find_step.ensures.1) in
     (room, l.invariant.1, rw c.replace-query.ensures next)

@@ -3,11 +3,8 @@ use borrow.Author.Rules.{rules}
 use mathlib.Core.Path.{◌≡◌}
 use native.Mathlib.Omega.{arith}
 use lib.ListN.{length}
-use Rattle.consistency.proofs.Steps.{settles-same, settles-revised}
+use Rattle.consistency.proofs.Steps.{settles-revised}
 use Rattle.consistency.proofs.revised.Goals as goal
-
-pub returns-then-left-old : goal.returns-then-left-old
-returns-then-left-old c = settles-same _ _ _
 
 pub returns : goal.returns
 returns c =

@@ -1,11 +1,8 @@
 -- `search::spread` meets its contract. The loop's invariant: the rows passed are compared. Assumes nothing.
 use borrow.Author.Rules.{rules}
-use Rattle.consistency.proofs.Steps.{settles-same, settles-more}
+use Rattle.consistency.proofs.Steps.{settles-more}
 use Rattle.consistency.proofs.spread.Goals as goal
 use Rattle.consistency.proofs.spread.Goals.{then-near-q-eq1, else-near-q-eq1}
-
-pub loop-q-init : goal.loop-q-init
-loop-q-init c = (search rules, settles-same _ _ _)
 
 pub loop-q-preserved : goal.loop-q-preserved
 loop-q-preserved c = (
@@ -15,8 +12,3 @@ loop-q-preserved c = (
     | else-near-q-eq1 w ↦ rw (w.next-is) c.loop-q.invariant.1
   ],
 )
-
-pub returns : goal.returns
-returns c =
-    let all = c.loop-q.invariant.1 in
-    record { chosen = all.chosen; placed = all.placed; sound = all.sound }

@@ -31,9 +31,6 @@ whole table own p q d m ends before k e h b goes = go (dec_lt k d)
     go (yes less) = before k e less b goes
     go (no more) = absurd (bit_past own d k ends (omega arith) b)
 
-pub loop-d-init : goal.loop-d-init
-loop-d-init c = (search rules, λ d e h. absurd (omega arith))
-
 pub returns-then-rest-eq0 : goal.returns-then-rest-eq0
 returns-then-rest-eq0 c =
     let args = c.args in
@@ -57,6 +54,3 @@ loop-d-preserved c =
             (λ e b. b) (λ h e b. absurd (w.if-rest-eq1.false h)))
       ],
     )
-
-pub returns : goal.returns
-returns c d e h = c.loop-d.invariant.1 d e (omega arith)

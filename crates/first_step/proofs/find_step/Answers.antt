@@ -1,8 +1,7 @@
 -- `first_step::find_step` meets its contract. The invariant of each loop: what the whole search finds is what is found from this position on (`Search`). The
 -- labelled loop goes round once, so it has nothing to keep. Assumes nothing.
 use mathlib.Core.Path.{refl, sym, ◌∙◌, ap}
-use Prim.Native.Nat.{◌<◌, ◌+◌, ◌*◌, ◌-◌}
-use native.Mathlib.Omega.{arith}
+use Prim.Native.Nat.{◌<◌}
 use lib.ListN.{get_or}
 use mathlib.Core.Logic.{⊎_elim}
 use borrow.Author.Rules.{rules}
@@ -38,35 +37,11 @@ pub breaks-requires : goal.breaks-requires
 breaks-requires c =
     let start = c in
     record {
-      marks-long = search rules;
-      relations-long = search rules;
       first_fits = search rules;
       second_fits = search rules;
       right-fits = start.requires.right-fits c.loop-d.d (search rules);
-      first_of = c.if-relations-i.true;
+      first_of = c.if-t-i.true;
     }
-
-pub entry_at-requires : goal.entry_at-requires
-entry_at-requires c =
-    let start =
-    c
-    in
-    let d = c.loop-d.d in
-    let i = c.loop-i.i in
-    let fits : (get_or start.args.dependencies d no_dependency).right < 8 = start.requires.right-fits d (search rules) in
-    let inside : 8 * i + (get_or start.args.dependencies d no_dependency).right < 192 = omega arith in
-    inside
-
-pub entry_at-requires-then-breaks : goal.entry_at-requires-then-breaks
-entry_at-requires-then-breaks c =
-    let start =
-    c
-    in
-    let d = c.loop-d.d in
-    let j = c.loop-j.j in
-    let fits : (get_or start.args.dependencies d no_dependency).right < 8 = start.requires.right-fits d (search rules) in
-    let inside : 8 * j + (get_or start.args.dependencies d no_dependency).right < 192 = omega arith in
-    inside
 
 pub loop-j-preserved : goal.loop-j-preserved
 loop-j-preserved c =
@@ -92,7 +67,7 @@ loop-i-preserved c =
     let d = c.loop-d.d in
     let l = c.loop-i in (
       search rules,
-      ⊎_elim (λ w. w.loop-j.invariant.2 ∙ pair-last (rows_only a.t.size a.t.relations a.t.cells) a.dependencies a.held d l.i w.loop-j.j w.loop-j-test.false) (λ w. l.invariant.1 ∙ row-skip (rows_only a.t.size a.t.relations a.t.cells) a.dependencies a.held d l.i (search rules) w.if-relations-i.false) c.if-relations-i.branch-raw,
+      ⊎_elim (λ w. w.loop-j.invariant.2 ∙ pair-last (rows_only a.t.size a.t.relations a.t.cells) a.dependencies a.held d l.i w.loop-j.j w.loop-j-test.false) (λ w. l.invariant.1 ∙ row-skip (rows_only a.t.size a.t.relations a.t.cells) a.dependencies a.held d l.i (search rules) w.if-t-i.false) c.if-t-i.branch-raw,
     )
 
 pub loop-d-preserved : goal.loop-d-preserved
@@ -104,21 +79,14 @@ loop-d-preserved c =
 
 pub returns-then-breaks : goal.returns-then-breaks
 returns-then-breaks c =
-    let start =
-    c
-    in
-    let a = start.args in
+    let a = c.args in
     let d = c.loop-d.d in
-    let i = c.loop-i.i in
     let l = c.loop-j in
-    let fits : (get_or a.dependencies d no_dependency).right < 8 = start.requires.right-fits d (search rules) in (
-      pair_found (rows_only a.t.size a.t.relations a.t.cells) a.dependencies a.held d i l.j _ _ (search rules) fits
-          (sym c.if-breaks.true
-          ∙ c.breaks.ensures a.t.cells
-          c.marks_of-marks.ensures)
-          c.entry_at.ensures c.entry_at-then-breaks.ensures l.invariant.2
+    let fits : (get_or a.dependencies d no_dependency).right < 8 = c.requires.right-fits d (search rules) in (
+      pair_found (rows_only a.t.size a.t.relations a.t.cells) a.dependencies a.held d c.loop-i.i l.j _ _ (search rules) fits
+          (sym c.if-breaks.true ∙ c.breaks.ensures a.t.cells c.marks_of-marks.ensures) refl refl l.invariant.2
           ∙ ap (first_differing (held_of a.dependencies a.held)) (rows-only (as_query a.t) 0 a.t.size),
-      λ good. and_both _ _ (good-read _ _ _ c.entry_at.ensures good) (good-read _ _ _ c.entry_at-then-breaks.ensures good),
+      λ good. and_both _ _ (good-read _ _ _ refl good) (good-read _ _ _ refl good),
     )
 
 pub returns-after-loop-d : goal.returns-after-loop-d

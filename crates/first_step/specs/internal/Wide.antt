@@ -1,6 +1,7 @@
 -- A stored query as the code of the chase reads it: its rows with all their 8 cells, and what the search for a step answers.
 -- A column that a row's relation does not have holds constant 0, so the chase of these wide rows is that of the rows.
-use Rattle.std.specs.Prelude.{◌≡◌, Bool, true, ◌&&◌, List, [], ◌∷◌, ℕ, zero, suc, ◌*◌, ◌≤◌, ◌<◌, take, drop, get_or}
+use Rattle.std.specs.Prelude as prelude
+use Rattle.std.specs.Prelude.{◌≡◌, None, Some, Bool, true, ◌&&◌, List, [], ◌∷◌, ℕ, zero, suc, ◌*◌, ◌≤◌, ◌<◌, take, drop, get_or}
 use Rattle.std.proofs.Math.Option.{Option, none, some, map}
 use Rattle.query.specs.declared.Entry.{Entry}
 use Rattle.query.specs.declared.Cell.{Cell}
@@ -10,8 +11,6 @@ use Rattle.query.specs.declared.Dependency.{Dependency}
 use Rattle.query.specs.View.{entry_of, entries_of}
 use Rattle.query.specs.Rule.{good_entry, blank_cell, no_dependency}
 use Rattle.lists.specs.Tests.{every}
-use Rattle.first_step.specs.declared.NextStep.{NextStep}
-use Rattle.first_step.specs.declared.NextStep.TheVariants.{Rest, Step}
 use Rattle.theory.specs.Query as theory
 use Rattle.theory.specs.Database as database
 use Rattle.theory.specs.Chase as chasing
@@ -51,14 +50,14 @@ abbrev pub first_differing : List database.Dependency → List (theory.Row theor
 first_differing ds rows = map differing (chasing.first_broken ds rows)
 
 -- What the answer of the search stands for
-abbrev pub next_step_of : NextStep → Option (theory.Entry × theory.Entry)
-next_step_of Rest = none
-next_step_of (Step a b) = some (entry_of a, entry_of b)
+abbrev pub next_step_of : prelude.Option (Entry × Entry) → Option (theory.Entry × theory.Entry)
+next_step_of None = none
+next_step_of (Some found) = some (entry_of found.0, entry_of found.1)
 
 -- Whether the entries found are within the limits (SPECIFICATION, Limits)
-abbrev pub good_next_step : NextStep → Bool
-good_next_step Rest = true
-good_next_step (Step a b) = good_entry a && good_entry b
+abbrev pub good_next_step : prelude.Option (Entry × Entry) → Bool
+good_next_step None = true
+good_next_step (Some found) = good_entry found.0 && good_entry found.1
 
 -- ---- what the search asks
 

@@ -9,11 +9,11 @@ use Rattle.joins.specs.JoinChase.{join_chase}
 use Rattle.join_chase.specs.internal.JoinChased.{rounds_left}
 use Rattle.join_chase.proofs.chase.Given as goal
 
-abbrev pub invariant-loop-widths : goal.invariant-loop-widths
-invariant-loop-widths l =
+abbrev pub invariant-loop-outcome : goal.invariant-loop-outcome
+invariant-loop-outcome l =
     (good_tableau (take l.relations l.widths) l.tableau ≡ true) × (l.tableau.arity ≡ l.initial.tableau.arity)
     × (join_chase (take l.relations l.widths) (held_of l.dependencies l.held) (held_joins l.joins l.joined) 24 (query_of (take l.relations l.widths) (as_query l.tableau))
     ≡ join_chase (take l.relations l.widths) (held_of l.dependencies l.held) (held_joins l.joins l.joined) 24 (query_of (take l.relations l.widths) (as_query l.initial.tableau)))
 
-abbrev pub decreases-loop-widths : goal.decreases-loop-widths
-decreases-loop-widths l = rounds_left (take l.relations l.widths) l.joins l.joined l.tableau
+abbrev pub decreases-loop-outcome : goal.decreases-loop-outcome
+decreases-loop-outcome l = rounds_left (take l.relations l.widths) l.joins l.joined l.tableau

@@ -6,7 +6,6 @@ use Prim.Native.Nat.{ℕ, ◌<◌}
 use native.Mathlib.Omega.{arith}
 use lib.ListN.{length, take}
 use borrow.Author.Rules.{rules}
-use borrow.Author.Tests.{not-true, not-false}
 use Rattle.lists.specs.Tests.{every}
 use Rattle.lists.proofs.Loops.{mapped-length}
 use Rattle.query.specs.View.{as_query}
@@ -74,8 +73,8 @@ without_repeats-settled-requires c =
     let is = c.chase-chased.ensures schema c.requires.tableau-good (good-widths a.relations a.widths c.requires.relations-good) in
     (good-query 24 schema (as_query c.chase-chased.result.query) is.good).size
 
-pub next_row-next-requires : goal.next_row-next-requires
-next_row-next-requires c =
+pub next_row-requires : goal.next_row-requires
+next_row-requires c =
     let fits = joins-fit-room (schema c) c.args.joined c.args.joins c.requires.joins-good in
     record {
       size_fits = (good-query 24 (schema c) (as_query c.without_repeats-settled.result) (settled c)).size;
@@ -83,13 +82,13 @@ next_row-next-requires c =
       counts-fit = fits.1;
     }
 
-pub returns-then-not-next : goal.returns-then-not-next
-returns-then-not-next c =
-    let w = (goal.at.returns-then-not-next c).After-without_repeats-settled in
+pub returns-in_default : goal.returns-in_default
+returns-in_default c =
+    let w = (goal.at.returns-in_default c).After-without_repeats-settled in
     let a = c.args in
     made-end a.t a.relations a.widths a.dependencies a.held a.joins a.joined c.requires (shaped w) (joins_long w)
     c.chase-chased.result c.chase-chased.ensures (one-held w) (relations-long w) (cells-long w)
-    c.without_repeats-settled.result c.without_repeats-settled.ensures c.next_row-next.result c.next_row-next.ensures (not-true _ c.if-not-next.true)
+    c.without_repeats-settled.result c.without_repeats-settled.ensures c.next_row.result c.next_row.ensures c.in_default.is
 
 pub returns-then-settled-eq24 : goal.returns-then-settled-eq24
 returns-then-settled-eq24 c =
@@ -97,8 +96,8 @@ returns-then-settled-eq24 c =
     let a = c.args in
     made-over a.t a.relations a.widths a.dependencies a.held a.joins a.joined c.requires (shaped w) (joins_long w)
     c.chase-chased.result c.chase-chased.ensures (one-held w) (relations-long w) (cells-long w)
-    c.without_repeats-settled.result c.without_repeats-settled.ensures c.next_row-next.result c.next_row-next.ensures (not-false _ c.if-not-next.false)
-    c.if-settled-eq24.true c.never.result c.never.ensures
+    c.without_repeats-settled.result c.without_repeats-settled.ensures c.next_row.result c.next_row.ensures c.in-Some.next c.in-Some.is
+    c.if-settled-eq24.true
 
 pub with_row-requires : goal.with_row-requires
 with_row-requires c = room (goal.at.with_row-requires c).After-without_repeats-settled c.if-settled-eq24.false
@@ -107,8 +106,8 @@ pub returns : goal.returns
 returns c =
     let w = (goal.at.returns c).After-without_repeats-settled in
     let a = c.args in
-    let eight : length c.next_row-next.result.row ≡ 8 = search (mapped-length, rules) in
+    let eight : length c.in-Some.next.row ≡ 8 = search (mapped-length, rules) in
     made_more a.t a.relations a.widths a.dependencies a.held a.joins a.joined c.requires (shaped w) (joins_long w)
     c.chase-chased.result c.chase-chased.ensures (one-held w) (relations-long w) (cells-long w)
-    c.without_repeats-settled.result c.without_repeats-settled.ensures c.next_row-next.result c.next_row-next.ensures (not-false _ c.if-not-next.false)
+    c.without_repeats-settled.result c.without_repeats-settled.ensures c.next_row.result c.next_row.ensures c.in-Some.next c.in-Some.is
     (room w c.if-settled-eq24.false) eight c.with_row.result c.with_row.ensures

@@ -9,11 +9,6 @@ use Rattle.join_search.proofs.firsts.Goals as goal
 pub loop-t-init : goal.loop-t-init
 loop-t-init c = (search rules, search rules, λ s less. absurd (omega arith))
 
-pub is_first-requires : goal.is_first-requires
-is_first-requires c =
-    let p = c.requires in
-    (record { codes-long = p.codes-long; relations-long = p.relations-long; size_fits = search rules }, search rules)
-
 pub loop-t-preserved : goal.loop-t-preserved
 loop-t-preserved c =
     let a = c.args in

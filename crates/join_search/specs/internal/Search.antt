@@ -1,12 +1,12 @@
 -- The search for a missing row over rows as codes: the theory's search (`search_from` of `JoinTheorems`) with what is chosen in place of the rows that are.
-use Rattle.std.specs.Prelude.{◌≡◌, Bool, true, false, cond, not, ◌&&◌, List, [], ◌∷◌, map, ℕ, zero, suc, ◌+◌, ◌*◌, ◌/◌, ◌%◌, ◌≤◌, ◌<◌, eqb, length, get_or, replicate}
+use Rattle.std.specs.Prelude.{◌≡◌, Bool, true, false, cond, not, ◌&&◌, List, [], ◌∷◌, map, ℕ, zero, suc, ◌+◌, ◌*◌, ◌/◌, ◌%◌, ◌≤◌, ◌<◌, eqb, get_or, replicate, None, Some}
+use Rattle.std.specs.Prelude as prelude
 use Rattle.std.proofs.Math.Option.{Option, none, some, or_else}
 use Rattle.lists.specs.Tests.{every}
 use Rattle.lists.specs.Numbers.{numbers_where}
 use Rattle.theory.specs.Query.{member}
 use Rattle.query.specs.declared.JoinDependency.{JoinDependency}
 use Rattle.query.specs.View.{columns_of}
-use Rattle.join_search.specs.declared.Missing.{Missing}
 
 -- ---- numbers in turn
 
@@ -66,8 +66,9 @@ extend_of codes relations size relation (set ∷ sets) chosen =
     0 size
 
 -- What a result stands for
-abbrev pub found_of : Missing → Option (List ℕ)
-found_of m = cond m.found (some m.row) none
+abbrev pub found_of : prelude.Option (List ℕ) → Option (List ℕ)
+found_of None = none
+found_of (Some row) = some row
 
 -- ---- rows that need not be tried
 
@@ -87,15 +88,9 @@ Spare codes relations j tried =
 
 -- ---- what the search asks
 
--- Codes and relations of 24 rows, of which some are in use
-pub record Laid (codes relations : List ℕ) (size : ℕ) : Type 0 where
-  pub codes-long : length codes ≡ 192
-  pub relations-long : length relations ≡ 24
-  pub size_fits : size ≤ 24
-
--- and which rows are to be tried for the sets, of which k are dealt with
+-- How many of 24 rows are in use, and which are to be tried for the sets, of which k are dealt with
 pub record Extendable (codes relations : List ℕ) (size : ℕ) (j : JoinDependency) (tried : List Bool) (k : ℕ) : Type 0 where
-  pub laid : Laid codes relations size
+  pub size_fits : size ≤ 24
   pub count_fits : j.count ≤ 4
   pub sets-left : k ≤ j.count
   pub spare : Spare codes relations j tried

@@ -1,5 +1,5 @@
 -- `join_step::next_row` meets its contract. The loop's invariant: nothing is found for the join dependencies before k. Assumes nothing.
-use mathlib.Core.Path.{◌≡◌, refl, sym, ◌∙◌, ap}
+use mathlib.Core.Path.{◌≡◌, sym, ◌∙◌, ap}
 use mathlib.Core.Bool.{true}
 use mathlib.Core.List.{List}
 use Prim.Native.Nat.{ℕ, ◌≤◌, ◌<◌}
@@ -32,30 +32,29 @@ count_at joins joined fits k h enough =
 pub loop-k-init : goal.loop-k-init
 loop-k-init c =
     let four : length c.args.joins ≡ 4 = search rules in
-    let codes : length c.codes_of-codes.result ≡ 192 = search rules in
-    let relations : length c.args.t.relations ≡ 24 = search (mapped-length, rules) in
-    (four, codes, relations, search rules, λ e less. absurd (omega arith))
+    (four, search rules, λ e less. absurd (omega arith))
 
-pub first_missing-missing-requires : goal.first_missing-missing-requires
-first_missing-missing-requires c =
+pub first_missing-requires : goal.first_missing-requires
+first_missing-requires c =
     let l = c.loop-k in
     let s = c in
     let p = s.requires in (
-      record { codes-long = l.invariant.1; relations-long = l.invariant.2; size_fits = p.size_fits },
+      p.size_fits,
       count_at s.args.joins s.args.joined p.counts-fit l.k c.loop-k-test.true (omega (arith, l.invariant.0, p.joined-fits)),
     )
 
-pub returns-then-missing : goal.returns-then-missing
-returns-then-missing c =
+pub returns-in-Some : goal.returns-in-Some
+returns-in-Some c =
     let l = c.loop-k in
     let a = c.args in
     let low = c.loop-k-test.true in
     let enough : a.joined ≤ length a.joins = omega (arith, l.invariant.0, c.requires.joined-fits) in
     let four = four-sets a.joins (argument-shaped 4 a.joins _ c.well_formed.1.0) l.k (omega (arith, enough, low)) in
+    let relations : length a.t.relations ≡ 24 = search (mapped-length, rules) in
     let long : length a.t.cells ≡ 192 = search (mapped-length, rules) in
     λ schema narrow good good-joins.
-    next_one a.t a.joins a.joined _ c.codes_of-codes.ensures l.invariant.2 long enough past_join schema narrow good good-joins l.k low
-    l.invariant.4 four _ c.first_missing-missing.ensures c.if-missing.true _ c.cells_of.ensures
+    next_one a.t a.joins a.joined _ c.codes_of-codes.ensures relations long enough past_join schema narrow good good-joins l.k low
+    l.invariant.2 four _ (rw c.in-Some.is at c.first_missing.ensures) _ c.cells_of.ensures
 
 pub loop-k-preserved : goal.loop-k-preserved
 loop-k-preserved c =
@@ -65,10 +64,8 @@ loop-k-preserved c =
     let low = c.loop-k-test.true in
     let four = four-sets a.joins (argument-shaped 4 a.joins _ c.well_formed.1.0) l.k (omega (arith, l.invariant.0, s.requires.joined-fits, low)) in (
       l.invariant.0,
-      l.invariant.1,
-      l.invariant.2,
       search rules,
-      nothing-more _ _ _ a.joins past_join l.k l.invariant.4 four c.first_missing-missing.result c.first_missing-missing.ensures c.if-missing.false,
+      nothing-more _ _ _ a.joins past_join l.k l.invariant.2 four (rw c.in_default.is at c.first_missing.ensures),
     )
 
 pub returns : goal.returns
@@ -78,7 +75,8 @@ returns c =
     let s = f in
     let a = s.args in
     let enough : a.joined ≤ length a.joins = omega (arith, l.invariant.0, s.requires.joined-fits) in
+    let relations : length a.t.relations ≡ 24 = search (mapped-length, rules) in
     let long : length a.t.cells ≡ 192 = search (mapped-length, rules) in
     λ schema narrow good good-joins.
-    next-nothing a.t a.joins a.joined _ f.codes_of-codes.ensures l.invariant.2 long enough past_join schema narrow good good-joins
-    (λ e less. l.invariant.4 e (omega (arith, c.loop-k-test.false))) _ refl
+    next-nothing a.t a.joins a.joined _ f.codes_of-codes.ensures relations long enough past_join schema narrow good good-joins
+    (λ e less. l.invariant.2 e (omega (arith, c.loop-k-test.false)))

@@ -13,4 +13,4 @@ past_join = record { relation = 0; count = 0; sets = [] }
 
 abbrev pub invariant-loop-k : goal.invariant-loop-k
 invariant-loop-k l =
-    (length l.joins ≡ 4) × (length l.codes ≡ 192) × (length l.relations ≡ 24) × (l.k ≤ l.joined) × NothingBefore l.codes l.relations l.size l.joins past_join l.k
+    (length l.joins ≡ 4) × (l.k ≤ l.joined) × NothingBefore l.codes l.t.relations l.size l.joins past_join l.k

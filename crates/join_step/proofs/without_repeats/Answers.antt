@@ -4,9 +4,8 @@ use mathlib.Core.Path.{◌≡◌, refl, sym, ◌∙◌, ap}
 use mathlib.Core.List.{List}
 use Prim.Native.Nat.{ℕ, ◌*◌}
 use native.Mathlib.Omega.{arith}
-use lib.ListN.{length, take, drop, get_or}
+use lib.ListN.{take, drop, get_or}
 use borrow.Author.Rules.{rules}
-use Rattle.lists.proofs.Loops.{mapped-length}
 use Rattle.query.specs.Types.{Tableau}
 use Rattle.join_search.specs.internal.Search.{is_first}
 use Rattle.join_step.specs.internal.Step.{with_row, distinct_to}
@@ -17,25 +16,14 @@ use Rattle.join_step.proofs.without_repeats.Goals.{then-is_first, else-is_first}
 pub loop-i-init : goal.loop-i-init
 unfolding distinct_to
 loop-i-init c =
-    let s = c in
-    let codes : length c.codes_of-codes.result ≡ 192 = search rules in
-    let relations : length s.args.t.relations ≡ 24 = search (mapped-length, rules) in
-    (search rules, codes, relations, c.codes_of-codes.ensures, refl)
-
-pub is_first-requires : goal.is_first-requires
-is_first-requires c =
-    let l = c.loop-i in
-    let s = c in (
-      record { codes-long = l.invariant.1; relations-long = l.invariant.2; size_fits = omega (arith, c.loop-i-test.true, s.requires) },
-      omega (arith, c.loop-i-test.true, s.requires),
-    )
+    (search rules, c.codes_of-codes.ensures, refl)
 
 pub with_row-kept-requires : goal.with_row-kept-requires
 with_row-kept-requires c =
     let s = c in
     let l = c.loop-i in
     let small = distinct-size s.args.t l.i in
-    let same : l.kept.size ≡ (distinct_to s.args.t l.i).size = ap (λ (k : Tableau). k.size) l.invariant.4 in
+    let same : l.kept.size ≡ (distinct_to s.args.t l.i).size = ap (λ (k : Tableau). k.size) l.invariant.2 in
     omega (arith, small, same, c.loop-i-test.true, s.requires)
 
 pub loop-i-preserved : goal.loop-i-preserved
@@ -45,17 +33,15 @@ loop-i-preserved c =
     let l = c.loop-i in
     let row = take 8 (drop (8 * l.i) t.cells) in
     let first = c.is_first.ensures
-    ∙ ap (λ (n : List ℕ). is_first n t.relations (get_or t.relations l.i 0) 255 l.i) l.invariant.3 in (
+    ∙ ap (λ (n : List ℕ). is_first n t.relations (get_or t.relations l.i 0) 255 l.i) l.invariant.1 in (
       search rules,
       l.invariant.1,
-      l.invariant.2,
-      l.invariant.3,
       elim c.if-is_first.branch [
         | then-is_first w ↦
-            w.kept-is ∙ w.with_row-kept.ensures ∙ ap (λ (k : Tableau). with_row k (get_or t.relations l.i 0) w.row_at-row.result) l.invariant.4
-            ∙ ap (with_row (distinct_to t l.i) (get_or t.relations l.i 0)) w.row_at-row.ensures
+            w.kept-is ∙ w.with_row-kept.ensures ∙ ap (λ (k : Tableau). with_row k (get_or t.relations l.i 0) w.row_at.result) l.invariant.2
+            ∙ ap (with_row (distinct_to t l.i) (get_or t.relations l.i 0)) w.row_at.ensures
             ∙ sym (distinct-keeps t l.i (sym first ∙ w.if-is_first.true))
-        | else-is_first w ↦ w.kept-is ∙ l.invariant.4 ∙ sym (distinct-drops t l.i (sym first ∙ w.if-is_first.false))
+        | else-is_first w ↦ w.kept-is ∙ l.invariant.2 ∙ sym (distinct-drops t l.i (sym first ∙ w.if-is_first.false))
       ],
     )
 
@@ -64,4 +50,4 @@ returns c =
     let t = c.args.t in
     let l = c.loop-i in
     let whole_is : l.i ≡ t.size = omega (arith, l.invariant.0, c.loop-i-test.false) in
-    l.invariant.4 ∙ ap (distinct_to t) whole_is
+    l.invariant.2 ∙ ap (distinct_to t) whole_is

@@ -1,5 +1,6 @@
 -- Codes and cells of a tableau, a tableau with a row more and without repeated rows, and what the search for the next row asks and promises.
-use Rattle.std.specs.Prelude.{◌≡◌, true, cond, List, map, ℕ, zero, suc, ◌+◌, ◌*◌, ◌≤◌, eqb, leb, take, drop, get_or, set, replicate}
+use Rattle.std.specs.Prelude as prelude
+use Rattle.std.specs.Prelude.{◌≡◌, None, Some, IfSome, true, cond, List, map, ℕ, zero, suc, ◌+◌, ◌*◌, ◌≤◌, eqb, leb, take, drop, get_or, set, replicate}
 use Rattle.std.proofs.Math.Option.{Option, none, some}
 use Rattle.lists.specs.Tests.{every}
 use Rattle.lists.specs.Over.{over}
@@ -47,9 +48,9 @@ distinct_to t (suc i) =
 -- ---- the row to be added
 
 -- What the answer of the search stands for
-abbrev pub next_of : List ℕ → NextRow → Option (theory.Row theory.Entry)
-next_of schema r =
-    cond r.found (some (record { relation = r.relation; values = entries_of (take (get_or schema r.relation 0) r.row) })) none
+abbrev pub next_of : List ℕ → prelude.Option NextRow → Option (theory.Row theory.Entry)
+next_of schema None = none
+next_of schema (Some r) = some (record { relation = r.relation; values = entries_of (take (get_or schema r.relation 0) r.row) })
 
 -- What the search asks, so that each row and set that it reads is there
 pub record Joinable (t : Tableau) (joins : List JoinDependency) (joined : ℕ) : Type 0 where
@@ -58,6 +59,6 @@ pub record Joinable (t : Tableau) (joins : List JoinDependency) (joined : ℕ) :
   pub counts-fit : every (λ j. leb j.count 4) (take joined joins) ≡ true
 
 -- What it promises of a good tableau and good join dependencies: the row is the one to be added, and it is good
-pub record IsNext (schema : List ℕ) (t : Tableau) (joins : List JoinDependency) (joined : ℕ) (r : NextRow) : Type 0 where
+pub record IsNext (schema : List ℕ) (t : Tableau) (joins : List JoinDependency) (joined : ℕ) (r : prelude.Option NextRow) : Type 0 where
   pub row_is : next_of schema r ≡ next_row schema (held_joins joins joined) (query_of schema (as_query t)).rows
-  pub good : r.found ≡ true → good_row schema r.relation r.row ≡ true
+  pub good : IfSome r (λ row. good_row schema row.relation row.row ≡ true)

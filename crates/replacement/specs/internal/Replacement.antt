@@ -1,12 +1,11 @@
 -- What the functions of the survivor and the replacement answer, on stored entries and queries.
-use Rattle.std.specs.Prelude.{◌≡◌, Bool, false, cond, map, ℕ, eqb, take}
+use Rattle.std.specs.Prelude.{◌≡◌, Option, None, Some, Bool, false, cond, map, ℕ, eqb, take}
 use Rattle.query.specs.declared.Entry.{Entry}
 use Rattle.query.specs.declared.Entry.TheVariants.{Constant, Variable}
 use Rattle.query.specs.declared.Cell.{Cell}
 use Rattle.query.specs.Types.{Query}
 use Rattle.query.specs.View.{entry_of, entries_of}
-use Rattle.replacement.specs.declared.Resolution.{Resolution}
-use Rattle.replacement.specs.declared.Resolution.TheVariants.{Clash, Replace}
+use Rattle.replacement.specs.declared.Replacement.{Replacement}
 use Rattle.theory.specs.Query as theory
 use Rattle.theory.specs.Chase as chasing
 
@@ -14,15 +13,23 @@ use Rattle.theory.specs.Chase as chasing
 abbrev pub head_holds : Query → ℕ → Bool
 head_holds q v = theory.member v (theory.variables_of (entries_of (take q.arity q.head)))
 
+-- Whether a cell holds a variable
+abbrev pub entry_holds : ℕ → Entry → Bool
+entry_holds v (Constant n) = false
+entry_holds v (Variable w) = eqb v w
+
+abbrev pub holds_variable : ℕ → Cell → Bool
+holds_variable v cell = entry_holds v cell.entry
+
 -- Whether an entry is a variable in the head
 abbrev pub entry_in_head : (ℕ → Bool) → theory.Entry → Bool
 entry_in_head in_head (theory.Entry.constant n) = false
 entry_in_head in_head (theory.Entry.variable v) = in_head v
 
 -- What the answer of the survivor rule stands for
-abbrev pub resolution_of : Resolution → chasing.Resolution
-resolution_of Clash = chasing.clash
-resolution_of (Replace v e) = chasing.replace v (entry_of e)
+abbrev pub resolution_of : Option Replacement → chasing.Resolution
+resolution_of None = chasing.clash
+resolution_of (Some r) = chasing.replace r.variable (entry_of r.entry)
 
 -- r is the theory's resolution of two entries, for each head in which they stand as the flags say
 abbrev pub Survivor : Entry → Bool → Entry → Bool → chasing.Resolution → Type 0

@@ -1,48 +1,53 @@
--- `search::next_candidate` meets its contract. The loop's invariant: no number passed is in the mask; a mask that ends has no more. Assumes nothing.
-use borrow.Author.Rules.{rules}
-use mathlib.Core.Path.{◌≡◌, subst}
-use native.Mathlib.Decide.{dec_lt}
-use Prim.Native.Nat.{ℕ, ◌+◌, ◌/◌, ◌^◌, ◌<◌, ◌≤◌}
+-- `search::next_candidate` meets its contract: the zeros below the lowest one of what is left of the mask are no members. Assumes nothing.
+use mathlib.Core.Path.{◌≡◌, sym, ap, ◌∙◌}
+use Prim.Native.Nat.{ℕ, ◌+◌, ◌-◌, ◌/◌, ◌%◌, ◌^◌, ◌<◌, ◌≤◌}
 use native.Mathlib.Omega.{arith}
+use native.Mathlib.Nat.{div-le_self}
+use native.Mathlib.Decide.{ℕ_discrete}
+use lib.Count.{count_trailing_zeros, trailing_of_zero}
+use lib.Pow.{shr-shr}
+use mir.Syntax.{w32}
+use Rattle.std.proofs.lemmas.Nat.Bits.{bit_at-trailing_zeros}
 use Rattle.consistency.specs.internal.Solution.{Bit}
 use Rattle.consistency.proofs.Masks.{bit_past}
 use Rattle.search.proofs.next_candidate.Goals as goal
 
--- what no number from c below d is, nor d, none below d + 1 is
-step : (mask c d : ℕ) → ((k : ℕ) → c ≤ k → k < d → Bit mask k → ⊥) → (Bit mask d → ⊥) → (k : ℕ) → c ≤ k → k < d + 1 → Bit mask k → ⊥
-step mask c d before at k h l b = go (dec_lt k d)
-  where
-    go : Dec (k < d) → ⊥
-    go (yes less) = before k h less b
-    go (no more) = let e : k ≡ d = omega arith in at (subst (Bit mask) e b)
+abbrev zeros : ℕ → ℕ → ℕ
+zeros mask c = count_trailing_zeros 32 (mask / 2 ^ c)
 
--- a mask that ends before d has no member from c on where it has none from c below d
-ends : (mask c d : ℕ) → mask / 2 ^ d ≡ 0 → ((k : ℕ) → c ≤ k → k < d → Bit mask k → ⊥) → (k : ℕ) → c ≤ k → Bit mask k → ⊥
-ends mask c d past before k h b = go (dec_lt k d)
-  where
-    go : Dec (k < d) → ⊥
-    go (yes less) = before k h less b
-    go (no more) = bit_past mask d k past (omega arith) b
+-- a mask from c on
+from : (mask c i : ℕ) → mask / 2 ^ (c + i) % 2 ≡ mask / 2 ^ c / 2 ^ i % 2
+from mask c i = ap (λ (n : ℕ). n % 2) (sym (shr-shr mask c i))
 
-pub loop-d-init : goal.loop-d-init
-loop-d-init c = (search rules, search rules, λ k a b e. omega arith)
+low : (mask c : ℕ) → mask < 2 ^ 32 → mask / 2 ^ c < 2 ^ 32
+low mask c h = omega (arith, div-le_self mask (2 ^ c))
 
-pub returns-then-rest-eq0 : goal.returns-then-rest-eq0
-returns-then-rest-eq0 c =
-    let loop = c.loop-d in
+none-before : (mask c k : ℕ) → mask < 2 ^ 32 → c ≤ k → k < c + zeros mask c → Bit mask k → ⊥
+none-before mask c k h at before b = elim (ℕ_discrete (mask / 2 ^ c) 0) [
+  | yes ended ↦ bit_past mask c k ended at b
+  | no some ↦
+      let first = bit_at-trailing_zeros w32 (mask / 2 ^ c) (omega arith) (low mask c h) in
+      let same : c + (k - c) ≡ k = omega arith in
+      let clear : mask / 2 ^ c / 2 ^ (k - c) % 2 ≡ 0 = first.2 (k - c) (omega arith) in
+      let bit : mask / 2 ^ (c + (k - c)) % 2 ≡ 1 = rw same b in
+      omega (arith, from mask c (k - c))
+]
+
+here : (mask c : ℕ) → mask < 2 ^ 32 → c + zeros mask c < 24 → Bit mask (c + zeros mask c)
+here mask c h within = elim (ℕ_discrete (mask / 2 ^ c) 0) [
+  | yes ended ↦ let all : zeros mask c ≡ 32 = ap (count_trailing_zeros 32) ended ∙ trailing_of_zero 32 in absurd (omega arith)
+  | no some ↦ let first = bit_at-trailing_zeros w32 (mask / 2 ^ c) (omega arith) (low mask c h) in from mask c (zeros mask c) ∙ first.1
+]
+
+pub returns-then-d-lt24 : goal.returns-then-d-lt24
+returns-then-d-lt24 c =
+    let mask = c.args.mask in
     record {
-      from = search rules;
-      within = search rules;
-      member = λ h. omega arith;
-      first =
-          λ k a b. ends c.args.mask c.args.c loop.d c.if-rest-eq0.true loop.invariant.2 k a;
+      from = omega arith;
+      within = c.if-d-lt24.true;
+      member = here mask c.args.c c.ranges.mask.fits c.if-d-lt24.true;
+      first = λ k at before. none-before mask c.args.c k c.ranges.mask.fits at before;
     }
 
-pub returns-then-rest-eq1 : goal.returns-then-rest-eq1
-returns-then-rest-eq1 c = record { from = search rules; within = search rules; member = λ _. c.if-rest-eq1.true; first = c.loop-d.invariant.2 }
-
-pub loop-d-preserved : goal.loop-d-preserved
-loop-d-preserved c = (search rules, search rules, step _ _ _ c.loop-d.invariant.2 c.if-rest-eq1.false)
-
-pub returns : goal.returns
-returns c = record { from = search rules; within = search rules; member = λ h. omega arith; first = λ k a b. c.loop-d.invariant.2 k a (omega arith) }
+pub returns-else-d-lt24 : goal.returns-else-d-lt24
+returns-else-d-lt24 c k at few = none-before c.args.mask c.args.c k c.ranges.mask.fits at (omega arith)

@@ -1,34 +1,31 @@
 -- What holds of the search's steps and of its failures. Nothing here is part of the promise of `solve`.
 -- Masks, choices and candidates are as in `Solution`; `placed` is the mask of the rows that have a choice.
-use Rattle.std.specs.Prelude.{◌≡◌, ◌⊎◌, true, false, List, ℕ, zero, suc, ◌+◌, ◌-◌, ◌*◌, ◌/◌, ◌%◌, ◌^◌, ◌<◌, ◌≤◌, get_or}
+use Rattle.std.specs.Prelude.{◌≡◌, ⊤, Option, None, Some, Result, MatchResult, List, ℕ, zero, suc, ◌+◌, ◌-◌, ◌*◌, ◌/◌, ◌%◌, ◌^◌, ◌<◌, ◌≤◌, get_or}
 use Rattle.consistency.specs.internal.Solution.{Bit, together, Solution}
 use Rattle.consistency.specs.internal.Consistent.{NoBit, Below, HasChosen, Refuted, Left, Accounted}
 use Rattle.consistency.specs.declared.State.{State}
-use Rattle.search.specs.declared.Attempt.{Attempt}
-use Rattle.search.specs.declared.Clash.{Clash}
-use Rattle.search.specs.declared.Clash.TheVariants.{Nothing, Rows}
 
 -- how many rows below n are not placed
 unfoldable pub missing : ℕ → ℕ → ℕ
 missing placed zero = 0
 missing placed (suc n) = missing placed n + (1 - placed / 2 ^ n % 2)
 
--- b is the row a, where a is a row or q is placed, or b is q and q is not placed
-abbrev pub IsEarlier : ℕ → ℕ → ℕ → ℕ → ℕ → Type 0
-IsEarlier rows placed q a b = ((b ≡ a) × (rows ≤ a → Bit placed q)) ⊎ ((b ≡ q) × NoBit placed q)
+-- a row that is not placed, or none where each row is
+abbrev pub IsNext : ℕ → ℕ → Option ℕ → Type 0
+IsNext rows placed None = (q : ℕ) → q < rows → Bit placed q
+IsNext rows placed (Some r) = (r < rows) × NoBit placed r
 
--- r is a row that is not placed, or is `rows` and each row is placed
-pub record IsNext (rows placed r : ℕ) : Type 0 where
-  pub within : r ≤ rows
-  pub free : r < rows → NoBit placed r
-  pub full : rows ≤ r → (q : ℕ) → q < rows → Bit placed q
-
--- d is the first member of the mask from c on, or 24
-pub record IsCandidate (mask c d : ℕ) : Type 0 where
+-- d is the first member of the mask from c on, and below 24
+pub record IsFirst (mask c d : ℕ) : Type 0 where
   pub from : c ≤ d
-  pub within : d ≤ 24
-  pub member : d < 24 → Bit mask d
+  pub within : d < 24
+  pub member : Bit mask d
   pub first : (k : ℕ) → c ≤ k → k < d → Bit mask k → ⊥
+
+-- the first member of the mask from c on, or none where there is none below 24
+abbrev pub IsCandidate : ℕ → ℕ → Option ℕ → Type 0
+IsCandidate mask c None = (k : ℕ) → c ≤ k → k < 24 → Bit mask k → ⊥
+IsCandidate mask c (Some d) = IsFirst mask c d
 
 -- row r has one of its candidates, and goes together with every row
 pub record RowFits (rows : ℕ) (domain table chosen : List ℕ) (r : ℕ) : Type 0 where
@@ -41,14 +38,13 @@ Excluded rows domain table mask chosen =
     (f : ℕ → ℕ) → Solution rows domain table f → ((q : ℕ) → q < rows → Bit mask q → f q ≡ get_or chosen q 0) → ⊥
 
 -- what a test says: the fact where it finds nothing, and else rows whose choices are in no solution
-abbrev pub TestSays : ℕ → List ℕ → List ℕ → List ℕ → Type 0 → Clash → Type 0
-TestSays rows domain table chosen Fact Nothing = Fact
-TestSays rows domain table chosen Fact (Rows mask) = Excluded rows domain table mask chosen
+abbrev pub TestSays : ℕ → List ℕ → List ℕ → List ℕ → Type 0 → Result ⊤ ℕ → Type 0
+TestSays rows domain table chosen Fact tested = MatchResult tested (λ _. Fact) (λ mask. Excluded rows domain table mask chosen)
 
 -- what an attempt says: a solution, or rows to blame
-pub record Attempted (rows : ℕ) (domain table : List ℕ) (s : State) (a : Attempt) : Type 0 where
-  pub solved : a.found ≡ true → Solution rows domain table (λ q. get_or a.chosen q 0)
-  pub failed : a.found ≡ false → Refuted rows domain table s.placed a.blame s.chosen
+abbrev pub Attempted : ℕ → List ℕ → List ℕ → State → Result (List ℕ) ℕ → Type 0
+Attempted rows domain table s attempt =
+    MatchResult attempt (λ chosen. Solution rows domain table (λ q. get_or chosen q 0)) (λ blame. Refuted rows domain table s.placed blame s.chosen)
 
 -- a state in which the next row can be placed, with work enough for the rows that are not
 pub record Placeable (rows : ℕ) (domain table : List ℕ) (s : State) (work : ℕ) : Type 0 where
