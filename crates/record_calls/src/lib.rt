@@ -83,6 +83,6 @@ pub fn determined(given: Record, relation: u8, left: u8) -> Columns
     if !limits::set_good(relations, widths, relation, left) {
         return Columns::Refused(refusals::BAD_DEPENDENCY);
     }
-    let mask = closure::closed_columns(held as usize, dependencies, relation, left);
+    let mask = closure::closed_columns(&dependencies[..held as usize], relation, left);
     Columns::Determined(mask, u8::count_ones(mask) as u8)
 }

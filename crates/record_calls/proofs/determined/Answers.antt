@@ -1,11 +1,17 @@
 -- `record_calls::determined` meets its contract, by `Outcomes`: the closed mask is that of the determined columns, and its ones are their number.
 -- Assumes nothing.
-use mathlib.Core.Path.{◌≡◌, sym, ◌∙◌}
+use mathlib.Core.Path.{◌≡◌, sym, ap, ◌∙◌}
+use mathlib.Core.List.{map}
+use Prim.Native.Nat.{ℕ}
+use native.Mathlib.Omega.{arith}
+use lib.Seq.{length-take-le}
 use mathlib.Core.Bool.{true}
 use native.Mathlib.Nat.{lt_of_le_of_lt}
 use lib.Count.{ones-le}
 use lib.Dec.{lit<}
-use lib.ListN.{length}
+use lib.ListN.{length, take}
+use Rattle.query.specs.View.{dependency_of}
+use Rattle.closure.specs.internal.Closure.{grow_mask}
 use borrow.Author.Rules.{rules}
 use Rattle.record.specs.Rule.{good_record}
 use Rattle.lists.proofs.Loops.{mapped-length}
@@ -33,11 +39,7 @@ returns-then-not-set_good c =
     c.args.left (good (goal.at.returns-then-not-set_good c).Else-not-is_good) (sym c.set_good.ensures ∙ c.if-not-set_good.true)
 
 pub closed_columns-mask-requires : goal.closed_columns-mask-requires
-closed_columns-mask-requires c = (
-  (good-record c.args.given (good (goal.at.closed_columns-mask-requires c).Else-not-is_good)).held,
-  rights-narrow
-      c.args.given (good (goal.at.closed_columns-mask-requires c).Else-not-is_good),
-)
+closed_columns-mask-requires c = rights-narrow c.args.given (good (goal.at.closed_columns-mask-requires c).Else-not-is_good)
 
 pub overflow_cast-result : goal.overflow_cast-result
 overflow_cast-result c = record { fits = lt_of_le_of_lt (ones-le 8 _ (search rules)) (lit< tt) }
@@ -49,4 +51,7 @@ returns c =
     determined-done c.args.given
     c.args.relation c.args.left
     (good (goal.at.returns c).Else-not-is_good) (sym c.set_good.ensures ∙ c.if-not-set_good.false) long
-    c.closed_columns-mask.result c.closed_columns-mask.ensures
+    c.closed_columns-mask.result
+    (c.closed_columns-mask.ensures
+    ∙ ap (λ (n : ℕ). grow_mask n (map dependency_of (take given.held given.dependencies)) c.args.relation c.args.left)
+    (length-take-le given.held given.dependencies (omega (arith, (good-record given (good (goal.at.returns c).Else-not-is_good)).held))))
