@@ -3,7 +3,7 @@
 
 ghost use Rattle.std.specs.Prelude.{◌≡◌};
 ghost use Rattle.refusals.specs.Refusals.{first_holding, reply};
-ghost use Rattle.record.specs.Calls.{status_reply};
+ghost use Rattle.refusals.specs.Refusal.{reply_of};
 ghost use Rattle.admission.specs.Conditions.{test_conditions};
 ghost use Rattle.admission.specs.internal.Places.{evaluable_at};
 
@@ -11,7 +11,7 @@ use record::{Lookup, Record, Status};
 
 // Whether the words can be tested against the dependencies of the record, or the refusal.
 pub fn testable(given: Record, words: &[u32]) -> Status
-    ensures { status_reply result ≡ reply (first_holding (test_conditions given words.now)) tt }
+    ensures { reply_of result ≡ reply (first_holding (test_conditions given words.now)) tt }
 {
     if !given.is_good() {
         return Status::Refused(refusals::BAD_RECORD);

@@ -11,7 +11,7 @@ use native.Mathlib.Omega.{arith}
 use lib.ListN.{length, take, drop, get_or, get_or-map}
 use lib.Seq.{drop-cons, drop-drop, take-take}
 use Rattle.query.specs.declared.Cell.{Cell}
-use Rattle.query.specs.declared.Query as stored
+use Rattle.query.specs.Types as stored
 use Rattle.query.specs.View.{entry_of, entries_of, rows_of, query_of}
 use Rattle.lists.specs.Tests.{every}
 use Rattle.query.specs.Rule.{good_cell, blank_cell, good_rows, good_up_to}

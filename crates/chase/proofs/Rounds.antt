@@ -15,7 +15,7 @@ use Rattle.query.specs.declared.Entry as stored-entry
 use Rattle.query.specs.declared.Entry.TheVariants.{Constant, Variable}
 use Rattle.query.specs.declared.Cell.{Cell}
 use Rattle.query.specs.declared.Dependency as stored-dependency
-use Rattle.query.specs.declared.Query as stored
+use Rattle.query.specs.Types as stored
 use Rattle.query.specs.Types.{Tableau}
 use Rattle.query.specs.View.{entry_of, entries_of, query_of, as_query, held_of}
 use Rattle.lists.specs.Tests.{every, between}

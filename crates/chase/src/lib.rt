@@ -10,7 +10,6 @@ ghost use Rattle.chase.specs.internal.Outcome.{IsChased};
 use first_step::{NextStep, find_step};
 use query::{Dependency, Tableau};
 use replacement::{Resolution, replace, resolve};
-use tableaux::never;
 
 // A chased tableau and the number of replacements that led to it.
 #[derive(Clone, Copy)]
@@ -38,7 +37,7 @@ pub fn chase(t: Tableau, dependencies: [Dependency; 32], held: usize) -> Chased
         let resolution = resolve(query, a, b);
         let Resolution::Replace(v, e) = resolution else {
             return Chased {
-                query: never(t.arity),
+                query: Tableau::never(t.arity),
                 count: count,
             };
         };

@@ -4,7 +4,7 @@ use mathlib.Core.List.{List}
 use mathlib.Core.Option.{Option, none, some}
 use Prim.Native.Nat.{ℕ}
 use Rattle.record.specs.declared.Record.{Record}
-use Rattle.record.specs.declared.Status.TheVariants.{Done}
+use Rattle.std.specs.Prelude.{Ok, Err}
 use Rattle.record.specs.declared.Outcome.{Outcome}
 use Rattle.record.specs.Calls.{outcome_reply}
 use Rattle.refusals.specs.Refusals.{Condition, first_holding, Reply, reply, refusal_in}
@@ -19,7 +19,7 @@ reply-refusal none r = refl
 reply-refusal (some n) r = refl
 
 -- Once the file is read the conditions are those on its record
-pub unused-read : (file : List ℕ) (o : Outcome) → outcome_reply o ≡ read_outcome (read_file file) → o.answer ≡ Done
+pub unused-read : (file : List ℕ) (o : Outcome) → outcome_reply o ≡ read_outcome (read_file file) → o.answer ≡ Ok tt
     → (conditions : Record → List Condition) (before after : List ℕ) → UnusedIfRefused (conditions o.«record») before after
     → UnusedInFile file conditions before after
 unused-read file o e a conditions before after unused n p =

@@ -8,7 +8,8 @@ use Prim.Native.Nat.{ℕ, ◌≤◌, ◌<◌}
 use lib.ListN.{length, take, drop, take-append-drop, get_or-eq_default}
 use native.Mathlib.Omega.{arith}
 use Rattle.record.specs.declared.Record.{Record}
-use Rattle.record.specs.Calls.{status_reply, outcome_reply, is_filled, query_at}
+use Rattle.record.specs.Calls.{outcome_reply, is_filled, query_at}
+use Rattle.refusals.specs.Refusal.{reply_of}
 use Rattle.comparison.specs.declared.Comparison.{Comparison}
 use Rattle.comparison.specs.declared.Verdict.{Verdict}
 use Rattle.comparison.specs.declared.Verdict.TheVariants.{Never, Mapped, Apart, Refused}
@@ -26,7 +27,7 @@ use Rattle.admission.proofs.Admitted.{none-asked}
 use Rattle.database.proofs.Meaning.{place-ascending, place-answers}
 use Rattle.minimization.specs.Search as search
 use Rattle.record.specs.declared.Outcome.{Outcome}
-use Rattle.record.specs.declared.Status.TheVariants as status
+use Rattle.std.specs.Prelude.{Ok, Err}
 use Rattle.format.specs.Bytes.{Bytes}
 use Rattle.format.specs.File.{read_file, read_outcome, file_of, shaped}
 use Rattle.writer.specs.declared.Written.{Written}
@@ -38,22 +39,22 @@ use Rattle.demands.specs.Demand2.{Decides, Evaluates, FileComesBack, RecordComes
 use native.Mathlib.Nat.{zero-add}
 
 -- A verdict that is not a refusal and does not say contained is Apart
-apart-else : (v : Verdict) → ((n : ℕ) → v ≡ Refused n → ⊥) → (SaysContained v → ⊥) → v ≡ Apart
+apart-else : (v : Verdict) → ((n : ℕ) → v ≡ Err n → ⊥) → (SaysContained v → ⊥) → v ≡ Apart
 apart-else Never clear not = absurd (not tt)
 apart-else Mapped clear not = absurd (not tt)
 apart-else Apart clear not = refl
-apart-else (Refused n) clear not = absurd (clear n refl)
+apart-else (Err n) clear not = absurd (clear n refl)
 
 -- Nor is it any other
-says-else : (v : Verdict) → ((n : ℕ) → v ≡ Refused n → ⊥) → (v ≡ Apart → ⊥) → SaysContained v
+says-else : (v : Verdict) → ((n : ℕ) → v ≡ Err n → ⊥) → (v ≡ Apart → ⊥) → SaysContained v
 says-else Never clear not = tt
 says-else Mapped clear not = tt
 says-else Apart clear not = absurd (not refl)
-says-else (Refused n) clear not = absurd (clear n refl)
+says-else (Err n) clear not = absurd (clear n refl)
 
 module _ (r : Record) (p q : ℕ) (c : Comparison) (compared : Compared r p q c) where
   -- A verdict on places that are not refused is no refusal
-  not-refused : comparison_refusal r p q ≡ none → (n : ℕ) → c.verdict ≡ Refused n → ⊥
+  not-refused : comparison_refusal r p q ≡ none → (n : ℕ) → c.verdict ≡ Err n → ⊥
   not-refused accepted n e =
       refused-gives
       (sym (ap verdict_reply e) ∙ compared.verdict
@@ -115,9 +116,9 @@ module _ (file before after : List ℕ) (o : Outcome) (is : outcome_reply o ≡ 
       )
 
   -- A file that is refused
-  pub not-read : (w : Written) (n : ℕ) → o.answer ≡ status.Refused n → FileComesBack file before after w
+  pub not-read : (w : Written) (n : ℕ) → o.answer ≡ Err n → FileComesBack file before after w
   not-read w n says r reads room =
-      absurd (refused-gives (sym (ap status_reply says) ∙ ap (λ (x : Reply (Unit {0}) × Record). x.0) (is ∙ reads)))
+      absurd (refused-gives (sym (ap reply_of says) ∙ ap (λ (x : Reply (Unit {0}) × Record). x.0) (is ∙ reads)))
 
 module _ (r : Record) (before after : List ℕ) (o : Outcome) where
   -- A record whose file is read back

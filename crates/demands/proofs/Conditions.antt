@@ -17,7 +17,8 @@ use Rattle.query.specs.Types.{Query}
 use Rattle.record.specs.declared.Record.{Record}
 use Rattle.record.specs.declared.Outcome.{Outcome}
 use Rattle.record_calls.specs.declared.Columns.{Columns}
-use Rattle.record.specs.Calls.{status_reply, outcome_reply, query_at}
+use Rattle.record.specs.Calls.{outcome_reply, query_at}
+use Rattle.refusals.specs.Refusal.{reply_of}
 use Rattle.record.specs.Calls.{concluded, add_dependency, add_join, put_query}
 use Rattle.record_calls.specs.Calls.{columns_reply, open_record, drop_query, determined_columns, blank_record}
 use Rattle.comparison.specs.declared.Comparison.{Comparison}
@@ -69,7 +70,7 @@ concluded-said (some n) given after = refl
 -- A call that hands back the record given, or leaves another
 concluded-meets : (conditions : List Condition) (numbers : List ℕ) → map (λ (c : Condition). c.1) conditions ≡ numbers → follows numbers order ≡ true
     → (given after : Record) (o : Outcome) → outcome_reply o ≡ concluded (first_holding conditions) given after
-    → Meets conditions (numbers ∷ []) (refusal_in (status_reply o.answer)) (o.«record» ≡ given) (o.«record» ≡ after)
+    → Meets conditions (numbers ∷ []) (refusal_in (reply_of o.answer)) (o.«record» ≡ given) (o.«record» ≡ after)
 concluded-meets conditions numbers asks ordered given after o e =
     meets conditions _ _ _
     (ap (λ (x : Reply (Unit {0}) × Record). refusal_in x.0) e ∙ concluded-said (first_holding conditions) given after)
@@ -143,7 +144,7 @@ reduce-meets r source target o is =
     (λ n f. let e = is.refused n f in (ap (λ (x : Given). x.1) e, ap (λ (x : Given). x.3) e, ap (λ (x : Given). x.2) e)) (λ f. is) _ refl refl
   where
     go : (f : Option ℕ) → first_holding (reduction_conditions r source target) ≡ f
-        → refusal_in (status_reply o.answer) ≡ first_holding (reduction_conditions r source target)
+        → refusal_in (reply_of o.answer) ≡ first_holding (reduction_conditions r source target)
     go none f = ap refusal_in (is.accepted f).done ∙ sym f
     go (some n) f = ap (λ (x : Given). refusal_in x.0) (is.refused n f) ∙ sym f
 

@@ -13,7 +13,8 @@ use Rattle.record.specs.declared.Outcome.{Outcome}
 use Rattle.record_calls.specs.declared.Columns.{Columns}
 use Rattle.record.specs.View.{schema_of, dependencies_of, joins_of}
 use Rattle.record_calls.specs.Calls.{blank_record, empty_record, columns_reply, determined_at, open_conditions, drop_conditions, determined_conditions}
-use Rattle.record.specs.Calls.{status_reply, with_place, query_at}
+use Rattle.record.specs.Calls.{with_place, query_at}
+use Rattle.refusals.specs.Refusal.{reply_of}
 use Rattle.record.specs.Calls.{with_dependency, with_join}
 use Rattle.record.specs.Calls.{add_conditions, add_join_conditions, put_conditions}
 use Rattle.comparison.specs.declared.Comparison.{Comparison}
@@ -43,26 +44,26 @@ use Rattle.demands.specs.Demand1.{test_asks, evaluate_asks, write_asks, read_ask
 -- Opening a record: it was given none, so a refusal hands back the blank one
 abbrev pub OpenMeets : List ℕ → Outcome → Type 0
 OpenMeets widths o =
-    Meets (open_conditions widths) (open_asks ∷ []) (refusal_in (status_reply o.answer)) (o.«record» ≡ blank_record)
+    Meets (open_conditions widths) (open_asks ∷ []) (refusal_in (reply_of o.answer)) (o.«record» ≡ blank_record)
     (o.«record» ≡ empty_record (length widths) (widths ++ replicate (8 - length widths) 0))
 
 -- Adding a functional dependency
 abbrev pub AddMeets : Record → Dependency → Outcome → Type 0
-AddMeets r d o = Meets (add_conditions r d) (add_asks ∷ []) (refusal_in (status_reply o.answer)) (o.«record» ≡ r) (o.«record» ≡ with_dependency r d)
+AddMeets r d o = Meets (add_conditions r d) (add_asks ∷ []) (refusal_in (reply_of o.answer)) (o.«record» ≡ r) (o.«record» ≡ with_dependency r d)
 
 -- Adding a join dependency
 abbrev pub AddJoinMeets : Record → JoinDependency → Outcome → Type 0
-AddJoinMeets r j o = Meets (add_join_conditions r j) (add_join_asks ∷ []) (refusal_in (status_reply o.answer)) (o.«record» ≡ r) (o.«record» ≡ with_join r j)
+AddJoinMeets r j o = Meets (add_join_conditions r j) (add_join_asks ∷ []) (refusal_in (reply_of o.answer)) (o.«record» ≡ r) (o.«record» ≡ with_join r j)
 
 -- Putting a query
 abbrev pub PutMeets : Record → ℕ → Query → Outcome → Type 0
 PutMeets r place q o =
-    Meets (put_conditions r place q) (put_asks ∷ []) (refusal_in (status_reply o.answer)) (o.«record» ≡ r)
+    Meets (put_conditions r place q) (put_asks ∷ []) (refusal_in (reply_of o.answer)) (o.«record» ≡ r)
     (o.«record» ≡ with_place r place (place_with q))
 
 -- Dropping a query
 abbrev pub DropMeets : Record → ℕ → Outcome → Type 0
-DropMeets r place o = Meets (drop_conditions r place) (drop_asks ∷ []) (refusal_in (status_reply o.answer)) (o.«record» ≡ r) (o.«record» ≡ with_place r place no_place)
+DropMeets r place o = Meets (drop_conditions r place) (drop_asks ∷ []) (refusal_in (reply_of o.answer)) (o.«record» ≡ r) (o.«record» ≡ with_place r place no_place)
 
 -- Asking for determined columns
 abbrev pub DeterminedMeets : Record → ℕ → ℕ → Columns → Type 0
@@ -86,7 +87,7 @@ CheckMeets r p q images c =
 -- Reducing: what is due leaves free which rows stay, their order, and the mapping
 abbrev pub ReduceMeets : Record → ℕ → ℕ → Reduced → Type 0
 ReduceMeets r source target o =
-    Meets (reduction_conditions r source target) (reduce_asks ∷ []) (refusal_in (status_reply o.answer))
+    Meets (reduction_conditions r source target) (reduce_asks ∷ []) (refusal_in (reply_of o.answer))
     ((o.«record» ≡ r) × (o.images ≡ replicate 96 no_cell) × (o.count ≡ 0)) (IsReduced r source target o)
 
 -- ---- databases
@@ -115,7 +116,7 @@ CountMeets r place words a =
 -- Reading a file: it was given no record, so a refusal hands back the blank one
 abbrev pub ReadMeets : List ℕ → Outcome → Type 0
 ReadMeets file o =
-    Meets (read_conditions file) (read_asks file) (refusal_in (status_reply o.answer)) (o.«record» ≡ blank_record) (read_file file ≡ gives o.«record»)
+    Meets (read_conditions file) (read_asks file) (refusal_in (reply_of o.answer)) (o.«record» ≡ blank_record) (read_file file ≡ gives o.«record»)
 
 -- Writing a record into a buffer
 abbrev pub WriteMeets : Record → List ℕ → List ℕ → Written → Type 0

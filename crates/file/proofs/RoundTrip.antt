@@ -7,7 +7,7 @@ use native.Mathlib.Omega.{arith}
 use lib.ListN.{length, take, drop}
 use lib.Seq.{take_at, drop_at}
 use Rattle.refusals.specs.Refusals.{gives}
-use Rattle.record.specs.declared.Status.TheVariants.{Done}
+use Rattle.std.specs.Prelude.{Ok, Err}
 use Rattle.format.specs.File.{read_file, read_outcome, file_of}
 use Rattle.format.proofs.RoundTrip.{file-written-back, record-read-back, file-fits}
 use Rattle.format.proofs.Results.{outcome-done}
@@ -17,7 +17,7 @@ use Rattle.file.specs.RoundTrip.{WrittenBack, ReadBack, ReadGood, WrittenShort, 
 
 pub written_back : WrittenBack
 written_back bytes buffer r hb e fits =
-    let (good, long, same) = file-written-back bytes r hb (outcome-done (read_file bytes) (record { answer = Done; «record» = r }) (sym e) refl) in
+    let (good, long, same) = file-written-back bytes r hb (outcome-done (read_file bytes) (record { answer = Ok tt; «record» = r }) (sym e) refl) in
     let (w, after) = fits-written r buffer good (rw same fits) in (
       sym w ∙ ap (λ (b : List ℕ). gives (length b)) same,
       rw (← after, same) (take_at bytes (drop (0 + length bytes) buffer) (length bytes) refl),
@@ -34,7 +34,7 @@ read_back r buffer n s w =
 
 pub read-good : ReadGood
 read-good bytes r hb e =
-    let (good, long, same) = file-written-back bytes r hb (outcome-done (read_file bytes) (record { answer = Done; «record» = r }) (sym e) refl) in
+    let (good, long, same) = file-written-back bytes r hb (outcome-done (read_file bytes) (record { answer = Ok tt; «record» = r }) (sym e) refl) in
     (good, long)
 
 pub written-short : WrittenShort

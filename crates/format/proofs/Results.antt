@@ -4,9 +4,11 @@ use mathlib.Core.Bool.{true}
 use mathlib.Core.List.{List, [], ◌∷◌, ◌++◌, append-nil}
 use Prim.Native.Nat.{ℕ}
 use Rattle.record.specs.declared.Record.{Record}
-use Rattle.record.specs.declared.Status.TheVariants.{Done, Refused}
+use Rattle.std.specs.Prelude.{Ok, Err}
 use Rattle.record.specs.declared.Outcome.{Outcome}
-use Rattle.record.specs.Calls.{status_reply, outcome_reply}
+use Rattle.record.specs.Calls.{outcome_reply}
+use Rattle.refusals.specs.declared.Refusal.{Refusal}
+use Rattle.refusals.specs.Refusal.{number_of, reply_of}
 use Rattle.format.specs.Bytes.{Bytes}
 use Rattle.format.specs.Format.{Reading, none, got, Format, Lawful}
 use Rattle.refusals.proofs.Refusals.{refused-gives}
@@ -39,14 +41,15 @@ complete-get n f lf part a hb e =
     (k.0, rw append-nil at k.1)
 
 -- an outcome that is done is that of an accepted file
-pub outcome-done : (x : Reply Record) (o : Outcome) → outcome_reply o ≡ read_outcome x → o.answer ≡ Done → x ≡ gives o.«record»
+pub outcome-done : (x : Reply Record) (o : Outcome) → outcome_reply o ≡ read_outcome x → o.answer ≡ Ok tt → x ≡ gives o.«record»
 outcome-done (gives r) o e a = ap gives (sym (ap (λ (s : Reply (Unit {0}) × Record). s.1) e))
-outcome-done (refused n) o e a = absurd (refused-gives (sym (ap (λ (s : Reply (Unit {0}) × Record). s.0) e) ∙ ap status_reply a))
+outcome-done (refused n) o e a = absurd (refused-gives (sym (ap (λ (s : Reply (Unit {0}) × Record). s.0) e) ∙ ap reply_of a))
 
 -- and one that is refused that of a file refused so
-pub outcome-refused : (x : Reply Record) (o : Outcome) (n : ℕ) → outcome_reply o ≡ read_outcome x → o.answer ≡ Refused n → x ≡ refused n
-outcome-refused (gives r) o n e a = absurd (refused-gives (sym (ap status_reply a) ∙ ap (λ (s : Reply (Unit {0}) × Record). s.0) e))
-outcome-refused (refused m) o n e a =
-    let same : ◌≡◌ {A = Reply (Unit {0})} (refused m) (refused n) = sym (ap (λ (s : Reply (Unit {0}) × Record). s.0) e) ∙ ap status_reply a in
+pub outcome-refused : (x : Reply Record) (o : Outcome) (why : Refusal) → outcome_reply o ≡ read_outcome x → o.answer ≡ Err why → x ≡ refused (number_of why)
+outcome-refused (gives r) o why e a = absurd (refused-gives (sym (ap reply_of a) ∙ ap (λ (s : Reply (Unit {0}) × Record). s.0) e))
+outcome-refused (refused m) o why e a =
+    let n : ℕ = number_of why in
+    let same : ◌≡◌ {A = Reply (Unit {0})} (refused m) (refused n) = sym (ap (λ (s : Reply (Unit {0}) × Record). s.0) e) ∙ ap reply_of a in
     let number : m ≡ n = cc in
     ap refused number

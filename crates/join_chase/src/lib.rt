@@ -6,7 +6,6 @@ ghost use Rattle.join_chase.specs.internal.JoinChased.{JoinChasable, IsJoinChase
 
 use join_step::{next_row, with_row, without_repeats};
 use query::{Dependency, JoinDependency, Tableau};
-use tableaux::no_tableau;
 
 // A chased tableau. Where a row more than 24 would be added it is over, and there is no tableau.
 #[derive(Clone, Copy)]
@@ -58,7 +57,7 @@ fn make_round(
         return Round {
             ended: true,
             over: true,
-            query: no_tableau(),
+            query: Tableau::never(0),
         };
     }
     let row = next.row;

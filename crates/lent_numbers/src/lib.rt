@@ -2,7 +2,7 @@
 #![tactic(auto)]
 
 ghost use Rattle.std.specs.Prelude.{◌≡◌};
-ghost use Rattle.record.specs.Calls.{status_reply};
+ghost use Rattle.refusals.specs.Refusal.{reply_of};
 ghost use Rattle.record_calls.specs.Calls.{columns_reply};
 ghost use Rattle.writer.specs.Write.{length_reply};
 ghost use Rattle.replies.specs.Replies.{count_reply};
@@ -16,7 +16,7 @@ use writer::Written;
 
 // Gives 0 where a call is done, or the number of the refusal.
 pub fn number_of(answer: Status) -> u8
-    ensures { result ≡ returned (status_reply answer) }
+    ensures { result ≡ returned (reply_of answer) }
 {
     match answer {
         Status::Done => 0,

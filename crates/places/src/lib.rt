@@ -3,17 +3,17 @@
 
 ghost use Rattle.std.specs.Prelude.{◌≡◌, true, ◌+◌, ◌-◌, ◌*◌, ◌≤◌, length, take, drop};
 ghost use Rattle.query.specs.Rule.{good_relations};
-ghost use Rattle.refusals.specs.Refusals.{refused};
+ghost use Rattle.refusals.specs.Refusal.{reply_of};
 ghost use Rattle.format.specs.Bytes.{number};
 ghost use Rattle.format.specs.File.{read_places, chained, stretch, stretches};
-ghost use Rattle.places.specs.internal.Read.{outcome_of, record_read};
+ghost use Rattle.places.specs.internal.Read.{record_read};
 
 use decoder::read_place;
 use parsing::word16;
 use query::{Dependency, JoinDependency};
 use record::calls::no_place;
-use record::{Outcome, Record, Status};
-use record_calls::blank_record;
+use record::Record;
+use refusals::Refusal;
 
 // The stretch of the file that pair k names.
 pub fn part(file: &[u8], k: usize) -> &[u8]
@@ -27,16 +27,6 @@ pub fn part(file: &[u8], k: usize) -> &[u8]
     &file[offset..end]
 }
 
-// A refusal: its number and the blank record.
-pub fn refusal(number: u8) -> Outcome
-    ensures { result ≡ outcome_of (refused number) }
-{
-    Outcome {
-        answer: Status::Refused(number),
-        record: blank_record(),
-    }
-}
-
 // The record of relations, dependencies and the query parts in file order: parts 2 to n - 1 fill places from 0.
 pub fn read_places(
     file: &[u8],
@@ -47,29 +37,19 @@ pub fn read_places(
     dependencies: [Dependency; 32],
     joined: u8,
     joins: [JoinDependency; 4],
-) -> Outcome
+) -> Result<Record, Refusal>
     requires widths_value { good_relations count widths ≡ true }
     requires le_n { (2 ≤ n) × (n ≤ 10) × (2 + 4 * n ≤ length file.now) }
     requires file_value { chained n (2 + 4 * n) (length file.now) (drop 2 file.now) ≡ true }
-    ensures { result ≡ record_read (count, widths) (held, dependencies) (joined, joins) (read_places (take count widths)
+    ensures { reply_of result ≡ record_read (count, widths) (held, dependencies) (joined, joins) (read_places (take count widths)
         (stretches (n - 2) file.now (drop 10 file.now))) }
 {
     let blank = no_place();
     let mut places = [blank; 8];
     for k in 2..n {
-        let read = read_place(part(file, k), k + 1 == n, count, widths);
-        let answer = read.answer;
-        match answer {
-            Status::Done => {
-                let place = read.place;
-                places[k - 2] = place;
-            }
-            Status::Refused(number) => {
-                return refusal(number);
-            }
-        }
+        places[k - 2] = read_place(part(file, k), k + 1 == n, count, widths)?;
     }
-    let record = Record {
+    Ok(Record {
         relations: count,
         widths,
         held,
@@ -77,9 +57,5 @@ pub fn read_places(
         joined,
         joins,
         places,
-    };
-    Outcome {
-        answer: Status::Done,
-        record,
-    }
+    })
 }

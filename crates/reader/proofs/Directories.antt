@@ -12,7 +12,6 @@ use Rattle.format.specs.Bytes.{number}
 use Rattle.format.specs.File.{chained, stretches, table_fits, directory}
 use Rattle.format.proofs.Stretches.{length-stretches}
 use Rattle.lists.proofs.Tests.{and-iff}
-use Rattle.reader.specs.declared.DirectoryRead.TheVariants.{Parts, Broken}
 use Rattle.reader.specs.internal.Read.{directory_read}
 
 module _ (file : List ℕ) where
@@ -49,7 +48,7 @@ pub record Accepted (file : List ℕ) (n : ℕ) : Type 0 where
   pub chain : chained n (2 + 4 * n) (length file) (drop 2 file) ≡ true
   pub parts : directory file ≡ gives (stretches n file (drop 2 file))
 
-pub accepts : (file : List ℕ) (n : ℕ) → Parts n ≡ directory_read (directory file) → Accepted file n
+pub accepts : (file : List ℕ) (n : ℕ) → gives n ≡ directory_read (directory file) → Accepted file n
 unfolding directory
 accepts file n h = fitting (table_fits file) refl h
   where
@@ -57,7 +56,7 @@ accepts file n h = fitting (table_fits file) refl h
     count = number 2 file
 
     chaining : table_fits file ≡ true → (t : Bool) → chained count (2 + 4 * count) (length file) (drop 2 file) ≡ t
-        → Parts n ≡ directory_read (cond t (gives (stretches count file (drop 2 file))) (refused bad_offsets)) → Accepted file n
+        → gives n ≡ directory_read (cond t (gives (stretches count file (drop 2 file))) (refused bad_offsets)) → Accepted file n
     chaining f true c h =
         let e : count ≡ n = sym (length-stretches count file (drop 2 file)) ∙ sym (cc) in
         let k : (leb 2 (length file) ≡ true) × (((leb 2 count ≡ true) × (leb count 10 ≡ true)) × (leb (2 + 4 * count) (length file) ≡ true)) =
@@ -73,13 +72,13 @@ accepts file n h = fitting (table_fits file) refl h
     chaining f false c h = let z : ◌≡◌ {A = ℕ} 0 1 = cc in absurd (omega arith)
 
     fitting : (t : Bool) → table_fits file ≡ t
-        → Parts n ≡ directory_read (cond t
+        → gives n ≡ directory_read (cond t
         (cond (chained count (2 + 4 * count) (length file) (drop 2 file)) (gives (stretches count file (drop 2 file)))
         (refused bad_offsets)) (refused bad_directory))
         → Accepted file n
     fitting true f h = chaining f (chained count (2 + 4 * count) (length file) (drop 2 file)) refl h
     fitting false f h = let z : ◌≡◌ {A = ℕ} 0 1 = cc in absurd (omega arith)
 
-pub refuses : (o : Reply (List (List ℕ))) (n : ℕ) → Broken n ≡ directory_read o → o ≡ refused n
+pub refuses : (o : Reply (List (List ℕ))) (n : ℕ) → refused n ≡ directory_read o → o ≡ refused n
 refuses (gives parts) n h = let z : ◌≡◌ {A = ℕ} 0 1 = cc in absurd (omega arith)
 refuses (refused m) n h = let e : m ≡ n = cc in rw e

@@ -4,12 +4,15 @@
 ghost use Rattle.std.specs.Prelude.{◌≡◌, true, ◌+◌, ◌*◌, ◌≤◌, length, drop};
 ghost use Rattle.format.specs.File.{read_all, read_file, read_outcome, directory, chained, stretches};
 ghost use Rattle.record.specs.Calls.{outcome_reply};
-ghost use Rattle.places.specs.internal.Read.{outcome_of};
+ghost use Rattle.refusals.specs.Refusal.{reply_of};
 ghost use Rattle.reader.specs.internal.Read.{directory_read};
 
 use parsing::{read_dependencies, read_joins, read_relations, word16};
-use places::{part, read_places, refusal};
-use record::Outcome;
+use places::{part, read_places};
+use record::calls::{done, refused};
+use record::{Outcome, Record};
+use record_calls::blank_record;
+use refusals::Refusal;
 
 // ---- the directory
 
@@ -30,73 +33,74 @@ fn chain(file: &[u8], n: usize) -> bool
     due == file.len()
 }
 
-// The number of parts, or a refusal.
-#[derive(Clone, Copy)]
-pub enum DirectoryRead {
-    Parts(usize),
-    Broken(u8),
-}
-
 // The directory: refused if the pairs do not fit, and if one breaks the offset rule.
-fn read_directory(file: &[u8]) -> DirectoryRead
-    ensures { result ≡ directory_read (directory file.now) }
+fn read_directory(file: &[u8]) -> Result<usize, Refusal>
+    ensures { reply_of result ≡ directory_read (directory file.now) }
 {
     if file.len() < 2 {
-        return DirectoryRead::Broken(refusals::BAD_DIRECTORY);
+        return Err(Refusal::BadDirectory);
     }
     let n = word16(file, 0) as usize;
     if n < 2 {
-        return DirectoryRead::Broken(refusals::BAD_DIRECTORY);
+        return Err(Refusal::BadDirectory);
     }
     if 10 < n {
-        return DirectoryRead::Broken(refusals::BAD_DIRECTORY);
+        return Err(Refusal::BadDirectory);
     }
     if file.len() < 2 + 4 * n {
-        return DirectoryRead::Broken(refusals::BAD_DIRECTORY);
+        return Err(Refusal::BadDirectory);
     }
     if chain(file, n) {
-        return DirectoryRead::Parts(n);
+        return Ok(n);
     }
-    DirectoryRead::Broken(refusals::BAD_OFFSETS)
+    Err(Refusal::BadOffsets)
 }
 
 // ---- all parts
 
 // The parts in file order: relations, dependencies of both kinds, then places.
-fn read_parts(file: &[u8], n: usize) -> Outcome
+fn read_parts(file: &[u8], n: usize) -> Result<Record, Refusal>
     requires le_n { (2 ≤ n) × (n ≤ 10) × (2 + 4 * n ≤ length file.now) }
     requires file_value { chained n (2 + 4 * n) (length file.now) (drop 2 file.now) ≡ true }
-    ensures { result ≡ outcome_of (read_all (stretches n file.now (drop 2 file.now))) }
+    ensures { reply_of result ≡ read_all (stretches n file.now (drop 2 file.now)) }
 {
     let first = read_relations(part(file, 0));
     if !first.good {
-        return refusal(refusals::BAD_RELATIONS);
+        return Err(Refusal::BadRelations);
     }
     let count = first.count;
     let widths = first.widths;
     let second = part(file, 1);
     let functional = read_dependencies(second, count, widths);
     if !functional.good {
-        return refusal(refusals::BAD_DEPENDENCY);
+        return Err(Refusal::BadDependency);
     }
     let held = functional.held;
     let dependencies = functional.dependencies;
     let from = 1 + 3 * held as usize;
     let rest = read_joins(&second[from..], count, widths);
     if !rest.good {
-        return refusal(refusals::BAD_JOIN);
+        return Err(Refusal::BadJoin);
     }
     let joined = rest.joined;
     let joins = rest.joins;
     read_places(file, n, count, widths, held, dependencies, joined, joins)
 }
 
+// The record of a file, or the first fault.
+fn read_record(file: &[u8]) -> Result<Record, Refusal>
+    ensures { reply_of result ≡ read_file file.now }
+{
+    let n = read_directory(file)?;
+    read_parts(file, n)
+}
+
 // Read a file: its record, or the first fault and the blank record.
 pub fn read(file: &[u8]) -> Outcome
     ensures { outcome_reply result ≡ read_outcome (read_file file.now) }
 {
-    match read_directory(file) {
-        DirectoryRead::Parts(n) => read_parts(file, n),
-        DirectoryRead::Broken(number) => refusal(number),
+    match read_record(file) {
+        Ok(found) => done(found),
+        Err(refusal) => refused(refusal, blank_record()),
     }
 }

@@ -8,8 +8,7 @@ use Rattle.query.specs.Types.{Query}
 use Rattle.query.specs.declared.Dependency.{Dependency}
 use Rattle.query.specs.declared.JoinDependency.{JoinDependency}
 use Rattle.query.specs.Rule.{good_dependency, good_join, good_query, head_safe, place_with}
-use Rattle.refusals.specs.Refusals.{first_holding}
-use Rattle.record.specs.declared.Lookup.TheVariants as lookup
+use Rattle.refusals.specs.Refusals.{first_holding, refused, gives}
 use Rattle.record.specs.declared.Record.{Record}
 use Rattle.record.specs.View.{schema_of}
 use Rattle.record.specs.Rule.{good_record}
@@ -25,7 +24,7 @@ module _ (r : Record) (place : ℕ) (q : Query) where
   put-broken e = rw e
 
   module _ (good : good_record r ≡ true) where
-    pub put-high : (n : ℕ) → place_at place ≡ lookup.Refused n → concluded (some n) r r ≡ put_query r place q
+    pub put-high : (n : ℕ) → place_at place ≡ refused n → concluded (some n) r r ≡ put_query r place q
     unfolding put_query first_holding
     put-high n e =
         let f = place-refused place n e in
@@ -42,13 +41,13 @@ module _ (r : Record) (place : ℕ) (q : Query) where
         put-unsafe e = rw (good, lt-ltb place 8 low, fit, e)
 
         module _ (safe : head_safe (schema_of r) q ≡ true) where
-          pub put-filled : (n : ℕ) → vacant_place r place ≡ lookup.Refused n → concluded (some n) r r ≡ put_query r place q
+          pub put-filled : (n : ℕ) → vacant_place r place ≡ refused n → concluded (some n) r r ≡ put_query r place q
           unfolding put_query first_holding
           put-filled n e =
               let f = vacant-refused r place n low e in
               rw (good, lt-ltb place 8 low, fit, safe, f.0, f.1)
 
-          pub put-done : (at : ℕ) → vacant_place r place ≡ lookup.At at
+          pub put-done : (at : ℕ) → vacant_place r place ≡ gives at
               → concluded none (with_place r at (place_with q)) (with_place r at (place_with q)) ≡ put_query r place
               q
           unfolding put_query first_holding

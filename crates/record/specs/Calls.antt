@@ -8,8 +8,6 @@ use Rattle.query.specs.declared.Dependency.{Dependency}
 use Rattle.query.specs.declared.JoinDependency.{JoinDependency}
 use Rattle.query.specs.declared.Place.{Place}
 use Rattle.record.specs.declared.Record.{Record}
-use Rattle.record.specs.declared.Status.{Status}
-use Rattle.record.specs.declared.Status.TheVariants as status
 use Rattle.record.specs.declared.Outcome.{Outcome}
 use Rattle.query.specs.View.{query_of}
 use Rattle.record.specs.View.{schema_of}
@@ -18,17 +16,13 @@ use Rattle.record.specs.Rule.{good_record}
 use Rattle.refusals.specs.Refusals.{bad_dependency, bad_join, bad_query, bad_record, dependencies_full, joins_full}
 use Rattle.refusals.specs.Refusals.{Condition, first_holding, no_such_place, place_filled, place_vacant, unsafe_head}
 use Rattle.refusals.specs.Refusals.{Reply, refused, gives}
+use Rattle.refusals.specs.Refusal.{reply_of}
 
 -- ---- replies
 
--- What each case of an answer says: done, or refused with a number
-abbrev pub status_reply : Status → Reply (Unit {0})
-status_reply status.Done = gives tt
-status_reply (status.Refused n) = refused n
-
 -- What a call that changes the record says, and the record that it hands back
 abbrev pub outcome_reply : Outcome → Reply (Unit {0}) × Record
-outcome_reply o = (status_reply o.answer, o.«record»)
+outcome_reply o = (reply_of o.answer, o.«record»)
 
 -- The same of a call that is refused with a number, or not: a refusal hands back the record given, an accepted call the record `after`
 abbrev pub concluded : Option ℕ → Record → Record → Reply (Unit {0}) × Record

@@ -4,49 +4,41 @@ ghost use Rattle.std.specs.Prelude.{◌≡◌, ◌<◌};
 ghost use Rattle.std.proofs.Math.Option.{none, some};
 ghost use Rattle.query.specs.Rule.{no_place};
 ghost use Rattle.record.specs.Calls.{outcome_reply, concluded, stored_at, with_place, with_dependency, with_join, add_dependency, add_join, put_query};
-ghost use Rattle.record.specs.internal.Lookup.{place_at, filled_place, vacant_place, number_of};
+ghost use Rattle.refusals.specs.Refusal.{number_of, reply_of};
+ghost use Rattle.record.specs.internal.Lookup.{place_at, filled_place, vacant_place};
 
-use crate::{Lookup, Outcome, Record, Status};
+use crate::{Outcome, Record};
 use query::{Dependency, JoinDependency, Place, Query};
+use refusals::Refusal;
 
 // A call is done.
 pub fn done(after: Record) -> Outcome
     ensures { outcome_reply result ≡ concluded none after after }
 {
     Outcome {
-        answer: Status::Done,
+        answer: Ok(()),
         record: after,
     }
 }
 
-// A call is refused with a number.
-pub fn refused(number: u8, given: Record) -> Outcome
-    ensures { outcome_reply result ≡ concluded (some number) given given }
+// A call is refused.
+pub fn refused(refusal: Refusal, given: Record) -> Outcome
+    ensures { outcome_reply result ≡ concluded (some (number_of refusal)) given given }
 {
     Outcome {
-        answer: Status::Refused(number),
+        answer: Err(refusal),
         record: given,
     }
 }
 
-// The number with which a place is refused, 0 where it is not.
-pub fn number(found: Lookup) -> u8
-    ensures { result ≡ number_of found }
-{
-    match found {
-        Lookup::At(_) => 0,
-        Lookup::Refused(n) => n,
-    }
-}
-
 // The index of a place, or 7.
-pub fn place_at(place: usize) -> Lookup
-    ensures { result ≡ place_at place }
+pub fn place_at(place: usize) -> Result<usize, Refusal>
+    ensures { reply_of result ≡ place_at place }
 {
     if place < 8 {
-        Lookup::At(place)
+        Ok(place)
     } else {
-        Lookup::Refused(refusals::NO_SUCH_PLACE)
+        Err(Refusal::NoSuchPlace)
     }
 }
 
@@ -65,7 +57,7 @@ pub fn no_place() -> Place
 {
     Place {
         filled: false,
-        query: entries::no_query(),
+        query: Query::never(0),
     }
 }
 
@@ -105,30 +97,30 @@ fn with_join(given: Record, j: JoinDependency) -> Record
 
 impl Record {
     // The index of a place to be read or dropped, or 7, or 11.
-    pub fn filled_place(self, place: usize) -> Lookup
-        ensures { result ≡ filled_place self place }
+    pub fn filled_place(self, place: usize) -> Result<usize, Refusal>
+        ensures { reply_of result ≡ filled_place self place }
     {
         if 8 <= place {
-            return Lookup::Refused(refusals::NO_SUCH_PLACE);
+            return Err(Refusal::NoSuchPlace);
         }
         if self.places[place].filled {
-            Lookup::At(place)
+            Ok(place)
         } else {
-            Lookup::Refused(refusals::PLACE_VACANT)
+            Err(Refusal::PlaceVacant)
         }
     }
 
     // The index of a place to be filled, or 7, or 12.
-    pub fn vacant_place(self, place: usize) -> Lookup
-        ensures { result ≡ vacant_place self place }
+    pub fn vacant_place(self, place: usize) -> Result<usize, Refusal>
+        ensures { reply_of result ≡ vacant_place self place }
     {
         if 8 <= place {
-            return Lookup::Refused(refusals::NO_SUCH_PLACE);
+            return Err(Refusal::NoSuchPlace);
         }
         if self.places[place].filled {
-            Lookup::Refused(refusals::PLACE_FILLED)
+            Err(Refusal::PlaceFilled)
         } else {
-            Lookup::At(place)
+            Ok(place)
         }
     }
 
@@ -139,21 +131,21 @@ impl Record {
         let relations = self.relations;
         let widths = self.widths;
         if !self.is_good() {
-            return refused(refusals::BAD_RECORD, self);
+            return refused(Refusal::BadRecord, self);
         }
         let found = place_at(place);
-        let Lookup::At(_) = found else {
-            return refused(number(found), self);
+        let Ok(_) = found else {
+            return refused(found.unwrap_err(), self);
         };
         if !limits::query_good(relations, widths, q) {
-            return refused(refusals::BAD_QUERY, self);
+            return refused(Refusal::BadQuery, self);
         }
         if !limits::head_safe(relations, widths, q) {
-            return refused(refusals::UNSAFE_HEAD, self);
+            return refused(Refusal::UnsafeHead, self);
         }
         let found = self.vacant_place(place);
-        let Lookup::At(at) = found else {
-            return refused(number(found), self);
+        let Ok(at) = found else {
+            return refused(found.unwrap_err(), self);
         };
         let p = Place {
             filled: true,
@@ -170,13 +162,13 @@ impl Record {
         let widths = self.widths;
         let held = self.held;
         if !self.is_good() {
-            return refused(refusals::BAD_RECORD, self);
+            return refused(Refusal::BadRecord, self);
         }
         if !limits::dependency_good(relations, widths, d) {
-            return refused(refusals::BAD_DEPENDENCY, self);
+            return refused(Refusal::BadDependency, self);
         }
         if held == 32 {
-            return refused(refusals::DEPENDENCIES_FULL, self);
+            return refused(Refusal::DependenciesFull, self);
         }
         done(with_dependency(self, d))
     }
@@ -189,13 +181,13 @@ impl Record {
         let widths = self.widths;
         let joined = self.joined;
         if !self.is_good() {
-            return refused(refusals::BAD_RECORD, self);
+            return refused(Refusal::BadRecord, self);
         }
         if !limits::join_good(relations, widths, j) {
-            return refused(refusals::BAD_JOIN, self);
+            return refused(Refusal::BadJoin, self);
         }
         if joined == 4 {
-            return refused(refusals::JOINS_FULL, self);
+            return refused(Refusal::JoinsFull, self);
         }
         done(with_join(self, j))
     }

@@ -5,6 +5,7 @@ pub mod rule; // rule.rt: whether a record is as SPECIFICATION, The record, desc
 pub mod calls; // calls.rt: add a dependency of either kind, put a query, look up a place
 
 use query::{Dependency, JoinDependency, Place};
+use refusals::Refusal;
 
 // The record: there are `relations` relations, relation r has widths[r] columns, the first `held` functional dependencies are held, and the first `joined`
 // join dependencies.
@@ -19,23 +20,9 @@ pub struct Record {
     pub places: [Place; 8],
 }
 
-// What a call answers: done, or refused with a number of SPECIFICATION, Refusals.
-#[derive(Clone, Copy)]
-pub enum Status {
-    Done,
-    Refused(u8),
-}
-
-// A call's answer with the record after it. A refused call hands back the record that it was given.
+// A call's answer, done or refused, with the record after it. A refused call hands back the record that it was given.
 #[derive(Clone, Copy)]
 pub struct Outcome {
-    pub answer: Status,
+    pub answer: Result<(), Refusal>,
     pub record: Record,
-}
-
-// Where a place is looked up: its index, or the number of the refusal.
-#[derive(Clone, Copy)]
-pub enum Lookup {
-    At(usize),
-    Refused(u8),
 }

@@ -22,8 +22,7 @@ use Rattle.query.proofs.Good.{good-dependency, good-set}
 use Rattle.closure.specs.internal.Closure.{grow_mask, right_narrow}
 use Rattle.closure.proofs.Closure.{held-length, determined-mask, determined-count}
 use Rattle.refusals.specs.Refusals.{first_holding, refused, gives}
-use Rattle.refusals.proofs.Refusals.{first_goes}
-use Rattle.record.specs.declared.Lookup.TheVariants as lookup
+use Rattle.refusals.proofs.Refusals.{first_goes, reply-refused}
 use Rattle.record.specs.declared.Record.{Record}
 use Rattle.record.specs.View.{schema_of, dependencies_of}
 use Rattle.record.specs.Rule.{good_record}
@@ -33,7 +32,7 @@ use Rattle.record.proofs.Good.{good-record, make-record}
 use Rattle.record.proofs.Stored.{narrow}
 use Rattle.record.proofs.Fitting.{dependencies-fit}
 use Rattle.record.proofs.Kept.{empty-place}
-use Rattle.record.proofs.Refusals.{found-refused, filled_at}
+use Rattle.record.proofs.Refusals.{filled_at}
 use Rattle.record_calls.specs.Calls.{blank_record, empty_record, open_record, drop_query, determined_columns}
 
 -- ---- open
@@ -98,13 +97,13 @@ module _ (r : Record) (place : ℕ) where
     past : first_holding (broken_record r ∷ unknown_place place ∷ vacant r place ∷ []) ≡ first_holding (unknown_place place ∷ vacant r place ∷ [])
     past = first_goes (not (good_record r)) 14 (unknown_place place ∷ vacant r place ∷ []) (ap not good)
 
-    pub drop-refused : (n : ℕ) → filled_place r place ≡ lookup.Refused n → concluded (some n) r r ≡ drop_query r place
+    pub drop-refused : (n : ℕ) → filled_place r place ≡ refused n → concluded (some n) r r ≡ drop_query r place
     unfolding drop_query
     drop-refused n e =
         ap (λ (o : Option ℕ). concluded o r (with_place r place no_place))
-        (sym (past ∙ found-refused (first_holding (unknown_place place ∷ vacant r place ∷ [])) place n e))
+        (sym (past ∙ reply-refused (first_holding (unknown_place place ∷ vacant r place ∷ [])) place n e))
 
-    pub drop-done : (at : ℕ) → filled_place r place ≡ lookup.At at → concluded none (with_place r at no_place) (with_place r at no_place) ≡ drop_query r place
+    pub drop-done : (at : ℕ) → filled_place r place ≡ gives at → concluded none (with_place r at no_place) (with_place r at no_place) ≡ drop_query r place
     unfolding drop_query first_holding
     drop-done at e =
         let f = filled_at r place at e in

@@ -1,6 +1,6 @@
 -- What opening a record, dropping a query and a question about determined columns answer: what they ask, in the order of SPECIFICATION, Refusals, and the
 -- record after them.
-use Rattle.std.specs.Prelude.{not, ◌&&◌, List, [], ◌∷◌, ◌++◌, ℕ, ◌-◌, length, get_or, replicate}
+use Rattle.std.specs.Prelude.{Result, Ok, Err, not, ◌&&◌, List, [], ◌∷◌, ◌++◌, ℕ, ◌-◌, length, get_or, replicate}
 use Rattle.lists.specs.Tests.{between, every}
 use Rattle.determination.specs.Determined.{determined}
 use Rattle.query.specs.View.{columns_of, mask_of}
@@ -10,7 +10,8 @@ use Rattle.record.specs.declared.Record.{Record}
 use Rattle.record.specs.View.{schema_of, dependencies_of}
 use Rattle.record.specs.Calls.{concluded, broken_record, unknown_place, vacant, with_place}
 use Rattle.record_calls.specs.declared.Columns.{Columns}
-use Rattle.record_calls.specs.declared.Columns.TheVariants as columns
+use Rattle.refusals.specs.declared.Refusal.{Refusal}
+use Rattle.refusals.specs.Refusal.{number_of}
 
 -- ---- open
 
@@ -54,9 +55,9 @@ drop_query r place = concluded (first_holding (drop_conditions r place)) r (with
 -- ---- determined columns
 
 -- What each case of an answer about determined columns says: their set and how many they are, or refused with a number
-abbrev pub columns_reply : Columns → Reply (ℕ × ℕ)
-columns_reply (columns.Determined mask size) = gives (mask, size)
-columns_reply (columns.Refused n) = refused n
+abbrev pub columns_reply : Result Columns Refusal → Reply (ℕ × ℕ)
+columns_reply (Ok columns) = gives (columns.set, columns.count)
+columns_reply (Err refusal) = refused (number_of refusal)
 
 -- What a question about determined columns asks: 14; 4 unless the relation is known and the set is a nonempty set of its columns
 abbrev pub determined_conditions : Record → ℕ → ℕ → List Condition

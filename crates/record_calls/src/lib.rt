@@ -5,14 +5,15 @@ ghost use Rattle.std.specs.Prelude.{◌≡◌};
 ghost use Rattle.record.specs.Calls.{outcome_reply};
 ghost use Rattle.record_calls.specs.Calls.{blank_record, empty_record, open_record, drop_query, columns_reply, determined_columns};
 
-use record::calls::{done, no_place, number, refused, with_place};
-use record::{Lookup, Outcome, Record};
+use record::calls::{done, no_place, refused, with_place};
+use record::{Outcome, Record};
+use refusals::Refusal;
 
-// What a question about determined columns answers: their set, bit c for column c, with their number; or the number of the refusal.
-#[derive(Clone, Copy)]
-pub enum Columns {
-    Determined(u8, u8),
-    Refused(u8),
+// Some columns: their set, bit c for column c, and their number.
+#[derive(Clone, Copy, PartialEq, Eq)]
+pub struct Columns {
+    pub set: u8,
+    pub count: u8,
 }
 
 // A record of the given relations, without dependencies, all places vacant.
@@ -45,12 +46,12 @@ pub fn open(widths: &[u8]) -> Outcome
     ensures { outcome_reply result ≡ open_record widths.now }
 {
     if 8 < widths.len() {
-        return refused(refusals::BAD_RELATIONS, blank_record());
+        return refused(Refusal::BadRelations, blank_record());
     }
     let relations = widths.len() as u8;
     let padded = limits::padded_widths(widths);
     if !limits::relations_good(relations, padded) {
-        return refused(refusals::BAD_RELATIONS, blank_record());
+        return refused(Refusal::BadRelations, blank_record());
     }
     done(opened(relations, padded))
 }
@@ -60,17 +61,17 @@ pub fn drop_query(given: Record, place: usize) -> Outcome
     ensures { outcome_reply result ≡ drop_query given place }
 {
     if !given.is_good() {
-        return refused(refusals::BAD_RECORD, given);
+        return refused(Refusal::BadRecord, given);
     }
     let found = given.filled_place(place);
-    let Lookup::At(at) = found else {
-        return refused(number(found), given);
+    let Ok(at) = found else {
+        return refused(found.unwrap_err(), given);
     };
     done(with_place(given, at, no_place()))
 }
 
 // The columns of a relation that a set of its columns determines.
-pub fn determined(given: Record, relation: u8, left: u8) -> Columns
+pub fn determined(given: Record, relation: u8, left: u8) -> Result<Columns, Refusal>
     ensures { columns_reply result ≡ determined_columns given relation left }
 {
     let relations = given.relations;
@@ -78,11 +79,12 @@ pub fn determined(given: Record, relation: u8, left: u8) -> Columns
     let held = given.held;
     let dependencies = given.dependencies;
     if !given.is_good() {
-        return Columns::Refused(refusals::BAD_RECORD);
+        return Err(Refusal::BadRecord);
     }
     if !limits::set_good(relations, widths, relation, left) {
-        return Columns::Refused(refusals::BAD_DEPENDENCY);
+        return Err(Refusal::BadDependency);
     }
     let mask = closure::closed_columns(&dependencies[..held as usize], relation, left);
-    Columns::Determined(mask, u8::count_ones(mask) as u8)
+    let count = u8::count_ones(mask) as u8;
+    Ok(Columns { set: mask, count })
 }

@@ -7,10 +7,11 @@ use lib.ListN.{length, get_or}
 use borrow.Author.Tests.{le-leb, lt-leb}
 use Rattle.refusals.specs.Refusals.{◌>>=◌, gives, refused, Reply}
 use Rattle.record.specs.declared.Record.{Record}
-use Rattle.record.specs.declared.Status.TheVariants.{Done, Refused}
+use Rattle.std.specs.Prelude.{Ok, Err}
 use Rattle.record.specs.declared.Outcome.{Outcome}
 use Rattle.record.specs.Rule.{good_record}
-use Rattle.record.specs.Calls.{status_reply, outcome_reply}
+use Rattle.record.specs.Calls.{outcome_reply}
+use Rattle.refusals.specs.Refusal.{reply_of}
 use Rattle.format.specs.File.{read_file, read_outcome, file_of}
 use Rattle.format.proofs.RoundTrip.{sound-record, file-written-back}
 use Rattle.format.proofs.Bytes.{bytes-known}
@@ -45,11 +46,11 @@ module _ (r : Record) (out after : List ℕ) (b : after ≡ after_writing r out)
 
 -- ---- a call's record
 
-pub result-done : (o : Outcome) → o.answer ≡ Done → result_of (outcome_reply o) ≡ gives o.«record»
+pub result-done : (o : Outcome) → o.answer ≡ Ok tt → result_of (outcome_reply o) ≡ gives o.«record»
 unfolding ◌>>=◌
 result-done o a = rw a
 
-pub result-refused : (o : Outcome) (n : ℕ) → o.answer ≡ Refused n → result_of (outcome_reply o) ≡ refused n
+pub result-refused : (o : Outcome) (n : ℕ) → o.answer ≡ Err n → result_of (outcome_reply o) ≡ refused n
 unfolding ◌>>=◌
 result-refused o n a = rw a
 
@@ -67,15 +68,15 @@ returned-read (refused n) = refl
 
 module _ (file : List ℕ) (o : Outcome) (e : outcome_reply o ≡ read_outcome (read_file file)) where
   -- The number of what reading says
-  pub read_number : returned (status_reply o.answer) ≡ returned (read_file file)
+  pub read_number : returned (reply_of o.answer) ≡ returned (read_file file)
   read_number = ap (λ (y : Reply (Unit {0}) × Record). returned y.0) e ∙ returned-read (read_file file)
 
   -- The call goes on with the record of an accepted file
-  pub read_done : {A : Type 0} (next : Record → Reply A) → o.answer ≡ Done → (read_file file >>= next) ≡ next o.«record»
+  pub read_done : {A : Type 0} (next : Record → Reply A) → o.answer ≡ Ok tt → (read_file file >>= next) ≡ next o.«record»
   read_done next a = goes_on (outcome-done (read_file file) o e a) next
 
   -- and stops with the number of a refused one
-  pub read-refused : {A : Type 0} (next : Record → Reply A) (n : ℕ) → o.answer ≡ Refused n → (read_file file >>= next) ≡ refused n
+  pub read-refused : {A : Type 0} (next : Record → Reply A) (n : ℕ) → o.answer ≡ Err n → (read_file file >>= next) ≡ refused n
   read-refused next n a = still-refused (outcome-refused (read_file file) o n e a) next
 
   module _ (bytes : (i : ℕ) → get_or file i 0 < 256) where
@@ -83,11 +84,11 @@ module _ (file : List ℕ) (o : Outcome) (e : outcome_reply o ≡ read_outcome (
     read_back r p = let k = file-written-back file r (bytes-known file bytes) p in (k.0, k.2)
 
     -- The record of an accepted file is good
-    pub read-good : o.answer ≡ Done → good_record o.«record» ≡ true
+    pub read-good : o.answer ≡ Ok tt → good_record o.«record» ≡ true
     read-good a = (read_back o.«record» (outcome-done (read_file file) o e a)).0
 
     -- and has room for 32 dependencies
-    pub read-long : o.answer ≡ Done → length o.«record».dependencies ≡ 32
+    pub read-long : o.answer ≡ Ok tt → length o.«record».dependencies ≡ 32
     read-long a =
         let k = file-written-back file o.«record» (bytes-known file bytes) (outcome-done (read_file file) o e a) in
         (sound-record o.«record» k.0 k.1).dependencies-long

@@ -15,7 +15,8 @@ use Rattle.record.specs.declared.Record.{Record}
 use Rattle.record.specs.declared.Outcome.{Outcome}
 use Rattle.record.specs.View.{schema_of}
 use Rattle.record.specs.Rule.{good_record}
-use Rattle.record.specs.Calls.{status_reply, outcome_reply, add_dependency, add_join, put_query}
+use Rattle.record.specs.Calls.{outcome_reply, add_dependency, add_join, put_query}
+use Rattle.refusals.specs.Refusal.{reply_of}
 use Rattle.record_calls.specs.Calls.{open_record, drop_query}
 use Rattle.record_calls.proofs.Meaning.{open-keeps, drop_keeps}
 use Rattle.record.specs.Meaning.{LeavesGood}
@@ -32,11 +33,11 @@ unfolding ◌>>=◌
 refused-result o n r e = ap result_of e
 
 pub refused-sound : (o : Outcome) (n : ℕ) (r : Record) → outcome_reply o ≡ (refused n, r) → GoodIfDone o
-refused-sound o n r e a = absurd (refused-gives (sym (ap (λ (s : Reply (Unit {0}) × Record). s.0) e) ∙ ap status_reply a))
+refused-sound o n r e a = absurd (refused-gives (sym (ap (λ (s : Reply (Unit {0}) × Record). s.0) e) ∙ ap reply_of a))
 
 -- Where what a call says leaves a good record, the call does
 says-sound : (o : Outcome) (said : Reply (Unit {0}) × Record) → outcome_reply o ≡ said → LeavesGood said → GoodIfDone o
-says-sound o said e good a = subst LeavesGood (sym e) good (ap status_reply a)
+says-sound o said e good a = subst LeavesGood (sym e) good (ap reply_of a)
 
 pub open-sound : (widths : List ℕ) (o : Outcome) → outcome_reply o ≡ open_record widths → GoodIfDone o
 open-sound widths o e = says-sound o (open_record widths) e (open-keeps widths)

@@ -7,7 +7,7 @@ use Rattle.query.specs.Types.{Query}
 use Rattle.query.specs.declared.Dependency.{Dependency}
 use Rattle.query.specs.declared.Place.{Place}
 use Rattle.record.specs.declared.Record.{Record}
-use Rattle.record.specs.declared.Status.TheVariants as status
+use Rattle.std.specs.Prelude.{Ok, Err}
 use Rattle.record.specs.declared.Lookup.TheVariants as lookup
 use Rattle.query.specs.View.{query_of, as_query, held_of, images_of}
 use Rattle.record.specs.View.{schema_of, dependencies_of}
@@ -152,7 +152,7 @@ module _ (r : Record) (source target : ℕ) (able : Reducible r source target) (
       → ((schema : List ℕ) → every (between 1 8) schema ≡ true → good_query schema q ≡ true → head_safe schema q ≡ true
       → IsShortened schema (dependencies_of r) q s)
       → ShortFormStored r source target
-      (record { answer = status.Done; «record» = with_place r target (place_with s.query); count = s.count; images = s.images })
+      (record { answer = Ok tt; «record» = with_place r target (place_with s.query); count = s.count; images = s.images })
   stored-reduced q is s tells =
       let schema = schema_of r in
       let after = with_place r target (place_with s.query) in

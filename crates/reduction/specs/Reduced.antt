@@ -8,7 +8,8 @@ use Rattle.record.specs.View.{schema_of, dependencies_of}
 use Rattle.record.specs.Rule.{good_record}
 use Rattle.query.specs.Rule.{no_cell, place_with}
 use Rattle.refusals.specs.Refusals.{Condition, first_holding, Reply, refused, gives}
-use Rattle.record.specs.Calls.{status_reply, broken_record, unknown_place, vacant, filled, with_place, stored_at, query_at}
+use Rattle.record.specs.Calls.{broken_record, unknown_place, vacant, filled, with_place, stored_at, query_at}
+use Rattle.refusals.specs.Refusal.{reply_of}
 use Rattle.reduction.specs.declared.Reduced.{Reduced}
 use Rattle.theory.specs.Query as theory
 use Rattle.theory.specs.Database as database
@@ -26,7 +27,7 @@ reduction_refusal r source target = first_holding (reduction_conditions r source
 
 -- What a reduction says, the record that it hands back, the count and the mapping's images
 abbrev pub reduced_reply : Reduced → Reply (Unit {0}) × Record × ℕ × List Cell
-reduced_reply o = (status_reply o.answer, o.«record», o.count, o.images)
+reduced_reply o = (reply_of o.answer, o.«record», o.count, o.images)
 
 -- The same of a refused one: the number, the record as it was, and 0 in every other field
 abbrev pub refused_reduction : Record → ℕ → Reply (Unit {0}) × Record × ℕ × List Cell
@@ -49,7 +50,7 @@ pub record ReducesTo (schema : List ℕ) (ds : List database.Dependency) (S T : 
 
 -- What an accepted reduction of the place `source` into the place `target` leaves
 pub record ShortFormStored (r : Record) (source target : ℕ) (o : Reduced) : Type 0 where
-  pub done : status_reply o.answer ≡ gives tt
+  pub done : reply_of o.answer ≡ gives tt
   -- the target place holds a query, and nothing else in the record has changed
   pub unchanged : o.«record» ≡ with_place r target (place_with (stored_at o.«record» target))
   -- the record keeps its rule

@@ -12,9 +12,9 @@ use Rattle.refusals.specs.Refusals.{◌>>=◌, buffer_too_short, gives, refused,
 use Rattle.refusals.proofs.Refusals.{refused-gives}
 use Rattle.query.specs.declared.Cell.{Cell}
 use Rattle.record.specs.declared.Record.{Record}
-use Rattle.record.specs.declared.Status.TheVariants.{Done, Refused}
+use Rattle.std.specs.Prelude.{Ok, Err}
 use Rattle.record.specs.Rule.{good_record}
-use Rattle.record.specs.Calls.{status_reply}
+use Rattle.refusals.specs.Refusal.{reply_of}
 use Rattle.lists.specs.Over.{over}
 use Rattle.format.specs.File.{read_file, file_of}
 use Rattle.writer.specs.Write.{written, after_writing}
@@ -36,11 +36,11 @@ module _ (o : Reduced) (out : List ℕ) (size count : ℕ) (mapping : List ℕ) 
   pub reduction-none : {x : Reply Reduced} {n : ℕ} → x ≡ refused n → ReductionGiven x out size count mapping n out size count mapping
   reduction-none {n = n} p = reduction-same p n out size count mapping (refl, refl, refl, refl, refl)
 
-  pub reduction-refused : (n : ℕ) → o.answer ≡ Refused n → reduction_fits (length out) (length mapping) o ≡ refused n
+  pub reduction-refused : (n : ℕ) → o.answer ≡ Err n → reduction_fits (length out) (length mapping) o ≡ refused n
   unfolding ◌>>=◌
   reduction-refused n e = rw e
 
-  module _ (done : o.answer ≡ Done) where
+  module _ (done : o.answer ≡ Ok tt) where
     pub reduction-short : length mapping < 192 → reduction_fits (length out) (length mapping) o ≡ refused buffer_too_short
     unfolding ◌>>=◌
     reduction-short h = rw (done, lt-leb 192 (length mapping) h)
@@ -74,7 +74,7 @@ reduced-sound r source target o is done = go (reduction_refusal r source target)
     go : (x : Option ℕ) → reduction_refusal r source target ≡ x → good_record o.«record» ≡ true
     go option.none e = (is.accepted e).good
     go (option.some n) e =
-        absurd (refused-gives (sym (ap (λ (x : Reply (Unit {0}) × Record × ℕ × List Cell). x.0) (is.refused n e)) ∙ ap status_reply done))
+        absurd (refused-gives (sym (ap (λ (x : Reply (Unit {0}) × Record × ℕ × List Cell). x.0) (is.refused n e)) ∙ ap reply_of done))
 
 -- ---- the exported call
 

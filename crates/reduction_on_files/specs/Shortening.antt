@@ -2,7 +2,7 @@
 use Rattle.std.specs.Prelude.{◌≡◌, true, cond, ◌&&◌, List, ℕ, leb, length}
 use Rattle.refusals.specs.Refusals.{◌>>=◌, buffer_too_short, gives, refused, Reply}
 use Rattle.record.specs.declared.Record.{Record}
-use Rattle.record.specs.Calls.{status_reply}
+use Rattle.refusals.specs.Refusal.{reply_of}
 use Rattle.lists.specs.Over.{over}
 use Rattle.format.specs.File.{read_file, file_of, shaped}
 use Rattle.mapping_words.specs.Images.{mapping_words}
@@ -14,7 +14,7 @@ use Rattle.lent_numbers.specs.Lent.{returned, leaves}
 -- or the other has no room for a mapping. The file is that of the reduction `o`: nothing here says that all reductions of a place have files of one length
 abbrev pub reduction_fits : ℕ → ℕ → Reduced → Reply Reduced
 reduction_fits room words o =
-    status_reply o.answer >>= λ _. cond (leb 192 words && leb (length (file_of o.«record»)) room) (gives o) (refused buffer_too_short)
+    reply_of o.answer >>= λ _. cond (leb 192 words && leb (length (file_of o.«record»)) room) (gives o) (refused buffer_too_short)
 
 -- What a reduction returns and leaves: the file of the record after it with its length, the count of replacements, and the mapping's words
 abbrev pub ReductionGiven : Reply Reduced → List ℕ → ℕ → ℕ → List ℕ → ℕ → List ℕ → ℕ → ℕ → List ℕ → Type 0

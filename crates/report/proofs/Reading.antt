@@ -6,7 +6,7 @@ use Prim.Native.Nat.{ℕ, ◌≤◌, ◌<◌}
 use native.Mathlib.Omega.{arith}
 use lib.ListN.{length, get_or, length-append}
 use Rattle.record.specs.declared.Record.{Record}
-use Rattle.record.specs.declared.Status.TheVariants.{Done, Refused}
+use Rattle.std.specs.Prelude.{Ok, Err}
 use Rattle.record.specs.declared.Outcome.{Outcome}
 use Rattle.record.specs.Rule.{good_record}
 use Rattle.record.specs.Calls.{outcome_reply}
@@ -27,11 +27,11 @@ over-fits buffer text = simp length-append (omega arith)
 
 module _ (file : List ℕ) (o : Outcome) (e : outcome_reply o ≡ read_outcome (read_file file)) where
   -- The record of an accepted file is good
-  pub read-good : ((i : ℕ) → get_or file i 0 < 256) → o.answer ≡ Done → good_record o.«record» ≡ true
+  pub read-good : ((i : ℕ) → get_or file i 0 < 256) → o.answer ≡ Ok tt → good_record o.«record» ≡ true
   read-good bytes a = (file-written-back file o.«record» (bytes-known file bytes) (outcome-done (read_file file) o e a)).0
 
   -- The lines of its filled places are a listing
-  pub read-listing : o.answer ≡ Done → (before after : List ℕ) (end : ℕ) → ListingWritten o.«record» before after end → IsReport file before after end
+  pub read-listing : o.answer ≡ Ok tt → (before after : List ℕ) (end : ℕ) → ListingWritten o.«record» before after end → IsReport file before after end
   read-listing a before after end w =
       record {
         text = w.text;
@@ -42,7 +42,7 @@ module _ (file : List ℕ) (o : Outcome) (e : outcome_reply o ≡ read_outcome (
       }
 
   -- The line of a refused file is one
-  pub read-refused : (n : ℕ) → o.answer ≡ Refused n → (before after : List ℕ) (end : ℕ) → WrittenAt before 0 (refused_text n) after end
+  pub read-refused : (n : ℕ) → o.answer ≡ Err n → (before after : List ℕ) (end : ℕ) → WrittenAt before 0 (refused_text n) after end
       → IsReport file before after end
   read-refused n a before after end w =
       record {

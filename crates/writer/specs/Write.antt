@@ -1,17 +1,10 @@
 -- What writing a record answers: what it asks, in the order of SPECIFICATION, Refusals, and the buffer after it.
 use Rattle.std.specs.Prelude.{List, [], ◌∷◌, ℕ, ltb, length}
 use Rattle.std.proofs.Math.Option.{Option}
-use Rattle.refusals.specs.Refusals.{over_unless, Condition, first_holding, buffer_too_short, Reply, refused, gives, reply}
+use Rattle.refusals.specs.Refusals.{over_unless, Condition, first_holding, buffer_too_short, Reply, reply}
 use Rattle.record.specs.declared.Record.{Record}
 use Rattle.record.specs.Calls.{broken_record}
 use Rattle.format.specs.File.{file_of}
-use Rattle.writer.specs.declared.Written.{Written}
-use Rattle.writer.specs.declared.Written.TheVariants.{Length, Refused}
-
--- What each case of an answer to writing says: the length of the file, or refused with a number
-abbrev pub length_reply : Written → Reply ℕ
-length_reply (Length n) = gives n
-length_reply (Refused n) = refused n
 
 -- What writing asks, with so much room: 14; 10 where the file is longer
 abbrev pub write_conditions : Record → ℕ → List Condition

@@ -3,22 +3,17 @@
 
 ghost use Rattle.std.specs.Prelude.{◌≡◌, true};
 ghost use Rattle.record.specs.Rule.{good_record};
-ghost use Rattle.writer.specs.Write.{length_reply, written, after_writing};
+ghost use Rattle.refusals.specs.Refusal.{reply_of};
+ghost use Rattle.writer.specs.Write.{written, after_writing};
 
 use assembly::{joins_length, places_length, put_directory, put_parts, up_to_filled};
 use record::Record;
-
-// What writing answers: the length of the file, or the number of a refusal.
-#[derive(Clone, Copy)]
-pub enum Written {
-    Length(usize),
-    Refused(u8),
-}
+use refusals::Refusal;
 
 // Write a good record: refused, with the buffer unchanged, if the file is longer than the buffer.
-pub fn write_good(given: Record, buffer: &mut [u8]) -> Written
+pub fn write_good(given: Record, buffer: &mut [u8]) -> Result<usize, Refusal>
     requires { good_record given ≡ true }
-    ensures { (length_reply result ≡ written given buffer.old) × (buffer.new ≡ after_writing given buffer.old) }
+    ensures { (reply_of result ≡ written given buffer.old) × (buffer.new ≡ after_writing given buffer.old) }
 {
     let count = given.relations;
     let widths = given.widths;
@@ -32,19 +27,19 @@ pub fn write_good(given: Record, buffer: &mut [u8]) -> Written
     let others = places_length(places, n, count, widths);
     let size = 2 + 4 * (n + 2) + first + second + others;
     if buffer.len() < size {
-        return Written::Refused(refusals::BUFFER_TOO_SHORT);
+        return Err(Refusal::BufferTooShort);
     }
     put_directory(buffer, first, second, places, n, count, widths);
     put_parts(buffer, 2 + 4 * (n + 2), given, n);
-    Written::Length(size)
+    Ok(size)
 }
 
 // Write a record into a lent buffer: a bad record and a file longer than the buffer are refused, with the buffer unchanged.
-pub fn write(given: Record, buffer: &mut [u8]) -> Written
-    ensures { (length_reply result ≡ written given buffer.old) × (buffer.new ≡ after_writing given buffer.old) }
+pub fn write(given: Record, buffer: &mut [u8]) -> Result<usize, Refusal>
+    ensures { (reply_of result ≡ written given buffer.old) × (buffer.new ≡ after_writing given buffer.old) }
 {
     if !given.is_good() {
-        return Written::Refused(refusals::BAD_RECORD);
+        return Err(Refusal::BadRecord);
     }
     write_good(given, buffer)
 }

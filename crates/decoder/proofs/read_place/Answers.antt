@@ -8,7 +8,6 @@ use lib.Dec.{eqb}
 use lib.ListN.{length, take}
 use Rattle.refusals.specs.Refusals.{◌>>=◌, bad_query, gives, refused, unsafe_head}
 use Rattle.query.specs.Types.{Query}
-use Rattle.record.specs.declared.Status.TheVariants.{Done}
 use Rattle.query.specs.Rule.{head_safe, no_place, place_with}
 use Rattle.query.proofs.Good as stored
 use Rattle.format.specs.Bytes.{Bytes}
@@ -20,7 +19,6 @@ use Rattle.format.proofs.Parts.{Narrow, query-lawful}
 use Rattle.format.proofs.Rules.{good-query, good-narrow}
 use Rattle.parsing.specs.declared.QueryRead.{QueryRead}
 use Rattle.parsing.specs.internal.Read.{query_read}
-use Rattle.decoder.specs.internal.Read.{place_read}
 use Rattle.decoder.proofs.read_place.Goals as goal
 
 -- ---- a query and the bytes after it
@@ -80,14 +78,13 @@ read-sizes schema part q rest narrow hb e =
 
 pub returns-then-last : goal.returns-then-last
 returns-then-last c =
-    c.no_place_read.ensures ∙ sym (ap place_read
-    (vacant-last (take c.args.count c.args.widths) c.args.part.now c.args.last
+    sym ((vacant-last (take c.args.count c.args.widths) c.args.part.now c.args.last
     (sym c.is_vacant.ensures ∙ c.if-is_vacant.true) c.if-last.true))
 
 pub returns-then-is_vacant : goal.returns-then-is_vacant
 returns-then-is_vacant c =
-    (λ i. record { answer = Done; place = c.no_place.ensures i })
-    ∙ sym (ap place_read (vacant-place (take c.args.count c.args.widths) c.args.part.now c.args.last
+    ap gives c.no_place.ensures
+    ∙ sym ((vacant-place (take c.args.count c.args.widths) c.args.part.now c.args.last
     (sym c.is_vacant.ensures ∙ c.if-is_vacant.true) c.if-last.false))
 
 pub returns-then-not-read : goal.returns-then-not-read
@@ -96,8 +93,7 @@ returns-then-not-read c =
     let part = c.args.part.now in
     let read = c.read_query-read in
     let v = sym c.is_vacant.ensures ∙ c.if-is_vacant.false in
-    c.no_place_read-then-not-read.ensures
-    ∙ sym (ap place_read (bad-query schema part c.args.last v
+    sym ((bad-query schema part c.args.last v
     (query-bad ((query schema).get part) read.result read.ensures (not-true read.result.good c.if-not-read.true))))
 
 pub head_safe-safe-requires : goal.head_safe-safe-requires
@@ -117,8 +113,7 @@ returns-then-not-read-2 c =
     let read = c.read_query-read in
     let (rest, e, w) = query-some ((query schema).get part) read.result read.ensures (not-false read.result.good c.if-not-read.false) in
     let v = sym c.is_vacant.ensures ∙ c.if-is_vacant.false in
-    c.no_place_read-then-not-read-2.ensures
-    ∙ sym (ap place_read (long-query schema part c.args.last v read.result.query rest e
+    sym ((long-query schema part c.args.last v read.result.query rest e
     (sym w ∙ not-true read.result.whole c.if-not-read-2.true)))
 
 pub returns-then-safe : goal.returns-then-safe
@@ -128,7 +123,7 @@ returns-then-safe c =
     let read = c.read_query-read in
     let (rest, e, w) = query-some ((query schema).get part) read.result read.ensures (not-false read.result.good c.if-not-read.false) in
     let v = sym c.is_vacant.ensures ∙ c.if-is_vacant.false in
-    sym (ap place_read (good-query-part schema part c.args.last v read.result.query rest e true
+    sym ((good-query-part schema part c.args.last v read.result.query rest e true
     (sym w ∙ not-false read.result.whole c.if-not-read-2.false) (sym c.head_safe-safe.ensures ∙ c.if-safe.true)))
 
 pub returns : goal.returns
@@ -138,6 +133,5 @@ returns c =
     let read = c.read_query-read in
     let (rest, e, w) = query-some ((query schema).get part) read.result read.ensures (not-false read.result.good c.if-not-read.false) in
     let v = sym c.is_vacant.ensures ∙ c.if-is_vacant.false in
-    c.no_place_read-2.ensures
-    ∙ sym (ap place_read (good-query-part schema part c.args.last v read.result.query rest e false
+    sym ((good-query-part schema part c.args.last v read.result.query rest e false
     (sym w ∙ not-false read.result.whole c.if-not-read-2.false) (sym c.head_safe-safe.ensures ∙ c.if-safe.false)))

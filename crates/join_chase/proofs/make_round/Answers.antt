@@ -98,7 +98,7 @@ returns-then-settled-eq24 c =
     made-over a.t a.relations a.widths a.dependencies a.held a.joins a.joined c.requires (shaped w) (joins_long w)
     c.chase-chased.result c.chase-chased.ensures (one-held w) (relations-long w) (cells-long w)
     c.without_repeats-settled.result c.without_repeats-settled.ensures c.next_row-next.result c.next_row-next.ensures (not-false _ c.if-not-next.false)
-    c.if-settled-eq24.true c.no_tableau.result c.no_tableau.ensures
+    c.if-settled-eq24.true c.never.result c.never.ensures
 
 pub with_row-requires : goal.with_row-requires
 with_row-requires c = room (goal.at.with_row-requires c).After-without_repeats-settled c.if-settled-eq24.false

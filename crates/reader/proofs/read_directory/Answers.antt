@@ -1,7 +1,7 @@
 use mathlib.Core.Path.{sym, ap, ◌∙◌}
 use mathlib.Core.Bool.{true, false}
 use lib.ListN.{drop}
-use Rattle.reader.specs.declared.DirectoryRead.TheVariants.{Parts}
+use Rattle.refusals.specs.Refusals.{gives}
 use Rattle.reader.specs.internal.Read.{directory_read}
 use Rattle.format.proofs.Stretches.{length-stretches}
 use Rattle.reader.proofs.Directories.{too_short, too_few, too_many, cut-table, full-table}
@@ -27,7 +27,7 @@ pub returns-then-chain : goal.returns-then-chain
 returns-then-chain c =
     let n = c.word16-n.result in
     let file = c.args.file.now in
-    ap Parts (sym (length-stretches n file (drop 2 file)))
+    ap gives (sym (length-stretches n file (drop 2 file)))
     ∙ sym (ap directory_read (full-table c.args.file.now c.word16-n.result c.word16-n.ensures.0 c.if-n-lt2.false
     c.if-n-gt10.false c.if-file-n.false true (sym c.chain.ensures ∙ c.if-chain.true)))
 

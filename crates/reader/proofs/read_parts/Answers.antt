@@ -27,7 +27,7 @@ use Rattle.parsing.specs.declared.RelationsRead.{RelationsRead}
 use Rattle.parsing.specs.declared.DependenciesRead.{DependenciesRead}
 use Rattle.parsing.specs.declared.JoinsRead.{JoinsRead}
 use Rattle.parsing.specs.internal.Read.{relations_read, dependencies_read, joins_read}
-use Rattle.places.specs.internal.Read.{outcome_of, record_read}
+use Rattle.places.specs.internal.Read.{record_read}
 use Rattle.format.proofs.Stretches.{table_at, first_two, stretch-fits}
 use Rattle.reader.proofs.read_parts.Goals.{Else-not-first, Else-not-functional}
 use Rattle.reader.proofs.read_parts.Goals as goal
@@ -111,11 +111,11 @@ module _ (part0 part1 : List ℕ) (parts : List (List ℕ)) where
       bad-joins-part w = rw (w₀, w₁, w)
 
       module _ (js : ℕ × List JoinDependency) (w₂ : read_joins (take rs.0 rs.1) rest ≡ gives js) where
-        parts-places : outcome_of (read_parts part0 part1 parts) ≡ record_read rs ds js (read_places (take rs.0 rs.1) parts)
+        parts-places : (read_parts part0 part1 parts) ≡ record_read rs ds js (read_places (take rs.0 rs.1) parts)
         unfolding read_parts ◌>>=◌ front
         parts-places = rw (w₀, w₁, w₂) (same (read_places (take rs.0 rs.1) parts))
           where
-            same : (o : Reply (List Place)) → outcome_of (o >>= (λ ps. gives (record_with rs ds js ps))) ≡ record_read rs ds js o
+            same : (o : Reply (List Place)) → (o >>= (λ ps. gives (record_with rs ds js ps))) ≡ record_read rs ds js o
             same (gives ps) = refl
             same (refused m) = refl
 
@@ -128,11 +128,11 @@ module _ (file : List ℕ) (n : ℕ) (low : 2 ≤ n) (part0 part1 : List ℕ) (e
 
 module _ (file : List ℕ) (n : ℕ) (low : 2 ≤ n) (part0 : List ℕ) (e₀ : part0 ≡ stretch file (table_at file 0)) (rs : RelationsRead)
     (er : rs ≡ relations_read (complete bad_relations (relations.get part0))) where
-  refuses-relations : rs.good ≡ false → outcome_of (refused bad_relations) ≡ outcome_of (read_all (stretches n file (drop 2 file)))
+  refuses-relations : rs.good ≡ false → (refused bad_relations) ≡ (read_all (stretches n file (drop 2 file)))
   refuses-relations g =
       let (m, w) = relations-bad (complete bad_relations (relations.get part0)) rs er g in
       let w' = complete-refused bad_relations (relations.get part0) m w in
-      sym (ap outcome_of (all file n low part0 (stretch file (table_at file 1)) e₀ refl
+      sym ((all file n low part0 (stretch file (table_at file 1)) e₀ refl
       ∙ bad-relations-part part0 (stretch file (table_at file 1)) (stretches (n - 2) file (drop 10 file)) w'))
 
   good-count : Bytes file → rs.good ≡ true → good_relations rs.count rs.widths ≡ true
@@ -146,12 +146,12 @@ module _ (file : List ℕ) (n : ℕ) (low : 2 ≤ n) (part0 : List ℕ) (e₀ : 
     schema : List ℕ
     schema = take rs.count rs.widths
 
-    refuses-dependencies : ds.good ≡ false → outcome_of (refused bad_dependency) ≡ outcome_of (read_all (stretches n file (drop 2 file)))
+    refuses-dependencies : ds.good ≡ false → (refused bad_dependency) ≡ (read_all (stretches n file (drop 2 file)))
     unfolding schema
     refuses-dependencies g =
         let w₀ = relations-some (complete bad_relations (relations.get part0)) rs er g₀ in
         let w₁ = dependencies-bad ((dependencies schema).get part1) ds ed g in
-        sym (ap outcome_of (all file n low part0 part1 e₀ e₁
+        sym ((all file n low part0 part1 e₀ e₁
         ∙ bad-dependencies-part part0 part1 (stretches (n - 2) file (drop 10 file)) (rs.count, rs.widths) w₀ w₁))
 
     module _ (hb : Bytes file) (g₁ : ds.good ≡ true) where
@@ -172,25 +172,25 @@ module _ (file : List ℕ) (n : ℕ) (low : 2 ≤ n) (part0 : List ℕ) (e₀ : 
             ej ∙ ap (λ (l : List ℕ). joins_read (read_joins (take rs.count rs.widths) l))
             (take_all (length part1 - (1 + 3 * ds.held)) (drop (1 + 3 * ds.held) part1) (omega (arith, length-drop (1 + 3 * ds.held) part1)))
 
-        refuses-joins : js.good ≡ false → outcome_of (refused bad_join) ≡ outcome_of (read_all (stretches n file (drop 2 file)))
+        refuses-joins : js.good ≡ false → (refused bad_join) ≡ (read_all (stretches n file (drop 2 file)))
         unfolding schema
         refuses-joins g =
             let w₀ = relations-some (complete bad_relations (relations.get part0)) rs er g₀ in
             let (m, w) = joins-bad (read_joins schema (drop (1 + 3 * ds.held) part1)) js tail-read g in
             let w₂ = joins-refused schema (drop (1 + 3 * ds.held) part1) m w in
-            sym (ap outcome_of (all file n low part0 part1 e₀ e₁
+            sym ((all file n low part0 part1 e₀ e₁
             ∙ bad-joins-part part0 part1 (stretches (n - 2) file (drop 10 file)) (rs.count, rs.widths) w₀ (ds.held, ds.dependencies)
             (drop (1 + 3 * ds.held) part1) tail_of.1 w₂))
 
         reads-places : js.good ≡ true
             → record_read (rs.count, rs.widths) (ds.held, ds.dependencies) (js.joined, js.joins)
             (read_places (take rs.count rs.widths) (stretches (n - 2) file (drop 10 file)))
-            ≡ outcome_of (read_all (stretches n file (drop 2 file)))
+            ≡ (read_all (stretches n file (drop 2 file)))
         unfolding schema
         reads-places g =
             let w₀ = relations-some (complete bad_relations (relations.get part0)) rs er g₀ in
             let w₂ = joins-some (read_joins schema (drop (1 + 3 * ds.held) part1)) js tail-read g in
-            sym (ap outcome_of (all file n low part0 part1 e₀ e₁)
+            sym (all file n low part0 part1 e₀ e₁
             ∙ parts-places part0 part1 (stretches (n - 2) file (drop 10 file)) (rs.count, rs.widths) w₀ (ds.held, ds.dependencies)
             (drop (1 + 3 * ds.held) part1) tail_of.1 (js.joined, js.joins) w₂)
 
@@ -203,7 +203,7 @@ part-requires c =
 
 pub returns-then-not-first : goal.returns-then-not-first
 returns-then-not-first c =
-    c.refusal.ensures ∙ refuses-relations c.args.file.now c.args.n c.requires.le_n.0 c.part.result.now
+    refuses-relations c.args.file.now c.args.n c.requires.le_n.0 c.part.result.now
     c.part.ensures c.read_relations-first.result c.read_relations-first.ensures
     (not-true c.read_relations-first.result.good c.if-not-first.true)
 
@@ -232,7 +232,7 @@ read_dependencies-functional-requires c = relations-known (goal.at.read_dependen
 
 pub returns-then-not-functional : goal.returns-then-not-functional
 returns-then-not-functional c =
-    c.refusal-then-not-functional.ensures ∙ refuses-dependencies c.args.file.now c.args.n c.requires.le_n.0 c.part.result.now
+    refuses-dependencies c.args.file.now c.args.n c.requires.le_n.0 c.part.result.now
     c.part.ensures c.read_relations-first.result c.read_relations-first.ensures
     c.part-second.result.now c.part-second.ensures (first_good (goal.at.returns-then-not-functional c).Else-not-first)
     c.read_dependencies-functional.result c.read_dependencies-functional.ensures
@@ -267,7 +267,7 @@ read_joins-rest-requires c = relations-known (goal.at.read_joins-rest-requires c
 
 pub returns-then-not-rest : goal.returns-then-not-rest
 returns-then-not-rest c =
-    c.refusal-then-not-rest.ensures ∙ refuses-joins c.args.file.now c.args.n c.requires.le_n.0 c.part.result.now
+    refuses-joins c.args.file.now c.args.n c.requires.le_n.0 c.part.result.now
     c.part.ensures c.read_relations-first.result c.read_relations-first.ensures c.part-second.result.now c.part-second.ensures
     (not-false c.read_relations-first.result.good c.if-not-first.false) c.read_dependencies-functional.result
     c.read_dependencies-functional.ensures (known-bytes (goal.at.returns-then-not-rest c).Else-not-functional)

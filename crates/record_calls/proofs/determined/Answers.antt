@@ -41,8 +41,8 @@ returns-then-not-set_good c =
 pub closed_columns-mask-requires : goal.closed_columns-mask-requires
 closed_columns-mask-requires c = rights-narrow c.args.given (good (goal.at.closed_columns-mask-requires c).Else-not-is_good)
 
-pub overflow_cast-result : goal.overflow_cast-result
-overflow_cast-result c = record { fits = lt_of_le_of_lt (ones-le 8 _ (search rules)) (lit< tt) }
+pub overflow_cast-count : goal.overflow_cast-count
+overflow_cast-count c = record { fits = lt_of_le_of_lt (ones-le 8 _ (search rules)) (lit< tt) }
 
 pub returns : goal.returns
 returns c =

@@ -6,11 +6,12 @@ use mathlib.Core.Option.{none, some}
 use Prim.Native.Nat.{ℕ}
 use native.Mathlib.Omega.{arith}
 use Rattle.record.specs.declared.Record.{Record}
-use Rattle.record.specs.declared.Lookup.TheVariants as lookup
 use Rattle.query.specs.Rule.{no_place}
 use Rattle.record.specs.Rule.{good_record}
 use Rattle.record.specs.Calls.{concluded, with_place}
-use Rattle.record.specs.internal.Lookup.{number_of, filled_place}
+use Rattle.refusals.specs.Refusals.{gives}
+use Rattle.refusals.specs.Refusal.{number_of, reply_of}
+use Rattle.record.specs.internal.Lookup.{filled_place}
 use Rattle.record.proofs.Refusals.{filled_at}
 use Rattle.record_calls.proofs.Outcomes.{drop-broken, drop-refused, drop-done}
 use Rattle.record_calls.proofs.drop_query.Goals as goal
@@ -27,26 +28,24 @@ returns-in_default c =
     let good : good_record given ≡ true =
     sym c.is_good.ensures ∙ c.if-not-is_good.false
     in
-    let told = c.in_default in
-    let number : c.number.result ≡ told.field-0 = c.number.ensures ∙ ap number_of told.is in
-    c.refused-in_default.ensures ∙ ap (λ (n : ℕ). concluded (some n) given given) number
-    ∙ drop-refused given place good told.field-0 (sym c.filled_place-found.ensures ∙ told.is)
+    c.refused-in_default.ensures
+    ∙ drop-refused given place good (number_of c.unwrap_err.result) (sym c.filled_place-found.ensures ∙ ap reply_of c.unwrap_err.ensures)
 
 pub with_place-requires : goal.with_place-requires
 with_place-requires c =
     let given = c.args.given in
     let place = c.args.place in
-    let at = c.in-At.at in
-    let is : filled_place given place ≡ lookup.At at = sym c.filled_place-found.ensures ∙ c.in-At.is in
+    let at = c.in-Ok.at in
+    let is : filled_place given place ≡ gives at = sym c.filled_place-found.ensures ∙ ap reply_of c.in-Ok.is in
     omega (arith, (filled_at given place at is).0, (filled_at given place at is).1)
 
 pub returns : goal.returns
 returns c =
     let given = c.args.given in
     let place = c.args.place in
-    let at = c.in-At.at in
-    let is : filled_place given place ≡ lookup.At at =
-    sym c.filled_place-found.ensures ∙ c.in-At.is
+    let at = c.in-Ok.at in
+    let is : filled_place given place ≡ gives at =
+    sym c.filled_place-found.ensures ∙ ap reply_of c.in-Ok.is
     in
     let good : good_record given ≡ true =
     sym c.is_good.ensures ∙ c.if-not-is_good.false

@@ -1,7 +1,7 @@
 -- `demands::demand2::read_back` meets its contract. Assumes nothing.
 use mathlib.Core.Path.{sym, ap, ◌∙◌}
 use lib.Seq.{length-take-le}
-use Rattle.record.specs.declared.Status.TheVariants.{Refused}
+use Rattle.std.specs.Prelude.{Ok, Err}
 use Rattle.writer.specs.Write.{length_reply}
 use Rattle.file.proofs.Shapes.{record-shaped}
 use Rattle.demands.proofs.Answering.{read_again, not_written, inside}
@@ -32,5 +32,5 @@ pub returns-in-Refused : goal.returns-in-Refused
 returns-in-Refused c =
     let s = c in
     not_written s.args.given s.args.buffer.now s.args.buffer.now
-    (record { answer = Refused c.in-Refused.n; «record» = s.args.given }) _
+    (record { answer = Err c.in-Refused.n; «record» = s.args.given }) _
     (sym c.write-written.ensures.0 ∙ ap length_reply c.in-Refused.is)

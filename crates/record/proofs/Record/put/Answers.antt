@@ -6,18 +6,19 @@ use mathlib.Core.Option.{none, some}
 use Prim.Native.Nat.{ℕ, ◌<◌}
 use native.Mathlib.Omega.{arith}
 use Rattle.record.specs.declared.Record.{Record}
-use Rattle.record.specs.declared.Lookup.TheVariants as lookup
 use Rattle.record.specs.View.{schema_of}
 use Rattle.record.specs.Rule.{good_record}
 use Rattle.query.specs.Rule.{good_query, head_safe}
 use Rattle.record.specs.Calls.{concluded}
-use Rattle.record.specs.internal.Lookup.{number_of, vacant_place}
+use Rattle.refusals.specs.Refusals.{gives}
+use Rattle.refusals.specs.Refusal.{number_of, reply_of}
+use Rattle.record.specs.internal.Lookup.{vacant_place}
 use Rattle.record.proofs.Good.{good-record}
 use Rattle.query.proofs.Good.{good-query}
 use Rattle.record.proofs.Refusals.{place-at, vacant-at}
 use Rattle.record.proofs.Outcomes.{put-broken, put-high, put-unfit, put-unsafe, put-filled, put-done}
 use Rattle.record.proofs.Record.put.Goals as goal
-use Rattle.record.proofs.Record.put.Goals.{Else-not-is_good, Else-not-query_good, Else-not-head_safe, In-At}
+use Rattle.record.proofs.Record.put.Goals.{Else-not-is_good, Else-not-query_good, Else-not-head_safe, In-Ok}
 
 pub returns-then-not-is_good : goal.returns-then-not-is_good
 returns-then-not-is_good c =
@@ -28,10 +29,10 @@ returns-then-not-is_good c =
 good : (c : goal.Else-not-is_good) → good_record c.args.self ≡ true
 good c = sym c.is_good.ensures ∙ c.if-not-is_good.false
 
-low : (c : goal.In-At) → c.args.place < 8
+low : (c : goal.In-Ok) → c.args.place < 8
 low c =
-    (place-at c.args.place c.in-At.field-0
-    (sym c.place_at-found.ensures ∙ c.in-At.is)).1
+    (place-at c.args.place c.in-Ok.field-0
+    (sym c.place_at-found.ensures ∙ ap reply_of c.in-Ok.is)).1
 
 fit : (c : goal.Else-not-query_good)
     → good_query (schema_of c.args.self)
@@ -46,13 +47,10 @@ safe c = sym c.head_safe.ensures ∙ c.if-not-head_safe.false
 pub returns-in_default : goal.returns-in_default
 returns-in_default c =
     let self = c.args.self in
-    let told = c.in_default in
-    let number : c.number.result ≡ told.field-0 = c.number.ensures ∙ ap number_of told.is in
-    c.refused-in_default.ensures ∙ ap (λ (n : ℕ). concluded (some n) self self) number
-    ∙ put-high c.args.self
-    c.args.place
-    c.args.q (good (goal.at.returns-in_default c).Else-not-is_good) told.field-0
-    (sym c.place_at-found.ensures ∙ told.is)
+    c.refused-in_default.ensures
+    ∙ put-high self c.args.place
+    c.args.q (good (goal.at.returns-in_default c).Else-not-is_good) (number_of c.unwrap_err.result)
+    (sym c.place_at-found.ensures ∙ ap reply_of c.unwrap_err.ensures)
 
 pub query_good-requires : goal.query_good-requires
 query_good-requires c = (good-record c.args.self (good (goal.at.query_good-requires c).Else-not-is_good)).relations
@@ -63,7 +61,7 @@ returns-then-not-query_good c =
     ∙ put-unfit c.args.self
     c.args.place
     c.args.q (good (goal.at.returns-then-not-query_good c).Else-not-is_good)
-    (low (goal.at.returns-then-not-query_good c).In-At) (sym c.query_good.ensures ∙ c.if-not-query_good.true)
+    (low (goal.at.returns-then-not-query_good c).In-Ok) (sym c.query_good.ensures ∙ c.if-not-query_good.true)
 
 pub head_safe-requires : goal.head_safe-requires
 head_safe-requires c =
@@ -83,30 +81,28 @@ returns-then-not-head_safe c =
     ∙ put-unsafe c.args.self
     c.args.place
     c.args.q
-    (good (goal.at.returns-then-not-head_safe c).Else-not-is_good) (low (goal.at.returns-then-not-head_safe c).In-At)
+    (good (goal.at.returns-then-not-head_safe c).Else-not-is_good) (low (goal.at.returns-then-not-head_safe c).In-Ok)
     (fit (goal.at.returns-then-not-head_safe c).Else-not-query_good)
     (sym c.head_safe.ensures ∙ c.if-not-head_safe.true)
 
 pub returns-in_default-found : goal.returns-in_default-found
 returns-in_default-found c =
     let self = c.args.self in
-    let told = c.in_default-found in
-    let number : c.number-in_default-found.result ≡ told.field-0 = c.number-in_default-found.ensures ∙ ap number_of told.is in
-    c.refused-in_default-found.ensures ∙ ap (λ (n : ℕ). concluded (some n) self self) number
-    ∙ put-filled c.args.self
+    c.refused-in_default-found.ensures
+    ∙ put-filled self
     c.args.place
     c.args.q
     (good (goal.at.returns-in_default-found c).Else-not-is_good)
-    (low (goal.at.returns-in_default-found c).In-At) (fit (goal.at.returns-in_default-found c).Else-not-query_good)
-    (safe (goal.at.returns-in_default-found c).Else-not-head_safe) told.field-0
-    (sym c.vacant_place-found.ensures ∙ told.is)
+    (low (goal.at.returns-in_default-found c).In-Ok) (fit (goal.at.returns-in_default-found c).Else-not-query_good)
+    (safe (goal.at.returns-in_default-found c).Else-not-head_safe) (number_of c.unwrap_err-in_default-found.result)
+    (sym c.vacant_place-found.ensures ∙ ap reply_of c.unwrap_err-in_default-found.ensures)
 
 pub with_place-requires : goal.with_place-requires
 with_place-requires c =
     let self = c.args.self in
     let place = c.args.place in
-    let at = c.in-At-found.at in
-    let is : vacant_place self place ≡ lookup.At at = sym c.vacant_place-found.ensures ∙ c.in-At-found.is in
+    let at = c.in-Ok-found.at in
+    let is : vacant_place self place ≡ gives at = sym c.vacant_place-found.ensures ∙ ap reply_of c.in-Ok-found.is in
     omega (arith, (vacant-at self place at is).0, (vacant-at self place at is).1)
 
 pub returns : goal.returns
@@ -115,13 +111,13 @@ returns c =
     let place =
     c.args.place
     in
-    let at = c.in-At-found.at in
-    let is : vacant_place self place ≡ lookup.At at =
-    sym c.vacant_place-found.ensures ∙ c.in-At-found.is
+    let at = c.in-Ok-found.at in
+    let is : vacant_place self place ≡ gives at =
+    sym c.vacant_place-found.ensures ∙ ap reply_of c.in-Ok-found.is
     in
     c.done.ensures ∙ ap (λ (after : Record). concluded none after after) c.with_place.ensures
     ∙ put-done self place
     c.args.q
     (good (goal.at.returns c).Else-not-is_good)
-    (low (goal.at.returns c).In-At)
+    (low (goal.at.returns c).In-Ok)
     (fit (goal.at.returns c).Else-not-query_good) (safe (goal.at.returns c).Else-not-head_safe) at is
