@@ -1,8 +1,8 @@
 -- `record_calls::determined` meets its contract, by `Outcomes`: the closed mask is that of the determined columns, and its ones are their number.
 -- Assumes nothing.
 use mathlib.Core.Path.{◌≡◌, sym, ap, ◌∙◌}
-use mathlib.Core.List.{map}
-use Prim.Native.Nat.{ℕ}
+use mathlib.Core.List.{List, map}
+use Prim.Native.Nat.{ℕ, ◌≤◌}
 use native.Mathlib.Omega.{arith}
 use lib.Seq.{length-take-le}
 use mathlib.Core.Bool.{true}
@@ -10,6 +10,7 @@ use native.Mathlib.Nat.{lt_of_le_of_lt}
 use lib.Count.{ones-le}
 use lib.Dec.{lit<}
 use lib.ListN.{length, take}
+use Rattle.query.specs.declared.Dependency.{Dependency}
 use Rattle.query.specs.View.{dependency_of}
 use Rattle.closure.specs.internal.Closure.{grow_mask}
 use borrow.Author.Rules.{rules}
@@ -37,6 +38,20 @@ pub returns-then-not-set_good : goal.returns-then-not-set_good
 returns-then-not-set_good c =
     determined-unfit c.args.given c.args.relation
     c.args.left (good (goal.at.returns-then-not-set_good c).Else-not-is_good) (sym c.set_good.ensures ∙ c.if-not-set_good.true)
+
+fits : (held : ℕ) (xs : List Dependency) → held ≤ 32 → length xs ≡ 32 → held ≤ length xs
+fits held xs h l = omega arith
+
+pub slice_bounds-dependencies-end : goal.slice_bounds-dependencies-end
+slice_bounds-dependencies-end c =
+    let long : length c.args.given.dependencies ≡ 32 = search (mapped-length, rules) in
+    fits c.args.given.held c.args.given.dependencies (good-record c.args.given (good (goal.at.slice_bounds-dependencies-end c).Else-not-is_good)).held long
+
+pub slice_bounds-closed_columns-end : goal.slice_bounds-closed_columns-end
+slice_bounds-closed_columns-end c =
+    let long : length c.args.given.dependencies ≡ 32 = search (mapped-length, rules) in
+    sym (length-take-le c.args.given.held c.args.given.dependencies
+    (fits c.args.given.held c.args.given.dependencies (good-record c.args.given (good (goal.at.slice_bounds-closed_columns-end c).Else-not-is_good)).held long))
 
 pub closed_columns-mask-requires : goal.closed_columns-mask-requires
 closed_columns-mask-requires c = rights-narrow c.args.given (good (goal.at.closed_columns-mask-requires c).Else-not-is_good)
