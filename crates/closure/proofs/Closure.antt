@@ -15,7 +15,7 @@ use lib.Bits.{bit_and, bit_or, or_lt}
 use lib.Count.{ones}
 use lib.Pow.{pow-lt, pow_mono}
 use lib.ListN.{length, take, drop, get_or, drop_of_length-le, length-map, get_or-map}
-use lib.Seq.{drop-cons, get_or-take, length-take-le}
+use lib.Seq.{drop-cons, length-take-le}
 use borrow.Author.Tests.{ltb-true}
 use Rattle.determination.proofs.Determined.{adds-relation}
 use Rattle.theory.specs.Query.{member, ◌∈◌}
@@ -84,20 +84,18 @@ adds-mask d relation mask l m =
     ap₂ (λ (t u : Bool). eqb d.relation relation && t && not u) (subset-mask d.left mask (columns_of mask) l same)
     (same.at d.right ∙ bit-shift mask d.right)
 
--- The held dependencies by position
+-- Dependencies by position
+pub mapped-long : (ds : List stored.Dependency) → length (map dependency_of ds) ≡ length ds
+mapped-long ds = length-map ds dependency_of
+
+pub mapped_at : (ds : List stored.Dependency) (i : ℕ) → get_or (map dependency_of ds) i (dependency_of no_dependency) ≡ dependency_of (get_or ds i no_dependency)
+mapped_at ds i = get_or-map dependency_of ds i no_dependency
+
 pub held-length : (held : ℕ) (ds : List stored.Dependency) → held ≤ length ds → length (map dependency_of (take held ds)) ≡ held
 held-length held ds h = length-map (take held ds) dependency_of ∙ length-take-le held ds h
 
-pub held_at : (held : ℕ) (ds : List stored.Dependency) (i : ℕ) → i < held
-    → get_or (map dependency_of (take held ds)) i (dependency_of no_dependency) ≡ dependency_of (get_or ds i no_dependency)
-held_at held ds i h = get_or-map dependency_of (take held ds) i no_dependency ∙ ap dependency_of (get_or-take held ds i no_dependency h)
-
-pub right-at : (held : ℕ) (ds : List stored.Dependency) (i : ℕ) → every right_narrow (take held ds) ≡ true → i < held → held ≤ length ds
-    → (get_or ds i no_dependency).right < 8
-right-at held ds i e h fits =
-    let inside : i < length (take held ds) = rw (length-take-le held ds fits) h in
-    ltb-true _ 8
-    (ap right_narrow (sym (get_or-take held ds i no_dependency h)) ∙ every-get_or right_narrow (take held ds) i no_dependency e inside)
+pub right-at : (ds : List stored.Dependency) (i : ℕ) → every right_narrow ds ≡ true → i < length ds → (get_or ds i no_dependency).right < 8
+right-at ds i e h = ltb-true _ 8 (every-get_or right_narrow ds i no_dependency e h)
 
 -- ---- 3. all looks
 

@@ -1,7 +1,7 @@
 // The columns that a set of columns determines, on masks: the closure under the held dependencies.
 #![tactic(auto)]
 
-ghost use Rattle.std.specs.Prelude.{◌≡◌, true, map, ◌<◌, ◌≤◌, take};
+ghost use Rattle.std.specs.Prelude.{◌≡◌, true, map, ◌<◌, length};
 ghost use Rattle.determination.specs.Determined.{adds};
 ghost use Rattle.query.specs.View.{columns_of, dependency_of};
 ghost use Rattle.closure.specs.internal.Closure.{next_mask, grow_mask, right_narrow};
@@ -14,40 +14,30 @@ fn adds_column(d: Dependency, relation: u8, mask: u8) -> bool
     requires { d.right < 8 }
     ensures { result ≡ adds relation (columns_of mask) (dependency_of d) }
 {
-    let left = d.left;
-    let right = d.right;
-    if d.relation != relation {
-        return false;
-    }
-    if left & mask != left {
-        return false;
-    }
-    (mask >> right) % 2 != 1
+    d.relation == relation && d.left & mask == d.left && (mask >> d.right) % 2 != 1
 }
 
 // The known columns with the right column of the first dependency that adds one.
-fn next_columns(held: usize, dependencies: [Dependency; 32], relation: u8, mask: u8) -> u8
-    requires { (held ≤ 32) × (every right_narrow (take held dependencies) ≡ true) }
-    ensures { result ≡ next_mask (map dependency_of (take held dependencies)) relation mask }
+fn next_columns(dependencies: &[Dependency], relation: u8, mask: u8) -> u8
+    requires { every right_narrow dependencies.now ≡ true }
+    ensures { result ≡ next_mask (map dependency_of dependencies.now) relation mask }
 {
-    for i in 0..held {
-        let d = dependencies[i];
-        if adds_column(d, relation, mask) {
-            let right = d.right;
-            return mask | (1 << right);
+    for d in dependencies {
+        if adds_column(*d, relation, mask) {
+            return mask | (1 << d.right);
         }
     }
     mask
 }
 
 // The columns that a set of columns determines: each dependency adds at most once.
-pub fn closed_columns(held: usize, dependencies: [Dependency; 32], relation: u8, left: u8) -> u8
-    requires { (held ≤ 32) × (every right_narrow (take held dependencies) ≡ true) }
-    ensures { result ≡ grow_mask held (map dependency_of (take held dependencies)) relation left }
+pub fn closed_columns(dependencies: &[Dependency], relation: u8, left: u8) -> u8
+    requires { every right_narrow dependencies.now ≡ true }
+    ensures { result ≡ grow_mask (length dependencies.now) (map dependency_of dependencies.now) relation left }
 {
     let mut mask = left;
-    for _ in 0..held {
-        mask = next_columns(held, dependencies, relation, mask);
+    for _ in 0..dependencies.len() {
+        mask = next_columns(dependencies, relation, mask);
     }
     mask
 }

@@ -1,22 +1,22 @@
 -- Runs of stores are one list written over another; and a loop that writes values one after the other.
 use mathlib.Core.Path.{◌≡◌, refl, sym, ap, ◌∙◌}
-use mathlib.Core.List.{List, [], ◌∷◌, ◌++◌, flat_map}
-use Prim.Native.Nat.{ℕ, ◌+◌, ◌≤◌, ◌<◌}
-use native.Mathlib.Numerals.{add-one, add-two, add-three, add-four}
+use mathlib.Core.List.{List, [], ◌∷◌, ◌++◌, flat_map, append_assoc}
+use Prim.Native.Nat.{ℕ, ◌+◌, ◌-◌, ◌/◌, ◌%◌, ◌≤◌, ◌<◌}
+use native.Mathlib.Numerals.{add-one, add-two}
 use native.Mathlib.Omega.{arith}
-use lib.ListN.{length, get_or, drop, set, length-append, drop_of_length-le}
+use borrow.Rule.Slice.PartMut.{put_mid, Post-is}
+use lib.ListN.{length, get_or, take, drop, set, length-append, drop_of_length-le}
 use lib.Seq.{sets-eq, drop-cons}
 use Rattle.lists.specs.Over.{over}
 use Rattle.format.specs.Bytes.{bytes_of}
+use Rattle.query.specs.declared.Cell.{Cell}
+use Rattle.format.specs.Parts.{entry}
 use Rattle.format.proofs.Numbers.{length-bytes}
+use Rattle.format.proofs.Lengths.{length-entry}
 use Rattle.lists.proofs.Over.{over-nil, over-set, over-over, over-length}
 
 pub two-stores : (d : List ℕ) (at a b : ℕ) → at + 2 ≤ length d → set (set d at a) (at + 1) b ≡ over d at (a ∷ b ∷ [])
 two-stores d at a b h = rw add-one (sets-eq (a ∷ b ∷ []) d at h)
-
-pub five-stores : (d : List ℕ) (at a b c e f : ℕ) → at + 5 ≤ length d
-    → set (set (set (set (set d at a) (at + 1) b) (at + 2) c) (at + 3) e) (at + 4) f ≡ over d at (a ∷ b ∷ c ∷ e ∷ f ∷ [])
-five-stores d at a b c e f h = rw (add-one, add-two, add-three, add-four) (sets-eq (a ∷ b ∷ c ∷ e ∷ f ∷ []) d at h)
 
 pub three-stores : (d : List ℕ) (at a b c : ℕ) → at + 3 ≤ length d → set (set (set d at a) (at + 1) b) (at + 2) c ≡ over d at (a ∷ b ∷ c ∷ [])
 three-stores d at a b c h = rw (add-one, add-two) (sets-eq (a ∷ b ∷ c ∷ []) d at h)
@@ -24,6 +24,33 @@ three-stores d at a b c h = rw (add-one, add-two) (sets-eq (a ∷ b ∷ c ∷ []
 -- a byte and then a run
 pub byte-and-run : (d : List ℕ) (at a : ℕ) (run next : List ℕ) → at < length d → next ≡ over (set d at a) (at + 1) run → next ≡ over d at (a ∷ run)
 byte-and-run d at a run next h e = e ∙ ap (λ (n : ℕ). over (set d at a) n run) (add-one at) ∙ over-set d at a run h
+
+-- a slice that is written as a whole
+pub put-over : (xs ys : List ℕ) (a e : ℕ) → a ≤ e → length ys ≡ e - a → put_mid a (e - a) xs ys ≡ over xs a ys
+put-over xs ys a e h l =
+    let n : e ≡ a + length ys = omega arith in
+    ap (λ (z : List ℕ). take a xs ++ (ys ++ z)) (Post-is a e xs h ∙ ap (λ (k : ℕ). drop k xs) n)
+    ∙ sym (append_assoc (take a xs) ys (drop (a + length ys) xs))
+
+-- the bytes of 16 and of 32 bits
+pub word-bytes : (n : ℕ) → n % 65536 % 256 ∷ n % 65536 / 256 % 256 ∷ [] ≡ bytes_of 2 n
+unfolding bytes_of
+word-bytes n =
+    let a : n % 65536 % 256 ≡ n % 256 = omega arith in
+    let b : n % 65536 / 256 % 256 ≡ n / 256 % 256 = omega arith in
+    λ i. a i ∷ b i ∷ []
+
+pub wide-bytes : (n : ℕ) → n % 256 ∷ n / 256 % 256 ∷ n / 65536 % 256 ∷ n / 16777216 % 256 ∷ [] ≡ bytes_of 4 n
+unfolding bytes_of
+wide-bytes n =
+    let c : n / 65536 % 256 ≡ n / 256 / 256 % 256 = omega arith in
+    let d : n / 16777216 % 256 ≡ n / 256 / 256 / 256 % 256 = omega arith in
+    λ i. n % 256 ∷ n / 256 % 256 ∷ c i ∷ d i ∷ []
+
+-- an entry takes 5 bytes
+pub length-cell : (c : Cell) → length (entry.put c) ≡ 5
+unfolding entry
+length-cell c = length-entry c.entry
 
 -- ---- a loop that writes values
 

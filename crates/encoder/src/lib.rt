@@ -7,7 +7,7 @@ ghost use Rattle.lists.specs.Over.{over};
 ghost use Rattle.query.specs.View.{as_query};
 ghost use Rattle.query.specs.Rule.{good_relations, good_place};
 ghost use Rattle.format.specs.Bytes.{bytes_of};
-ghost use Rattle.format.specs.Parts.{put_entry, entries, row, chunk, query_for};
+ghost use Rattle.format.specs.Parts.{put_entry, entry, row, chunk, query_for};
 ghost use Rattle.format.specs.File.{put_place};
 ghost use Rattle.encoder.specs.internal.Lengths.{rows_length};
 
@@ -20,8 +20,8 @@ pub fn put_word(buffer: &mut [u8], at: usize, n: usize)
     requires { at + 2 ≤ length buffer.old }
     ensures { buffer.new ≡ over buffer.old at (bytes_of 2 n) }
 {
-    buffer[at] = (n % 256) as u8;
-    buffer[at + 1] = (n / 256 % 256) as u8;
+    let word = (n % 65536) as u16;
+    buffer[at..at + 2].copy_from_slice(&word.to_le_bytes());
 }
 
 // A byte and 32 bits at a position.
@@ -30,10 +30,7 @@ fn put_tagged(buffer: &mut [u8], at: usize, tag: u8, n: u32)
     ensures { buffer.new ≡ over buffer.old at (tag ∷ bytes_of 4 n) }
 {
     buffer[at] = tag;
-    buffer[at + 1] = (n % 256) as u8;
-    buffer[at + 2] = (n / 256 % 256) as u8;
-    buffer[at + 3] = (n / 256 / 256 % 256) as u8;
-    buffer[at + 4] = (n / 256 / 256 / 256 % 256) as u8;
+    buffer[at + 1..at + 5].copy_from_slice(&n.to_le_bytes());
 }
 
 // An entry at a position.
@@ -43,42 +40,21 @@ fn put_entry(buffer: &mut [u8], at: usize, entry: Entry)
 {
     match entry {
         Entry::Constant(n) => put_tagged(buffer, at, 0, n),
-        Entry::Variable(v) => put_tagged(buffer, at, 1, v as u32),
+        Entry::Variable(v) => put_tagged(buffer, at, 1, u32::from(v)),
     }
 }
 
-// The first n entries of 8 cells.
-fn put_entries(buffer: &mut [u8], at: usize, cells: [Cell; 8], n: usize)
-    requires n_bound { n ≤ 8 }
-    requires n_in_bounds { at + 5 * n ≤ length buffer.old }
-    ensures { buffer.new ≡ over buffer.old at ((entries n).put cells) }
+// The entries of some cells.
+fn put_entries(buffer: &mut [u8], at: usize, cells: &[Cell])
+    requires { at + 5 * length cells.now ≤ length buffer.old }
+    ensures { buffer.new ≡ over buffer.old at (flat_map entry.put cells.now) }
 {
-    for i in 0..n {
-        let cell = cells[i];
-        let entry = cell.entry;
-        put_entry(buffer, at + 5 * i, entry);
+    for (i, cell) in cells.iter().enumerate() {
+        put_entry(buffer, at + 5 * i, cell.entry);
     }
 }
 
 // ---- rows
-
-// The 8 cells of a row.
-#[derive(Clone, Copy)]
-pub struct Row {
-    pub cells: [Cell; 8],
-}
-
-// The cells of row r.
-fn row_of(cells: [Cell; 192], r: usize) -> Row
-    requires { r < 24 }
-    ensures { result.cells ≡ take 8 (drop (8 * r) cells) }
-{
-    let mut copy = [query::NO_CELL; 8];
-    for c in 0..8 {
-        copy[c] = cells[8 * r + c];
-    }
-    Row { cells: copy }
-}
 
 // The width of a relation, 0 of an unknown one.
 fn width_of(count: u8, widths: [u8; 8], relation: u8) -> usize
@@ -88,15 +64,14 @@ fn width_of(count: u8, widths: [u8; 8], relation: u8) -> usize
     limits::width_of(count, widths, relation) as usize
 }
 
-// A row at a position: the relation byte and one entry a column. Returns the position after it.
-fn put_row(buffer: &mut [u8], at: usize, relation: u8, cells: [Cell; 8], width: usize) -> usize
-    requires width_bound { width ≤ 8 }
-    requires width_in_bounds { at + 1 + 5 * width ≤ length buffer.old }
-    ensures { (buffer.new ≡ over buffer.old at (relation ∷ (entries width).put cells)) × (result ≡ at + 1 + 5 * width) }
+// A row at a position: the relation byte and the entries. Returns the position after it.
+fn put_row(buffer: &mut [u8], at: usize, relation: u8, cells: &[Cell]) -> usize
+    requires { at + 1 + 5 * length cells.now ≤ length buffer.old }
+    ensures { (buffer.new ≡ over buffer.old at (relation ∷ flat_map entry.put cells.now)) × (result ≡ at + 1 + 5 * length cells.now) }
 {
     buffer[at] = relation;
-    put_entries(buffer, at + 1, cells, width);
-    at + 1 + 5 * width
+    put_entries(buffer, at + 1, cells);
+    at + 1 + 5 * cells.len()
 }
 
 // The first `size` rows from a position on. Returns the position after them.
@@ -119,9 +94,7 @@ fn put_rows(
     for r in 0..size {
         let relation = named[r];
         let width = width_of(count, widths, relation);
-        let line = row_of(cells, r);
-        let line_cells = line.cells;
-        at = put_row(buffer, at, relation, line_cells, width);
+        at = put_row(buffer, at, relation, &cells[8 * r..8 * r + width]);
     }
     at
 }
@@ -141,8 +114,7 @@ pub fn put_query(buffer: &mut [u8], at: usize, t: Tableau, count: u8, widths: [u
     buffer[at] = arity;
     buffer[at + 1] = size;
     let used = limits::head_in_use(arity, size);
-    let head = t.head;
-    put_entries(buffer, at + 2, head, used);
+    put_entries(buffer, at + 2, &t.head[..used]);
     let named = t.relations;
     let cells = t.cells;
     put_rows(
@@ -173,17 +145,15 @@ pub fn put_place(buffer: &mut [u8], at: usize, place: Place, count: u8, widths: 
 
 // ---- lengths
 
-// How long the first `size` rows are.
-fn rows_length(size: usize, named: [u8; 24], count: u8, widths: [u8; 8]) -> usize
+// How long the rows of these relations are.
+fn rows_length(named: &[u8], count: u8, widths: [u8; 8]) -> usize
     requires widths_value { good_relations count widths ≡ true }
-    requires size_bound { size ≤ 24 }
-    ensures { (result ≡ rows_length (take count widths) (take size named)) × (result ≤ 41 * size) }
+    requires few { length named.now ≤ 24 }
+    ensures { (result ≡ rows_length (take count widths) named.now) × (result ≤ 41 * length named.now) }
 {
     let mut sum = 0;
-    for r in 0..size {
-        let relation = named[r];
-        let width = width_of(count, widths, relation);
-        sum = sum + 1 + 5 * width;
+    for relation in named {
+        sum += 1 + 5 * width_of(count, widths, *relation);
     }
     sum
 }
@@ -194,11 +164,8 @@ pub fn query_length(t: Tableau, count: u8, widths: [u8; 8]) -> usize
     requires arity_bound { (t.arity ≤ 8) × (t.size ≤ 24) }
     ensures { (result ≡ length ((query_for 24 (take count widths)).put (as_query t))) × (result ≤ 42 + 41 * t.size) }
 {
-    let arity = t.arity;
-    let size = t.size;
-    let named = t.relations;
-    let used = limits::head_in_use(arity, size);
-    let rows = rows_length(size as usize, named, count, widths);
+    let used = limits::head_in_use(t.arity, t.size);
+    let rows = rows_length(&t.relations[..t.size as usize], count, widths);
     2 + 5 * used + rows
 }
 

@@ -1,22 +1,23 @@
 -- The sets of a join dependency as masks: together they are a relation's columns exactly when their union has all bits.
 use mathlib.Core.Path.{◌≡◌, refl, sym, ap, subst, ◌∙◌}
-use mathlib.Core.Bool.{true}
+use mathlib.Core.Bool.{Bool, true}
 use mathlib.Core.List.{List, [], ◌∷◌, ◌++◌, map, flatten, append_assoc, append-nil}
 use Prim.Native.Nat.{ℕ, zero, suc, ◌+◌, ◌-◌, ◌^◌, ◌≤◌, ◌<◌}
 use native.Mathlib.Nat.{lt_of_lt_of_le}
 use native.Mathlib.Omega.{arith}
 use lib.Bits.{bit_or, or_lt}
 use lib.Dec.{eqb, ltb, lit<}
+use lib.Pointwise.{pointwise}
 use lib.ListN.{length, get_or, take, drop, replicate}
 use lib.Pow.{pow_mono, pow_pos}
-use borrow.Author.Tests.{ltb-true, lt-ltb}
+use borrow.Author.Tests.{ltb-true, lt-ltb, le-leb}
 use Rattle.theory.specs.Query.{subset}
 use Rattle.lists.specs.Tests.{every, is_zero, in_use}
 use Rattle.lists.specs.Numbers.{numbers_where}
 use Rattle.lists.proofs.Tests.{every-get_or, every-weaken, every-join, used-good, used-blank, padded}
 use Rattle.query.specs.declared.JoinDependency.{JoinDependency}
 use Rattle.query.specs.View.{columns_from, columns_of}
-use Rattle.query.specs.Rule.{good_set}
+use Rattle.query.specs.Rule.{good_set, good_join}
 use Rattle.query.proofs.Good.{good-set}
 use Rattle.query.proofs.Shape.{blank-number}
 use Rattle.closure.proofs.Masks.{Same, same-columns, same-union, all-columns}
@@ -93,3 +94,23 @@ module _ (schema : List ℕ) (relation n : ℕ) (sets : List ℕ) (good : in_use
       ap (λ (l : List ℕ). flatten (map columns_of l))
       (padded n (good_set schema relation) is_zero sets 0 blank-number (used-blank n (good_set schema relation) is_zero sets good))
       ∙ no-columns (take n sets) (length sets - n)
+
+-- Four sets are four zeros exactly when each is 0
+pub zero-sets : (sets : List ℕ) → length sets ≡ 4 → pointwise eqb sets (0 ∷ 0 ∷ 0 ∷ 0 ∷ []) ≡ every is_zero sets
+unfolding every
+zero-sets [] e = absurd (omega arith)
+zero-sets (a ∷ []) e = absurd (omega arith)
+zero-sets (a ∷ b ∷ []) e = absurd (omega arith)
+zero-sets (a ∷ b ∷ c ∷ []) e = absurd (omega arith)
+zero-sets (a ∷ b ∷ c ∷ d ∷ []) e = refl
+zero-sets (a ∷ b ∷ c ∷ d ∷ x ∷ xs) e = absurd (omega arith)
+
+-- A join dependency of 2 to 4 sets that are all good is good exactly when all its sets together cover the columns
+pub covered : {r : Bool} {width : ℕ} (schema : List ℕ) (j : JoinDependency) → 2 ≤ j.count → j.count ≤ 4
+    → in_use j.count (good_set schema j.relation) is_zero j.sets ≡ true → width ≡ get_or schema j.relation 0
+    → r ≡ subset (numbers_where (λ c. true) 0 width) (flatten (map columns_of j.sets)) → r ≡ good_join schema j
+unfolding good_join
+covered schema j least most sets e is =
+    rw (le-leb 2 j.count least, le-leb j.count 4 most, sets)
+    (is ∙ ap (λ (w : ℕ). subset (numbers_where (λ c. true) 0 w) (flatten (map columns_of j.sets))) e
+    ∙ ap (subset (numbers_where (λ c. true) 0 (get_or schema j.relation 0))) (used-columns schema j.relation j.count j.sets sets))

@@ -1,7 +1,8 @@
 -- How a variable is looked for: in a row's cells, in the rows, and for each entry of a head. One law for every width and row count.
 -- A variable stands in neither of two lists exactly when not in the first and not in the second
 use mathlib.Core.Path.{◌≡◌, refl, sym, ap, ◌∙◌}
-use mathlib.Core.Bool.{Bool, true, false, cond, not, ◌&&◌}
+use mathlib.Core.Bool.{Bool, true, false, cond, not, ◌&&◌, ◌||◌}
+use Rattle.std.specs.List.{list_any}
 use mathlib.Core.List.{List, [], ◌∷◌, ◌++◌}
 use Prim.Native.Nat.{ℕ, suc, ◌+◌, ◌*◌}
 use native.Mathlib.Omega.{arith}
@@ -37,21 +38,21 @@ absent-append v (theory.variable w ∷ es) fs =
 
 -- ---- in the cells of a row
 
-absent-entry : (v : ℕ) (e : Entry) (rest : List theory.Entry)
-    → not (member v (variables_of (entry_of e ∷ rest))) ≡ not (is_variable v e) && not (member v (variables_of rest))
+cond-or : (t m : Bool) → t || m ≡ cond t true m
+cond-or true m = refl
+cond-or false m = refl
+
+here : (v : ℕ) (e : Entry) (rest : List theory.Entry)
+    → is_variable v e || member v (variables_of rest) ≡ member v (variables_of (entry_of e ∷ rest))
 unfolding variables_of member
-absent-entry v (Constant n) rest = refl
-absent-entry v (Variable w) rest = not-cond (eqb v w) (member v (variables_of rest))
+here v (Constant n) rest = refl
+here v (Variable w) rest = cond-or (eqb v w) (member v (variables_of rest))
 
-absent-cells : (v i : ℕ) (cells : List Cell) → not (member v (variables_of (entries_of cells))) ≡ every_at (λ _ c. not (names_variable v c)) i cells
-unfolding variables_of member every_at
-absent-cells v i [] = refl
-absent-cells v i (c ∷ cs) =
-    absent-entry v c.entry (entries_of cs) ∙ ap (λ (t : Bool). not (names_variable v c) && t) (absent-cells v (suc i) cs)
-
--- A loop that looks for a variable in cells starts so
-pub cells-start : (v : ℕ) (cells : List Cell) → Sought (λ _. names_variable v) cells (member v (variables_of (entries_of cells))) 0
-cells-start v cells = record { rest = record { rest = absent-cells v 0 cells } }
+-- A variable stands in some cells exactly when a cell is that variable
+pub any-member : (v : ℕ) (cells : List Cell) → list_any (names_variable v) cells ≡ member v (variables_of (entries_of cells))
+unfolding variables_of member
+any-member v [] = refl
+any-member v (c ∷ cs) = ap (λ (t : Bool). names_variable v c || t) (any-member v cs) ∙ here v c.entry (entries_of cs)
 
 -- ---- in the rows
 

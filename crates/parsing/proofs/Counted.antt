@@ -1,9 +1,8 @@
 -- A part that holds a count and then so many values: what the reader's answers say of the format's reading of the whole part.
 use mathlib.Core.Path.{◌≡◌, refl, sym, ap, ◌∙◌}
-use mathlib.Core.Bool.{Bool, true, false}
+use mathlib.Core.Bool.{Bool, true}
 use mathlib.Core.List.{List, [], ◌∷◌}
 use Prim.Native.Nat.{ℕ, ◌+◌, ◌≤◌, ◌<◌}
-use native.Mathlib.Omega.{arith}
 use lib.ListN.{length, drop, set, replicate, drop_of_length-le}
 use lib.Seq.{drop-cons}
 use lib.Dec.{leb, leb-zero}
@@ -12,31 +11,23 @@ use Rattle.format.specs.Format.{Reading, none, got, got_if, then_read, map_readi
 use Rattle.refusals.specs.Refusals.{gives, refused}
 use Rattle.format.specs.File.{complete}
 use Rattle.format.proofs.Filling.{Filling, filling-starts, filling-turns, filling-fails, filling-ends}
-use Rattle.parsing.specs.declared.ByteRead.TheVariants.{Byte, NoByte}
-use Rattle.parsing.specs.internal.Read.{byte_read}
+use Rattle.std.proofs.Common.{Some}
+use Rattle.parsing.specs.internal.Read.{value_read}
+use Rattle.parsing.proofs.Values.{got_if-value}
 
 -- ---- a byte's answer
 
-got_if-byte : (t : Bool) (a b : ℕ) (rest : List ℕ) → Byte b ≡ byte_read (got_if t a rest) → (t ≡ true) × (a ≡ b)
-unfolding got_if
-got_if-byte true a b rest h = (refl, cc)
-got_if-byte false a b rest h = let z : ◌≡◌ {A = ℕ} 0 1 = cc in absurd (omega arith)
-
-byte-front : (test : ℕ → Bool) (bytes : List ℕ) (b : ℕ) → Byte b ≡ byte_read (get_byte test bytes) → (test b ≡ true) × (get_byte test bytes ≡ got b (drop 1 bytes))
+byte-front : (test : ℕ → Bool) (bytes : List ℕ) (b : ℕ) → Some b ≡ value_read (get_byte test bytes) → (test b ≡ true) × (get_byte test bytes ≡ got b (drop 1 bytes))
 unfolding get_byte got_if
-byte-front test [] b h = let z : ◌≡◌ {A = ℕ} 0 1 = cc in absurd (omega arith)
+byte-front test [] b h = cc
 byte-front test (x ∷ bytes) b h =
-    let (t, e) = got_if-byte (test x) x b bytes h in
+    let (t, e, _) = got_if-value (test x) x b bytes h in
     let u : test b ≡ true = ap test (sym e) ∙ t in
     (u, rw (e, u))
 
-pub byte-read : (test : ℕ → Bool) (s : List ℕ) (at b : ℕ) → Byte b ≡ byte_read (get_byte test (drop at s))
+pub byte-read : (test : ℕ → Bool) (s : List ℕ) (at b : ℕ) → Some b ≡ value_read (get_byte test (drop at s))
     → (test b ≡ true) × (get_byte test (drop at s) ≡ got b (drop (at + 1) s))
 byte-read test s at b h = let (t, e) = byte-front test (drop at s) b h in (t, e ∙ rw (lib.Seq.drop-drop 1 at s))
-
-pub byte-none : (o : Reading ℕ) → NoByte ≡ byte_read o → o ≡ none
-byte-none none h = refl
-byte-none (got b rest) h = let z : ◌≡◌ {A = ℕ} 0 1 = cc in absurd (omega arith)
 
 -- ---- one value and then another
 

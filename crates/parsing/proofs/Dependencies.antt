@@ -1,19 +1,19 @@
 -- What the format of a dependency reads at a position of a slice, by tests on its bytes.
-use mathlib.Core.Path.{◌≡◌, refl, sym, ap, ◌∙◌}
+use mathlib.Core.Path.{◌≡◌, sym, ap, ◌∙◌}
 use mathlib.Core.Bool.{Bool, true, false, ◌&&◌}
 use mathlib.Core.List.{List}
 use Prim.Native.Nat.{ℕ, ◌+◌, ◌-◌, ◌≤◌, ◌<◌}
-use native.Mathlib.Omega.{arith}
 use native.Mathlib.Nat.{add-zero}
 use lib.ListN.{length, get_or, drop, length-drop}
 use lib.Seq.{get_or-drop}
 use borrow.Author.Tests.{le-leb, lt-leb}
 use Rattle.query.specs.Rule.{good_dependency}
-use Rattle.format.specs.Format.{Reading, none, got, got_if}
+use Rattle.format.specs.Format.{got, got_if}
 use Rattle.format.specs.Parts.{dependency, dependency_at}
 use Rattle.query.specs.declared.Dependency.{Dependency}
-use Rattle.parsing.specs.declared.DependencyRead.TheVariants.{Found, NoDependency}
-use Rattle.parsing.specs.internal.Read.{dependency_read}
+use Rattle.std.proofs.Common.{None, Some}
+use Rattle.parsing.specs.internal.Read.{value_read}
+use Rattle.parsing.proofs.Values.{got_if-value}
 use lib.Dec.{leb}
 
 -- The dependency of the three bytes at a position
@@ -26,7 +26,7 @@ module _ (schema s : List ℕ) (at : ℕ) where
       let a : get_or (drop at s) 0 0 ≡ get_or s at 0 = get_or-drop at s 0 0 ∙ ap (λ (k : ℕ). get_or s k 0) (add-zero at) in
       λ i. record { relation = a i; left = get_or-drop at s 1 0 i; right = get_or-drop at s 2 0 i }
 
-  pub dependency-short : length s - at < 3 → NoDependency ≡ dependency_read ((dependency schema).get (drop at s))
+  pub dependency-short : length s - at < 3 → None ≡ value_read ((dependency schema).get (drop at s))
   unfolding dependency got_if
   dependency-short h = let t : leb 3 (length (drop at s)) ≡ false = lt-leb 3 (length (drop at s)) (rw length-drop h) in rw t
 
@@ -39,26 +39,17 @@ module _ (schema s : List ℕ) (at : ℕ) where
       rw (l, dependency-on, g)
 
   pub found-dependency : 3 ≤ length s - at → (r : Bool) → r ≡ good_dependency schema (dependency_on s at) → r ≡ true
-      → Found (dependency_on s at) ≡ dependency_read ((dependency schema).get (drop at s))
+      → Some (dependency_on s at) ≡ value_read ((dependency schema).get (drop at s))
   unfolding got_if
-  found-dependency h r e t = sym (ap dependency_read (dependency-at true h (sym e ∙ t)))
+  found-dependency h r e t = sym (ap value_read (dependency-at true h (sym e ∙ t)))
 
   pub bad-dependency : 3 ≤ length s - at → (r : Bool) → r ≡ good_dependency schema (dependency_on s at) → r ≡ false
-      → NoDependency ≡ dependency_read ((dependency schema).get (drop at s))
+      → None ≡ value_read ((dependency schema).get (drop at s))
   unfolding got_if
-  bad-dependency h r e t = sym (ap dependency_read (dependency-at false h (sym e ∙ t)))
-
-got_if-dependency : (t : Bool) (a d : Dependency) (rest : List ℕ) → Found d ≡ dependency_read (got_if t a rest) → got_if t a rest ≡ got d rest
-unfolding got_if
-got_if-dependency true a d rest h = let p : a ≡ d = cc in ap (λ (b : Dependency). got b rest) p
-got_if-dependency false a d rest h = let z : ◌≡◌ {A = ℕ} 0 1 = cc in absurd (omega arith)
+  bad-dependency h r e t = sym (ap value_read (dependency-at false h (sym e ∙ t)))
 
 -- what the answer says of the format's reading
-pub dependency-read : (schema bytes : List ℕ) (d : Dependency) → Found d ≡ dependency_read ((dependency schema).get bytes)
+pub dependency-read : (schema bytes : List ℕ) (d : Dependency) → Some d ≡ value_read ((dependency schema).get bytes)
     → (dependency schema).get bytes ≡ got d (drop 3 bytes)
 unfolding dependency
-dependency-read schema bytes d h = got_if-dependency (leb 3 (length bytes) && good_dependency schema (dependency_at bytes)) (dependency_at bytes) d (drop 3 bytes) h
-
-pub dependency-none : (o : Reading Dependency) → NoDependency ≡ dependency_read o → o ≡ none
-dependency-none none h = refl
-dependency-none (got d rest) h = let z : ◌≡◌ {A = ℕ} 0 1 = cc in absurd (omega arith)
+dependency-read schema bytes d h = (got_if-value (leb 3 (length bytes) && good_dependency schema (dependency_at bytes)) (dependency_at bytes) d (drop 3 bytes) h).2

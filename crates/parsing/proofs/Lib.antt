@@ -1,5 +1,6 @@
 -- Laws that several functions cite.
 pub mod Words
+pub mod Values
 pub mod Positions
 pub mod Counted
 pub mod RowLaws

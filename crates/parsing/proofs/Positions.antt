@@ -1,5 +1,5 @@
 -- What the formats read at a position of a slice, by tests on its bytes.
-use mathlib.Core.Path.{◌≡◌, refl, sym, ap, ◌∙◌}
+use mathlib.Core.Path.{◌≡◌, sym, ap, ◌∙◌}
 use mathlib.Core.Bool.{Bool, true, false, ◌&&◌}
 use mathlib.Core.List.{List}
 use Prim.Native.Nat.{ℕ, suc, ◌+◌, ◌-◌, ◌≤◌, ◌<◌}
@@ -9,14 +9,14 @@ use lib.ListN.{length, get_or, drop, drop_of_length-le, length-drop}
 use lib.Seq.{drop-cons, get_or-drop, drop-drop}
 use borrow.Author.Tests.{le-leb, lt-leb}
 use Rattle.lists.specs.Tests.{between}
-use Rattle.format.specs.Format.{Reading, none, got, got_if, get_byte}
+use Rattle.format.specs.Format.{none, got, got_if, get_byte}
 use Rattle.format.specs.Bytes.{number}
 use Rattle.format.specs.Parts.{entry, is_entry, entry_from}
-use Rattle.query.specs.declared.Entry.{Entry}
 use Rattle.query.specs.declared.Cell.{Cell}
 use Rattle.query.specs.declared.Entry.TheVariants.{Constant, Variable}
-use Rattle.parsing.specs.declared.EntryRead.TheVariants.{Read, NoEntry}
-use Rattle.parsing.specs.internal.Read.{entry_read}
+use Rattle.std.proofs.Common.{None, Some}
+use Rattle.parsing.specs.internal.Read.{value_read}
+use Rattle.parsing.proofs.Values.{got_if-value}
 use lib.Dec.{leb}
 
 -- ---- limits
@@ -79,35 +79,21 @@ tag-bad tag n z o = rw (lt-leb tag 1 (omega (arith, z, o)))
 
 -- the answers of the entry's reader
 module _ (s : List ℕ) (at n : ℕ) (h : 5 ≤ length s - at) (e : n ≡ number 4 (drop (at + 1) s)) where
-  pub no-entry : is_entry (get_or s at 0) n ≡ false → NoEntry ≡ entry_read (entry.get (drop at s))
+  pub no-entry : is_entry (get_or s at 0) n ≡ false → None ≡ value_read (entry.get (drop at s))
   unfolding got_if
-  no-entry t = sym (ap entry_read (entry_at s at n false h e t))
+  no-entry t = sym (ap value_read (entry_at s at n false h e t))
 
-  pub constant-entry : get_or s at 0 ≡ 0 → n ≤ 2147483647 → Read (Constant n) ≡ entry_read (entry.get (drop at s))
+  pub constant-entry : get_or s at 0 ≡ 0 → n ≤ 2147483647 → Some (record { entry = Constant n }) ≡ value_read (entry.get (drop at s))
   unfolding got_if
   constant-entry z l = rw (entry_at s at n true h e (constant-good (get_or s at 0) n z l), z)
 
-  pub variable-entry : get_or s at 0 ≡ 1 → n ≤ 95 → Read (Variable n) ≡ entry_read (entry.get (drop at s))
+  pub variable-entry : get_or s at 0 ≡ 1 → n ≤ 95 → Some (record { entry = Variable n }) ≡ value_read (entry.get (drop at s))
   unfolding got_if
   variable-entry z l = rw (entry_at s at n true h e (variable-good (get_or s at 0) n z l), z)
 
-got_if-entry : (t : Bool) (c : Cell) (rest : List ℕ) (e : Entry) → Read e ≡ entry_read (got_if t c rest) → got_if t c rest ≡ got (record { entry = e }) rest
-unfolding got_if
-got_if-entry true c rest e h = let p : c.entry ≡ e = cc in λ i. got (record { entry = p i }) rest
-got_if-entry false c rest e h = let z : ◌≡◌ {A = ℕ} 0 1 = cc in absurd (omega arith)
-
 -- what the answer says of the format's reading
-pub entry-read : (bytes : List ℕ) (e : Entry) → Read e ≡ entry_read (entry.get bytes) → entry.get bytes ≡ got (record { entry = e }) (drop 5 bytes)
+pub entry-read : (bytes : List ℕ) (c : Cell) → Some c ≡ value_read (entry.get bytes) → entry.get bytes ≡ got c (drop 5 bytes)
 unfolding entry
-entry-read bytes e =
-    go (leb 5 (length bytes) && is_entry (get_or bytes 0 0) (number 4 (drop 1 bytes))) (entry_from (get_or bytes 0 0) (number 4 (drop 1 bytes))) (drop 5 bytes)
-  where
-    go : (t : Bool) (c : Cell) (rest : List ℕ) → Read e ≡ entry_read (got_if t c rest) → got_if t c rest ≡ got (record { entry = e }) rest
-    go t c rest h = got_if-entry t c rest e h
-
-pub entry-none : (bytes : List ℕ) → NoEntry ≡ entry_read (entry.get bytes) → entry.get bytes ≡ none
-entry-none bytes h = go (entry.get bytes) h
-  where
-    go : (o : Reading Cell) → NoEntry ≡ entry_read o → o ≡ none
-    go none h = refl
-    go (got c rest) h = let z : ◌≡◌ {A = ℕ} 0 1 = cc in absurd (omega arith)
+entry-read bytes c h =
+    (got_if-value (leb 5 (length bytes) && is_entry (get_or bytes 0 0) (number 4 (drop 1 bytes))) (entry_from (get_or bytes 0 0) (number 4 (drop 1 bytes))) c
+    (drop 5 bytes) h).2

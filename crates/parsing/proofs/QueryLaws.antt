@@ -1,15 +1,15 @@
 -- A query part: what the readings of its pieces say of the whole part.
 use mathlib.Core.Path.{◌≡◌, refl, ap, ◌∙◌}
-use mathlib.Core.Bool.{true, false, cond}
+use mathlib.Core.Bool.{cond}
 use mathlib.Core.List.{List, map}
 use Prim.Native.Nat.{ℕ}
-use native.Mathlib.Omega.{arith}
 use lib.Dec.{eqb, leb}
 use lib.ListN.{length, drop}
 use Rattle.query.specs.declared.Cell.{Cell}
 use Rattle.format.specs.Format.{Reading, none, got, map_reading, Format, get_byte, byte, sequence, via}
 use Rattle.format.specs.Parts.{entries, rows, flat, query_with, query_for, query}
 use Rattle.parsing.specs.declared.RowsRead.{RowsRead}
+use Rattle.std.proofs.Common.{None, Some}
 use Rattle.parsing.specs.internal.Read.{rows_read}
 use Rattle.parsing.proofs.Counted.{sequence-none, sequence-got}
 
@@ -68,9 +68,9 @@ module _ (schema part : List ℕ) where
 
 -- ---- the answer of the rows' reader
 
-pub rows-bad : (o : Reading (List (ℕ × List Cell))) (r : RowsRead) → r ≡ rows_read o → r.good ≡ false → o ≡ none
-rows-bad none r e g = refl
-rows-bad (got rs rest) r e g = let t : r.good ≡ true = ap (λ (r : RowsRead). r.good) e in let z : ◌≡◌ {A = ℕ} 0 1 = cc in absurd (omega arith)
+pub rows-none : (o : Reading (List (ℕ × List Cell))) → None ≡ rows_read o → o ≡ none
+rows-none none e = refl
+rows-none (got rs rest) e = cc
 
 -- What the rows that were read are, and the bytes after them
 pub record SomeRows (o : Reading (List (ℕ × List Cell))) (r : RowsRead) : Type 0 where
@@ -81,14 +81,15 @@ pub record SomeRows (o : Reading (List (ℕ × List Cell))) (r : RowsRead) : Typ
   pub relations : r.relations ≡ map (λ r. r.0) all
   pub cells : r.cells ≡ flat all
 
-pub rows-some : (o : Reading (List (ℕ × List Cell))) (r : RowsRead) → r ≡ rows_read o → r.good ≡ true → SomeRows o r
-rows-some none r e g = let t : r.good ≡ false = ap (λ (r : RowsRead). r.good) e in let z : ◌≡◌ {A = ℕ} 0 1 = cc in absurd (omega arith)
-rows-some (got rs rest) r e g =
+pub rows-some : (o : Reading (List (ℕ × List Cell))) (r : RowsRead) → Some r ≡ rows_read o → SomeRows o r
+rows-some none r e = cc
+rows-some (got rs rest) r e =
+    let is : r ≡ record { whole = eqb (length rest) 0; relations = map (λ r. r.0) rs; cells = flat rs } = cc in
     record {
       all = rs;
       rest = rest;
       reading = refl;
-      whole = ap (λ (r : RowsRead). r.whole) e;
-      relations = ap (λ (r : RowsRead). r.relations) e;
-      cells = ap (λ (r : RowsRead). r.cells) e;
+      whole = ap (λ (r : RowsRead). r.whole) is;
+      relations = ap (λ (r : RowsRead). r.relations) is;
+      cells = ap (λ (r : RowsRead). r.cells) is;
     }

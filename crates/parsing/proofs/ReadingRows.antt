@@ -12,7 +12,6 @@ use mir.Val.{Fits}
 use lib.Dec.{eqb, leb}
 use lib.ListN.{length, take, drop, get_or, set, replicate, length-set, length-drop}
 use lib.Seq.{take_all, drop-drop, get_or-take, length-take-le}
-use Rattle.query.specs.declared.Entry.{Entry}
 use Rattle.query.specs.declared.Cell.{Cell}
 use Rattle.query.specs.Rule.{no_cell, good_relations}
 use Rattle.lists.specs.Over.{over}
@@ -22,10 +21,10 @@ use Rattle.lists.proofs.Loops.{replicate-drop}
 use Rattle.format.proofs.Parts.{Narrow, map-chunk, flat-chunk}
 use Rattle.format.proofs.Rules.{length-chunk}
 use Rattle.query.proofs.Relations.{relations-bounds, width-le}
-use Rattle.parsing.specs.declared.EntryRead.{EntryRead}
-use Rattle.parsing.specs.declared.EntryRead.TheVariants.{Read, NoEntry}
-use Rattle.parsing.specs.internal.Read.{entry_read, no_rows_read, rows_read}
-use Rattle.parsing.proofs.Positions.{entry-read, entry-none}
+use Rattle.std.proofs.Common.{Option, None, Some}
+use Rattle.parsing.specs.internal.Read.{value_read, rows_read}
+use Rattle.parsing.proofs.Values.{value-none}
+use Rattle.parsing.proofs.Positions.{entry-read}
 use Rattle.format.proofs.Filling.{Filling, filling-starts, filling-turns, filling-fails, filling-ends}
 use Rattle.parsing.proofs.RowLaws.{row-bad, row-good, row-bounds, chunk-set, set-over, blank-over, drop-past-over}
 
@@ -99,18 +98,18 @@ at-end part at = rw length-drop (go (leb (length part) at) refl)
 
 module _ (schema part : List ℕ) (start size : ℕ) (relations : List ℕ) (cells : List Cell) (at r : ℕ) (f : At schema part start size relations cells at r) where
   -- a row that can't be read
-  pub fails : r < size → (row schema).get (drop at part) ≡ none → no_rows_read ≡ rows_read (Rows schema part start size)
+  pub fails : r < size → (row schema).get (drop at part) ≡ none → None ≡ rows_read (Rows schema part start size)
   fails h e = sym (ap rows_read (filling-fails f.reading h e))
 
   -- all of them are read
-  pub accepted : size ≤ r → record { good = true; whole = leb (length part) at; relations = relations; cells = cells } ≡ rows_read (Rows schema part start size)
+  pub accepted : size ≤ r → Some (record { whole = leb (length part) at; relations = relations; cells = cells }) ≡ rows_read (Rows schema part start size)
   accepted h =
       let w : Rows schema part start size ≡ got (chunk relations cells) (drop at part) = filling-ends f.reading h in
       let e : cells ≡ flat (chunk relations cells) =
       sym (flat-chunk relations cells ∙ take_all (8 * length relations) cells (omega (arith, f.cells-long, f.relations-long))) in
-      let same : record { good = true; whole = leb (length part) at; relations = relations; cells = cells }
+      let same : Some (record { whole = leb (length part) at; relations = relations; cells = cells })
       ≡ rows_read (got (chunk relations cells) (drop at part)) =
-      λ i. record { good = true; whole = at-end part at i; relations = sym (map-chunk relations cells) i; cells = e i } in
+      λ i. Some (record { whole = at-end part at i; relations = sym (map-chunk relations cells) i; cells = e i }) in
       same ∙ sym (ap rows_read w)
 
   pub row-begins : (width : ℕ) → Known schema part at width → r < 12 → InRow schema part at r width cells cells 0
@@ -127,12 +126,12 @@ module _ (schema part : List ℕ) (start size : ℕ) (relations : List ℕ) (cel
         reading = rw add-zero (filling-starts entry.get 8 no_cell width (drop (at + 1) part));
       }
 
-module _ (schema part : List ℕ) (at r width : ℕ) (before cells : List Cell) (i : ℕ) (g : InRow schema part at r width before cells i) (o : EntryRead)
-    (p : o ≡ entry_read (entry.get (drop (at + 1 + 5 * i) part))) where
-  pub row-goes-on : (e : Entry) → o ≡ Read e → r < 12 → length before ≡ 96 → i < width
-      → InRow schema part at r width before (set cells (8 * r + i) (record { entry = e })) (i + 1)
+module _ (schema part : List ℕ) (at r width : ℕ) (before cells : List Cell) (i : ℕ) (g : InRow schema part at r width before cells i) (o : Option Cell)
+    (p : o ≡ value_read (entry.get (drop (at + 1 + 5 * i) part))) where
+  pub row-goes-on : (e : Cell) → o ≡ Some e → r < 12 → length before ≡ 96 → i < width
+      → InRow schema part at r width before (set cells (8 * r + i) e) (i + 1)
   row-goes-on e q few lb h =
-      let read : entry.get (drop (at + 1 + 5 * i) part) ≡ got (record { entry = e }) (drop 5 (drop (at + 1 + 5 * i) part)) =
+      let read : entry.get (drop (at + 1 + 5 * i) part) ≡ got e (drop 5 (drop (at + 1 + 5 * i) part)) =
       entry-read (drop (at + 1 + 5 * i) part) e (sym q ∙ p) in
       let k : at + 1 + 5 * i + 5 ≡ at + 1 + 5 * (i + 1) = omega arith in
       let d : drop 5 (drop (at + 1 + 5 * i) part) ≡ drop (at + 1 + 5 * (i + 1)) part = drop-drop 5 (at + 1 + 5 * i) part ∙ ap (λ (m : ℕ). drop m part) k in
@@ -142,18 +141,18 @@ module _ (schema part : List ℕ) (at r width : ℕ) (before cells : List Cell) 
         of = g.of;
         few = omega arith;
         small = g.small;
-        row = set g.row i (record { entry = e });
-        long = length-set g.row i (record { entry = e }) ∙ lr;
-        cells-long = length-set cells (8 * r + i) (record { entry = e }) ∙ g.cells-long;
-        stored = ap (λ (cs : List Cell). set cs (8 * r + i) (record { entry = e })) g.stored
-            ∙ set-over before (8 * r) i (record { entry = e }) g.row (omega arith) (omega arith);
-        reading = rw (← d) (filling-turns g.reading (record { entry = e }) (drop 5 (drop (at + 1 + 5 * i) part)) h (omega arith) read);
+        row = set g.row i e;
+        long = length-set g.row i e ∙ lr;
+        cells-long = length-set cells (8 * r + i) e ∙ g.cells-long;
+        stored = ap (λ (cs : List Cell). set cs (8 * r + i) e) g.stored
+            ∙ set-over before (8 * r) i e g.row (omega arith) (omega arith);
+        reading = rw (← d) (filling-turns g.reading e (drop 5 (drop (at + 1 + 5 * i) part)) h (omega arith) read);
       }
 
-  pub row-stops : o ≡ NoEntry → i < width → (row schema).get (drop at part) ≡ none
+  pub row-stops : o ≡ None → i < width → (row schema).get (drop at part) ≡ none
   row-stops q h =
       row-bad schema part at g.of.inside g.of.known
-      (rw g.of.wide (filling-fails g.reading h (entry-none (drop (at + 1 + 5 * i) part) (sym q ∙ p))))
+      (rw g.of.wide (filling-fails g.reading h (value-none (entry.get (drop (at + 1 + 5 * i) part)) (sym q ∙ p))))
 
 -- a row that is read to its end is one row more
 pub row_ends : (schema part : List ℕ) (start size : ℕ) (relations : List ℕ) (before cells : List Cell) (at r width i : ℕ) → Narrow schema

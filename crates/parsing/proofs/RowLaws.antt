@@ -1,6 +1,6 @@
 -- Rows: what the reader's answers say of the format's reading, how far a reading goes, and rows kept in flat arrays.
 use mathlib.Core.Path.{◌≡◌, refl, sym, ap, ◌∙◌, subst}
-use mathlib.Core.Bool.{Bool, true, false, ◌&&◌, true≢false}
+use mathlib.Core.Bool.{Bool, ◌&&◌}
 use mathlib.Core.List.{List, [], ◌∷◌, ◌++◌, append_assoc}
 use Prim.Native.Nat.{ℕ, zero, suc, ◌+◌, ◌*◌, ◌-◌, ◌≤◌, ◌<◌}
 use native.Mathlib.Nat.{zero-add}
@@ -14,27 +14,15 @@ use Rattle.query.specs.declared.Cell.{Cell}
 use Rattle.query.specs.Rule.{no_cell}
 use Rattle.lists.specs.Over.{over, pad}
 use Rattle.format.specs.Bytes.{number}
-use Rattle.format.specs.Format.{Reading, none, got, map_reading, get_times, get_byte, byte, sequence, padded}
+use Rattle.format.specs.Format.{none, got, map_reading, get_times, get_byte, byte, sequence, padded}
 use Rattle.format.specs.Parts.{entry, is_entry, entry_from, entries, row, chunk}
 use Rattle.lists.proofs.Tests.{and_left}
 use Rattle.lists.proofs.Over.{length-pad}
 use Rattle.lists.proofs.Loops.{replicate-drop}
 use Rattle.format.proofs.Parts.{Narrow, narrow_at}
 use Rattle.format.proofs.Formats.{not-got, got_if-true, then_read-got, map_reading-got}
-use Rattle.parsing.specs.declared.CellsRead.{CellsRead}
-use Rattle.parsing.specs.internal.Read.{cells_read}
 use Rattle.parsing.proofs.Positions.{byte_past, byte-bad, byte-good}
 use Rattle.parsing.proofs.Counted.{sequence-none, sequence-got}
-
--- ---- the answers of the readers
-
-pub cells-bad : (o : Reading (List Cell)) (r : CellsRead) → r ≡ cells_read o → r.good ≡ false → o ≡ none
-cells-bad none r e g = refl
-cells-bad (got cs rest) r e g = absurd (true≢false (sym (ap (λ (r : CellsRead). r.good) e) ∙ g))
-
-pub cells-good : (o : Reading (List Cell)) (r : CellsRead) → r ≡ cells_read o → r.good ≡ true → (rest : List ℕ) × (o ≡ got r.cells rest)
-cells-good none r e g = absurd (true≢false (sym g ∙ ap (λ (r : CellsRead). r.good) e))
-cells-good (got cs rest) r e g = (rest, ap (λ (r : CellsRead). got r.cells rest) (sym e))
 
 -- ---- one row
 

@@ -84,7 +84,7 @@ pub fn determined(given: Record, relation: u8, left: u8) -> Result<Columns, Refu
     if !limits::set_good(relations, widths, relation, left) {
         return Err(Refusal::BadDependency);
     }
-    let mask = closure::closed_columns(held as usize, dependencies, relation, left);
+    let mask = closure::closed_columns(&dependencies[..held as usize], relation, left);
     let count = u8::count_ones(mask) as u8;
     Ok(Columns { set: mask, count })
 }

@@ -1,4 +1,7 @@
 use mathlib.Core.Path.{sym, ap, ◌∙◌}
+use mathlib.Core.List.{◌∷◌}
+use Prim.Native.Nat.{ℕ}
+use Rattle.format.specs.Bytes.{bytes_of}
 use Rattle.query.specs.declared.Entry.{Entry}
 use Rattle.lists.specs.Over.{over}
 use Rattle.format.specs.Parts.{put_entry}
@@ -14,4 +17,5 @@ pub returns-in-Variable : goal.returns-in-Variable
 unfolding put_entry
 returns-in-Variable c =
     c.put_tagged-in-Variable.ensures
+    ∙ ap (λ (n : ℕ). over c.args.buffer.now c.args.at (1 ∷ bytes_of 4 n)) c.from.ensures
     ∙ ap (λ (e : Entry). over c.args.buffer.now c.args.at (put_entry e)) (sym c.in-Variable.is)

@@ -13,17 +13,17 @@ use Rattle.query.specs.Types.{Query}
 use Rattle.query.specs.View.{as_query}
 use Rattle.lists.specs.Over.{over}
 use Rattle.format.specs.Format.{byte, sequence, via, padded}
-use Rattle.format.specs.Parts.{entries, row, rows, chunk, query_for}
+use Rattle.format.specs.Parts.{entry, entries, row, rows, chunk, query_for}
 use Rattle.lists.proofs.Over.{over-length, over-over}
 use Rattle.lists.proofs.Loops.{mapped-length}
 use Rattle.format.proofs.Parts.{head_fits}
-use Rattle.format.proofs.Lengths.{length-entries, length-query}
-use Rattle.encoder.proofs.Stores.{two-stores}
+use Rattle.format.proofs.Lengths.{length-flat_map, length-query}
+use Rattle.encoder.proofs.Stores.{length-cell, two-stores}
 use Rattle.encoder.proofs.put_query.Goals as goal
 use Rattle.encoder.proofs.put_query.Goals.{After-head_in_use-used, After-put_entries, Start}
 
 abbrev head_bytes : ℕ → Query → List ℕ
-head_bytes used q = (entries used).put q.head
+head_bytes used q = flat_map entry.put (take used q.head)
 
 -- The rows' bytes
 abbrev row_bytes : List ℕ → Query → List ℕ
@@ -39,11 +39,14 @@ module _ (schema buffer : List ℕ) (at : ℕ) (q : Query) (lh : length q.head �
   used-fits : used ≤ 8
   used-fits = rw eu (head_fits q.size q.arity ha)
 
+  head-taken : length (take used q.head) ≡ used
+  head-taken = length-take-le used q.head (omega (arith, used-fits))
+
   head-long : length (head_bytes used q) ≡ 5 * used
-  head-long = length-entries used q.head ∙ ap (λ (n : ℕ). 5 * n) (length-take-le used q.head (omega (arith, used-fits)))
+  head-long = length-flat_map entry.put 5 length-cell (take used q.head) ∙ ap (λ (n : ℕ). 5 * n) head-taken
 
   put-pieces : (query_for 24 schema).put q ≡ q.arity ∷ q.size ∷ ((head_bytes used q) ++ (row_bytes schema q))
-  unfolding query_for via sequence byte rows padded
+  unfolding query_for via sequence byte rows entries padded
   put-pieces = rw eu
 
   total : length ((query_for 24 schema).put q) ≡ 2 + (5 * used + length (row_bytes schema q))
@@ -55,12 +58,15 @@ module _ (schema buffer : List ℕ) (at : ℕ) (q : Query) (lh : length q.head �
   opened-over : (opened buffer at q) ≡ over buffer at (q.arity ∷ q.size ∷ [])
   opened-over = two-stores buffer at q.arity q.size (omega (arith, total))
 
-  room-head : at + 2 + 5 * used ≤ length (opened buffer at q)
-  room-head = omega (arith, total, opened-long)
+  room-head : at + 2 + 5 * length (take used q.head) ≤ length (opened buffer at q)
+  room-head = omega (arith, total, opened-long, head-taken)
+
+  used-inside : used ≡ length (take used q.head)
+  used-inside = sym head-taken
 
   module _ (second : List ℕ) (e₂ : second ≡ over (opened buffer at q) (at + 2) (head_bytes used q)) where
     second-long : length second ≡ length buffer
-    second-long = ap length e₂ ∙ over-length (opened buffer at q) (head_bytes used q) (at + 2) (omega (arith, head-long, room-head)) ∙ opened-long
+    second-long = ap length e₂ ∙ over-length (opened buffer at q) (head_bytes used q) (at + 2) (omega (arith, head-long, room-head, head-taken)) ∙ opened-long
 
     room-rows : at + 2 + 5 * used + length (row_bytes schema q) ≤ length second
     room-rows = omega (arith, second-long, total)
@@ -130,14 +136,17 @@ bounds-buffer-at-2 c = simp length-set (omega (arith, two (goal.at.bounds-buffer
 pub overflow_add-at : goal.overflow_add-at
 overflow_add-at c = omega (arith, two (goal.at.overflow_add-at c).Start, short (goal.at.overflow_add-at c).Start)
 
+pub slice_bounds-put_entries-end : goal.slice_bounds-put_entries-end
+slice_bounds-put_entries-end c =
+    let lh : length c.args.t.head ≡ 8 = search (mapped-length, rules) in
+    used-inside (take c.args.count c.args.widths) c.args.buffer.now c.args.at (as_query c.args.t) lh
+    c.requires.arity_bound.0 c.requires.t_in_bounds c.head_in_use-used.result c.head_in_use-used.ensures
+
 pub put_entries-requires : goal.put_entries-requires
 put_entries-requires c =
     let lh : length c.args.t.head ≡ 8 = search (mapped-length, rules) in
-    record {
-      n_bound = used (goal.at.put_entries-requires c).After-head_in_use-used;
-      n_in_bounds = room-head (take c.args.count c.args.widths) c.args.buffer.now c.args.at (as_query c.args.t)
-          lh c.requires.arity_bound.0 c.requires.t_in_bounds c.head_in_use-used.result c.head_in_use-used.ensures;
-    }
+    room-head (take c.args.count c.args.widths) c.args.buffer.now c.args.at (as_query c.args.t)
+    lh c.requires.arity_bound.0 c.requires.t_in_bounds c.head_in_use-used.result c.head_in_use-used.ensures
 
 pub overflow_add-at-2 : goal.overflow_add-at-2
 overflow_add-at-2 c = omega (arith, rows_at (goal.at.overflow_add-at-2 c).After-put_entries)

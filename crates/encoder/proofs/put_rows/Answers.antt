@@ -1,19 +1,20 @@
 -- row r of relations and cells
 use borrow.Author.Rules.{rules}
 use mathlib.Core.Path.{◌≡◌, sym, ap, refl, ◌∙◌}
-use mathlib.Core.List.{List, [], ◌∷◌}
-use Prim.Native.Nat.{ℕ, zero, suc, ◌+◌, ◌*◌, ◌≤◌, ◌<◌}
+use mathlib.Core.List.{List, [], ◌∷◌, flat_map}
+use Prim.Native.Nat.{ℕ, zero, suc, ◌+◌, ◌-◌, ◌*◌, ◌≤◌, ◌<◌}
 use native.Mathlib.Nat.{le_of_suc-le-suc}
 use native.Mathlib.Omega.{arith}
 use lib.ListN.{length, take, drop, get_or, length-drop}
 use lib.Seq.{drop-drop, get_or-take, length-take-le}
 use Rattle.query.specs.declared.Cell.{Cell}
 use Rattle.lists.specs.Over.{over}
-use Rattle.format.specs.Format.{byte, sequence}
-use Rattle.format.specs.Parts.{entries, row, no_row, chunk}
+use Rattle.std.proofs.lemmas.List.{take-take}
+use Rattle.format.specs.Format.{byte, sequence, padded}
+use Rattle.format.specs.Parts.{entry, entries, row, no_row, chunk}
 use Rattle.format.proofs.Rules.{length-chunk}
-use Rattle.format.proofs.Lengths.{length-entries}
-use Rattle.encoder.proofs.Stores.{Writing, writing-starts, writing-room, writing-turns, writing-ends}
+use Rattle.format.proofs.Lengths.{length-flat_map}
+use Rattle.encoder.proofs.Stores.{length-cell, Writing, writing-starts, writing-room, writing-turns, writing-ends}
 use Rattle.encoder.proofs.put_rows.Goals as goal
 
 chunk-at : (named : List ℕ) (cells : List Cell) (r : ℕ) → r < length named → get_or (chunk named cells) r no_row ≡ (get_or named r 0, take 8 (drop (8 * r) cells))
@@ -34,26 +35,43 @@ module _ (schema before : List ℕ) (start size : ℕ) (named : List ℕ) (cells
   this : get_or (take size (chunk named cells)) r no_row ≡ (get_or named r 0, take 8 (drop (8 * r) cells))
   this = get_or-take size (chunk named cells) r no_row h ∙ chunk-at named cells r (omega arith)
 
-  bytes : (row schema).put (get_or (take size (chunk named cells)) r no_row) ≡ get_or named r 0 ∷ (entries width).put (take 8 (drop (8 * r) cells))
-  unfolding row sequence byte
+  bytes : (row schema).put (get_or (take size (chunk named cells)) r no_row) ≡ get_or named r 0 ∷ flat_map entry.put (take width (take 8 (drop (8 * r) cells)))
+  unfolding row sequence byte entries padded
   bytes = rw (this, ew)
 
   bytes-long : length ((row schema).put (get_or (take size (chunk named cells)) r no_row)) ≡ 1 + 5 * width
   bytes-long =
       let l : length (take 8 (drop (8 * r) cells)) ≡ 8 = length-take-le 8 (drop (8 * r) cells) (rw length-drop (omega arith)) in
       let k : length (take width (take 8 (drop (8 * r) cells))) ≡ width = length-take-le width (take 8 (drop (8 * r) cells)) (omega arith) in
-      ap length bytes ∙ omega (arith, length-entries width (take 8 (drop (8 * r) cells)))
+      ap length bytes ∙ omega (arith, length-flat_map entry.put 5 length-cell (take width (take 8 (drop (8 * r) cells))))
 
   room : at + 1 + 5 * width ≤ length buffer
   room = omega (arith, writing-room w no_row (rw rows_long h), bytes-long)
 
-  goes_on : (line : List Cell) (next : List ℕ) (to : ℕ) → line ≡ take 8 (drop (8 * r) cells) → next ≡ over buffer at (get_or named r 0 ∷ (entries width).put line)
-      → to ≡ at + 1 + 5 * width
+  -- the entries of the row that are written
+  line-is : take (8 * r + width - 8 * r) (drop (8 * r) cells) ≡ take width (take 8 (drop (8 * r) cells))
+  line-is =
+      let n : 8 * r + width - 8 * r ≡ width = omega arith in
+      ap (λ (k : ℕ). take k (drop (8 * r) cells)) n ∙ sym (take-take width 8 (drop (8 * r) cells) lw)
+
+  line-long : length (take (8 * r + width - 8 * r) (drop (8 * r) cells)) ≡ width
+  line-long =
+      let n : 8 * r + width - 8 * r ≡ width = omega arith in
+      ap (λ (k : ℕ). length (take k (drop (8 * r) cells))) n ∙ length-take-le width (drop (8 * r) cells) (rw length-drop (omega arith))
+
+  line-fits : at + 1 + 5 * length (take (8 * r + width - 8 * r) (drop (8 * r) cells)) ≤ length buffer
+  line-fits = rw line-long room
+
+  inside : 8 * r + width ≤ length cells
+  inside = omega arith
+
+  goes_on : (next : List ℕ) (to : ℕ) → next ≡ over buffer at (get_or named r 0 ∷ flat_map entry.put (take (8 * r + width - 8 * r) (drop (8 * r) cells)))
+      → to ≡ at + 1 + 5 * length (take (8 * r + width - 8 * r) (drop (8 * r) cells))
       → Writing (row schema).put before start (take size (chunk named cells)) next to (r + 1)
-  goes_on line next to el en et =
+  goes_on next to en et =
       writing-turns w no_row next to (rw rows_long h)
-      (en ∙ ap (λ (cs : List Cell). over buffer at (get_or named r 0 ∷ (entries width).put cs)) el ∙ ap (over buffer at) (sym bytes))
-      (omega (arith, bytes-long))
+      (en ∙ ap (λ (cs : List Cell). over buffer at (get_or named r 0 ∷ flat_map entry.put cs)) line-is ∙ ap (over buffer at) (sym bytes))
+      (omega (arith, bytes-long, line-long))
 
 pub loop-r-init : goal.loop-r-init
 loop-r-init c = (
@@ -62,28 +80,31 @@ loop-r-init c = (
       (take c.args.size (chunk c.args.named c.args.cells)) c.requires.cells_in_bounds,
 )
 
+pub slice_bounds-put_row-end : goal.slice_bounds-put_row-end
+slice_bounds-put_row-end c =
+    let ln : length c.args.named ≡ 24 = search rules in
+    let lc : length c.args.cells ≡ 192 = search rules in
+    inside (take c.args.count c.args.widths) c.args.buffer.now c.args.start c.args.size c.args.named
+    c.args.cells c.loop-r.buffer c.loop-r.at c.loop-r.r c.loop-r-test.true c.requires.size_bound ln lc
+    c.loop-r.invariant.1 c.width_of-width.result c.width_of-width.ensures.0 c.width_of-width.ensures.1
+
 pub put_row-at-requires : goal.put_row-at-requires
 put_row-at-requires c =
     let ln : length c.args.named ≡ 24 = search rules in
     let lc : length c.args.cells ≡ 192 = search rules in
-    record {
-      width_bound = c.width_of-width.ensures.1;
-      width_in_bounds = room (take c.args.count c.args.widths) c.args.buffer.now c.args.start c.args.size c.args.named
-          c.args.cells c.loop-r.buffer c.loop-r.at c.loop-r.r c.loop-r-test.true c.requires.size_bound
-          ln lc
-          c.loop-r.invariant.1 c.width_of-width.result c.width_of-width.ensures.0 c.width_of-width.ensures.1;
-    }
+    line-fits (take c.args.count c.args.widths) c.args.buffer.now c.args.start c.args.size c.args.named
+    c.args.cells c.loop-r.buffer c.loop-r.at c.loop-r.r c.loop-r-test.true c.requires.size_bound ln lc
+    c.loop-r.invariant.1 c.width_of-width.result c.width_of-width.ensures.0 c.width_of-width.ensures.1
 
 pub loop-r-preserved : goal.loop-r-preserved
 loop-r-preserved c =
     let ln : length c.args.named ≡ 24 = search rules in
     let lc : length c.args.cells ≡ 192 = search rules in (
       search rules,
-      goes_on (take c.args.count c.args.widths) c.args.buffer.now c.args.start c.args.size
-          c.args.named c.args.cells c.loop-r.buffer c.loop-r.at c.loop-r.r c.loop-r-test.true
-          c.requires.size_bound ln lc c.loop-r.invariant.1 c.width_of-width.result c.width_of-width.ensures.0
-          c.width_of-width.ensures.1 c.row_of-line.result.cells c.put_row-at.new.buffer c.put_row-at.result
-          c.row_of-line.ensures c.put_row-at.ensures.0 c.put_row-at.ensures.1,
+      goes_on (take c.args.count c.args.widths) c.args.buffer.now c.args.start c.args.size c.args.named
+          c.args.cells c.loop-r.buffer c.loop-r.at c.loop-r.r c.loop-r-test.true c.requires.size_bound ln lc
+          c.loop-r.invariant.1 c.width_of-width.result c.width_of-width.ensures.0 c.width_of-width.ensures.1
+          c.put_row-at.new.buffer c.put_row-at.result c.put_row-at.ensures.0 c.put_row-at.ensures.1,
     )
 
 pub shape_of-buffer : goal.shape_of-buffer

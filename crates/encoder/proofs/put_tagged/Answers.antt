@@ -1,27 +1,20 @@
-use Prim.Native.Nat.{◌/◌, ◌%◌}
-use native.Mathlib.Omega.{arith}
-use lib.ListN.{length-set}
+-- A byte and then four
+use Rattle.std.proofs.Common.{◌≡◌, ◌+◌, ◌-◌, length, ap, ◌∙◌, arith}
+use lib.ListN.{set}
+use Rattle.lists.specs.Over.{over}
 use Rattle.format.specs.Bytes.{bytes_of}
-use Rattle.encoder.proofs.Stores.{five-stores}
+use Rattle.format.proofs.Numbers.{length-bytes}
+use Rattle.encoder.proofs.Stores.{put-over, wide-bytes, byte-and-run}
 use Rattle.encoder.proofs.put_tagged.Goals as goal
 
-pub bounds-buffer-at : goal.bounds-buffer-at
-bounds-buffer-at c = omega arith
-
-pub bounds-buffer-at-2 : goal.bounds-buffer-at-2
-bounds-buffer-at-2 c = simp length-set (omega arith)
-
-pub bounds-buffer-at-3 : goal.bounds-buffer-at-3
-bounds-buffer-at-3 c = simp length-set (omega arith)
-
-pub bounds-buffer-at-4 : goal.bounds-buffer-at-4
-bounds-buffer-at-4 c = simp length-set (omega arith)
-
-pub bounds-buffer-at-5 : goal.bounds-buffer-at-5
-bounds-buffer-at-5 c = simp length-set (omega arith)
-
 pub returns : goal.returns
-unfolding bytes_of
 returns c =
-    five-stores c.args.buffer.now c.args.at c.args.tag (c.args.n % 256) (c.args.n / 256 % 256) (c.args.n / 256 / 256 % 256)
-    (c.args.n / 256 / 256 / 256 % 256) c.requires
+    let buffer = c.args.buffer.now in
+    let at = c.args.at in
+    let n = c.args.n in
+    let tagged = set buffer at c.args.tag in
+    let written : c.copy_from_slice.new.self ≡ bytes_of 4 n = c.copy_from_slice.ensures.after ∙ c.to_le_bytes.ensures ∙ wide-bytes n in
+    let four : 4 ≡ at + 5 - (at + 1) = omega arith in
+    byte-and-run buffer at c.args.tag (bytes_of 4 n) _ (omega arith)
+    (put-over tagged c.copy_from_slice.new.self (at + 1) (at + 5) (omega arith) (ap length written ∙ length-bytes 4 n ∙ four)
+    ∙ ap (over tagged (at + 1)) written)

@@ -8,6 +8,7 @@ use Rattle.format.proofs.Parts.{head_fits}
 use Rattle.format.proofs.Rules.{good-narrow}
 use Rattle.lists.proofs.Loops.{mapped-length}
 use Rattle.encoder.proofs.PlaceParts.{query-exact}
+use lib.ListN.{length-take}
 use Rattle.encoder.proofs.query_length.Goals as goal
 use Rattle.encoder.proofs.query_length.Goals.{After-head_in_use-used, Start}
 
@@ -18,8 +19,12 @@ used : (c : goal.After-head_in_use-used) → c.head_in_use-used.result ≤ 8
 used c =
     rw c.head_in_use-used.ensures (head_fits c.args.t.size c.args.t.arity c.requires.arity_bound.0)
 
+pub slice_bounds-rows_length-end : goal.slice_bounds-rows_length-end
+slice_bounds-rows_length-end c = omega (arith, (sized (goal.at.slice_bounds-rows_length-end c).Start).relations, c.requires.arity_bound.1)
+
 pub rows_length-rows-requires : goal.rows_length-rows-requires
-rows_length-rows-requires c = record { widths_value = c.requires.widths_value; size_bound = c.requires.arity_bound.1 }
+rows_length-rows-requires c =
+    record { widths_value = c.requires.widths_value; few = omega (arith, length-take c.args.t.size c.args.t.relations, c.requires.arity_bound.1) }
 
 pub overflow_mul-result : goal.overflow_mul-result
 overflow_mul-result c = omega (arith, used (goal.at.overflow_mul-result c).After-head_in_use-used)
@@ -28,7 +33,7 @@ pub overflow_add-result : goal.overflow_add-result
 overflow_add-result c = omega (arith, used (goal.at.overflow_add-result c).After-head_in_use-used)
 
 pub overflow_add-result-2 : goal.overflow_add-result-2
-overflow_add-result-2 c = omega (arith, used (goal.at.overflow_add-result-2 c).After-head_in_use-used, c.rows_length-rows.ensures.1, c.requires.arity_bound.1)
+overflow_add-result-2 c = omega (arith, used (goal.at.overflow_add-result-2 c).After-head_in_use-used, c.rows_length-rows.ensures.1, length-take c.args.t.size c.args.t.relations, c.requires.arity_bound.1)
 
 pub returns : goal.returns
 returns c =
@@ -36,5 +41,5 @@ returns c =
     let head = c.head_in_use-used in (
       query-exact schema (good-narrow c.args.count c.args.widths c.requires.widths_value) 24 (as_query c.args.t) head.result
           c.rows_length-rows.result (sized (goal.at.returns c).Start) head.ensures (used (goal.at.returns c).After-head_in_use-used) c.rows_length-rows.ensures.0,
-      omega (arith, used (goal.at.returns c).After-head_in_use-used, c.rows_length-rows.ensures.1),
+      omega (arith, used (goal.at.returns c).After-head_in_use-used, c.rows_length-rows.ensures.1, length-take c.args.t.size c.args.t.relations),
     )

@@ -1,44 +1,28 @@
-use borrow.Author.Rules.{rules}
-use mathlib.Core.Path.{◌≡◌}
-use mathlib.Core.List.{List}
-use Prim.Native.Nat.{ℕ, ◌+◌, ◌*◌, ◌≤◌, ◌<◌}
+-- The bytes of the rows so far, and of those that are left
+use Rattle.std.proofs.Common.{◌≡◌, ℕ, ◌+◌, ◌*◌, ◌≤◌, ◌<◌, List, length, take, drop, get_or, arith, add-one, drop-cons}
 use native.Mathlib.Nat.{zero-add}
-use native.Mathlib.Numerals.{add-one}
-use native.Mathlib.Omega.{arith}
-use lib.ListN.{length, take, drop, get_or, drop_of_length-le}
-use lib.Seq.{drop-cons, get_or-take, length-take-le}
+use lib.ListN.{drop_of_length-le}
 use Rattle.encoder.specs.internal.Lengths.{rows_length}
 use Rattle.encoder.proofs.rows_length.Goals as goal
 
-next : (schema named : List ℕ) (size r : ℕ) → r < size → size ≤ length named
-    → rows_length schema (drop r (take size named)) ≡ 1 + 5 * get_or schema (get_or named r 0) 0 + rows_length schema (drop (r + 1) (take size named))
+next : (schema named : List ℕ) (r : ℕ) → r < length named
+    → rows_length schema (drop r named) ≡ 1 + 5 * get_or schema (get_or named r 0) 0 + rows_length schema (drop (r + 1) named)
 unfolding rows_length
-next schema named size r h l =
-    let k : length (take size named) ≡ size = length-take-le size named l in
-    rw (drop-cons (take size named) r 0 (omega arith), get_or-take size named r 0 h, add-one)
+next schema named r h = rw (drop-cons named r 0 h, add-one)
 
-none_left : (schema named : List ℕ) (size r : ℕ) → size ≤ r → size ≤ length named → rows_length schema (drop r (take size named)) ≡ 0
+none_left : (schema named : List ℕ) (r : ℕ) → length named ≤ r → rows_length schema (drop r named) ≡ 0
 unfolding rows_length
-none_left schema named size r h l =
-    let k : length (take size named) ≡ size = length-take-le size named l in
-    rw (drop_of_length-le (take size named) {i = r} (omega arith))
+none_left schema named r h = rw (drop_of_length-le named {i = r} h)
 
-pub loop-r-init : goal.loop-r-init
-loop-r-init c =
-    (omega arith, omega arith, rw zero-add)
+pub loop-relation-init : goal.loop-relation-init
+loop-relation-init c = (omega arith, rw zero-add)
 
-pub loop-r-preserved : goal.loop-r-preserved
-loop-r-preserved c =
-    let l : length c.args.named ≡ 24 = search rules in
-    let e =
-    next (take c.args.count c.args.widths) c.args.named c.args.size c.loop-r.r c.loop-r-test.true
-    (omega (arith, c.requires.size_bound)) in
-    (search rules, omega (arith, c.width_of-width.ensures.1), omega (arith, e, c.width_of-width.ensures.0, c.loop-r.invariant.2))
+pub loop-relation-preserved : goal.loop-relation-preserved
+loop-relation-preserved c =
+    let e = next (take c.args.count c.args.widths) c.args.named.now c.loop-relation.relation-index c.loop-relation-test.true in
+    (omega (arith, c.width_of.ensures.1), omega (arith, e, c.width_of.ensures.0, c.loop-relation.invariant.1))
 
 pub returns : goal.returns
 returns c =
-    let l : length c.args.named ≡ 24 = search rules in
-    let e =
-    none_left (take c.args.count c.args.widths) c.args.named c.args.size c.loop-r.r c.loop-r-test.false
-    (omega (arith, c.requires.size_bound)) in
-    (omega (arith, e, c.loop-r.invariant.2), omega (arith, c.requires.size_bound))
+    let e = none_left (take c.args.count c.args.widths) c.args.named.now c.loop-relation.relation-index c.loop-relation-test.false in
+    (omega (arith, e, c.loop-relation.invariant.1), omega arith)

@@ -1,23 +1,14 @@
--- `limits::join_blank` meets its contract: the tests taken are those of `blank_join`.
--- Assumes nothing.
-use mathlib.Core.Path.{◌≡◌}
-use mathlib.Core.Bool.{Bool}
-use borrow.Author.Tests.{eq-eqb, ne_eqb}
-use Rattle.lists.specs.Tests.{every, is_zero}
-use Rattle.query.specs.declared.JoinDependency.{JoinDependency}
-use Rattle.query.specs.Rule.{blank_join}
+-- `join_blank` meets its contract: four sets are those of a slot not in use exactly when each is 0. Assumes nothing.
+use Rattle.std.proofs.Common.{length, ◌≡◌, rules, ◌∙◌, sym, ap, Bool, ◌&&◌}
+use lib.Dec.{eqb}
+use Rattle.limits.proofs.Sets.{zero-sets}
+use Rattle.lists.proofs.Loops.{and_assoc, mapped-length}
 use Rattle.limits.proofs.join_blank.Goals as goal
-
-last : (j : JoinDependency) {r : Bool} → j.relation ≡ 0 → j.count ≡ 0 → r ≡ every is_zero j.sets → r ≡ blank_join j
-last j relation count e = rw (eq-eqb j.relation 0 relation, eq-eqb j.count 0 count) e
-
-pub returns-then-j-ne0 : goal.returns-then-j-ne0
-returns-then-j-ne0 c = simp (ne_eqb _ 0 c.if-j-ne0.true)
-
-pub returns-then-j-ne0-2 : goal.returns-then-j-ne0-2
-returns-then-j-ne0-2 c = simp (eq-eqb _ 0 c.if-j-ne0.false, ne_eqb _ 0 c.if-j-ne0-2.true)
 
 pub returns : goal.returns
 returns c =
-    last c.args.j c.if-j-ne0.false c.if-j-ne0-2.false
-    c.sets_blank.ensures
+    let j = c.args.j in
+    let long : length j.sets ≡ 4 = search (mapped-length, rules) in
+    c.eq.ensures
+    ∙ sym (and_assoc (eqb j.relation 0) (eqb j.count 0) _)
+    ∙ ap (λ (t : Bool). (eqb j.relation 0 && eqb j.count 0) && t) (zero-sets j.sets long)

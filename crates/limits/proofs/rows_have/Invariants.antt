@@ -1,8 +1,5 @@
--- `limits::rows_have` meets its contract. Invariant: whether the variable stands in a row is decided by the rows from the present one on.
--- Assumes nothing.
-use mathlib.Core.Path.{◌≡◌}
-use Prim.Native.Nat.{◌-◌, ◌≤◌}
-use lib.ListN.{length, take}
+-- Invariant: whether the variable stands in a row is decided by the rows from the present one on.
+use Rattle.std.proofs.Common.{take}
 use Rattle.theory.specs.Query.{member, variables_of, row_entries}
 use Rattle.query.specs.View.{rows_of}
 use Rattle.lists.proofs.Loops.{Sought}
@@ -11,6 +8,5 @@ use Rattle.limits.proofs.rows_have.Given as goal
 
 abbrev pub invariant-loop-row : goal.invariant-loop-row
 invariant-loop-row l =
-    (l.row ≤ l.size) × (length l.named ≡ 12)
-    × Sought (row_has (take l.relations l.widths) l.cells l.v) (take l.size l.named)
-    (member l.v (variables_of (row_entries (rows_of (take l.relations l.widths) (take l.size l.named) l.cells)))) l.row
+    Sought (row_has (take l.relations l.widths) l.cells l.v) l.relation-items
+    (member l.v (variables_of (row_entries (rows_of (take l.relations l.widths) l.relation-items l.cells)))) l.row

@@ -1,7 +1,7 @@
 -- `limits::sets_cover` meets its contract: the union of the sets has a bit for each column; neither the sum nor the shift wraps, since no relation has
 -- more than 8 columns. Assumes nothing.
 use mathlib.Core.Path.{◌≡◌, ap, ◌∙◌}
-use Prim.Native.Nat.{ℕ, ◌+◌, ◌^◌, ◌<◌, ◌≤◌}
+use Prim.Native.Nat.{ℕ, ◌+◌, ◌*◌, ◌^◌, ◌%◌, ◌<◌, ◌≤◌}
 use native.Mathlib.Nat.{lt_of_le_of_lt, lt_of_lt_of_le}
 use native.Mathlib.Omega.{arith}
 use lib.Dec.{lit<, eqb}
@@ -15,14 +15,6 @@ use Rattle.limits.proofs.sets_cover.Goals as goal
 small : (width m : ℕ) → width ≤ 8 → m < 2 ^ width → m < 256
 small width m narrow h = lt_of_lt_of_le h (pow_mono narrow)
 
-pub overflow_cast-result : goal.overflow_cast-result
-overflow_cast-result c =
-    let long : length c.args.sets ≡ 4 = search rules in
-    let below : union_of c.args.sets < 256 =
-    small c.args.width (union_of c.args.sets) c.requires.0 (union-lt c.args.width c.requires.0 c.args.sets long c.requires.1)
-    in
-    omega arith
-
 pub overflow_add-result : goal.overflow_add-result
 overflow_add-result c =
     let long : length c.args.sets ≡ 4 = search rules in
@@ -34,5 +26,6 @@ overflow_add-result c =
 pub returns : goal.returns
 returns c =
     let long : length c.args.sets ≡ 4 = search rules in
-    ap (eqb (union_of c.args.sets + 1)) (shifted_one 16 c.args.width (lt_of_le_of_lt c.requires.0 (lit< tt)))
+    ap (λ (n : ℕ). eqb (n + 1) (1 * 2 ^ c.args.width % 65536)) c.from.ensures
+    ∙ ap (eqb (union_of c.args.sets + 1)) (shifted_one 16 c.args.width (lt_of_le_of_lt c.requires.0 (lit< tt)))
     ∙ covers-all c.args.width c.requires.0 c.args.sets long c.requires.1

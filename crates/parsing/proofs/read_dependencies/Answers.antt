@@ -1,6 +1,5 @@
 use borrow.Author.Rules.{rules}
 use mathlib.Core.Path.{◌≡◌, sym, ap, refl, ◌∙◌}
-use mathlib.Core.Bool.{true}
 use mathlib.Core.List.{List}
 use Prim.Native.Nat.{ℕ, ◌+◌, ◌*◌, ◌≤◌, ◌<◌}
 use native.Mathlib.Omega.{arith}
@@ -13,34 +12,34 @@ use Rattle.lists.specs.Tests.{between}
 use Rattle.query.specs.Rule.{blank_dependency, no_dependency}
 use Rattle.format.specs.Format.{got, get_byte}
 use Rattle.format.specs.Parts.{dependency, dependencies}
-use Rattle.parsing.specs.declared.ByteRead.{ByteRead}
-use Rattle.parsing.specs.declared.ByteRead.TheVariants.{Byte, NoByte}
-use Rattle.parsing.specs.declared.DependencyRead.{DependencyRead}
-use Rattle.parsing.specs.declared.DependencyRead.TheVariants.{Found, NoDependency}
-use Rattle.parsing.specs.internal.Read.{byte_read}
-use Rattle.parsing.specs.internal.Read.{dependency_read, no_dependencies, dependencies_read}
-use Rattle.parsing.proofs.Dependencies.{dependency-read, dependency-none}
-use Rattle.parsing.proofs.Counted.{byte-read, byte-none, no-low, counting-starts, counting-turns, counting-fails-front}
+use Rattle.std.proofs.Common.{Option, None, Some}
+use Rattle.parsing.specs.internal.Read.{value_read}
+use Rattle.parsing.proofs.Values.{value-none}
+use Rattle.std.proofs.Common.{Option, None, Some}
+use Rattle.parsing.specs.internal.Read.{value_read}
+use Rattle.parsing.proofs.Values.{value-none}
+use Rattle.parsing.proofs.Dependencies.{dependency-read}
+use Rattle.parsing.proofs.Counted.{byte-read, no-low, counting-starts, counting-turns, counting-fails-front}
 use Rattle.parsing.proofs.Counted.{counting-ends-front, no-count-front}
 use Rattle.parsing.proofs.read_dependencies.Invariants.{At}
 use Rattle.parsing.proofs.read_dependencies.Goals as goal
 
 module _ (schema part : List ℕ) where
-  begins : (n : ℕ) → Byte n ≡ byte_read (get_byte (between 0 32) part) → (n ≤ 32) × At schema part n (replicate 32 no_dependency) 0
+  begins : (n : ℕ) → Some n ≡ value_read (get_byte (between 0 32) part) → (n ≤ 32) × At schema part n (replicate 32 no_dependency) 0
   begins n h =
       let (t, e) = byte-read (λ n. leb n 32) part 0 n (rw no-low at h) in
       (leb-true n 32 t, counting-starts (λ n. leb n 32) 32 no_dependency blank_dependency (dependency schema) part n e)
 
-  no-dependencies-read : (r : ByteRead) → r ≡ byte_read (get_byte (between 0 32) part) → r ≡ NoByte
-      → no_dependencies ≡ dependencies_read ((dependencies schema).get part)
+  no-dependencies-read : (r : Option ℕ) → r ≡ value_read (get_byte (between 0 32) part) → r ≡ None
+      → None ≡ value_read ((dependencies schema).get part)
   unfolding dependencies
   no-dependencies-read r p q =
-      sym (ap dependencies_read (no-count-front (λ n. leb n 32) 32 no_dependency blank_dependency (dependency schema) part
-      (byte-none (get_byte (λ n. leb n 32) part) (rw no-low at (sym q ∙ p)))))
+      sym (ap value_read (no-count-front (λ n. leb n 32) 32 no_dependency blank_dependency (dependency schema) part
+      (value-none (get_byte (λ n. leb n 32) part) (rw no-low at (sym q ∙ p)))))
 
   module _ (n : ℕ) (ds : List Dependency) (i : ℕ) (f : At schema part n ds i) where
-    module _ (h : i < n) (r : DependencyRead) (p : r ≡ dependency_read ((dependency schema).get (drop (1 + 3 * i) part))) where
-      goes_on : (d : Dependency) → i < length ds → r ≡ Found d → At schema part n (set ds i d) (i + 1)
+    module _ (h : i < n) (r : Option Dependency) (p : r ≡ value_read ((dependency schema).get (drop (1 + 3 * i) part))) where
+      goes_on : (d : Dependency) → i < length ds → r ≡ Some d → At schema part n (set ds i d) (i + 1)
       goes_on d l q =
           let e : (dependency schema).get (drop (1 + 3 * i) part) ≡ got d (drop 3 (drop (1 + 3 * i) part)) =
           dependency-read schema (drop (1 + 3 * i) part) d (sym q ∙ p) in
@@ -49,48 +48,48 @@ module _ (schema part : List ℕ) where
           counting-turns (λ n. leb n 32) 32 no_dependency blank_dependency (dependency schema) part f d (1 + 3 * (i + 1)) h l
           (e ∙ ap (λ (rest : List ℕ). got d rest) m)
 
-      fails : r ≡ NoDependency → no_dependencies ≡ dependencies_read ((dependencies schema).get part)
+      fails : r ≡ None → None ≡ value_read ((dependencies schema).get part)
       unfolding dependencies
       fails q =
-          sym (ap dependencies_read (counting-fails-front (λ n. leb n 32) 32 no_dependency blank_dependency (dependency schema) part f h
-          (dependency-none ((dependency schema).get (drop (1 + 3 * i) part)) (sym q ∙ p))))
+          sym (ap value_read (counting-fails-front (λ n. leb n 32) 32 no_dependency blank_dependency (dependency schema) part f h
+          (value-none ((dependency schema).get (drop (1 + 3 * i) part)) (sym q ∙ p))))
 
-    accepted : n ≤ i → record { good = true; held = n; dependencies = ds } ≡ dependencies_read ((dependencies schema).get part)
+    accepted : n ≤ i → Some (n, ds) ≡ value_read ((dependencies schema).get part)
     unfolding dependencies
     accepted l =
-        sym (ap dependencies_read (counting-ends-front (λ n. leb n 32) 32 no_dependency blank_dependency (dependency schema) part f l))
+        sym (ap value_read (counting-ends-front (λ n. leb n 32) 32 no_dependency blank_dependency (dependency schema) part f l))
 
-pub returns-in_default : goal.returns-in_default
-returns-in_default c =
-    c.no_dependencies.ensures ∙ no-dependencies-read (take c.args.count c.args.widths) c.args.part.now
+pub returns-in_err-held : goal.returns-in_err-held
+returns-in_err-held c =
+    c.from_residual.ensures ∙ no-dependencies-read (take c.args.count c.args.widths) c.args.part.now
     c.read_byte.result
-    c.read_byte.ensures c.in_default.is
+    c.read_byte.ensures c.in_err-held.was
 
 pub loop-i-init : goal.loop-i-init
 loop-i-init c =
     let (few, f) =
-    begins (take c.args.count c.args.widths) c.args.part.now c.in-Byte.held
-    (sym c.in-Byte.is ∙ c.read_byte.ensures) in
+    begins (take c.args.count c.args.widths) c.args.part.now c.in_ok-held.held
+    (sym c.in_ok-held.was ∙ c.read_byte.ensures) in
     (omega arith, few, refl, f)
 
-pub returns-in_default-read_dependency : goal.returns-in_default-read_dependency
-returns-in_default-read_dependency c =
-    c.no_dependencies-in_default-read_dependency.ensures
-    ∙ fails (take c.args.count c.args.widths) c.args.part.now c.in-Byte.held c.loop-i.dependencies
+pub returns-in_err-dependencies : goal.returns-in_err-dependencies
+returns-in_err-dependencies c =
+    c.from_residual-in_err-dependencies.ensures
+    ∙ fails (take c.args.count c.args.widths) c.args.part.now c.in_ok-held.held c.loop-i.dependencies
     c.loop-i.i c.loop-i.invariant.3 c.loop-i-test.true c.read_dependency.result
-    c.read_dependency.ensures c.in_default-read_dependency.is
+    c.read_dependency.ensures c.in_err-dependencies.was
 
 pub loop-i-preserved : goal.loop-i-preserved
 loop-i-preserved c = (
   search rules,
   c.loop-i.invariant.1,
-  length-set c.loop-i.dependencies c.loop-i.i c.in-Found.d ∙ c.loop-i.invariant.2,
+  length-set c.loop-i.dependencies c.loop-i.i c.in_ok-dependencies.field-0 ∙ c.loop-i.invariant.2,
   goes_on _ _ _ c.loop-i.dependencies c.loop-i.i c.loop-i.invariant.3 c.loop-i-test.true
-      c.read_dependency.result c.read_dependency.ensures c.in-Found.d (omega arith)
-      c.in-Found.is,
+      c.read_dependency.result c.read_dependency.ensures c.in_ok-dependencies.field-0 (omega arith)
+      c.in_ok-dependencies.was,
 )
 
 pub returns : goal.returns
 returns c =
-    accepted (take c.args.count c.args.widths) c.args.part.now c.in-Byte.held c.loop-i.dependencies
+    accepted (take c.args.count c.args.widths) c.args.part.now c.in_ok-held.held c.loop-i.dependencies
     c.loop-i.i c.loop-i.invariant.3 c.loop-i-test.false

@@ -1,10 +1,9 @@
 -- `parsing::read_join` meets its contract, by `Joins`: each answer follows the test of the bytes that decides it. Assumes nothing.
-use mathlib.Core.Path.{◌≡◌, ◌∙◌}
+use mathlib.Core.Path.{◌≡◌}
 use mathlib.Core.List.{List}
 use Prim.Native.Nat.{ℕ, ◌+◌}
 use lib.ListN.{take, get_or}
 use Rattle.parsing.proofs.Joins.{join_on, join-two, join-cut, join-many, join-unfit, join-found}
-use Rattle.std.proofs.Common.{ap, not}
 use Rattle.parsing.proofs.read_join.Goals as goal
 
 with-sets : (s : List ℕ) (at : ℕ) (sets : List ℕ) → sets ≡ (join_on s at).sets
@@ -13,31 +12,30 @@ with-sets s at sets e = λ i. record { relation = get_or s at 0; count = get_or 
 
 pub returns-then-left-lt2 : goal.returns-then-left-lt2
 returns-then-left-lt2 c =
-    c.no_join.ensures ∙ join-two (take c.args.count c.args.widths) c.args.part.now c.args.at c.if-left-lt2.true
+    join-two (take c.args.count c.args.widths) c.args.part.now c.args.at c.if-left-lt2.true
 
 pub returns-then-n-gt4 : goal.returns-then-n-gt4
 returns-then-n-gt4 c =
-    c.no_join-then-n-gt4.ensures ∙ join-many (take c.args.count c.args.widths) c.args.part.now c.args.at c.if-n-gt4.true
+    join-many (take c.args.count c.args.widths) c.args.part.now c.args.at c.if-n-gt4.true
 
 pub returns-then-left-n : goal.returns-then-left-n
 returns-then-left-n c =
-    c.no_join-then-left-n.ensures ∙ join-cut (take c.args.count c.args.widths) c.args.part.now c.args.at c.if-left-n.true
+    join-cut (take c.args.count c.args.widths) c.args.part.now c.args.at c.if-left-n.true
 
-pub returns-then-not-join_good : goal.returns-then-not-join_good
-returns-then-not-join_good c =
+pub returns-else-join_good : goal.returns-else-join_good
+returns-else-join_good c =
     let part = c.args.part.now in
     let at = c.args.at in
-    c.no_join-then-not-join_good.ensures
-    ∙ join-unfit (take c.args.count c.args.widths) part at
+    join-unfit (take c.args.count c.args.widths) part at
     (record { relation = get_or part at 0; count = get_or part (at + 1) 0; sets = c.read_sets-sets.result })
     (with-sets part at c.read_sets-sets.result c.read_sets-sets.ensures) c.join_good.result
-    c.join_good.ensures (ap not c.if-not-join_good.true)
+    c.join_good.ensures c.if-join_good.false
 
-pub returns : goal.returns
-returns c =
+pub returns-then-join_good : goal.returns-then-join_good
+returns-then-join_good c =
     let part = c.args.part.now in
     let at = c.args.at in
     join-found (take c.args.count c.args.widths) part at
     (record { relation = get_or part at 0; count = get_or part (at + 1) 0; sets = c.read_sets-sets.result })
     (with-sets part at c.read_sets-sets.result c.read_sets-sets.ensures) c.join_good.result
-    c.join_good.ensures c.if-left-n.false (ap not c.if-not-join_good.false)
+    c.join_good.ensures c.if-left-n.false c.if-join_good.true

@@ -13,82 +13,84 @@ use Rattle.format.specs.Format.{get_byte, byte}
 use Rattle.format.specs.Parts.{relations}
 use Rattle.format.specs.File.{complete}
 use Rattle.lists.proofs.Tests.{and-iff}
-use Rattle.parsing.specs.declared.ByteRead.{ByteRead}
-use Rattle.parsing.specs.declared.ByteRead.TheVariants.{Byte, NoByte}
-use Rattle.parsing.specs.internal.Read.{byte_read}
-use Rattle.parsing.specs.internal.Read.{no_relations, relations_read}
-use Rattle.parsing.proofs.Counted.{byte-read, byte-none, counting-starts, counting-turns, counting-fails, counting-ends, counting-long}
+use Rattle.std.proofs.Common.{Option, None, Some}
+use Rattle.parsing.specs.internal.Read.{value_read, value_given}
+use Rattle.parsing.proofs.Values.{value-none}
+use Rattle.std.proofs.Common.{Option, None, Some}
+use Rattle.parsing.specs.internal.Read.{value_read, value_given}
+use Rattle.parsing.proofs.Values.{value-none}
+use Rattle.parsing.proofs.Counted.{byte-read, counting-starts, counting-turns, counting-fails, counting-ends, counting-long}
 use Rattle.parsing.proofs.Counted.{no-count}
 use Rattle.parsing.proofs.read_relations.Invariants.{At}
 use Rattle.parsing.proofs.read_relations.Goals as goal
 
 module _ (part : List ℕ) where
-  begins : (n : ℕ) → Byte n ≡ byte_read (get_byte (between 1 8) part) → (n ≤ 8) × At part n (replicate 8 0) 0
+  begins : (n : ℕ) → Some n ≡ value_read (get_byte (between 1 8) part) → (n ≤ 8) × At part n (replicate 8 0) 0
   begins n h =
       let (t, e) = byte-read (between 1 8) part 0 n h in
       let k : (leb 1 n ≡ true) × (leb n 8 ≡ true) = simp and-iff at t in
       (leb-true n 8 k.1, counting-starts (between 1 8) 8 0 is_zero (byte (between 1 8)) part n e)
 
-  no-relations-read : (r : ByteRead) → r ≡ byte_read (get_byte (between 1 8) part) → r ≡ NoByte
-      → no_relations ≡ relations_read (complete bad_relations (relations.get part))
+  no-relations-read : (r : Option ℕ) → r ≡ value_read (get_byte (between 1 8) part) → r ≡ None
+      → None ≡ value_given (complete bad_relations (relations.get part))
   unfolding relations
   no-relations-read r p q =
-      sym (ap relations_read (no-count (between 1 8) 8 0 is_zero (byte (between 1 8)) part bad_relations (byte-none (get_byte (between 1 8) part) (sym q ∙ p))))
+      sym (ap value_given (no-count (between 1 8) 8 0 is_zero (byte (between 1 8)) part bad_relations (value-none (get_byte (between 1 8) part) (sym q ∙ p))))
 
   module _ (n : ℕ) (widths : List ℕ) (i : ℕ) (f : At part n widths i) where
-    module _ (h : i < n) (r : ByteRead) (p : r ≡ byte_read (get_byte (between 1 8) (drop (1 + i) part))) where
-      goes_on : (w : ℕ) → i < length widths → r ≡ Byte w → At part n (set widths i w) (i + 1)
+    module _ (h : i < n) (r : Option ℕ) (p : r ≡ value_read (get_byte (between 1 8) (drop (1 + i) part))) where
+      goes_on : (w : ℕ) → i < length widths → r ≡ Some w → At part n (set widths i w) (i + 1)
       unfolding byte
       goes_on w l q =
           let (t, e) = byte-read (between 1 8) part (1 + i) w (sym q ∙ p) in
           let k : 1 + i + 1 ≡ 1 + (i + 1) = omega arith in
           counting-turns (between 1 8) 8 0 is_zero (byte (between 1 8)) part f w (1 + (i + 1)) h l (e ∙ rw k)
 
-      fails : r ≡ NoByte → no_relations ≡ relations_read (complete bad_relations (relations.get part))
+      fails : r ≡ None → None ≡ value_given (complete bad_relations (relations.get part))
       unfolding relations byte
       fails q =
-          sym (ap relations_read (counting-fails (between 1 8) 8 0 is_zero (byte (between 1 8)) part f bad_relations h
-          (byte-none (get_byte (between 1 8) (drop (1 + i) part)) (sym q ∙ p))))
+          sym (ap value_given (counting-fails (between 1 8) 8 0 is_zero (byte (between 1 8)) part f bad_relations h
+          (value-none (get_byte (between 1 8) (drop (1 + i) part)) (sym q ∙ p))))
 
     module _ (high : i ≤ n) (l : n ≤ i) where
-      too_long : 1 + n < length part → no_relations ≡ relations_read (complete bad_relations (relations.get part))
+      too_long : 1 + n < length part → None ≡ value_given (complete bad_relations (relations.get part))
       unfolding relations
-      too_long t = sym (ap relations_read (counting-long (between 1 8) 8 0 is_zero (byte (between 1 8)) part f bad_relations l (omega arith)))
+      too_long t = sym (ap value_given (counting-long (between 1 8) 8 0 is_zero (byte (between 1 8)) part f bad_relations l (omega arith)))
 
-      accepted : length part ≤ 1 + n → record { good = true; count = n; widths = widths } ≡ relations_read (complete bad_relations (relations.get part))
+      accepted : length part ≤ 1 + n → Some (n, widths) ≡ value_given (complete bad_relations (relations.get part))
       unfolding relations
-      accepted t = sym (ap relations_read (counting-ends (between 1 8) 8 0 is_zero (byte (between 1 8)) part f bad_relations l (omega arith)))
+      accepted t = sym (ap value_given (counting-ends (between 1 8) 8 0 is_zero (byte (between 1 8)) part f bad_relations l (omega arith)))
 
-pub returns-in_default : goal.returns-in_default
-returns-in_default c =
-    c.no_relations.ensures ∙ no-relations-read c.args.part.now c.read_byte.result c.read_byte.ensures
-    c.in_default.is
+pub returns-in_err-count : goal.returns-in_err-count
+returns-in_err-count c =
+    c.from_residual.ensures ∙ no-relations-read c.args.part.now c.read_byte.result c.read_byte.ensures
+    c.in_err-count.was
 
 pub loop-i-init : goal.loop-i-init
 loop-i-init c =
     let (few, f) =
-    begins c.args.part.now c.in-Byte.count (sym c.in-Byte.is ∙ c.read_byte.ensures) in
+    begins c.args.part.now c.in_ok-count.count (sym c.in_ok-count.was ∙ c.read_byte.ensures) in
     (omega arith, few, refl, f)
 
-pub returns-in_default-read_byte : goal.returns-in_default-read_byte
-returns-in_default-read_byte c =
-    c.no_relations-in_default-read_byte.ensures
+pub returns-in_err-widths : goal.returns-in_err-widths
+returns-in_err-widths c =
+    c.from_residual-in_err-widths.ensures
     ∙ fails _ _ c.loop-i.widths c.loop-i.i c.loop-i.invariant.3 c.loop-i-test.true
-    c.read_byte-in-loop-i.result c.read_byte-in-loop-i.ensures c.in_default-read_byte.is
+    c.read_byte-in-loop-i.result c.read_byte-in-loop-i.ensures c.in_err-widths.was
 
 pub loop-i-preserved : goal.loop-i-preserved
 loop-i-preserved c = (
   search rules,
   c.loop-i.invariant.1,
-  length-set c.loop-i.widths c.loop-i.i c.in-Byte-read_byte.width ∙ c.loop-i.invariant.2,
+  length-set c.loop-i.widths c.loop-i.i c.in_ok-widths.field-0 ∙ c.loop-i.invariant.2,
   goes_on _ _ c.loop-i.widths c.loop-i.i c.loop-i.invariant.3 c.loop-i-test.true
-      c.read_byte-in-loop-i.result c.read_byte-in-loop-i.ensures c.in-Byte-read_byte.width (omega arith)
-      c.in-Byte-read_byte.is,
+      c.read_byte-in-loop-i.result c.read_byte-in-loop-i.ensures c.in_ok-widths.field-0 (omega arith)
+      c.in_ok-widths.was,
 )
 
 pub returns-then-n-part : goal.returns-then-n-part
 returns-then-n-part c =
-    c.no_relations-then-n-part.ensures ∙ too_long _ _ c.loop-i.widths c.loop-i.i c.loop-i.invariant.3 c.loop-i.invariant.0
+    too_long _ _ c.loop-i.widths c.loop-i.i c.loop-i.invariant.3 c.loop-i.invariant.0
     c.loop-i-test.false c.if-n-part.true
 
 pub returns : goal.returns

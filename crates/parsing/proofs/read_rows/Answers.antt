@@ -26,7 +26,7 @@ returns-then-part-at c =
     let S = take a.count a.widths in
     let X = a.part.now in
     let l = c.loop-r in
-    c.no_rows.ensures ∙ fails S X a.start a.size l.relations l.cells l.at l.r l.invariant c.loop-r-test.true
+    fails S X a.start a.size l.relations l.cells l.at l.r l.invariant c.loop-r-test.true
     (row-past S X l.at c.if-part-at.true)
 
 pub bounds-part-at : goal.bounds-part-at
@@ -40,7 +40,7 @@ returns-then-count-relation c =
     let l = c.loop-r in
     let long : length a.widths ≡ 8 = c.well_formed.1.1.1.1.0.1.0.1 in
     let unknown : length S ≤ get_or X l.at 0 = rw (schema-length a.count a.widths c.requires.widths_value long) c.if-count-relation.true in
-    c.no_rows-then-count-relation.ensures ∙ fails S X a.start a.size l.relations l.cells l.at l.r l.invariant c.loop-r-test.true
+    fails S X a.start a.size l.relations l.cells l.at l.r l.invariant c.loop-r-test.true
     (row-unknown S X l.at c.if-part-at.false unknown)
 
 pub overflow_cast-width : goal.overflow_cast-width
@@ -99,17 +99,17 @@ bounds-cells-r c =
     cell-inside c.loop-r.r c.args.size c.loop-i.i _ c.loop-r-test.true c.requires.size_bound
     c.loop-i-test.true c.loop-i.invariant.small
 
-pub returns-in-NoEntry : goal.returns-in-NoEntry
-returns-in-NoEntry c =
+pub returns-in_err-cells : goal.returns-in_err-cells
+returns-in_err-cells c =
     let a = c.args in
     let S = take a.count a.widths in
     let X = a.part.now in
     let l = c.loop-r in
     let m = c.loop-i in
     let o = c.read_entry in
-    c.no_rows-in-NoEntry.ensures ∙ fails S X a.start a.size l.relations l.cells l.at l.r l.invariant c.loop-r-test.true
+    c.from_residual.ensures ∙ fails S X a.start a.size l.relations l.cells l.at l.r l.invariant c.loop-r-test.true
     (row-stops S X l.at l.r (get_or a.widths (get_or X l.at 0) 0) l.cells m.cells m.i m.invariant o.result o.ensures
-    c.in-NoEntry.is c.loop-i-test.true)
+    c.in_err-cells.was c.loop-i-test.true)
 
 pub overflow_step-i : goal.overflow_step-i
 overflow_step-i c =
@@ -127,7 +127,7 @@ loop-i-preserved c =
     let m = c.loop-i in
     let o = c.read_entry in
     row-goes-on S X l.at l.r (get_or a.widths (get_or X l.at 0) 0) l.cells m.cells m.i m.invariant o.result o.ensures
-    c.in-Read.e c.in-Read.is (row_inside l.r a.size c.loop-r-test.true c.requires.size_bound) l.invariant.cells-long
+    c.in_ok-cells.field-0 c.in_ok-cells.was (row_inside l.r a.size c.loop-r-test.true c.requires.size_bound) l.invariant.cells-long
     c.loop-i-test.true
 
 pub bounds-relations-r : goal.bounds-relations-r
