@@ -4,7 +4,6 @@ ghost use Rattle.lists.specs.internal.Tells.{Tells};
 ghost use Rattle.candidates.specs.internal.Candidates.{Takes, Agrees, Fixes, SameRow};
 ghost use Rattle.candidates.specs.internal.Sharing.{Holds, Shares};
 
-use entries::code::decode;
 use query::Entry;
 
 // Whether the row at q, with its image at e, takes the code `value` to `image` wherever it has it.
@@ -29,7 +28,7 @@ pub fn agrees(source: &[u32], target: &[u32], r: usize, d: usize, q: usize, e: u
 {
     for i in 0..8 {
         let value = source[r + i];
-        let own = decode(value);
+        let own = Entry::from(value);
         match own {
             Entry::Constant(_) => {}
             Entry::Variable(_) => {
@@ -62,7 +61,7 @@ pub fn shares(source: &[u32], r: usize, q: usize) -> bool
 {
     for i in 0..8 {
         let value = source[r + i];
-        let own = decode(value);
+        let own = Entry::from(value);
         match own {
             Entry::Constant(_) => {}
             Entry::Variable(_) => {
@@ -82,7 +81,7 @@ pub fn fixes(source: &[u32], target: &[u32], r: usize, d: usize) -> bool
 {
     for i in 0..8 {
         let value = source[r + i];
-        let own = decode(value);
+        let own = Entry::from(value);
         match own {
             Entry::Constant(_) => {
                 if target[d + i] != value {

@@ -36,8 +36,7 @@ fn folds(domain: &[u32; 13], pairs: &[u32; 4056], links: &[u16; 13], size: usize
     ensures { Tells result (FoldsInto domain.now pairs.now size (Bit left)) }
 {
     let narrowed = among(domain, size, left);
-    let outcome = solve_linked(&narrowed, pairs, links, size + 1);
-    outcome.found
+    solve_linked(&narrowed, pairs, links, size + 1).is_some()
 }
 
 // Whether row d is left and is not row i.

@@ -6,7 +6,6 @@ ghost use Rattle.std.specs.Prelude.{◌≡◌, true, List, map, ℕ, ◌*◌, �
 ghost use Rattle.query.specs.Rule.{good_tableau, good_joins};
 ghost use Rattle.join_step.specs.internal.Step.{codes_of, cell_of, with_row, distinct_to, Joinable, IsNext};
 
-use entries::code::{code, decode};
 use join_search::{first_missing, is_first};
 use query::{Cell, JoinDependency, Tableau};
 
@@ -21,7 +20,7 @@ pub struct NextRow {
 fn codes_of(cells: [Cell; 192]) -> [u32; 192]
     ensures { result ≡ codes_of cells }
 {
-    cells.map(|cell| code(cell.entry))
+    cells.map(|cell| u32::from(cell.entry))
 }
 
 // The cell of a code. One that is free is a column that the relation does not have.
@@ -32,7 +31,7 @@ fn cell_of(code: u32) -> Cell
         return query::NO_CELL;
     }
     Cell {
-        entry: decode(code),
+        entry: Entry::from(code),
     }
 }
 

@@ -3,7 +3,6 @@ ghost use Rattle.std.specs.Prelude.{ℕ, ◌+◌, ◌≤◌, ◌<◌, get_or};
 ghost use Rattle.mapping.specs.internal.Lines.{choice_of, RowAssigned, Assigned};
 
 use candidates::table::{image_at, row_at};
-use entries::code::decode;
 use query::{Cell, Entry};
 
 // The images with those of the variables of one row, whose codes start at `row`, from the cells that start at `image`.
@@ -19,7 +18,7 @@ pub fn assign_row(
 {
     let mut out = images;
     for i in 0..8 {
-        let own = decode(source[row + i]);
+        let own = Entry::from(source[row + i]);
         match own {
             Entry::Constant(_) => {}
             Entry::Variable(v) => {

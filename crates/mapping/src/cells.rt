@@ -5,7 +5,6 @@ ghost use Rattle.query.specs.View.{as_query};
 ghost use Rattle.query.specs.Rule.{no_cell};
 ghost use Rattle.mapping.specs.internal.Lines.{cell_at, entry_in};
 
-use entries::code::code;
 use query::{Cell, Query, Tableau};
 
 // The cells of a query's rows, then those of its head.
@@ -33,7 +32,7 @@ pub fn codes(cells: [Cell; 104]) -> [u32; 104]
     for k in 0..104 {
         let c = cells[k];
         let e = c.entry;
-        all[k] = code(e);
+        all[k] = u32::from(e);
     }
     all
 }
@@ -63,7 +62,7 @@ pub fn tableau_codes(cells: [Cell; 200]) -> [u32; 200]
     for k in 0..200 {
         let c = cells[k];
         let e = c.entry;
-        all[k] = code(e);
+        all[k] = u32::from(e);
     }
     all
 }

@@ -49,11 +49,9 @@ pub fn find(source: Query, target: Tableau) -> Mapped
     let offered = target.relations;
     let domain = domains(&from, &to, named, offered, size, count);
     let pairs = table(&from, &to, size, count);
-    let outcome = search::solve(&domain, &pairs, size + 1);
-    if !outcome.found {
+    let Some(chosen) = search::solve(&domain, &pairs, size + 1) else {
         return no_mapping();
-    }
-    let chosen = outcome.chosen;
+    };
     let images = assign(from, cells, size, chosen);
     Mapped {
         found: true,

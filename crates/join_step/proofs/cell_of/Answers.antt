@@ -17,5 +17,5 @@ returns-then-code-eq-FREE c =
 pub returns : goal.returns
 returns c =
     let code = c.args.code in
-    ap (λ (e : Entry). record { entry = e }) c.decode.ensures
+    ap (λ (e : Entry). record { entry = e }) c.from.ensures
     ∙ sym (ap (λ (b : Bool). cond {A = Cell} b no_cell (record { entry = decoded code })) (ne_eqb code free c.if-code-eq-FREE.false))

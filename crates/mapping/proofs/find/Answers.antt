@@ -78,17 +78,17 @@ domains-domain-requires c = laid (goal.at.domains-domain-requires c).After-table
 pub table-pairs-requires : goal.table-pairs-requires
 table-pairs-requires c = laid (goal.at.table-pairs-requires c).After-tableau_codes-to
 
-pub solve-outcome-requires : goal.solve-outcome-requires
-solve-outcome-requires c = few-rows (goal.at.solve-outcome-requires c).After-table-pairs
+pub solve-requires : goal.solve-requires
+solve-requires c = few-rows (goal.at.solve-requires c).After-table-pairs
 
-pub returns-then-not-outcome : goal.returns-then-not-outcome
-returns-then-not-outcome c =
-    let at = goal.at.returns-then-not-outcome c in
-    subst (Finds c.args.source c.args.target) (sym c.no_mapping-then-not-outcome.ensures)
+pub returns-in_default : goal.returns-in_default
+returns-in_default c =
+    let at = goal.at.returns-in_default c in
+    subst (Finds c.args.source c.args.target) (sym c.no_mapping-in_default.ensures)
     (none-solution c.args.source c.args.target (source-sizes at.Start) (target-sizes at.Start) c.requires.0 c.requires.1
     c.tableau_flat-cells.result c.codes-from.result c.tableau_codes-to.result c.domains-domain.result c.table-pairs.result
     (from_is at.After-tableau_codes-to) c.tableau_flat-cells.ensures (to_is at.After-tableau_codes-to) c.domains-domain.ensures c.table-pairs.ensures
-    (c.solve-outcome.ensures.none (not-true _ c.if-not-outcome.true)))
+    (solved-none c.solve.result c.solve.ensures.none c.in_default.is))
 
 pub assign-images-requires : goal.assign-images-requires
 assign-images-requires c =
@@ -101,7 +101,7 @@ assign-images-requires c =
       solution-small source c.args.target sizes (target-sizes at.Start) c.requires.0 c.requires.1 c.tableau_flat-cells.result
           c.codes-from.result c.tableau_codes-to.result c.domains-domain.result c.table-pairs.result from
           c.tableau_flat-cells.ensures (to_is at.After-tableau_codes-to) c.domains-domain.ensures c.table-pairs.ensures
-          (choice_of c.solve-outcome.result.chosen) (c.solve-outcome.ensures.found (not-false _ c.if-not-outcome.false)),
+          (choice_of c.in-Some.chosen) (solved-some c.solve.result c.solve.ensures.found c.in-Some.is),
       code-small source c.requires.0 sizes c.codes-from.result from,
     )
 
@@ -112,5 +112,5 @@ returns c =
     found-solution c.args.source c.args.target (source-sizes at.Start) (target-sizes at.Start) c.requires.0 c.requires.1
     c.tableau_flat-cells.result c.codes-from.result c.tableau_codes-to.result c.domains-domain.result c.table-pairs.result
     (from_is at.After-tableau_codes-to) c.tableau_flat-cells.ensures (to_is at.After-tableau_codes-to) c.domains-domain.ensures c.table-pairs.ensures
-    (choice_of c.solve-outcome.result.chosen) c.assign-images.result some (c.solve-outcome.ensures.found (not-false _ c.if-not-outcome.false)) (images-long at.After-assign-images)
+    (choice_of c.in-Some.chosen) c.assign-images.result some (solved-some c.solve.result c.solve.ensures.found c.in-Some.is) (images-long at.After-assign-images)
     c.assign-images.ensures

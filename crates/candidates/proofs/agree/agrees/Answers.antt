@@ -12,7 +12,7 @@ use Rattle.candidates.proofs.agree.agrees.Goals.{in-Constant, in-Variable+else-n
 
 pub returns-then-not-takes : goal.returns-then-not-takes
 returns-then-not-takes c =
-    let large = (code-variable _ _ (sym c.decode-own.ensures ∙ c.in-Variable.is)).0 in
+    let large = (code-variable _ _ (sym c.from-own.ensures ∙ c.in-Variable.is)).0 in
     let i = c.loop-i.i in
     tells-false (λ p. false≢true (sym c.if-not-takes.true ∙ c.takes.ensures.1 (p i (search rules) large)))
 
@@ -21,7 +21,7 @@ loop-i-preserved c = (
   search rules,
   below_more _ _ c.loop-i.invariant.1
       (elim c.match-own.branch [
-        | in-Constant w ↦ λ e. absurd (not-le_of_lt (code-constant _ _ (sym c.decode-own.ensures ∙ w.in-Constant.is)) e)
+        | in-Constant w ↦ λ e. absurd (not-le_of_lt (code-constant _ _ (sym c.from-own.ensures ∙ w.in-Constant.is)) e)
         | in-Variable+else-not-takes w ↦ λ e. w.takes.ensures.0 w.if-not-takes.false
       ]),
 )

@@ -11,7 +11,7 @@ use Rattle.candidates.proofs.agree.fixes.Goals.{in-Constant+else-target-d, in-Va
 
 pub returns-then-target-d : goal.returns-then-target-d
 returns-then-target-d c =
-    let small = code-constant _ _ (sym c.decode-own.ensures ∙ c.in-Constant.is) in
+    let small = code-constant _ _ (sym c.from-own.ensures ∙ c.in-Constant.is) in
     tells-false (λ p. c.if-target-d.true (p c.loop-i.i (search rules) small))
 
 pub loop-i-preserved : goal.loop-i-preserved
@@ -20,7 +20,7 @@ loop-i-preserved c = (
   below_more _ _ c.loop-i.invariant.1
       (elim c.match-own.branch [
         | in-Constant+else-target-d w ↦ λ e. w.if-target-d.false
-        | in-Variable w ↦ λ e. absurd (not-le_of_lt e (code-variable _ _ (sym c.decode-own.ensures ∙ w.in-Variable.is)).0)
+        | in-Variable w ↦ λ e. absurd (not-le_of_lt e (code-variable _ _ (sym c.from-own.ensures ∙ w.in-Variable.is)).0)
       ]),
 )
 

@@ -16,7 +16,7 @@ loop-i-init c = (search rules, below_none _)
 
 pub returns-then-holds : goal.returns-then-holds
 returns-then-holds c =
-    let large = (code-variable _ _ (sym c.decode-own.ensures ∙ c.in-Variable.is)).0 in
+    let large = (code-variable _ _ (sym c.from-own.ensures ∙ c.in-Variable.is)).0 in
     tells-true (c.loop-i.i, search rules, large, c.holds.ensures.0 c.if-holds.true)
 
 pub loop-i-preserved : goal.loop-i-preserved
@@ -24,7 +24,7 @@ loop-i-preserved c = (
   search rules,
   below_more _ _ c.loop-i.invariant.1
       (elim c.match-own.branch [
-        | in-Constant w ↦ λ large h. not-le_of_lt (code-constant _ _ (sym c.decode-own.ensures ∙ w.in-Constant.is)) large
+        | in-Constant w ↦ λ large h. not-le_of_lt (code-constant _ _ (sym c.from-own.ensures ∙ w.in-Constant.is)) large
         | in-Variable+else-holds w ↦ λ large h. false≢true (sym w.if-holds.false ∙ w.holds.ensures.1 h)
       ]),
 )

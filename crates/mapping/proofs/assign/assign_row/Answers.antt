@@ -17,7 +17,7 @@ pub offset_bounds-out-v : goal.offset_bounds-out-v
 offset_bounds-out-v c =
     let s = c in
     let place : s.args.row + s.loop-i.i < 104 = search rules in
-    let small = variable-small _ _ (s.requires.2 (s.args.row + s.loop-i.i) place) (sym s.decode-own.ensures ∙ c.in-Variable.is) in
+    let small = variable-small _ _ (s.requires.2 (s.args.row + s.loop-i.i) place) (sym s.from-own.ensures ∙ c.in-Variable.is) in
     let low = small.0 in
     search rules
 
@@ -25,7 +25,7 @@ pub bounds-out-v : goal.bounds-out-v
 bounds-out-v c =
     let s = c in
     let place : s.args.row + s.loop-i.i < 104 = search rules in
-    let small = variable-small _ _ (s.requires.2 (s.args.row + s.loop-i.i) place) (sym s.decode-own.ensures ∙ c.in-Variable.is) in
+    let small = variable-small _ _ (s.requires.2 (s.args.row + s.loop-i.i) place) (sym s.from-own.ensures ∙ c.in-Variable.is) in
     small.0
 
 pub loop-i-preserved : goal.loop-i-preserved
@@ -45,9 +45,9 @@ loop-i-preserved c =
         | in-Constant w ↦
             subst Next (sym w.out-is)
             (row-skip args.images args.source args.target args.row args.image i l.out l.invariant.2
-            (code-constant _ _ (sym c.decode-own.ensures ∙ w.in-Constant.is)))
+            (code-constant _ _ (sym c.from-own.ensures ∙ w.in-Constant.is)))
         | in-Variable w ↦
-            let small = variable-small _ _ (s.requires.2 (args.row + i) place) (sym c.decode-own.ensures ∙ w.in-Variable.is) in
+            let small = variable-small _ _ (s.requires.2 (args.row + i) place) (sym c.from-own.ensures ∙ w.in-Variable.is) in
             subst Next (sym w.out-is)
             (row-store args.images args.source args.target args.row args.image i l.out l.invariant.2 w.in-Variable.v small.0 l.invariant.1
             small.1)

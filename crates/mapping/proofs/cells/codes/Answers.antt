@@ -21,8 +21,8 @@ loop-k-preserved c =
     let long : k < length all = search rules in (
       search rules,
       search rules,
-      stored_more (λ j x. x ≡ freeze 2147483648 (entry_in cells j)) all k c.code.result 0 long c.loop-k.invariant.2
-          c.code.ensures,
+      stored_more (λ j x. x ≡ freeze 2147483648 (entry_in cells j)) all k c.from.result 0 long c.loop-k.invariant.2
+          c.from.ensures,
     )
 
 pub returns : goal.returns
