@@ -3,7 +3,7 @@
 -- The lengths of arrays are the types'.
 use borrow.Author.Rules.{rules}
 use borrow.Author.Tests.{not-true, not-false}
-use mathlib.Core.Path.{◌≡◌, sym, subst}
+use mathlib.Core.Path.{refl, ◌≡◌, sym, subst}
 use Prim.Native.Nat.{◌+◌, ◌≤◌, ◌<◌}
 use lib.ListN.{length}
 use Rattle.query.specs.Types.{Query}
@@ -88,7 +88,7 @@ returns-in_default c =
     (none-solution c.args.source c.args.target (source-sizes at.Start) (target-sizes at.Start) c.requires.0 c.requires.1
     c.tableau_flat-cells.result c.codes-from.result c.tableau_codes-to.result c.domains-domain.result c.table-pairs.result
     (from_is at.After-tableau_codes-to) c.tableau_flat-cells.ensures (to_is at.After-tableau_codes-to) c.domains-domain.ensures c.table-pairs.ensures
-    (solved-none c.solve.result c.solve.ensures.none c.in_default.is))
+    (c.in_default.ensures.none refl))
 
 pub assign-images-requires : goal.assign-images-requires
 assign-images-requires c =
@@ -101,7 +101,7 @@ assign-images-requires c =
       solution-small source c.args.target sizes (target-sizes at.Start) c.requires.0 c.requires.1 c.tableau_flat-cells.result
           c.codes-from.result c.tableau_codes-to.result c.domains-domain.result c.table-pairs.result from
           c.tableau_flat-cells.ensures (to_is at.After-tableau_codes-to) c.domains-domain.ensures c.table-pairs.ensures
-          (choice_of c.in-Some.chosen) (solved-some c.solve.result c.solve.ensures.found c.in-Some.is),
+          (choice_of c.in-Some.chosen) c.in-Some.ensures.found,
       code-small source c.requires.0 sizes c.codes-from.result from,
     )
 
@@ -112,5 +112,5 @@ returns c =
     found-solution c.args.source c.args.target (source-sizes at.Start) (target-sizes at.Start) c.requires.0 c.requires.1
     c.tableau_flat-cells.result c.codes-from.result c.tableau_codes-to.result c.domains-domain.result c.table-pairs.result
     (from_is at.After-tableau_codes-to) c.tableau_flat-cells.ensures (to_is at.After-tableau_codes-to) c.domains-domain.ensures c.table-pairs.ensures
-    (choice_of c.in-Some.chosen) c.assign-images.result some (solved-some c.solve.result c.solve.ensures.found c.in-Some.is) (images-long at.After-assign-images)
+    (choice_of c.in-Some.chosen) c.assign-images.result some c.in-Some.ensures.found (images-long at.After-assign-images)
     c.assign-images.ensures
