@@ -7,38 +7,39 @@ ghost use Rattle.refusals.specs.Refusal.{reply_of};
 ghost use Rattle.admission.specs.Conditions.{test_conditions};
 ghost use Rattle.admission.specs.internal.Places.{evaluable_at};
 
-use record::{Lookup, Record, Status};
+use record::Record;
+use refusals::Refusal;
 
 // Whether the words can be tested against the dependencies of the record, or the refusal.
-pub fn testable(given: Record, words: &[u32]) -> Status
+pub fn testable(given: Record, words: &[u32]) -> Result<(), Refusal>
     ensures { reply_of result ≡ reply (first_holding (test_conditions given words.now)) tt }
 {
     if !given.is_good() {
-        return Status::Refused(refusals::BAD_RECORD);
+        return Err(Refusal::BadRecord);
     }
     let widths = given.widths;
     let n = given.relations as usize;
     if !words::spelled(&widths[..n], words) {
-        return Status::Refused(refusals::BAD_DATABASE);
+        return Err(Refusal::BadDatabase);
     }
-    Status::Done
+    Ok(())
 }
 
 // The place whose query is to be evaluated on the words, or the refusal.
-pub fn evaluable(given: Record, place: usize, words: &[u32]) -> Lookup
-    ensures { result ≡ evaluable_at given place words.now }
+pub fn evaluable(given: Record, place: usize, words: &[u32]) -> Result<usize, Refusal>
+    ensures { reply_of result ≡ evaluable_at given place words.now }
 {
     if !given.is_good() {
-        return Lookup::Refused(refusals::BAD_RECORD);
+        return Err(Refusal::BadRecord);
     }
     let found = given.filled_place(place);
-    let Lookup::At(at) = found else {
+    let Ok(at) = found else {
         return found;
     };
     let widths = given.widths;
     let n = given.relations as usize;
     if !words::spelled(&widths[..n], words) {
-        return Lookup::Refused(refusals::BAD_DATABASE);
+        return Err(Refusal::BadDatabase);
     }
-    Lookup::At(at)
+    Ok(at)
 }

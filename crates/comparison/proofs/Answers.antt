@@ -13,20 +13,19 @@ use lib.ListN.{length}
 use borrow.Author.Tests.{le-leb}
 use Rattle.record.specs.Calls.{stored_at, query_at}
 use Rattle.query.specs.declared.Cell.{Cell}
-use Rattle.query.specs.Types.{Query}
+use Rattle.query.specs.Types.{Query, Tableau}
 use Rattle.record.specs.declared.Record.{Record}
 use Rattle.query.specs.View.{entries_of, query_of, as_query, images_of}
 use Rattle.record.specs.View.{schema_of, dependencies_of, joins_of}
 use Rattle.lists.specs.Tests.{every}
 use Rattle.record.specs.Rule.{good_record}
-use Rattle.query.specs.Rule.{good_dependencies, good_joins, shaped_join, no_tableau}
+use Rattle.query.specs.Rule.{good_tableau, good_dependencies, good_joins, shaped_join, no_tableau}
 use Rattle.lists.proofs.Tests.{and_both}
 use Rattle.record.proofs.Good.{good-record}
 use Rattle.query.proofs.Good.{good-query}
 use Rattle.query.proofs.Shape.{SizedFor, row_count}
 use Rattle.tableaux.specs.internal.Tableaux.{tableau_of}
 use Rattle.tableaux.proofs.Tableaux.{tableau-query, tableau-good}
-use Rattle.join_chase.specs.declared.JoinChased.{JoinChased}
 use Rattle.join_chase.specs.internal.JoinChased.{outcome_of, IsJoinChased, JoinChasable}
 use Rattle.join_rule.proofs.Fitting.{good-joins-fit}
 use Rattle.joins.specs.Join.{JoinsFit}
@@ -42,7 +41,7 @@ use Rattle.refusals.specs.Refusals.{gives, reply}
 use Rattle.comparison.specs.declared.Comparison.{Comparison}
 use Rattle.comparison.specs.declared.Verdict.TheVariants as verdict
 use Rattle.comparison.specs.Comparison.{outcome_at, query_in, chased_at, pair_refusal, Compared, CheckedMapping}
-use Rattle.std.specs.Prelude.{Ok, Err}
+use Rattle.std.specs.Prelude.{Ok, Err, Option as Maybe, Some, None, IfSome}
 use Rattle.refusals.specs.declared.Refusal.{Refusal}
 use Rattle.refusals.specs.declared.Refusal.TheVariants as refusal
 use Rattle.refusals.specs.Refusal.{number_of}
@@ -88,7 +87,7 @@ module _ (r : Record) (p q : ℕ) (accepted : pair_refusal r p q ≡ none) (size
         tableau-good = tableau-good (schema_of r) (stored_at r p) sized (queries r p q accepted).good-p;
       }
 
-  module _ (shaped : every shaped_join r.joins ≡ true) (result : JoinChased)
+  module _ (shaped : every shaped_join r.joins ≡ true) (result : Maybe Tableau)
       (is : IsJoinChased (tableau_of (stored_at r p)) r.relations r.widths r.dependencies r.held r.joins r.joined result) where
     fit : JoinsFit (schema_of r) (joins_of r)
     fit = good-joins-fit (schema_of r) r.joined r.joins shaped (joins-good r (standing r p q accepted).good)
@@ -101,38 +100,41 @@ module _ (r : Record) (p q : ℕ) (accepted : pair_refusal r p q ≡ none) (size
         ∙ ap (join_chase (schema_of r) (dependencies_of r) (joins_of r) 24) (tableau-query (schema_of r) (stored_at r p) sized k.good-p k.narrow)
 
     -- before a row that would be one too many
-    pub answers-over : result.over ≡ true → Compared r p q (bare (verdict.Refused refusal.TooManyRows))
+    pub answers-over : result ≡ None → Compared r p q (bare (verdict.Refused refusal.TooManyRows))
     answers-over e =
         compared-refused r p q refusal.TooManyRows
-        (compare-over r p q accepted (sym outcome ∙ ap (λ (b : Bool). cond b overflow (chased (query_of (schema_of r) (as_query result.query)))) e))
+        (compare-over r p q accepted (sym outcome ∙ ap (outcome_of (schema_of r)) e))
 
     -- or in a query
-    module _ (under : result.over ≡ false) where
-      ends : outcome_at r p ≡ chased (query_of (schema_of r) (as_query result.query))
-      ends = sym outcome ∙ ap (λ (b : Bool). cond b overflow (chased (query_of (schema_of r) (as_query result.query)))) under
+    module _ (query : Tableau) (under : result ≡ Some query) where
+      good-query-found : good_tableau (schema_of r) query ≡ true
+      good-query-found = subst (λ (o : Maybe Tableau). IfSome o (λ t. good_tableau (schema_of r) t ≡ true)) under is.good
 
-      chased-is : query_of (schema_of r) (as_query result.query) ≡ chased_at r p
+      ends : outcome_at r p ≡ chased (query_of (schema_of r) (as_query query))
+      ends = sym outcome ∙ ap (outcome_of (schema_of r)) under
+
+      chased-is : query_of (schema_of r) (as_query query) ≡ chased_at r p
       chased-is = sym (ap query_in ends)
 
       ends_so : outcome_at r p ≡ chased (chased_at r p)
       ends_so = ends ∙ ap chased chased-is
 
       -- to which a mapping can be looked for
-      pub both-storable : Storable (stored_at r q) × StorableTableau result.query
-      both-storable = ((schema_of r, (queries r p q accepted).good-q), (schema_of r, is.good under))
+      pub both-storable : Storable (stored_at r q) × StorableTableau query
+      both-storable = ((schema_of r, (queries r p q accepted).good-q), (schema_of r, good-query-found))
 
       -- It is never
-      pub answers-never : result.query.size ≡ 0 → Compared r p q (bare verdict.Never)
+      pub answers-never : query.size ≡ 0 → Compared r p q (bare verdict.Never)
       answers-never zero =
           compared-never r p q accepted fit ends_so
-          (ap (λ (x : theory.Query). x.rows) (sym chased-is) ∙ never-rows (schema_of r) (as_query result.query) zero)
+          (ap (λ (x : theory.Query). x.rows) (sym chased-is) ∙ never-rows (schema_of r) (as_query query) zero)
 
-      module _ (mapped : Mapped) (finds : Finds (stored_at r q) result.query mapped) where
+      module _ (mapped : Mapped) (finds : Finds (stored_at r q) query mapped) where
         found : IsMapped (query_at r q) (chased_at r p) mapped
         found =
             let k = queries r p q accepted in
             subst (λ (T : theory.Query). IsMapped (query_at r q) T mapped) chased-is
-            (finds (schema_of r) k.narrow k.good-q (is.good under) (sym k.same-arity ∙ sym (is.same-arity under)))
+            (finds (schema_of r) k.narrow k.good-q (good-query-found) (sym k.same-arity ∙ sym (is.same-arity under)))
 
         -- There is one
         pub answers-contained : mapped.found ≡ true → Compared r p q (record { verdict = verdict.Mapped; images = mapped.images; query = no_tableau })
@@ -141,17 +143,17 @@ module _ (r : Record) (p q : ℕ) (accepted : pair_refusal r p q ≡ none) (size
             mapped.images (found.mapping e)
 
         -- There is none
-        module _ (named : length result.query.relations ≡ 24) (size : result.query.size ≢ 0) where
+        module _ (named : length query.relations ≡ 24) (size : query.size ≢ 0) where
           some-rows : (chased_at r p).rows ≢ []
           some-rows empty =
-              let t : Query = as_query result.query in
-              let fits : t.size ≤ length t.relations = omega (arith, named, (good-query 24 (schema_of r) t (is.good under)).size) in
+              let t : Query = as_query query in
+              let fits : t.size ≤ length t.relations = omega (arith, named, (good-query 24 (schema_of r) t (good-query-found)).size) in
               size (sym (row_count (schema_of r) t fits) ∙ ap length (ap (λ (x : theory.Query). x.rows) chased-is ∙ empty))
 
-          pub answers-apart : mapped.found ≡ false → Compared r p q (record { verdict = verdict.Apart; images = mapped.images; query = result.query })
+          pub answers-apart : mapped.found ≡ false → Compared r p q (record { verdict = verdict.Apart; images = mapped.images; query = query })
           answers-apart e =
-              subst (λ (images : List Cell). Compared r p q (record { verdict = verdict.Apart; images = images; query = result.query })) (sym (found.blank e))
-              (compared-apart r p q accepted fit ends_so some-rows sized.cells result.query chased-is (is.good under) (found.none e))
+              subst (λ (images : List Cell). Compared r p q (record { verdict = verdict.Apart; images = images; query = query })) (sym (found.blank e))
+              (compared-apart r p q accepted fit ends_so some-rows sized.cells query chased-is (good-query-found) (found.none e))
 
 -- ---- two places
 

@@ -97,10 +97,9 @@ fn compare_places(given: Record, p: usize, q: usize) -> Comparison
         joins,
         given.joined as usize,
     );
-    if chased.over {
+    let Some(query) = chased else {
         return only(Verdict::Refused(Refusal::TooManyRows));
-    }
-    let query = chased.query;
+    };
     if query.size == 0 {
         return only(Verdict::Never);
     }

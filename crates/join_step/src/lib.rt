@@ -7,7 +7,7 @@ ghost use Rattle.query.specs.Rule.{good_tableau, good_joins};
 ghost use Rattle.join_step.specs.internal.Step.{codes_of, cell_of, with_row, distinct_to, Joinable, IsNext};
 
 use join_search::{first_missing, is_first};
-use query::{Cell, JoinDependency, Tableau};
+use query::{Cell, Entry, JoinDependency, Tableau};
 
 // A row that is to be added: its relation, and its cells.
 #[derive(Clone, Copy)]

@@ -18,7 +18,7 @@ use Rattle.comparison.specs.Comparison.{Compared}
 use Rattle.comparison.proofs.Pairs.{standing}
 use Rattle.comparison.proofs.Answers.{can-be-chased, answers-over, both-storable, answers-never, answers-contained, answers-apart}
 use Rattle.comparison.proofs.compare_places.Goals as goal
-use Rattle.comparison.proofs.compare_places.Goals.{After-from_query, After-chase-chased}
+use Rattle.comparison.proofs.compare_places.Goals.{After-from_query, After-chase-chased, In-Some}
 
 pub stored-requires : goal.stored-requires
 stored-requires c = (standing c.args.given c.args.p c.args.q c.requires).low-p
@@ -64,17 +64,17 @@ shaped : (c : After-chase-chased) → every shaped_join c.args.given.joins ≡ t
 shaped c = argument-shaped 4 c.args.given.joins _ c.well_formed.0.1.1.1.1.1.1.1.0
 
 -- The chased tableau has room for 24 rows
-room : (c : After-chase-chased) → length c.chase-chased.result.query.relations ≡ 24
+room : (c : In-Some) → length c.in-Some.query.relations ≡ 24
 room c = search (mapped-length, rules)
 
-pub returns-then-chased : goal.returns-then-chased
-returns-then-chased c =
+pub returns-in_default : goal.returns-in_default
+returns-in_default c =
     let a = c.args in
-    let from = (goal.at.returns-then-chased c).After-from_query in
-    let after = (goal.at.returns-then-chased c).After-chase-chased in
+    let from = (goal.at.returns-in_default c).After-from_query in
+    let after = (goal.at.returns-in_default c).After-chase-chased in
     subst (Compared a.given a.p a.q) (sym c.only.ensures)
     (answers-over a.given a.p a.q c.requires (sized from) (shaped after) c.chase-chased.result
-    (chased after) c.if-chased.true)
+    (chased after) c.in_default.is)
 
 pub returns-then-query-eq0 : goal.returns-then-query-eq0
 returns-then-query-eq0 c =
@@ -83,7 +83,7 @@ returns-then-query-eq0 c =
     let after = (goal.at.returns-then-query-eq0 c).After-chase-chased in
     subst (Compared a.given a.p a.q) (sym c.only-then-query-eq0.ensures)
     (answers-never a.given a.p a.q c.requires (sized from) (shaped after) c.chase-chased.result
-    (chased after) c.if-chased.false c.if-query-eq0.true)
+    (chased after) c.in-Some.query c.in-Some.is c.if-query-eq0.true)
 
 pub stored-requires-2 : goal.stored-requires-2
 stored-requires-2 c = (standing c.args.given c.args.p c.args.q c.requires).low-q
@@ -93,7 +93,7 @@ find-mapped-requires c =
     let a = c.args in
     let from = (goal.at.find-mapped-requires c).After-from_query in
     let after = (goal.at.find-mapped-requires c).After-chase-chased in
-    let both = both-storable a.given a.p a.q c.requires (sized from) (shaped after) c.chase-chased.result (chased after) c.if-chased.false in
+    let both = both-storable a.given a.p a.q c.requires (sized from) (shaped after) c.chase-chased.result (chased after) c.in-Some.query c.in-Some.is in
     (subst Storable (sym c.stored-2.ensures) both.0, both.1)
 
 pub returns-then-mapped : goal.returns-then-mapped
@@ -102,18 +102,18 @@ returns-then-mapped c =
     let from = (goal.at.returns-then-mapped c).After-from_query in
     let after = (goal.at.returns-then-mapped c).After-chase-chased in
     -- what the search for a mapping promises, from the second query
-    let finds : Finds (stored_at a.given a.q) c.chase-chased.result.query c.find-mapped.result = rw c.stored-2.ensures at c.find-mapped.ensures in
+    let finds : Finds (stored_at a.given a.q) c.in-Some.query c.find-mapped.result = rw c.stored-2.ensures at c.find-mapped.ensures in
     subst
     (λ (t : Tableau). Compared a.given a.p a.q (record { verdict = Mapped; images = c.find-mapped.result.images; query = t }))
     (sym c.never.ensures)
     (answers-contained a.given a.p a.q c.requires (sized from) (shaped after) c.chase-chased.result
-    (chased after) c.if-chased.false c.find-mapped.result finds c.if-mapped.true)
+    (chased after) c.in-Some.query c.in-Some.is c.find-mapped.result finds c.if-mapped.true)
 
 pub returns : goal.returns
 returns c =
     let a = c.args in
     let from = (goal.at.returns c).After-from_query in
     let after = (goal.at.returns c).After-chase-chased in
-    let finds : Finds (stored_at a.given a.q) c.chase-chased.result.query c.find-mapped.result = rw c.stored-2.ensures at c.find-mapped.ensures in
+    let finds : Finds (stored_at a.given a.q) c.in-Some.query c.find-mapped.result = rw c.stored-2.ensures at c.find-mapped.ensures in
     answers-apart a.given a.p a.q c.requires (sized from) (shaped after) c.chase-chased.result
-    (chased after) c.if-chased.false c.find-mapped.result finds (room after) c.if-query-eq0.false c.if-mapped.false
+    (chased after) c.in-Some.query c.in-Some.is c.find-mapped.result finds (room (goal.at.returns c).In-Some) c.if-query-eq0.false c.if-mapped.false

@@ -1,2 +1,0 @@
--- What each case of an answer says (Replies).
-pub mod Replies
