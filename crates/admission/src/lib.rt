@@ -38,8 +38,9 @@ pub fn evaluable(given: Record, place: usize, words: &[u32]) -> Result<usize, Re
     };
     let widths = given.widths;
     let n = given.relations as usize;
-    if !words::spelled(&widths[..n], words) {
-        return Err(Refusal::BadDatabase);
+    if words::spelled(&widths[..n], words) {
+        Ok(at)
+    } else {
+        Err(Refusal::BadDatabase)
     }
-    Ok(at)
 }

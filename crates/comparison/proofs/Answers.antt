@@ -107,6 +107,9 @@ module _ (r : Record) (p q : ℕ) (accepted : pair_refusal r p q ≡ none) (size
 
     -- or in a query
     module _ (query : Tableau) (under : result ≡ Some query) where
+      same-head : query.arity ≡ (stored_at r p).arity
+      same-head = subst (λ (o : Maybe Tableau). IfSome o (λ t. t.arity ≡ (stored_at r p).arity)) under is.same-arity
+
       good-query-found : good_tableau (schema_of r) query ≡ true
       good-query-found = subst (λ (o : Maybe Tableau). IfSome o (λ t. good_tableau (schema_of r) t ≡ true)) under is.good
 
@@ -134,7 +137,7 @@ module _ (r : Record) (p q : ℕ) (accepted : pair_refusal r p q ≡ none) (size
         found =
             let k = queries r p q accepted in
             subst (λ (T : theory.Query). IsMapped (query_at r q) T mapped) chased-is
-            (finds (schema_of r) k.narrow k.good-q (good-query-found) (sym k.same-arity ∙ sym (is.same-arity under)))
+            (finds (schema_of r) k.narrow k.good-q (good-query-found) (sym k.same-arity ∙ sym same-head))
 
         -- There is one
         pub answers-contained : mapped.found ≡ true → Compared r p q (record { verdict = verdict.Mapped; images = mapped.images; query = no_tableau })

@@ -44,14 +44,14 @@ slice_bounds-spelled-end c =
     let r = c.args.given in
     sym (length-take-le r.relations r.widths (widths (goal.at.slice_bounds-spelled-end c).In-Ok))
 
-pub returns-then-not-spelled : goal.returns-then-not-spelled
-returns-then-not-spelled c =
+pub returns-else-spelled : goal.returns-else-spelled
+returns-else-spelled c =
     let a = c.args in
-    lookup-unspelled a.given a.place a.words.now c.in-Ok.at (good (goal.at.returns-then-not-spelled c).Else-not-is_good) (placed (goal.at.returns-then-not-spelled c).In-Ok)
-    (sym c.spelled.ensures ∙ c.if-not-spelled.true)
+    lookup-unspelled a.given a.place a.words.now c.in-Ok.at (good (goal.at.returns-else-spelled c).Else-not-is_good) (placed (goal.at.returns-else-spelled c).In-Ok)
+    (sym c.spelled.ensures ∙ c.if-spelled.false)
 
-pub returns : goal.returns
-returns c =
+pub returns-then-spelled : goal.returns-then-spelled
+returns-then-spelled c =
     let a = c.args in
-    lookup-here a.given a.place a.words.now c.in-Ok.at (good (goal.at.returns c).Else-not-is_good) (placed (goal.at.returns c).In-Ok)
-    (sym c.spelled.ensures ∙ c.if-not-spelled.false)
+    lookup-here a.given a.place a.words.now c.in-Ok.at (good (goal.at.returns-then-spelled c).Else-not-is_good) (placed (goal.at.returns-then-spelled c).In-Ok)
+    (sym c.spelled.ensures ∙ c.if-spelled.true)
