@@ -4,58 +4,25 @@ use Prim.Native.Nat.{suc}
 use native.Mathlib.Omega.{arith}
 use lib.ListN.{length}
 use Rattle.join_lookup.specs.internal.Tables.{Reaches}
-use Rattle.join_lookup.proofs.Reaching.{pass-begins, pass-next, pass-found, pass-end, reach-less}
+use Rattle.join_lookup.proofs.Reaching.{pass-begins, pass-next, pass-end, reach-less}
 use borrow.Author.Rules.{rules}
 use Rattle.join_lookup.proofs.find.Goals as goal
 use Rattle.join_lookup.proofs.find.Goals.{After-following-at}
-
-pub start-at-requires : goal.start-at-requires
-start-at-requires c = let s = c in
-    record {
-      words_value = (s.requires.words_value.0, s.requires.words_value.1, omega arith);
-      buckets_in_bounds = λ some. (s.requires.words_value.2 some).0;
-    }
 
 pub loop-at-init : goal.loop-at-init
 loop-at-init c = let s = c in
     let a = s.args in
     (s.requires.words_value.0, s.requires.words_value.1, (0, c.start-at.ensures 0 a.nodes.now s.requires.tabled, λ p l. absurd (omega arith)))
 
-pub has-requires : goal.has-requires
-has-requires c = let s = c in
-    let a = s.args in
-    let l = c in
-    let w = l.loop-at.invariant in
-    let p = w.2 in
-    record {
-      words_value = (w.0, w.1);
-      by_index = (w.2.1.row, pass-begins a.schema.now a.words.now w.0 a.x w.1 a.columns a.values l.loop-at.at p c.loop-at-test.true);
-    }
+pub has-requires-clause-by_index : goal.has-requires-clause-by_index
+has-requires-clause-by_index c = let a = c.args in
+    let w = c.loop-at.invariant in
+    (w.2.1.row, pass-begins a.schema.now a.words.now w.0 a.x w.1 a.columns a.values c.loop-at.at w.2 c.loop-at-test.true)
 
-pub returns-then-has : goal.returns-then-has
-returns-then-has c = let s = c in
-    let a = s.args in
-    let l = c in
-    let i = c in
-    let h = c in
-    let w = l.loop-at.invariant in
-    let p = w.2 in
-    pass-found a.schema.now a.words.now w.0 a.x w.1 a.columns a.values l.loop-at.at p
-    (h.has.ensures.by_index_2 w.2.1.row (pass-begins a.schema.now a.words.now w.0 a.x w.1 a.columns a.values l.loop-at.at p i.loop-at-test.true)
-    c.if-has.true)
-
-pub following-at-requires : goal.following-at-requires
-following-at-requires c = let s = c in
-    let a = s.args in
-    let l = c in
-    let i = c in
-    let w = l.loop-at.invariant in
-    let p = w.2 in
-    record {
-      words_value = (w.0, w.1, omega arith);
-      by_index = (w.2.1.row, pass-begins a.schema.now a.words.now w.0 a.x w.1 a.columns a.values l.loop-at.at p i.loop-at-test.true);
-      words_in_bounds = λ some. (s.requires.words_value.2 some).1;
-    }
+pub following-at-requires-clause-by_index : goal.following-at-requires-clause-by_index
+following-at-requires-clause-by_index c = let a = c.args in
+    let w = c.loop-at.invariant in
+    (w.2.1.row, pass-begins a.schema.now a.words.now w.0 a.x w.1 a.columns a.values c.loop-at.at w.2 c.loop-at-test.true)
 
 -- The way goes on
 onward : (c : After-following-at)

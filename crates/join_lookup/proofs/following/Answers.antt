@@ -59,10 +59,6 @@ offset_bounds-nodes-at c = omega (arith, room (goal.at.offset_bounds-nodes-at c)
 pub bounds-nodes-at : goal.bounds-nodes-at
 bounds-nodes-at c = room (goal.at.bounds-nodes-at c).Else-x-eq0
 
-pub overflow_cast-result : goal.overflow_cast-result
-overflow_cast-result c = let s = c in
-    omega (arith, c.type_inv.nodes (6 * s.args.at + 1 + s.args.t))
-
 pub returns : goal.returns
 returns c = let s = c in
     let e = c in

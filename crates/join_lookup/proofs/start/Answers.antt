@@ -22,26 +22,6 @@ returns-then-x-eq0 c = let s = c in
     let a = s.args in
     λ set nodes table. reach-first a.schema.now a.words.now s.requires.words_value.0 a.x s.requires.words_value.1 a.t a.columns set a.values c.if-x-eq0.true
 
-pub bucket-b-requires : goal.bucket-b-requires
-bucket-b-requires c = let s = c in (s.requires.words_value.1.narrow, some (goal.at.bucket-b-requires c).Else-x-eq0, s.requires.words_value.1.few)
-
-pub overflow_mul-result : goal.overflow_mul-result
-overflow_mul-result c = omega (arith, room (goal.at.overflow_mul-result c).After-bucket-b)
-
-pub overflow_add-result : goal.overflow_add-result
-overflow_add-result c = omega (arith, room (goal.at.overflow_add-result c).After-bucket-b)
-
-pub offset_bounds-heads-b : goal.offset_bounds-heads-b
-offset_bounds-heads-b c = omega (arith, room (goal.at.offset_bounds-heads-b c).After-bucket-b)
-
-pub bounds-heads-b : goal.bounds-heads-b
-bounds-heads-b c = room (goal.at.bounds-heads-b c).After-bucket-b
-
-pub overflow_cast-result : goal.overflow_cast-result
-overflow_cast-result c = let s = c in
-    let b = c in
-    omega (arith, c.type_inv.heads (5 * b.bucket-b.result + s.args.t))
-
 pub returns : goal.returns
 returns c = let s = c in
     let a = s.args in

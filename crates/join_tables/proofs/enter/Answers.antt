@@ -45,22 +45,11 @@ less c = let l = c.loop-at in
 room : (c : At-loop-at) → (c.loop-at.at ≡ 0 → ⊥) → 6 * (c.loop-at.at - 1) + 6 ≤ length c.loop-at.nodes
 room c some = omega (arith, (roomy c).nodes-room, inside c)
 
-pub overflow_cast-words : goal.overflow_cast-words
-overflow_cast-words c = let s = c in
-    omega (arith, s.requires.roomy.0.short)
-
-pub clear-requires : goal.clear-requires
-clear-requires c = let s = c in
-    (s.requires.words_value.2, s.requires.roomy.0.heads-room)
-
 pub loop-at-init : goal.loop-at-init
 loop-at-init c = let d = c in
     let s = d in
     let a = s.args in
     entered-none a.schema.now a.words.now s.requires.words_value.0 a.x a.t a.columns a.set d.clear.new.heads a.nodes.now d.clear.ensures.by_index
-
-pub overflow_sub-at : goal.overflow_sub-at
-overflow_sub-at c = let some : c.loop-at.at ≡ 0 → ⊥ = c.loop-at-test.true in omega (arith, some)
 
 pub overflow_mul-at : goal.overflow_mul-at
 overflow_mul-at c = let p = (goal.at.overflow_mul-at c).At-loop-at in
@@ -72,10 +61,6 @@ offset_bounds-nodes-at c = let p = (goal.at.offset_bounds-nodes-at c).At-loop-at
 
 pub bounds-nodes-at : goal.bounds-nodes-at
 bounds-nodes-at c = omega (arith, room (goal.at.bounds-nodes-at c).At-loop-at c.loop-at-test.true)
-
-pub overflow_cast-at : goal.overflow_cast-at
-overflow_cast-at c = let i = c in
-    omega (arith, less (goal.at.overflow_cast-at c).In-loop-at, inside (goal.at.overflow_cast-at c).At-loop-at, (roomy (goal.at.overflow_cast-at c).At-loop-at).short)
 
 pub enter_row-requires : goal.enter_row-requires
 enter_row-requires c = let p = (goal.at.enter_row-requires c).At-loop-at in
@@ -105,12 +90,6 @@ loop-at-preserved c = let u = c in
     entered-next a.schema.now a.words.now s.requires.words_value.0 a.x a.t a.columns a.set d.clear.new.heads a.nodes.now
     l.heads l.nodes l.at l.invariant s.requires.words_value.2 s.requires.roomy.1 i.loop-at-test.true
     u.enter_row.new.heads u.enter_row.new.nodes u.enter_row.ensures.beside u.enter_row.ensures.by_index_2
-
-pub shape_of-heads : goal.shape_of-heads
-shape_of-heads c = (beside-all (goal.at.shape_of-heads c).At-loop-at).heads-size
-
-pub shape_of-nodes : goal.shape_of-nodes
-shape_of-nodes c = (beside-all (goal.at.shape_of-nodes c).At-loop-at).nodes-size
 
 pub returns : goal.returns
 returns c = let l = c.loop-at in

@@ -77,28 +77,6 @@ read_row-values-requires c = let s = c in
     let p = s.requires.by_index in
     (omega (arith, p.1.0, of_room a.schema.now a.words.now s.requires.words_value.0 a.x s.requires.words_value.1 p.0 p.1.1 (of (goal.at.read_row-values-requires c).Else-words-at p.0 p.1)), s.requires.words_value.1.narrow)
 
-pub bucket-b-requires : goal.bucket-b-requires
-bucket-b-requires c = let s = c in (s.requires.words_value.1.narrow, s.requires.roomy.some, s.requires.words_value.1.few)
-
-pub overflow_mul-spot : goal.overflow_mul-spot
-overflow_mul-spot c = omega (arith, head-room (goal.at.overflow_mul-spot c).After-bucket-b)
-
-pub overflow_add-spot : goal.overflow_add-spot
-overflow_add-spot c = omega (arith, head-room (goal.at.overflow_add-spot c).After-bucket-b)
-
-pub find-requires : goal.find-requires
-find-requires c = let s = c in
-    record {
-      words_value = (s.requires.words_value.0, s.requires.words_value.1, λ some. (s.requires.roomy.heads-room, s.requires.roomy.nodes-room));
-      tabled = λ some. s.requires.table c.if-t-ne0.true;
-    }
-
-pub offset_bounds-heads-spot : goal.offset_bounds-heads-spot
-offset_bounds-heads-spot c = omega (arith, head-room (goal.at.offset_bounds-heads-spot c).After-bucket-b)
-
-pub bounds-heads-spot : goal.bounds-heads-spot
-bounds-heads-spot c = omega (arith, head-room (goal.at.bounds-heads-spot c).After-bucket-b)
-
 pub overflow_mul-nodes : goal.overflow_mul-nodes
 overflow_mul-nodes c = omega (arith, link-low (goal.at.overflow_mul-nodes c).Start)
 
@@ -133,12 +111,6 @@ returns-then-find-at c = let k = c in
           (λ same. c.if-find-at.true (same ∙ sym b.0))));
     }
 
-pub offset_bounds-heads-spot-2 : goal.offset_bounds-heads-spot-2
-offset_bounds-heads-spot-2 c = omega (arith, head-room (goal.at.offset_bounds-heads-spot-2 c).After-bucket-b)
-
-pub bounds-heads-spot-2 : goal.bounds-heads-spot-2
-bounds-heads-spot-2 c = omega (arith, head-room (goal.at.bounds-heads-spot-2 c).After-bucket-b)
-
 pub overflow_mul-nodes-2 : goal.overflow_mul-nodes-2
 overflow_mul-nodes-2 c = omega (arith, link-low (goal.at.overflow_mul-nodes-2 c).Start)
 
@@ -156,12 +128,6 @@ bounds-nodes-at-2 c = omega (arith, link-room (goal.at.bounds-nodes-at-2 c).Star
 
 pub overflow_cast-heads : goal.overflow_cast-heads
 overflow_cast-heads c = let s = c in omega (arith, inside (goal.at.overflow_cast-heads c).Start, s.requires.roomy.short)
-
-pub offset_bounds-heads-spot-3 : goal.offset_bounds-heads-spot-3
-offset_bounds-heads-spot-3 c = omega (arith, head-room (goal.at.offset_bounds-heads-spot-3 c).After-bucket-b)
-
-pub bounds-heads-spot-3 : goal.bounds-heads-spot-3
-bounds-heads-spot-3 c = omega (arith, head-room (goal.at.bounds-heads-spot-3 c).After-bucket-b)
 
 pub returns : goal.returns
 returns c = let k = c in

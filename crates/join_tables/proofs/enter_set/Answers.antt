@@ -1,5 +1,4 @@
 -- `enter_set` makes table 0 by the columns of the set, and with it the table of the set. Assumes nothing.
-use mathlib.Core.Path.{refl}
 use Prim.Native.Nat.{◌+◌}
 use native.Mathlib.Omega.{arith}
 use Rattle.join_tables.specs.internal.Filling.{Roomy, Threaded}
@@ -14,14 +13,6 @@ roomy c = let s = c in roomy-beside s.args.words.now s.args.x c.enter.ensures.be
 
 threaded : (c : After-enter) → Threaded c.args.schema.now c.args.words.now c.enter.new.nodes
 threaded c = thread-beside c.enter.ensures.beside (omega arith) c.requires.roomy.1
-
-pub enter-requires : goal.enter-requires
-enter-requires c = let s = c in
-    record {
-      words_value = (s.requires.words_value.0, s.requires.words_value.1, omega arith);
-      roomy = s.requires.roomy;
-      table = λ some. absurd (some refl);
-    }
 
 pub enter-requires-2 : goal.enter-requires-2
 enter-requires-2 c = let d = c in
