@@ -6,7 +6,7 @@ use mathlib.Core.List.{List, [], ◌∷◌}
 use Prim.Native.Nat.{ℕ, zero, suc, ◌^◌, ◌<◌}
 use native.Mathlib.Omega.{arith}
 use native.Mathlib.Decide.{ℕ_discrete}
-use lib.ListN.{get_or, set, length, replicate}
+use lib.ListN.{get_or, set, length}
 use lib.Seq.{get_or-set_same, get_or-set_other}
 use lib.Bits.{bit_and, bit_or}
 use Rattle.consistency.specs.internal.Solution.{Bit, together, Solution}
@@ -16,10 +16,6 @@ use Rattle.consistency.specs.declared.State.{State}
 use Rattle.consistency.proofs.Masks.{bit-and, bit_or_left, bit_or_right, bit-or-other, bit-one}
 
 -- ---- choices below 24
-pub below-zeros : (n : ℕ) → Below (replicate n 0)
-below-zeros zero q = omega arith
-below-zeros (suc n) zero = omega arith
-below-zeros (suc n) (suc q) = below-zeros n q
 
 pub below_set : (l : List ℕ) (r d : ℕ) → Below l → d < 24 → Below (set l r d)
 below_set [] r d b h q = omega arith
@@ -139,10 +135,7 @@ settles-revised rows table s p q m changed hp hq lc lb supports = record { chose
             (sound k h f sol
             (subst (λ (x : ℕ). HasChosen s.placed x s.chosen f) (get_or-set_other s.culprits q k both 0 n) ag))
 
--- a state that is compared no more is settled, and settling is transitive
-pub settles-same : (rows : ℕ) (table : List ℕ) (s : State) → Settles rows table s s
-settles-same rows table s = record { chosen = refl; placed = refl; sound = λ domain sound. sound }
-
+-- settling is transitive
 pub settles-more : (rows : ℕ) (table : List ℕ) (s t u : State) → Settles rows table s t → Settles rows table t u → Settles rows table s u
 settles-more rows table s t u first then =
     record {

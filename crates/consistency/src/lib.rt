@@ -88,6 +88,7 @@ fn support(table: &[u32; 4056], own: u32, p: usize, q: usize) -> u32
     ensures { Supports table.now own p q 24 result }
 {
     let mut mask: u32 = 0;
+    // Kept as it is: a `fold` over all 24 numbers would not stop at the last candidate, and this loop takes most of a search's time.
     for d in 0..24 {
         let rest = own >> d;
         if rest == 0 {

@@ -3,7 +3,8 @@ use mathlib.Core.Path.{◌≡◌, refl, sym, ◌∙◌, ap}
 use mathlib.Core.Bool.{Bool, true, false, cond, ◌&&◌}
 use mathlib.Core.List.{◌∷◌}
 use mathlib.Core.Option.{Option, none, some, or_else}
-use Prim.Native.Nat.{ℕ, suc, ◌+◌, ◌-◌, ◌/◌, ◌%◌, ◌≤◌, ◌<◌}
+use Prim.Native.Nat.{ℕ, suc, ◌+◌, ◌-◌, ◌/◌, ◌%◌, ◌^◌, ◌≤◌, ◌<◌}
+use lib.Pow.{shr-shr}
 use native.Mathlib.Numerals.{add-one}
 use native.Mathlib.Omega.{arith}
 use borrow.Author.Tests.{eq-eqb, ne_eqb}
@@ -39,6 +40,13 @@ module _ (test : ℕ → Bool) (c rest : ℕ) (h : c < 8) where
 pub columns-end : (test : ℕ → Bool) (c rest : ℕ) → 8 ≤ c → true ≡ every_left test c rest
 unfolding columns_from every
 columns-end test c rest h = let none : 8 - c ≡ 0 = omega arith in rw none
+
+-- What is left of a set at the first column, and at the next one
+pub left-first : (set : ℕ) → set / 2 ^ 0 ≡ set
+left-first set = omega arith
+
+pub left_next : (set c : ℕ) → set / 2 ^ c / 2 ≡ set / 2 ^ (c + 1)
+left_next set c = shr-shr set c 1
 
 -- The columns of n bits of a mask are the n from the start on
 pub columns-range : (start n mask : ℕ) {c : ℕ} → c ∈ columns_from start n mask → (start ≤ c) × (c < start + n)

@@ -17,14 +17,12 @@ fn same_on(codes: &[u32; 192], set: u8, i: usize, e: usize) -> bool
     requires { (i < 24) × (e < 24) }
     ensures { result ≡ same_on codes.now set i e }
 {
-    let mut rest = set;
-    for c in 0..8 {
-        if rest % 2 == 1 {
+    for c in 0..8usize {
+        if (set >> c) % 2 == 1 {
             if codes[8 * i + c] != codes[8 * e + c] {
                 return false;
             }
         }
-        rest = rest / 2;
     }
     true
 }
@@ -34,16 +32,14 @@ fn goes(codes: &[u32; 192], set: u8, chosen: [u32; 8], i: usize) -> bool
     requires { i < 24 }
     ensures { result ≡ goes codes.now set chosen i }
 {
-    let mut rest = set;
-    for c in 0..8 {
-        if rest % 2 == 1 {
+    for c in 0..8usize {
+        if (set >> c) % 2 == 1 {
             if chosen[c] != FREE {
                 if chosen[c] != codes[8 * i + c] {
                     return false;
                 }
             }
         }
-        rest = rest / 2;
     }
     true
 }
@@ -54,12 +50,10 @@ fn choose(codes: &[u32; 192], set: u8, chosen: [u32; 8], i: usize) -> [u32; 8]
     ensures { result ≡ choose codes.now set chosen i }
 {
     let mut next = chosen;
-    let mut rest = set;
-    for c in 0..8 {
-        if rest % 2 == 1 {
+    for c in 0..8usize {
+        if (set >> c) % 2 == 1 {
             next[c] = codes[8 * i + c];
         }
-        rest = rest / 2;
     }
     next
 }
@@ -100,6 +94,7 @@ fn all_go(
 {
     let sets = j.sets;
     let count = j.count as usize;
+    // Kept as it is: `all` over the sets gets no generated proof, since its closure and the sets are borrowed for different lifetimes.
     for m in k..count {
         if !some_goes(codes, relations, size, j.relation, sets[m], chosen) {
             return false;

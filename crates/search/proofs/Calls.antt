@@ -2,7 +2,7 @@
 -- The work: placing asks for more than 26 for each row that is not placed, trying for 26 less what the candidates passed have
 -- cost, and each call takes 1. Assumes nothing.
 use mathlib.Core.Path.{◌≡◌, subst, subst⁻¹}
-use Rattle.std.specs.Prelude.{None, Some}
+use Rattle.std.specs.Prelude.{Some}
 use mathlib.Core.List.{List}
 use Prim.Native.Nat.{ℕ, ◌+◌, ◌-◌, ◌*◌, ◌^◌, ◌<◌, ◌≤◌}
 use native.Mathlib.Omega.{arith}
@@ -10,12 +10,12 @@ use lib.ListN.{get_or, length}
 use lib.Bits.{bit_or}
 use Rattle.consistency.specs.internal.Solution.{Bit, Solution}
 use Rattle.consistency.specs.internal.Consistent.{NoBit, Below, Refuted, Settles, Follows}
-use Rattle.search.specs.internal.Invariant.{missing, IsNext, IsCandidate, Excluded, Placeable, Tryable}
+use Rattle.search.specs.internal.Invariant.{missing, IsCandidate, Placeable, Tryable}
 use Rattle.consistency.specs.declared.State.{State}
 use Rattle.consistency.proofs.Masks.{bit-zero}
 use Rattle.search.proofs.Missing.{missing-less, missing-none}
 use Rattle.consistency.proofs.Steps.{below_set, jump, excludes}
-use Rattle.search.proofs.Steps.{left-next, from_next, excluded-refuted}
+use Rattle.search.proofs.Steps.{left-next, from_next}
 
 module _ (rows : ℕ) (domain table : List ℕ) (s : State) where
   -- ---- at the start
@@ -43,34 +43,7 @@ module _ (rows : ℕ) (domain table : List ℕ) (s : State) where
   pub no-solution : s.placed ≡ 0 → (m : ℕ) → Refuted rows domain table s.placed m s.chosen → (f : ℕ → ℕ) → Solution rows domain table f → ⊥
   no-solution none m fails f sol = fails f sol (λ q p b. absurd (bit-zero q (subst (λ (x : ℕ). Bit x q) none p)))
 
-  -- ---- from placing a row
-  module _ (work r : ℕ) (pre : Placeable rows domain table s work) (next : IsNext rows s.placed (Some r)) where
-    -- the candidates of the next row can be tried from the first
-    pub tryable-first : Tryable rows domain table s (work - 1) r 0 (get_or s.culprits r 0)
-    tryable-first =
-        let h : r < rows = next.0 in
-        let e : 26 * missing s.placed rows < work = pre.enough in
-        record {
-          rows_few = pre.rows_few;
-          below = pre.below;
-          sound = pre.sound;
-          row_in = h;
-          free = next.1;
-          from-few = omega arith;
-          enough = omega arith;
-          left = pre.sound r h;
-          from = λ f sol ag. omega arith;
-        }
-
-  -- all rows are placed, and their choices are in no solution
-  pub failed-full : IsNext rows s.placed None → (mask : ℕ) → Excluded rows domain table mask s.chosen → Refuted rows domain table s.placed mask s.chosen
-  failed-full full mask ex = excluded-refuted rows domain table s.placed mask s.chosen full ex
-
   -- ---- from trying a candidate
-  -- none is left
-  pub failed-exhausted : (work row c blame : ℕ) → Tryable rows domain table s work row c blame → IsCandidate (get_or s.current row 0) c None
-      → Refuted rows domain table s.placed blame s.chosen
-  failed-exhausted work row c blame pre none f sol ag = none (f row) (pre.from f sol ag) (sol.below row pre.row_in) (pre.left f sol ag)
 
   module _ (work row c blame d : ℕ) (pre : Tryable rows domain table s work row c blame) (is : IsCandidate (get_or s.current row 0) c (Some d)) where
     -- work is left

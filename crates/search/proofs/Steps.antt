@@ -8,7 +8,7 @@ use native.Mathlib.Decide.{dec_lt, ℕ_discrete}
 use lib.ListN.{get_or}
 use lib.Bits.{bit_or}
 use Rattle.consistency.specs.internal.Solution.{Bit, together, Solution}
-use Rattle.consistency.specs.internal.Consistent.{NoBit, HasChosen, Refuted, Left}
+use Rattle.consistency.specs.internal.Consistent.{NoBit, HasChosen, Left}
 use Rattle.consistency.proofs.Masks.{bit_or_left, bit_or_right}
 use Rattle.consistency.proofs.Steps.{apart, agrees-part}
 use Rattle.search.specs.internal.Invariant.{IsFirst, Excluded}
@@ -42,18 +42,9 @@ module _ (rows : ℕ) (domain table : List ℕ) (placed blame : ℕ) (chosen : L
 
 -- ---- choices in no solution
 module _ (rows : ℕ) (domain table chosen : List ℕ) (m r : ℕ) (h : r < rows) (own : Bit m r) where
-  -- row r has no candidate that it may have
-  pub excluded-one : NoBit (get_or domain r 0) (get_or chosen r 0) → Excluded rows domain table m chosen
-  excluded-one n f sol ag = apart (get_or domain r 0) (f r) (get_or chosen r 0) (sol.held r h) n (ag r h own)
-
   -- row r and row q do not go together
   pub excluded-two : (q : ℕ) → q < rows → Bit m q → NoBit (together table r (get_or chosen r 0) q) (get_or chosen q 0) → Excluded rows domain table m chosen
   excluded-two q k other n f sol ag =
       let goes : Bit (together table r (get_or chosen r 0) q) (f q) =
       subst (λ (x : ℕ). Bit (together table r x q) (f q)) (ag r h own) (sol.joined r q h k) in
       apart (together table r (get_or chosen r 0) q) (f q) (get_or chosen q 0) goes n (ag q k other)
-
--- ---- all rows placed
-pub excluded-refuted : (rows : ℕ) (domain table : List ℕ) (placed mask : ℕ) (chosen : List ℕ) → ((q : ℕ) → q < rows → Bit placed q)
-    → Excluded rows domain table mask chosen → Refuted rows domain table placed mask chosen
-excluded-refuted rows domain table placed mask chosen full ex f sol ag = ex f sol (λ q h b. ag q (full q h) b)
