@@ -22,8 +22,7 @@ pub fn up_to_filled(places: [Place; 8]) -> usize
     ensures { (result ≡ up_to_filled places) × (result ≤ 8) }
 {
     let mut n = 0;
-    for k in 0..8 {
-        let place = places[k];
+    for (k, place) in places.iter().enumerate() {
         if place.filled {
             n = k + 1;
         }
@@ -39,9 +38,8 @@ pub fn places_length(places: [Place; 8], n: usize, count: u8, widths: [u8; 8]) -
     ensures { (result ≡ length (flatten (map (put_place (take count widths)) (take n places)))) × (result ≤ 4272) }
 {
     let mut sum = 0;
-    for k in 0..n {
-        let place = places[k];
-        sum = sum + place_length(place, count, widths);
+    for place in &places[..n] {
+        sum += place_length(*place, count, widths);
     }
     sum
 }
@@ -62,11 +60,9 @@ pub fn joins_length(joined: u8, list: [JoinDependency; 4]) -> usize
     if joined == 0 {
         return 0;
     }
-    let n = joined as usize;
     let mut sum = 1;
-    for i in 0..n {
-        let j = list[i];
-        sum = sum + join_length(j);
+    for j in &list[..joined as usize] {
+        sum += join_length(*j);
     }
     sum
 }
@@ -79,10 +75,9 @@ fn put_relations(buffer: &mut [u8], at: usize, count: u8, widths: [u8; 8])
     requires count_in_bounds { at + 1 + count ≤ length buffer.old }
     ensures { buffer.new ≡ over buffer.old at (relations.put (count, widths)) }
 {
+    let n = count as usize;
     buffer[at] = count;
-    for i in 0..count as usize {
-        buffer[at + 1 + i] = widths[i];
-    }
+    buffer[at + 1..at + 1 + n].copy_from_slice(&widths[..n]);
 }
 
 // A functional dependency at a position: relation, left set and right column, a byte each.
@@ -90,9 +85,7 @@ fn put_dependency(buffer: &mut [u8], at: usize, d: Dependency)
     requires { at + 3 ≤ length buffer.old }
     ensures { buffer.new ≡ over buffer.old at (put_dependency d) }
 {
-    buffer[at] = d.relation;
-    buffer[at + 1] = d.left;
-    buffer[at + 2] = d.right;
+    buffer[at..at + 3].copy_from_slice(&[d.relation, d.left, d.right]);
 }
 
 // The functional dependencies at a position: their count, then 3 bytes each.
@@ -115,12 +108,9 @@ fn put_join(buffer: &mut [u8], at: usize, j: JoinDependency) -> usize
     ensures { (buffer.new ≡ over buffer.old at (put_join j)) × (result ≡ at + length (put_join j)) }
 {
     let n = j.count as usize;
-    let sets = j.sets;
     buffer[at] = j.relation;
     buffer[at + 1] = j.count;
-    for i in 0..n {
-        buffer[at + 2 + i] = sets[i];
-    }
+    buffer[at + 2..at + 2 + n].copy_from_slice(&j.sets[..n]);
     at + 2 + n
 }
 
