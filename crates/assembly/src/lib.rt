@@ -95,9 +95,8 @@ fn put_dependencies(buffer: &mut [u8], at: usize, held: u8, list: [Dependency; 3
     ensures { buffer.new ≡ over buffer.old at (dependency_bytes held list) }
 {
     buffer[at] = held;
-    for i in 0..held as usize {
-        let d = list[i];
-        put_dependency(buffer, at + 1 + 3 * i, d);
+    for (i, d) in list[..held as usize].iter().enumerate() {
+        put_dependency(buffer, at + 1 + 3 * i, *d);
     }
 }
 
@@ -123,12 +122,10 @@ fn put_joins(buffer: &mut [u8], at: usize, joined: u8, list: [JoinDependency; 4]
     if joined == 0 {
         return at;
     }
-    let n = joined as usize;
     buffer[at] = joined;
     let mut next = at + 1;
-    for i in 0..n {
-        let j = list[i];
-        next = put_join(buffer, next, j);
+    for j in &list[..joined as usize] {
+        next = put_join(buffer, next, *j);
     }
     next
 }
@@ -152,9 +149,8 @@ fn put_table(
     ensures { buffer.new ≡ over buffer.old at (table_of start (map (put_place (take count widths)) (take n places))) }
 {
     let mut due = start;
-    for k in 0..n {
-        let place = places[k];
-        let size = place_length(place, count, widths);
+    for (k, place) in places[..n].iter().enumerate() {
+        let size = place_length(*place, count, widths);
         put_word(buffer, at + 4 * k, due);
         put_word(buffer, at + 4 * k + 2, size);
         due = due + size;
@@ -177,9 +173,8 @@ fn put_places(
     ensures { buffer.new ≡ over buffer.old start (flatten (map (put_place (take count widths)) (take n places))) }
 {
     let mut at = start;
-    for k in 0..n {
-        let place = places[k];
-        at = put_place(buffer, at, place, count, widths);
+    for place in &places[..n] {
+        at = put_place(buffer, at, *place, count, widths);
     }
 }
 
