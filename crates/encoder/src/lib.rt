@@ -129,11 +129,11 @@ pub fn put_place(buffer: &mut [u8], at: usize, place: Place, count: u8, widths: 
     ensures { (buffer.new ≡ over buffer.old at (put_place (take count widths) place)) × (result ≡ at + length (put_place (take count widths) place)) }
 {
     if place.filled {
-        let q = place.query;
-        return put_query(buffer, at, tableaux::from_query(q), count, widths);
+        put_query(buffer, at, tableaux::from_query(place.query), count, widths)
+    } else {
+        buffer[at] = 255;
+        at + 1
     }
-    buffer[at] = 255;
-    at + 1
 }
 
 // ---- lengths
@@ -169,8 +169,8 @@ pub fn place_length(place: Place, count: u8, widths: [u8; 8]) -> usize
     ensures { (result ≡ length (put_place (take count widths) place)) × (result ≤ 534) }
 {
     if place.filled {
-        let q = place.query;
-        return query_length(tableaux::from_query(q), count, widths);
+        query_length(tableaux::from_query(place.query), count, widths)
+    } else {
+        1
     }
-    1
 }
