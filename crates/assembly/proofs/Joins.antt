@@ -6,7 +6,7 @@ use Prim.Native.Nat.{ℕ, ◌+◌, ◌≤◌, ◌<◌}
 use native.Mathlib.Numerals.{add-one}
 use native.Mathlib.Omega.{arith}
 use lib.ListN.{length, take, drop, get_or, length-append, drop_of_length-le}
-use lib.Seq.{length-take-le, drop-cons, get_or-take}
+use lib.Seq.{length-take-le, drop-cons}
 use borrow.Author.Tests.{eq-eqb, ne_eqb, le-leb}
 use Rattle.lists.specs.Tests.{every, in_use, is_zero}
 use Rattle.lists.proofs.Tests.{and_left, and_right, every-weaken, every-join, used-good, used-blank}
@@ -31,23 +31,18 @@ module _ (joined : ℕ) (list : List JoinDependency) where
   joins-some e = rw (ne_eqb joined 0 e)
 
 -- Those from i on: the next one and the others, or none
-module _ (n : ℕ) (list : List JoinDependency) (i : ℕ) (l : n ≤ length list) where
-  pub joins-next : i < n
-      → length (flat_map put_join (drop i (take n list)))
-      ≡ length (put_join (get_or list i past_join)) + length (flat_map put_join (drop (i + 1) (take n list)))
+module _ (list : List JoinDependency) (i : ℕ) where
+  pub joins-next : i < length list
+      → length (flat_map put_join (drop i list)) ≡ length (put_join (get_or list i past_join)) + length (flat_map put_join (drop (i + 1) list))
   unfolding flat_map
   joins-next h =
-      let m : length (take n list) ≡ n = length-take-le n list l in
-      let apart : drop i (take n list) ≡ get_or list i past_join ∷ drop (i + 1) (take n list) =
-      drop-cons (take n list) i past_join (omega arith) ∙ rw (get_or-take n list i past_join h, add-one) in
+      let apart : drop i list ≡ get_or list i past_join ∷ drop (i + 1) list = drop-cons list i past_join h ∙ rw add-one in
       ap (λ (js : List JoinDependency). length (flat_map put_join js)) apart
-      ∙ length-append (put_join (get_or list i past_join)) (flat_map put_join (drop (i + 1) (take n list)))
+      ∙ length-append (put_join (get_or list i past_join)) (flat_map put_join (drop (i + 1) list))
 
-  pub joins-end : n ≤ i → length (flat_map put_join (drop i (take n list))) ≡ 0
+  pub joins-end : length list ≤ i → length (flat_map put_join (drop i list)) ≡ 0
   unfolding flat_map
-  joins-end h =
-      let m : length (take n list) ≡ n = length-take-le n list l in
-      ap (λ (js : List JoinDependency). length (flat_map put_join js)) (drop_of_length-le (take n list) {i = i} (omega arith))
+  joins-end h = ap (λ (js : List JoinDependency). length (flat_map put_join js)) (drop_of_length-le list {i = i} h)
 
 -- The join dependencies of a good record have at most 4 sets each
 pub few-sets : (schema : List ℕ) (joined : ℕ) (list : List JoinDependency) → in_use joined (good_join schema) blank_join list ≡ true → every few_sets list ≡ true

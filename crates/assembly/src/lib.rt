@@ -22,8 +22,7 @@ pub fn up_to_filled(places: [Place; 8]) -> usize
     ensures { (result ≡ up_to_filled places) × (result ≤ 8) }
 {
     let mut n = 0;
-    for k in 0..8 {
-        let place = places[k];
+    for (k, place) in places.iter().enumerate() {
         if place.filled {
             n = k + 1;
         }
@@ -39,9 +38,8 @@ pub fn places_length(places: [Place; 8], n: usize, count: u8, widths: [u8; 8]) -
     ensures { (result ≡ length (flatten (map (put_place (take count widths)) (take n places)))) × (result ≤ 4272) }
 {
     let mut sum = 0;
-    for k in 0..n {
-        let place = places[k];
-        sum = sum + place_length(place, count, widths);
+    for place in &places[..n] {
+        sum += place_length(*place, count, widths);
     }
     sum
 }
@@ -62,11 +60,9 @@ pub fn joins_length(joined: u8, list: [JoinDependency; 4]) -> usize
     if joined == 0 {
         return 0;
     }
-    let n = joined as usize;
     let mut sum = 1;
-    for i in 0..n {
-        let j = list[i];
-        sum = sum + join_length(j);
+    for j in &list[..joined as usize] {
+        sum += join_length(*j);
     }
     sum
 }
@@ -79,10 +75,9 @@ fn put_relations(buffer: &mut [u8], at: usize, count: u8, widths: [u8; 8])
     requires count_in_bounds { at + 1 + count ≤ length buffer.old }
     ensures { buffer.new ≡ over buffer.old at (relations.put (count, widths)) }
 {
+    let n = count as usize;
     buffer[at] = count;
-    for i in 0..count as usize {
-        buffer[at + 1 + i] = widths[i];
-    }
+    buffer[at + 1..at + 1 + n].copy_from_slice(&widths[..n]);
 }
 
 // A functional dependency at a position: relation, left set and right column, a byte each.
@@ -90,9 +85,7 @@ fn put_dependency(buffer: &mut [u8], at: usize, d: Dependency)
     requires { at + 3 ≤ length buffer.old }
     ensures { buffer.new ≡ over buffer.old at (put_dependency d) }
 {
-    buffer[at] = d.relation;
-    buffer[at + 1] = d.left;
-    buffer[at + 2] = d.right;
+    buffer[at..at + 3].copy_from_slice(&[d.relation, d.left, d.right]);
 }
 
 // The functional dependencies at a position: their count, then 3 bytes each.
@@ -102,9 +95,8 @@ fn put_dependencies(buffer: &mut [u8], at: usize, held: u8, list: [Dependency; 3
     ensures { buffer.new ≡ over buffer.old at (dependency_bytes held list) }
 {
     buffer[at] = held;
-    for i in 0..held as usize {
-        let d = list[i];
-        put_dependency(buffer, at + 1 + 3 * i, d);
+    for (i, d) in list[..held as usize].iter().enumerate() {
+        put_dependency(buffer, at + 1 + 3 * i, *d);
     }
 }
 
@@ -115,12 +107,9 @@ fn put_join(buffer: &mut [u8], at: usize, j: JoinDependency) -> usize
     ensures { (buffer.new ≡ over buffer.old at (put_join j)) × (result ≡ at + length (put_join j)) }
 {
     let n = j.count as usize;
-    let sets = j.sets;
     buffer[at] = j.relation;
     buffer[at + 1] = j.count;
-    for i in 0..n {
-        buffer[at + 2 + i] = sets[i];
-    }
+    buffer[at + 2..at + 2 + n].copy_from_slice(&j.sets[..n]);
     at + 2 + n
 }
 
@@ -133,12 +122,10 @@ fn put_joins(buffer: &mut [u8], at: usize, joined: u8, list: [JoinDependency; 4]
     if joined == 0 {
         return at;
     }
-    let n = joined as usize;
     buffer[at] = joined;
     let mut next = at + 1;
-    for i in 0..n {
-        let j = list[i];
-        next = put_join(buffer, next, j);
+    for j in &list[..joined as usize] {
+        next = put_join(buffer, next, *j);
     }
     next
 }
@@ -162,9 +149,8 @@ fn put_table(
     ensures { buffer.new ≡ over buffer.old at (table_of start (map (put_place (take count widths)) (take n places))) }
 {
     let mut due = start;
-    for k in 0..n {
-        let place = places[k];
-        let size = place_length(place, count, widths);
+    for (k, place) in places[..n].iter().enumerate() {
+        let size = place_length(*place, count, widths);
         put_word(buffer, at + 4 * k, due);
         put_word(buffer, at + 4 * k + 2, size);
         due = due + size;
@@ -187,9 +173,8 @@ fn put_places(
     ensures { buffer.new ≡ over buffer.old start (flatten (map (put_place (take count widths)) (take n places))) }
 {
     let mut at = start;
-    for k in 0..n {
-        let place = places[k];
-        at = put_place(buffer, at, place, count, widths);
+    for place in &places[..n] {
+        at = put_place(buffer, at, *place, count, widths);
     }
 }
 

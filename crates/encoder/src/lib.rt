@@ -74,27 +74,25 @@ fn put_row(buffer: &mut [u8], at: usize, relation: u8, cells: &[Cell]) -> usize
     at + 1 + 5 * cells.len()
 }
 
-// The first `size` rows from a position on. Returns the position after them.
+// Rows from a position on, row r having the 8 cells from 8 * r on. Returns the position after them.
 fn put_rows(
     buffer: &mut [u8],
     start: usize,
-    size: usize,
-    named: [u8; 24],
-    cells: [Cell; 192],
+    named: &[u8],
+    cells: &[Cell],
     count: u8,
     widths: [u8; 8],
 ) -> usize
     requires widths_value { good_relations count widths ≡ true }
-    requires size_bound { size ≤ 24 }
-    requires cells_in_bounds { start + length (flat_map (row (take count widths)).put (take size (chunk named cells))) ≤ length buffer.old }
-    ensures { (buffer.new ≡ over buffer.old start (flat_map (row (take count widths)).put (take size (chunk named cells)))) ×
-        (result ≡ start + length (flat_map (row (take count widths)).put (take size (chunk named cells)))) }
+    requires cells_long { 8 * length named.now ≤ length cells.now }
+    requires rows_in_bounds { start + length (flat_map (row (take count widths)).put (chunk named.now cells.now)) ≤ length buffer.old }
+    ensures { (buffer.new ≡ over buffer.old start (flat_map (row (take count widths)).put (chunk named.now cells.now))) ×
+        (result ≡ start + length (flat_map (row (take count widths)).put (chunk named.now cells.now))) }
 {
     let mut at = start;
-    for r in 0..size {
-        let relation = named[r];
-        let width = width_of(count, widths, relation);
-        at = put_row(buffer, at, relation, &cells[8 * r..8 * r + width]);
+    for (r, relation) in named.iter().enumerate() {
+        let width = width_of(count, widths, *relation);
+        at = put_row(buffer, at, *relation, &cells[8 * r..8 * r + width]);
     }
     at
 }
@@ -109,20 +107,15 @@ pub fn put_query(buffer: &mut [u8], at: usize, t: Tableau, count: u8, widths: [u
     ensures { (buffer.new ≡ over buffer.old at ((query_for 24 (take count widths)).put (as_query t))) ×
         (result ≡ at + length ((query_for 24 (take count widths)).put (as_query t))) }
 {
-    let arity = t.arity;
-    let size = t.size;
-    buffer[at] = arity;
-    buffer[at + 1] = size;
-    let used = limits::head_in_use(arity, size);
+    let used = limits::head_in_use(t.arity, t.size);
+    buffer[at] = t.arity;
+    buffer[at + 1] = t.size;
     put_entries(buffer, at + 2, &t.head[..used]);
-    let named = t.relations;
-    let cells = t.cells;
     put_rows(
         buffer,
         at + 2 + 5 * used,
-        size as usize,
-        named,
-        cells,
+        &t.relations[..t.size as usize],
+        &t.cells,
         count,
         widths,
     )
@@ -136,11 +129,11 @@ pub fn put_place(buffer: &mut [u8], at: usize, place: Place, count: u8, widths: 
     ensures { (buffer.new ≡ over buffer.old at (put_place (take count widths) place)) × (result ≡ at + length (put_place (take count widths) place)) }
 {
     if place.filled {
-        let q = place.query;
-        return put_query(buffer, at, tableaux::from_query(q), count, widths);
+        put_query(buffer, at, tableaux::from_query(place.query), count, widths)
+    } else {
+        buffer[at] = 255;
+        at + 1
     }
-    buffer[at] = 255;
-    at + 1
 }
 
 // ---- lengths
@@ -176,8 +169,8 @@ pub fn place_length(place: Place, count: u8, widths: [u8; 8]) -> usize
     ensures { (result ≡ length (put_place (take count widths) place)) × (result ≤ 534) }
 {
     if place.filled {
-        let q = place.query;
-        return query_length(tableaux::from_query(q), count, widths);
+        query_length(tableaux::from_query(place.query), count, widths)
+    } else {
+        1
     }
-    1
 }

@@ -224,6 +224,7 @@ fn row_good(relations: u8, widths: [u8; 8], relation: u8, cells: &[Cell]) -> boo
 }
 
 // Whether each row is good, row r having the 8 cells from 8 * r on.
+// Kept as it is: a chain would zip the relations with chunks_exact, and the library names no list of items for chunks that a proof could go by.
 fn rows_good(relations: u8, widths: [u8; 8], named: &[u8], cells: &[Cell]) -> bool
     requires { (good_relations relations widths ≡ true) × (8 * length named.now ≤ length cells.now) }
     ensures { result ≡ good_rows (take relations widths) named.now cells.now }
@@ -285,6 +286,7 @@ fn cells_have(cells: &[Cell], v: u8) -> bool
 }
 
 // Whether a variable stands in one of the first rows.
+// Kept as it is: as with `rows_good`, no list of items is named for a chain over chunks.
 pub fn rows_have(
     relations: u8,
     widths: [u8; 8],

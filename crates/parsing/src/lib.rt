@@ -68,6 +68,7 @@ fn read_entry(s: &[u8], at: usize) -> Option<Cell>
 }
 
 // The n entries from a position on, in 8 cells.
+// Kept as it is: i gives both the cell and the position that is read, and `?` leaves the loop, so that no slice is gone over for its own sake.
 fn read_entries(s: &[u8], at: usize, n: usize) -> Option<[Cell; 8]>
     requires at_in_bounds { at ≤ length s.now }
     requires n_bound { n ≤ 8 }

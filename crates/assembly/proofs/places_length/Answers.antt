@@ -4,7 +4,10 @@ use mathlib.Core.List.{List, map, flatten}
 use Prim.Native.Nat.{ℕ, ◌+◌, ◌≤◌, ◌<◌}
 use native.Mathlib.Nat.{zero-add}
 use native.Mathlib.Omega.{arith}
-use lib.ListN.{length, take, drop, get_or, length-append}
+use lib.ListN.{length, take, drop, get_or, length-append, length-take}
+use lib.Seq.{length-take-le, get_or-take}
+use Rattle.lists.specs.Tests.{every}
+use mathlib.Core.Bool.{true}
 use Rattle.query.specs.declared.Place.{Place}
 use Rattle.query.specs.Rule.{good_place}
 use Rattle.format.specs.File.{put_place}
@@ -25,36 +28,50 @@ none_left : (schema : List ℕ) (places : List Place) (n k : ℕ) → n ≤ leng
 unfolding flatten
 none_left schema places n k l h = ap (λ (ps : List (List ℕ)). length (flatten ps)) (parts-end schema places n k l h)
 
-pub loop-k-init : goal.loop-k-init
-loop-k-init c =
-    (omega arith, omega arith, rw zero-add)
+module _ (schema : List ℕ) (places : List Place) (n k : ℕ) (l : n ≤ length places) (h : k < length (take n places)) where
+  low : k < n
+  low = omega (arith, length-take n places)
+
+  same : get_or (take n places) k past_place ≡ get_or places k past_place
+  same = get_or-take n places k past_place low
+
+  good : every (good_place schema) places ≡ true → good_place schema (get_or (take n places) k past_place) ≡ true
+  good e = rw same (every-get_or (good_place schema) places k past_place e (omega (arith, low)))
+
+  step : length (flatten (map (put_place schema) (drop k (take n places))))
+      ≡ length (put_place schema (get_or (take n places) k past_place)) + length (flatten (map (put_place schema) (drop (k + 1) (take n places))))
+  step = rw same (next schema places n k l low)
+
+pub loop-place-init : goal.loop-place-init
+loop-place-init c = (omega arith, rw zero-add)
 
 pub place_length-sum-requires : goal.place_length-sum-requires
 place_length-sum-requires c =
     let l : length c.args.places ≡ 8 = search rules in
     record {
       widths_value = c.requires.widths_value;
-      place_value =
-          every-get_or (good_place (take c.args.count c.args.widths)) c.args.places c.loop-k.k past_place
-          c.requires.places_value (omega (arith, c.requires.n_bound));
+      place_value = good (take c.args.count c.args.widths) c.args.places c.args.n c.loop-place.place-index (omega (arith, c.requires.n_bound))
+          c.loop-place-test.true c.requires.places_value;
     }
 
 pub overflow_add-sum : goal.overflow_add-sum
 overflow_add-sum c =
-    omega (arith, c.place_length-sum.ensures.1, c.requires.n_bound)
+    omega (arith, c.place_length-sum.ensures.1, c.requires.n_bound, length-take c.args.n c.args.places, c.loop-place.invariant.0)
 
-pub loop-k-preserved : goal.loop-k-preserved
-loop-k-preserved c =
+pub loop-place-preserved : goal.loop-place-preserved
+loop-place-preserved c =
     let l : length c.args.places ≡ 8 = search rules in
     let e =
-    next (take c.args.count c.args.widths) c.args.places c.args.n c.loop-k.k (omega (arith, c.requires.n_bound))
-    c.loop-k-test.true in
-    (search rules, omega (arith, c.place_length-sum.ensures.1), omega (arith, e, c.place_length-sum.ensures.0, c.loop-k.invariant.2))
+    step (take c.args.count c.args.widths) c.args.places c.args.n c.loop-place.place-index (omega (arith, c.requires.n_bound))
+    c.loop-place-test.true in
+    (omega (arith, c.place_length-sum.ensures.1, c.loop-place.invariant.0), omega (arith, e, c.place_length-sum.ensures.0, c.loop-place.invariant.1))
 
 pub returns : goal.returns
 returns c =
     let l : length c.args.places ≡ 8 = search rules in
+    let few : c.args.n ≤ length c.args.places = omega (arith, c.requires.n_bound) in
+    let k : length (take c.args.n c.args.places) ≡ c.args.n = length-take-le c.args.n c.args.places few in
     let e =
-    none_left (take c.args.count c.args.widths) c.args.places c.args.n c.loop-k.k (omega (arith, c.requires.n_bound))
-    c.loop-k-test.false in
-    (omega (arith, e, c.loop-k.invariant.2), omega (arith, c.requires.n_bound))
+    none_left (take c.args.count c.args.widths) c.args.places c.args.n c.loop-place.place-index few
+    (omega (arith, c.loop-place-test.false)) in
+    (omega (arith, e, c.loop-place.invariant.1), omega (arith, c.requires.n_bound, c.loop-place.invariant.0))

@@ -1,14 +1,13 @@
-use native.Mathlib.Omega.{arith}
-use lib.ListN.{length-set}
-use Rattle.encoder.proofs.Stores.{three-stores}
+-- Three bytes
+use Rattle.std.proofs.Common.{◌≡◌, ◌+◌, ◌-◌, length, ap, ◌∙◌, arith}
+use Rattle.lists.specs.Over.{over}
+use Rattle.encoder.proofs.Stores.{put-over}
 use Rattle.assembly.proofs.put_dependency.Goals as goal
-
-pub bounds-buffer-at-2 : goal.bounds-buffer-at-2
-bounds-buffer-at-2 c = simp length-set (omega arith)
-
-pub bounds-buffer-at-3 : goal.bounds-buffer-at-3
-bounds-buffer-at-3 c = simp length-set (omega arith)
 
 pub returns : goal.returns
 returns c =
-    three-stores c.args.buffer.now c.args.at c.args.d.relation c.args.d.left c.args.d.right c.requires
+    let at = c.args.at in
+    let written = c.copy_from_slice.ensures.after in
+    let three : 3 ≡ at + 3 - at = omega arith in
+    put-over c.args.buffer.now c.copy_from_slice.new.self at (at + 3) (omega arith) (ap length written ∙ three)
+    ∙ ap (over c.args.buffer.now at) written

@@ -1,5 +1,7 @@
--- `assembly::put_joins` meets its contract. Invariant: the join dependencies from i on are still to be written. Assumes nothing.
+-- `assembly::put_joins` meets its contract. Invariant: the join dependencies from the present one on are still to be written. Assumes nothing.
 use mathlib.Core.Path.{◌≡◌, sym, ap, ◌∙◌}
+use mathlib.Core.Bool.{true}
+use Rattle.lists.specs.Tests.{every}
 use mathlib.Core.List.{List, [], ◌∷◌, flat_map}
 use Prim.Native.Nat.{ℕ, ◌+◌, ◌≤◌, ◌<◌}
 use native.Mathlib.Omega.{arith}
@@ -12,7 +14,7 @@ use Rattle.lists.specs.Over.{over}
 use Rattle.lists.proofs.Over.{over-nil}
 use Rattle.lists.proofs.Tests.{every-get_or}
 use Rattle.limits.proofs.Sets.{past_join}
-use Rattle.encoder.proofs.Stores.{Writing, writing-starts, writing-room, writing-turns, writing-ends, byte-and-run}
+use Rattle.encoder.proofs.Stores.{writing-starts, writing-room, writing-turns, writing-ends, byte-and-run}
 use Rattle.assembly.specs.internal.Pieces.{put_join, few_sets, joins_bytes}
 use Rattle.assembly.proofs.Joins.{joins-none, joins-some}
 use Rattle.assembly.proofs.put_joins.Goals as goal
@@ -25,18 +27,13 @@ nothing buffer at joined list e =
     let none : joins_bytes joined list ≡ [] = joins-none joined list e in
     (sym (ap (over buffer at) none ∙ over-nil buffer at), omega (arith, ap length none))
 
-module _ (before : List ℕ) (at n : ℕ) (list : List JoinDependency) (buffer : List ℕ) (next i : ℕ) (h : i < n) (l : n ≤ length list)
-    (w : Writing put_join before (at + 1) (take n list) buffer next i) where
-  same : get_or (take n list) i past_join ≡ get_or list i past_join
-  same = get_or-take n list i past_join h
-
-  room : next + length (put_join (get_or list i past_join)) ≤ length buffer
-  room = let m : length (take n list) ≡ n = length-take-le n list l in rw (← same) (writing-room w past_join (omega arith))
-
-  goes_on : (after : List ℕ) (to : ℕ) → after ≡ over buffer next (put_join (get_or list i past_join)) → to ≡ next + length (put_join (get_or list i past_join))
-      → Writing put_join before (at + 1) (take n list) after to (i + 1)
-  goes_on after to e t =
-      let m : length (take n list) ≡ n = length-take-le n list l in writing-turns w past_join after to (omega arith) (rw same e) (rw same t)
+-- No more than 4 sets are in use
+few : (n : ℕ) (list : List JoinDependency) (i : ℕ) → length list ≡ 4 → n ≤ 4 → every few_sets list ≡ true → i < length (take n list)
+    → (get_or (take n list) i past_join).count ≤ 4
+few n list i four low e h =
+    let m : length (take n list) ≡ n = length-take-le n list (omega arith) in
+    let same : get_or (take n list) i past_join ≡ get_or list i past_join = get_or-take n list i past_join (omega arith) in
+    rw same (leb-true _ 4 (every-get_or few_sets list i past_join e (omega arith)))
 
 -- All are written
 ended : (buffer : List ℕ) (at joined : ℕ) (list : List JoinDependency) (after : List ℕ) (next : ℕ) → (joined ≡ 0 → ⊥) → at < length buffer
@@ -66,47 +63,32 @@ bounds-buffer-at c = omega (arith, whole (goal.at.bounds-buffer-at c).Else-joine
 pub overflow_add-next : goal.overflow_add-next
 overflow_add-next c = let room = whole (goal.at.overflow_add-next c).Else-joined-eq0 in search rules
 
-pub loop-i-init : goal.loop-i-init
-loop-i-init c =
-    let a = c.args in (
-      omega arith,
-      writing-starts put_join (set a.buffer.now a.at a.joined) (a.at + 1) (take a.joined a.list)
-          (rw (length-set a.buffer.now a.at a.joined) (whole (goal.at.loop-i-init c).Else-joined-eq0)),
-    )
-
-pub bounds-list-i : goal.bounds-list-i
-bounds-list-i c = let few = c.requires.joined_bound.0 in search rules
+pub loop-j-init : goal.loop-j-init
+loop-j-init c =
+    let a = c.args in
+    writing-starts put_join (set a.buffer.now a.at a.joined) (a.at + 1) (take a.joined a.list)
+    (rw (length-set a.buffer.now a.at a.joined) (whole (goal.at.loop-j-init c).Else-joined-eq0))
 
 pub put_join-next-requires : goal.put_join-next-requires
 put_join-next-requires c =
     let four : length c.args.list ≡ 4 = search rules in
-    let a = c.args in
     record {
-      count_bound = leb-true _ 4
-          (every-get_or few_sets a.list c.loop-i.i past_join c.requires.joined_bound.1 (omega (arith, four, c.requires.joined_bound.0, c.loop-i-test.true)));
-      j_in_bounds = room (set a.buffer.now a.at a.joined) a.at a.joined a.list c.loop-i.buffer c.loop-i.next c.loop-i.i
-          c.loop-i-test.true (omega (arith, four, c.requires.joined_bound.0)) c.loop-i.invariant.1;
+      count_bound = few c.args.joined c.args.list c.loop-j.j-index four c.requires.joined_bound.0 c.requires.joined_bound.1 c.loop-j-test.true;
+      j_in_bounds = writing-room c.loop-j.invariant past_join c.loop-j-test.true;
     }
 
-pub loop-i-preserved : goal.loop-i-preserved
-loop-i-preserved c =
-    let four : length c.args.list ≡ 4 = search rules in
-    let a = c.args in (
-      search rules,
-      goes_on (set a.buffer.now a.at a.joined) a.at a.joined a.list c.loop-i.buffer c.loop-i.next c.loop-i.i
-          c.loop-i-test.true (omega (arith, four, c.requires.joined_bound.0)) c.loop-i.invariant.1 c.put_join-next.new.buffer
-          c.put_join-next.result c.put_join-next.ensures.0 c.put_join-next.ensures.1,
-    )
+pub loop-j-preserved : goal.loop-j-preserved
+loop-j-preserved c =
+    writing-turns c.loop-j.invariant past_join c.put_join-next.new.buffer c.put_join-next.result c.loop-j-test.true c.put_join-next.ensures.0
+    c.put_join-next.ensures.1
 
 pub shape_of-buffer : goal.shape_of-buffer
 shape_of-buffer c =
     let a = c.args in
-    c.loop-i.invariant.1.long ∙ length-set a.buffer.now a.at a.joined
+    c.loop-j.invariant.long ∙ length-set a.buffer.now a.at a.joined
 
 pub returns : goal.returns
 returns c =
-    let four : length c.args.list ≡ 4 = search rules in
     let a = c.args in
-    let k : length (take a.joined a.list) ≡ a.joined = length-take-le a.joined a.list (omega (arith, four, c.requires.joined_bound.0)) in
-    ended a.buffer.now a.at a.joined a.list c.loop-i.buffer c.loop-i.next c.if-joined-eq0.false
-    (omega (arith, whole (goal.at.returns c).Else-joined-eq0)) (writing-ends c.loop-i.invariant.1 (omega (arith, c.loop-i-test.false)))
+    ended a.buffer.now a.at a.joined a.list c.loop-j.buffer c.loop-j.next c.if-joined-eq0.false
+    (omega (arith, whole (goal.at.returns c).Else-joined-eq0)) (writing-ends c.loop-j.invariant c.loop-j-test.false)

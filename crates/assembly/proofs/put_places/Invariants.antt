@@ -1,8 +1,7 @@
-use Prim.Native.Nat.{◌≤◌}
 use lib.ListN.{take}
 use Rattle.format.specs.File.{put_place}
 use Rattle.encoder.proofs.Stores.{Writing}
 use Rattle.assembly.proofs.put_places.Given as goal
 
-abbrev pub invariant-loop-k : goal.invariant-loop-k
-invariant-loop-k l = (l.k ≤ l.n) × Writing (put_place (take l.count l.widths)) l.initial.buffer l.start (take l.n l.places) l.buffer l.at l.k
+abbrev pub invariant-loop-place : goal.invariant-loop-place
+invariant-loop-place l = Writing (put_place (take l.count l.widths)) l.initial.buffer l.start l.place-items l.buffer l.at l.place-index

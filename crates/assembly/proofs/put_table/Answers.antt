@@ -4,8 +4,8 @@ use mathlib.Core.List.{List, ◌∷◌, ◌++◌, map}
 use Prim.Native.Nat.{ℕ, ◌+◌, ◌*◌, ◌-◌, ◌≤◌, ◌<◌}
 use native.Mathlib.Nat.{add-zero}
 use native.Mathlib.Omega.{arith}
-use lib.ListN.{length, take, drop, get_or, length-append, length-drop, length-map}
-use lib.Seq.{length-take-le}
+use lib.ListN.{length, take, drop, get_or, length-append, length-drop, length-map, length-take}
+use lib.Seq.{length-take-le, get_or-take}
 use Rattle.query.specs.declared.Place.{Place}
 use Rattle.query.specs.Rule.{good_place}
 use Rattle.lists.specs.Over.{over}
@@ -91,6 +91,16 @@ unfolding table_of
 ended schema before at start n places buffer due k l f h =
     sym (f.rest ∙ ap (λ (ps : List (List ℕ)). over buffer (at + 4 * k) (table_of due ps)) (parts-end schema places n k l h) ∙ over-nil buffer (at + 4 * k))
 
+-- A position among the first n places, and one past them
+low : (n k : ℕ) (places : List Place) → k < length (take n places) → k < n
+low n k places h = omega (arith, length-take n places)
+
+past : (n k : ℕ) (places : List Place) → n ≤ length places → length (take n places) ≤ k → n ≤ k
+past n k places l h = omega (arith, length-take n places)
+
+same : (n k : ℕ) (places : List Place) → k < length (take n places) → get_or (take n places) k past_place ≡ get_or places k past_place
+same n k places h = get_or-take n places k past_place (low n k places h)
+
 pub loop-k-init : goal.loop-k-init
 loop-k-init c =
     begins (take c.args.count c.args.widths) c.args.buffer.now c.args.at c.args.start
@@ -102,8 +112,9 @@ place_length-size-requires c =
     record {
       widths_value = c.requires.widths_value;
       place_value =
-          every-get_or (good_place (take c.args.count c.args.widths)) c.args.places c.loop-k.k past_place
-          c.requires.places_value (omega (arith, c.requires.n_bound.0));
+          rw (same c.args.n c.loop-k.k c.args.places c.loop-k-test.true)
+          (every-get_or (good_place (take c.args.count c.args.widths)) c.args.places c.loop-k.k past_place
+          c.requires.places_value (omega (arith, c.requires.n_bound.0, low c.args.n c.loop-k.k c.args.places c.loop-k-test.true)));
     }
 
 pub overflow_mul-k : goal.overflow_mul-k
@@ -113,7 +124,7 @@ overflow_mul-k c =
       arith,
       room-first (take c.args.count c.args.widths) c.args.buffer.now c.args.at c.args.start
           c.args.n c.args.places c.loop-k.buffer c.loop-k.due c.loop-k.k (omega (arith, c.requires.n_bound.0))
-          c.requires.n_in_bounds c.loop-k.invariant c.loop-k-test.true,
+          c.requires.n_in_bounds c.loop-k.invariant (low c.args.n c.loop-k.k c.args.places c.loop-k-test.true),
     )
 
 pub overflow_add-at : goal.overflow_add-at
@@ -123,7 +134,7 @@ overflow_add-at c =
       arith,
       room-first (take c.args.count c.args.widths) c.args.buffer.now c.args.at c.args.start
           c.args.n c.args.places c.loop-k.buffer c.loop-k.due c.loop-k.k (omega (arith, c.requires.n_bound.0))
-          c.requires.n_in_bounds c.loop-k.invariant c.loop-k-test.true,
+          c.requires.n_in_bounds c.loop-k.invariant (low c.args.n c.loop-k.k c.args.places c.loop-k-test.true),
     )
 
 pub put_word-requires : goal.put_word-requires
@@ -131,7 +142,7 @@ put_word-requires c =
     let l : length c.args.places ≡ 8 = search rules in
     room-first (take c.args.count c.args.widths) c.args.buffer.now c.args.at c.args.start c.args.n
     c.args.places c.loop-k.buffer c.loop-k.due c.loop-k.k (omega (arith, c.requires.n_bound.0)) c.requires.n_in_bounds
-    c.loop-k.invariant c.loop-k-test.true
+    c.loop-k.invariant (low c.args.n c.loop-k.k c.args.places c.loop-k-test.true)
 
 pub overflow_mul-k-in-loop-k : goal.overflow_mul-k-in-loop-k
 overflow_mul-k-in-loop-k c =
@@ -140,7 +151,7 @@ overflow_mul-k-in-loop-k c =
       arith,
       room-first (take c.args.count c.args.widths) c.args.buffer.now c.args.at c.args.start
           c.args.n c.args.places c.loop-k.buffer c.loop-k.due c.loop-k.k (omega (arith, c.requires.n_bound.0))
-          c.requires.n_in_bounds c.loop-k.invariant c.loop-k-test.true,
+          c.requires.n_in_bounds c.loop-k.invariant (low c.args.n c.loop-k.k c.args.places c.loop-k-test.true),
     )
 
 pub overflow_add-at-in-loop-k : goal.overflow_add-at-in-loop-k
@@ -150,7 +161,7 @@ overflow_add-at-in-loop-k c =
       arith,
       room-first (take c.args.count c.args.widths) c.args.buffer.now c.args.at c.args.start
           c.args.n c.args.places c.loop-k.buffer c.loop-k.due c.loop-k.k (omega (arith, c.requires.n_bound.0))
-          c.requires.n_in_bounds c.loop-k.invariant c.loop-k-test.true,
+          c.requires.n_in_bounds c.loop-k.invariant (low c.args.n c.loop-k.k c.args.places c.loop-k-test.true),
     )
 
 pub overflow_add-at-in-loop-k-2 : goal.overflow_add-at-in-loop-k-2
@@ -160,7 +171,7 @@ overflow_add-at-in-loop-k-2 c =
       arith,
       room-first (take c.args.count c.args.widths) c.args.buffer.now c.args.at c.args.start
           c.args.n c.args.places c.loop-k.buffer c.loop-k.due c.loop-k.k (omega (arith, c.requires.n_bound.0))
-          c.requires.n_in_bounds c.loop-k.invariant c.loop-k-test.true,
+          c.requires.n_in_bounds c.loop-k.invariant (low c.args.n c.loop-k.k c.args.places c.loop-k-test.true),
     )
 
 pub put_word-requires-in-loop-k : goal.put_word-requires-in-loop-k
@@ -168,7 +179,7 @@ put_word-requires-in-loop-k c =
     let l : length c.args.places ≡ 8 = search rules in
     room-second (take c.args.count c.args.widths) c.args.buffer.now c.args.at c.args.start c.args.n
     c.args.places c.loop-k.buffer c.loop-k.due c.loop-k.k (omega (arith, c.requires.n_bound.0)) c.requires.n_in_bounds
-    c.loop-k.invariant c.loop-k-test.true c.put_word.new.buffer c.put_word.ensures
+    c.loop-k.invariant (low c.args.n c.loop-k.k c.args.places c.loop-k-test.true) c.put_word.new.buffer c.put_word.ensures
 
 pub overflow_add-due : goal.overflow_add-due
 overflow_add-due c =
@@ -179,8 +190,11 @@ loop-k-preserved c =
     let l : length c.args.places ≡ 8 = search rules in
     goes_on (take c.args.count c.args.widths) c.args.buffer.now c.args.at c.args.start c.args.n
     c.args.places c.loop-k.buffer c.loop-k.due c.loop-k.k (omega (arith, c.requires.n_bound.0)) c.requires.n_in_bounds
-    c.loop-k.invariant c.loop-k-test.true c.put_word.new.buffer c.put_word.ensures
-    c.place_length-size.result c.place_length-size.ensures.0 c.place_length-size.ensures.1
+    c.loop-k.invariant (low c.args.n c.loop-k.k c.args.places c.loop-k-test.true) c.put_word.new.buffer c.put_word.ensures
+    c.place_length-size.result
+    (c.place_length-size.ensures.0
+    ∙ ap (λ (p : Place). length (put_place (take c.args.count c.args.widths) p)) (same c.args.n c.loop-k.k c.args.places c.loop-k-test.true))
+    c.place_length-size.ensures.1
     c.put_word-in-loop-k.new.buffer c.put_word-in-loop-k.ensures
 
 pub shape_of-buffer : goal.shape_of-buffer
@@ -192,4 +206,4 @@ returns c =
     let l : length c.args.places ≡ 8 = search rules in
     ended (take c.args.count c.args.widths) c.args.buffer.now c.args.at c.args.start c.args.n
     c.args.places c.loop-k.buffer c.loop-k.due c.loop-k.k (omega (arith, c.requires.n_bound.0)) c.loop-k.invariant
-    c.loop-k-test.false
+    (past c.args.n c.loop-k.k c.args.places (omega (arith, c.requires.n_bound.0)) c.loop-k-test.false)

@@ -19,4 +19,4 @@ pub record At (schema before : List ℕ) (at start n : ℕ) (places : List Place
   pub rest : over before at (table_of start (map (put_place schema) (take n places))) ≡ over buffer (at + 4 * k) (table_of due (parts_from schema places n k))
 
 abbrev pub invariant-loop-k : goal.invariant-loop-k
-invariant-loop-k l = At (take l.count l.widths) l.initial.buffer l.at l.start l.n l.places l.buffer l.due l.k
+invariant-loop-k l = At (take l.count l.widths) l.initial.buffer l.at l.start l.n l.fn.places l.buffer l.due l.k

@@ -27,6 +27,6 @@ returns-then-place c =
       omega (arith, fits.1, c.query_length.ensures.1),
     )
 
-pub returns : goal.returns
-returns c =
+pub returns-else-place : goal.returns-else-place
+returns-else-place c =
     (sym (ap length (vacant-part (take c.args.count c.args.widths) c.args.place c.if-place.false)), omega arith)

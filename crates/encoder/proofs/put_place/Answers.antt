@@ -3,7 +3,7 @@ use borrow.Author.Rules.{rules}
 use mathlib.Core.Path.{◌≡◌, refl}
 use mathlib.Core.List.{[], ◌∷◌}
 use native.Mathlib.Omega.{arith}
-use lib.ListN.{take, length-set}
+use lib.ListN.{take}
 use lib.Seq.{sets-eq}
 use Rattle.query.specs.View.{as_query}
 use Rattle.query.proofs.Shape.{SizedFor}
@@ -55,12 +55,8 @@ overflow_add-result c =
     let room = rw e at c.requires.place_in_bounds in
     omega arith
 
-pub shape_of-buffer : goal.shape_of-buffer
-shape_of-buffer c =
-    length-set c.args.buffer.now c.args.at 255
-
-pub returns : goal.returns
-returns c =
+pub returns-else-place : goal.returns-else-place
+returns-else-place c =
     let e = vacant-part (take c.args.count c.args.widths) c.args.place c.if-place.false in
     let room = rw e at c.requires.place_in_bounds in
     rw e (sets-eq (255 ∷ []) c.args.buffer.now c.args.at room, refl)

@@ -1,15 +1,16 @@
 -- ---- the pieces of a query
 -- The head's bytes
 use borrow.Author.Rules.{rules}
-use mathlib.Core.Path.{◌≡◌, sym, ap, ◌∙◌}
+use mathlib.Core.Path.{◌≡◌, refl, sym, ap, ◌∙◌}
 use mathlib.Core.Bool.{cond}
 use mathlib.Core.List.{List, [], ◌∷◌, ◌++◌, flat_map}
-use Prim.Native.Nat.{ℕ, ◌+◌, ◌*◌, ◌^◌, ◌≤◌, ◌<◌}
+use Prim.Native.Nat.{ℕ, zero, suc, ◌+◌, ◌*◌, ◌^◌, ◌≤◌, ◌<◌}
 use native.Mathlib.Omega.{arith}
 use lib.Dec.{eqb}
-use lib.ListN.{length, take, set, length-append, length-set}
+use lib.ListN.{length, take, drop, set, length-append, length-set}
 use lib.Seq.{length-take-le}
 use Rattle.query.specs.Types.{Query}
+use Rattle.query.specs.declared.Cell.{Cell}
 use Rattle.query.specs.View.{as_query}
 use Rattle.lists.specs.Over.{over}
 use Rattle.format.specs.Format.{byte, sequence, via, padded}
@@ -27,11 +28,18 @@ head_bytes used q = flat_map entry.put (take used q.head)
 
 -- The rows' bytes
 abbrev row_bytes : List ℕ → Query → List ℕ
-row_bytes schema q = flat_map (row schema).put (take q.size (chunk q.relations q.cells))
+row_bytes schema q = flat_map (row schema).put (chunk (take q.size q.relations) q.cells)
 
 -- The buffer after the first two bytes
 abbrev opened : List ℕ → ℕ → Query → List ℕ
 opened buffer at q = set (set buffer at q.arity) (at + 1) q.size
+
+-- The first rows
+chunk-first : (n : ℕ) (named : List ℕ) (cells : List Cell) → take n (chunk named cells) ≡ chunk (take n named) cells
+unfolding chunk
+chunk-first zero named cells = refl
+chunk-first (suc n) [] cells = refl
+chunk-first (suc n) (r ∷ named) cells = ap (λ (rs : List (ℕ × List Cell)). (r, take 8 cells) ∷ rs) (chunk-first n named (drop 8 cells))
 
 module _ (schema buffer : List ℕ) (at : ℕ) (q : Query) (lh : length q.head ≡ 8) (ha : q.arity ≤ 8)
     (room : at + length ((query_for 24 schema).put q) ≤ length buffer)
@@ -47,7 +55,7 @@ module _ (schema buffer : List ℕ) (at : ℕ) (q : Query) (lh : length q.head �
 
   put-pieces : (query_for 24 schema).put q ≡ q.arity ∷ q.size ∷ ((head_bytes used q) ++ (row_bytes schema q))
   unfolding query_for via sequence byte rows entries padded
-  put-pieces = rw eu
+  put-pieces = rw (eu, chunk-first q.size q.relations q.cells)
 
   total : length ((query_for 24 schema).put q) ≡ 2 + (5 * used + length (row_bytes schema q))
   total = ap length put-pieces ∙ omega (arith, length-append (head_bytes used q) (row_bytes schema q), head-long)
@@ -157,12 +165,27 @@ overflow_mul-used c = omega (arith, used (goal.at.overflow_mul-used c).After-hea
 pub overflow_add-at-3 : goal.overflow_add-at-3
 overflow_add-at-3 c = omega (arith, rows_at (goal.at.overflow_add-at-3 c).After-put_entries)
 
+-- The rows are among the 24 that there is room for
+fits : (size : ℕ) (named : List ℕ) (cells : List Cell) → size ≤ 24 → length named ≡ 24 → length cells ≡ 192
+    → (size ≡ length (take size named)) × (8 * length (take size named) ≤ length cells)
+fits size named cells few ln lc =
+    let k : length (take size named) ≡ size = length-take-le size named (omega arith) in
+    (sym k, omega arith)
+
+pub slice_bounds-put_rows-end : goal.slice_bounds-put_rows-end
+slice_bounds-put_rows-end c =
+    let ln : length c.args.t.relations ≡ 24 = search (mapped-length, rules) in
+    let lc : length c.args.t.cells ≡ 192 = search (mapped-length, rules) in
+    (fits c.args.t.size c.args.t.relations c.args.t.cells c.requires.arity_bound.1 ln lc).0
+
 pub put_rows-requires : goal.put_rows-requires
 put_rows-requires c =
+    let ln : length c.args.t.relations ≡ 24 = search (mapped-length, rules) in
+    let lc : length c.args.t.cells ≡ 192 = search (mapped-length, rules) in
     record {
       widths_value = c.requires.widths_value;
-      size_bound = c.requires.arity_bound.1;
-      cells_in_bounds = rows_fit (goal.at.put_rows-requires c).After-put_entries;
+      cells_long = (fits c.args.t.size c.args.t.relations c.args.t.cells c.requires.arity_bound.1 ln lc).1;
+      rows_in_bounds = rows_fit (goal.at.put_rows-requires c).After-put_entries;
     }
 
 pub shape_of-buffer : goal.shape_of-buffer
