@@ -7,7 +7,6 @@ ghost use Rattle.admission.specs.Conditions.{test_conditions, search_conditions}
 ghost use Rattle.lent_numbers.specs.Lent.{returned, leaves};
 ghost use Rattle.database_on_files.specs.Databases.{tested_in, evaluated_in, answers_left, counted_in, UnusedInFile};
 
-
 // Tests a database against the dependencies. Working memory is lent for the tables.
 pub fn test_in_file_lent(
     file: &[u8],

@@ -32,10 +32,9 @@ pub fn read_place(part: &[u8], last: bool, count: u8, widths: [u8; 8]) -> Result
         }
         return Ok(no_place());
     }
-    let read = read_query(part, count, widths);
-    if !read.good {
+    let Some(read) = read_query(part, count, widths) else {
         return Err(Refusal::BadQuery);
-    }
+    };
     let query = read.query;
     let safe = limits::head_safe(count, widths, query);
     // a byte too many is asked before the head is judged

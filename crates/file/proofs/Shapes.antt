@@ -68,4 +68,3 @@ record-shaped r vs p =
     let places = long place.the_row 8 r.places _ p.1.1.1.1.1.1.1.1.0 in
     let queries = places-shaped r.places _ p.1.1.1.1.1.1.1.1.0.1.1 in
     rw (widths, dependencies, joins, sets, places, queries)
-

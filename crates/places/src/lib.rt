@@ -11,8 +11,8 @@ ghost use Rattle.places.specs.internal.Read.{record_read};
 use decoder::read_place;
 use parsing::word16;
 use query::{Dependency, JoinDependency};
-use record::calls::no_place;
 use record::Record;
+use record::calls::no_place;
 use refusals::Refusal;
 
 // The stretch of the file that pair k names.

@@ -64,26 +64,25 @@ fn read_parts(file: &[u8], n: usize) -> Result<Record, Refusal>
     requires file_value { chained n (2 + 4 * n) (length file.now) (drop 2 file.now) ≡ true }
     ensures { reply_of result ≡ read_all (stretches n file.now (drop 2 file.now)) }
 {
-    let first = read_relations(part(file, 0));
-    if !first.good {
+    let Some(relations) = read_relations(part(file, 0)) else {
         return Err(Refusal::BadRelations);
-    }
-    let count = first.count;
-    let widths = first.widths;
+    };
+    let count = relations.0;
+    let widths = relations.1;
     let second = part(file, 1);
     let functional = read_dependencies(second, count, widths);
-    if !functional.good {
+    let Some(functional) = functional else {
         return Err(Refusal::BadDependency);
-    }
-    let held = functional.held;
-    let dependencies = functional.dependencies;
+    };
+    let held = functional.0;
+    let dependencies = functional.1;
     let from = 1 + 3 * held as usize;
     let rest = read_joins(&second[from..], count, widths);
-    if !rest.good {
+    let Some(rest) = rest else {
         return Err(Refusal::BadJoin);
-    }
-    let joined = rest.joined;
-    let joins = rest.joins;
+    };
+    let joined = rest.0;
+    let joins = rest.1;
     read_places(file, n, count, widths, held, dependencies, joined, joins)
 }
 

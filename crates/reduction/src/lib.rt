@@ -11,8 +11,8 @@ ghost use Rattle.reduction.specs.Reduced.{reduced_reply, refused_reduction, IsRe
 ghost use Rattle.reduction.specs.internal.Steps.{Shortenable, IsShortened, Reducible};
 
 use query::{Cell, Dependency, Place, Query};
-use record::calls::{stored, with_place};
 use record::Record;
+use record::calls::{stored, with_place};
 use refusals::Refusal;
 use tableaux::{from_query, to_query};
 

@@ -7,6 +7,7 @@ use native.Mathlib.Omega.{arith}
 use lib.Dec.{eqb}
 use lib.ListN.{length, take}
 use Rattle.refusals.specs.Refusals.{◌>>=◌, bad_query, gives, refused, unsafe_head}
+use Rattle.std.specs.Prelude.{None, Some}
 use Rattle.query.specs.Types.{Query}
 use Rattle.query.specs.Rule.{head_safe, no_place, place_with}
 use Rattle.query.proofs.Good as stored
@@ -59,14 +60,15 @@ module _ (schema part : List ℕ) (last : Bool) where
       good-query-part t w h = rw (v, e, complete-whole q rest w, h)
 
 -- ---- the query reader's answer
-query-bad : (o : Reading Query) (r : QueryRead) → r ≡ query_read o → r.good ≡ false → o ≡ none
-query-bad none r e g = refl
-query-bad (got q rest) r e g = let t : r.good ≡ true = ap (λ (r : QueryRead). r.good) e in let z : ◌≡◌ {A = ℕ} 0 1 = cc in absurd (omega arith)
+query-bad : (o : Reading Query) → query_read o ≡ None → o ≡ none
+query-bad none e = refl
+query-bad (got q rest) e = let z : ◌≡◌ {A = ℕ} 0 1 = cc in absurd (omega arith)
 
-query-some : (o : Reading Query) (r : QueryRead) → r ≡ query_read o → r.good ≡ true
-    → (rest : List ℕ) × (o ≡ got r.query rest) × (r.whole ≡ eqb (length rest) 0)
-query-some none r e g = let t : r.good ≡ false = ap (λ (r : QueryRead). r.good) e in let z : ◌≡◌ {A = ℕ} 0 1 = cc in absurd (omega arith)
-query-some (got q rest) r e g = (rest, ap (λ (r : QueryRead). got r.query rest) (sym e), ap (λ (r : QueryRead). r.whole) e)
+query-some : (o : Reading Query) (r : QueryRead) → query_read o ≡ Some r → (rest : List ℕ) × (o ≡ got r.query rest) × (r.whole ≡ eqb (length rest) 0)
+query-some none r e = let z : ◌≡◌ {A = ℕ} 0 1 = cc in absurd (omega arith)
+query-some (got q rest) r e =
+    let same : record { whole = eqb (length rest) 0; query = q } ≡ r = cc in
+    (rest, ap (λ (r : QueryRead). got r.query rest) same, ap (λ (r : QueryRead). r.whole) (sym same))
 
 -- a query that was read keeps the limits of its sizes
 read-sizes : (schema part : List ℕ) (q : Query) (rest : List ℕ) → Narrow schema → Bytes part → (query schema).get part ≡ got q rest
@@ -87,51 +89,51 @@ returns-then-is_vacant c =
     ∙ sym ((vacant-place (take c.args.count c.args.widths) c.args.part.now c.args.last
     (sym c.is_vacant.ensures ∙ c.if-is_vacant.true) c.if-last.false))
 
-pub returns-then-not-read : goal.returns-then-not-read
-returns-then-not-read c =
+pub returns-in_default : goal.returns-in_default
+returns-in_default c =
     let schema = take c.args.count c.args.widths in
     let part = c.args.part.now in
-    let read = c.read_query-read in
+    let read = c.read_query in
     let v = sym c.is_vacant.ensures ∙ c.if-is_vacant.false in
     sym ((bad-query schema part c.args.last v
-    (query-bad ((query schema).get part) read.result read.ensures (not-true read.result.good c.if-not-read.true))))
+    (query-bad ((query schema).get part) (sym read.ensures ∙ c.in_default.is))))
 
 pub head_safe-safe-requires : goal.head_safe-safe-requires
 head_safe-safe-requires c =
     let schema = take c.args.count c.args.widths in
     let part = c.args.part.now in
-    let read = c.read_query-read in
-    let (rest, e, w) = query-some ((query schema).get part) read.result read.ensures (not-false read.result.good c.if-not-read.false) in
+    let read = c.read_query in
+    let (rest, e, w) = query-some ((query schema).get part) c.in-Some.read (sym read.ensures ∙ c.in-Some.is) in
     let bytes = bytes-known part (λ i. (c.type_inv.part i).fits) in
-    let (arity, size) = read-sizes schema part read.result.query rest (good-narrow c.args.count c.args.widths c.requires) bytes e in
+    let (arity, size) = read-sizes schema part c.in-Some.read.query rest (good-narrow c.args.count c.args.widths c.requires) bytes e in
     (c.requires, arity, size)
 
-pub returns-then-not-read-2 : goal.returns-then-not-read-2
-returns-then-not-read-2 c =
+pub returns-then-not-read : goal.returns-then-not-read
+returns-then-not-read c =
     let schema = take c.args.count c.args.widths in
     let part = c.args.part.now in
-    let read = c.read_query-read in
-    let (rest, e, w) = query-some ((query schema).get part) read.result read.ensures (not-false read.result.good c.if-not-read.false) in
+    let read = c.read_query in
+    let (rest, e, w) = query-some ((query schema).get part) c.in-Some.read (sym read.ensures ∙ c.in-Some.is) in
     let v = sym c.is_vacant.ensures ∙ c.if-is_vacant.false in
-    sym ((long-query schema part c.args.last v read.result.query rest e
-    (sym w ∙ not-true read.result.whole c.if-not-read-2.true)))
+    sym ((long-query schema part c.args.last v c.in-Some.read.query rest e
+    (sym w ∙ not-true c.in-Some.read.whole c.if-not-read.true)))
 
 pub returns-then-safe : goal.returns-then-safe
 returns-then-safe c =
     let schema = take c.args.count c.args.widths in
     let part = c.args.part.now in
-    let read = c.read_query-read in
-    let (rest, e, w) = query-some ((query schema).get part) read.result read.ensures (not-false read.result.good c.if-not-read.false) in
+    let read = c.read_query in
+    let (rest, e, w) = query-some ((query schema).get part) c.in-Some.read (sym read.ensures ∙ c.in-Some.is) in
     let v = sym c.is_vacant.ensures ∙ c.if-is_vacant.false in
-    sym ((good-query-part schema part c.args.last v read.result.query rest e true
-    (sym w ∙ not-false read.result.whole c.if-not-read-2.false) (sym c.head_safe-safe.ensures ∙ c.if-safe.true)))
+    sym ((good-query-part schema part c.args.last v c.in-Some.read.query rest e true
+    (sym w ∙ not-false c.in-Some.read.whole c.if-not-read.false) (sym c.head_safe-safe.ensures ∙ c.if-safe.true)))
 
 pub returns : goal.returns
 returns c =
     let schema = take c.args.count c.args.widths in
     let part = c.args.part.now in
-    let read = c.read_query-read in
-    let (rest, e, w) = query-some ((query schema).get part) read.result read.ensures (not-false read.result.good c.if-not-read.false) in
+    let read = c.read_query in
+    let (rest, e, w) = query-some ((query schema).get part) c.in-Some.read (sym read.ensures ∙ c.in-Some.is) in
     let v = sym c.is_vacant.ensures ∙ c.if-is_vacant.false in
-    sym ((good-query-part schema part c.args.last v read.result.query rest e false
-    (sym w ∙ not-false read.result.whole c.if-not-read-2.false) (sym c.head_safe-safe.ensures ∙ c.if-safe.false)))
+    sym ((good-query-part schema part c.args.last v c.in-Some.read.query rest e false
+    (sym w ∙ not-false c.in-Some.read.whole c.if-not-read.false) (sym c.head_safe-safe.ensures ∙ c.if-safe.false)))

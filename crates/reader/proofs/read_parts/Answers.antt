@@ -23,14 +23,13 @@ use Rattle.format.proofs.Parts.{relations-lawful, dependencies-lawful}
 use Rattle.format.proofs.Rules.{good-relations, good-dependencies}
 use Rattle.format.proofs.Lengths.{length-dependencies}
 use Rattle.format.proofs.Results.{complete-get}
-use Rattle.parsing.specs.declared.RelationsRead.{RelationsRead}
-use Rattle.parsing.specs.declared.DependenciesRead.{DependenciesRead}
-use Rattle.parsing.specs.declared.JoinsRead.{JoinsRead}
-use Rattle.parsing.specs.internal.Read.{relations_read, dependencies_read, joins_read}
+use Rattle.std.specs.Prelude.{Option as Maybe, None, Some}
+use Rattle.parsing.specs.internal.Read.{value_read, value_given}
+use Rattle.parsing.proofs.Values.{value-none, value-got}
 use Rattle.places.specs.internal.Read.{record_read}
 use Rattle.format.proofs.Stretches.{table_at, first_two, stretch-fits}
-use Rattle.reader.proofs.read_parts.Goals.{Else-not-first, Else-not-functional}
 use Rattle.reader.proofs.read_parts.Goals as goal
+use Rattle.reader.proofs.read_parts.Goals.{In-Some, In-Some-functional}
 
 -- ---- the parts
 
@@ -45,32 +44,13 @@ complete-refused m none n e = refl
 complete-refused m (got a []) n e = let z : ◌≡◌ {A = ℕ} 0 1 = cc in absurd (omega arith)
 complete-refused m (got a (b ∷ rest)) n e = refl
 
-relations-bad : (o : Reply (ℕ × List ℕ)) (r : RelationsRead) → r ≡ relations_read o → r.good ≡ false → (n : ℕ) × (o ≡ refused n)
-relations-bad (gives rs) r e g = let t : r.good ≡ true = ap (λ (r : RelationsRead). r.good) e in let z : ◌≡◌ {A = ℕ} 0 1 = cc in absurd (omega arith)
-relations-bad (refused n) r e g = (n, refl)
+reply-bad : {A : Type 0} (o : Reply A) → value_given o ≡ None → (n : ℕ) × (o ≡ refused n)
+reply-bad (gives a) e = let z : ◌≡◌ {A = ℕ} 0 1 = cc in absurd (omega arith)
+reply-bad (refused n) e = (n, refl)
 
-relations-some : (o : Reply (ℕ × List ℕ)) (r : RelationsRead) → r ≡ relations_read o → r.good ≡ true → o ≡ gives (r.count, r.widths)
-relations-some (gives rs) r e g = ap (λ (r : RelationsRead). gives (r.count, r.widths)) (sym e)
-relations-some (refused n) r e g = let t : r.good ≡ false = ap (λ (r : RelationsRead). r.good) e in let z : ◌≡◌ {A = ℕ} 0 1 = cc in absurd (omega arith)
-
-dependencies-bad : (o : Reading (ℕ × List Dependency)) (r : DependenciesRead) → r ≡ dependencies_read o → r.good ≡ false → o ≡ none
-dependencies-bad none r e g = refl
-dependencies-bad (got ds rest) r e g =
-    let t : r.good ≡ true = ap (λ (r : DependenciesRead). r.good) e in let z : ◌≡◌ {A = ℕ} 0 1 = cc in absurd (omega arith)
-
-dependencies-some : (o : Reading (ℕ × List Dependency)) (r : DependenciesRead) → r ≡ dependencies_read o → r.good ≡ true
-    → (rest : List ℕ) × (o ≡ got (r.held, r.dependencies) rest)
-dependencies-some none r e g =
-    let t : r.good ≡ false = ap (λ (r : DependenciesRead). r.good) e in let z : ◌≡◌ {A = ℕ} 0 1 = cc in absurd (omega arith)
-dependencies-some (got ds rest) r e g = (rest, ap (λ (r : DependenciesRead). got (r.held, r.dependencies) rest) (sym e))
-
-joins-bad : (o : Reply (ℕ × List JoinDependency)) (r : JoinsRead) → r ≡ joins_read o → r.good ≡ false → (n : ℕ) × (o ≡ refused n)
-joins-bad (gives js) r e g = let t : r.good ≡ true = ap (λ (r : JoinsRead). r.good) e in let z : ◌≡◌ {A = ℕ} 0 1 = cc in absurd (omega arith)
-joins-bad (refused n) r e g = (n, refl)
-
-joins-some : (o : Reply (ℕ × List JoinDependency)) (r : JoinsRead) → r ≡ joins_read o → r.good ≡ true → o ≡ gives (r.joined, r.joins)
-joins-some (gives js) r e g = ap (λ (r : JoinsRead). gives (r.joined, r.joins)) (sym e)
-joins-some (refused n) r e g = let t : r.good ≡ false = ap (λ (r : JoinsRead). r.good) e in let z : ◌≡◌ {A = ℕ} 0 1 = cc in absurd (omega arith)
+reply-some : {A : Type 0} (o : Reply A) (a : A) → value_given o ≡ Some a → o ≡ gives a
+reply-some (gives b) a e = let same : b ≡ a = cc in ap gives same
+reply-some (refused n) a e = let z : ◌≡◌ {A = ℕ} 0 1 = cc in absurd (omega arith)
 
 joins-refused : (schema bytes : List ℕ) (n : ℕ) → read_joins schema bytes ≡ refused n → read_joins schema bytes ≡ refused bad_join
 unfolding read_joins
@@ -126,86 +106,76 @@ module _ (file : List ℕ) (n : ℕ) (low : 2 ≤ n) (part0 part1 : List ℕ) (e
     unfolding read_all
     all = ap read_all (first_two file n low) ∙ rw (e₀, e₁)
 
-module _ (file : List ℕ) (n : ℕ) (low : 2 ≤ n) (part0 : List ℕ) (e₀ : part0 ≡ stretch file (table_at file 0)) (rs : RelationsRead)
-    (er : rs ≡ relations_read (complete bad_relations (relations.get part0))) where
-  refuses-relations : rs.good ≡ false → (refused bad_relations) ≡ (read_all (stretches n file (drop 2 file)))
+module _ (file : List ℕ) (n : ℕ) (low : 2 ≤ n) (part0 : List ℕ) (e₀ : part0 ≡ stretch file (table_at file 0)) (first : Maybe (ℕ × List ℕ))
+    (er : first ≡ value_given (complete bad_relations (relations.get part0))) where
+  refuses-relations : first ≡ None → refused bad_relations ≡ read_all (stretches n file (drop 2 file))
   refuses-relations g =
-      let (m, w) = relations-bad (complete bad_relations (relations.get part0)) rs er g in
+      let (m, w) = reply-bad (complete bad_relations (relations.get part0)) (sym er ∙ g) in
       let w' = complete-refused bad_relations (relations.get part0) m w in
-      sym ((all file n low part0 (stretch file (table_at file 1)) e₀ refl
-      ∙ bad-relations-part part0 (stretch file (table_at file 1)) (stretches (n - 2) file (drop 10 file)) w'))
+      sym (all file n low part0 (stretch file (table_at file 1)) e₀ refl
+      ∙ bad-relations-part part0 (stretch file (table_at file 1)) (stretches (n - 2) file (drop 10 file)) w')
 
-  good-count : Bytes file → rs.good ≡ true → good_relations rs.count rs.widths ≡ true
-  good-count hb g =
-      let w = relations-some (complete bad_relations (relations.get part0)) rs er g in
-      let b : Bytes part0 = rw e₀ (stretch-bytes file (table_at file 0) hb) in
-      (good-relations (rs.count, rs.widths) (complete-get bad_relations relations relations-lawful part0 (rs.count, rs.widths) b w).0).1
+  module _ (rs : ℕ × List ℕ) (g₀ : first ≡ Some rs) where
+    relations-read : complete bad_relations (relations.get part0) ≡ gives rs
+    relations-read = reply-some (complete bad_relations (relations.get part0)) rs (sym er ∙ g₀)
 
-  module _ (part1 : List ℕ) (e₁ : part1 ≡ stretch file (table_at file 1)) (g₀ : rs.good ≡ true) (ds : DependenciesRead)
-      (ed : ds ≡ dependencies_read ((dependencies (take rs.count rs.widths)).get part1)) where
-    schema : List ℕ
-    schema = take rs.count rs.widths
+    good-count : Bytes file → good_relations rs.0 rs.1 ≡ true
+    good-count hb =
+        let b : Bytes part0 = rw e₀ (stretch-bytes file (table_at file 0) hb) in
+        (good-relations rs (complete-get bad_relations relations relations-lawful part0 rs b relations-read).0).1
 
-    refuses-dependencies : ds.good ≡ false → (refused bad_dependency) ≡ (read_all (stretches n file (drop 2 file)))
-    unfolding schema
-    refuses-dependencies g =
-        let w₀ = relations-some (complete bad_relations (relations.get part0)) rs er g₀ in
-        let w₁ = dependencies-bad ((dependencies schema).get part1) ds ed g in
-        sym ((all file n low part0 part1 e₀ e₁
-        ∙ bad-dependencies-part part0 part1 (stretches (n - 2) file (drop 10 file)) (rs.count, rs.widths) w₀ w₁))
+    module _ (part1 : List ℕ) (e₁ : part1 ≡ stretch file (table_at file 1)) (second : Maybe (ℕ × List Dependency))
+        (ed : second ≡ value_read ((dependencies (take rs.0 rs.1)).get part1)) where
+      schema : List ℕ
+      schema = take rs.0 rs.1
 
-    module _ (hb : Bytes file) (g₁ : ds.good ≡ true) where
-      -- the bytes after the functional dependencies
-      tail_of : (1 + 3 * ds.held ≤ length part1) × ((dependencies (take rs.count rs.widths)).get part1
-          ≡ got (ds.held, ds.dependencies) (drop (1 + 3 * ds.held) part1))
+      refuses-dependencies : second ≡ None → refused bad_dependency ≡ read_all (stretches n file (drop 2 file))
       unfolding schema
-      tail_of =
-          let (rest, w₁) = dependencies-some ((dependencies schema).get part1) ds ed g₁ in
-          let b : Bytes part1 = rw e₁ (stretch-bytes file (table_at file 1) hb) in
-          let (room, is) = rest-starts schema part1 (ds.held, ds.dependencies) rest b w₁ in
-          (room, w₁ ∙ ap (λ (r : List ℕ). got (ds.held, ds.dependencies) r) is)
+      refuses-dependencies g =
+          let w₁ = value-none ((dependencies schema).get part1) (sym g ∙ ed) in
+          sym (all file n low part0 part1 e₀ e₁
+          ∙ bad-dependencies-part part0 part1 (stretches (n - 2) file (drop 10 file)) rs relations-read w₁)
 
-      module _ (js : JoinsRead) (ej : js ≡ joins_read (read_joins (take rs.count rs.widths) (take (length part1 - (1 + 3 * ds.held))
-          (drop (1 + 3 * ds.held) part1)))) where
-        tail-read : js ≡ joins_read (read_joins (take rs.count rs.widths) (drop (1 + 3 * ds.held) part1))
-        tail-read =
-            ej ∙ ap (λ (l : List ℕ). joins_read (read_joins (take rs.count rs.widths) l))
-            (take_all (length part1 - (1 + 3 * ds.held)) (drop (1 + 3 * ds.held) part1) (omega (arith, length-drop (1 + 3 * ds.held) part1)))
-
-        refuses-joins : js.good ≡ false → (refused bad_join) ≡ (read_all (stretches n file (drop 2 file)))
+      module _ (hb : Bytes file) (ds : ℕ × List Dependency) (g₁ : second ≡ Some ds) where
+        -- the bytes after the functional dependencies
+        tail_of : (1 + 3 * ds.0 ≤ length part1) × ((dependencies (take rs.0 rs.1)).get part1 ≡ got ds (drop (1 + 3 * ds.0) part1))
         unfolding schema
-        refuses-joins g =
-            let w₀ = relations-some (complete bad_relations (relations.get part0)) rs er g₀ in
-            let (m, w) = joins-bad (read_joins schema (drop (1 + 3 * ds.held) part1)) js tail-read g in
-            let w₂ = joins-refused schema (drop (1 + 3 * ds.held) part1) m w in
-            sym ((all file n low part0 part1 e₀ e₁
-            ∙ bad-joins-part part0 part1 (stretches (n - 2) file (drop 10 file)) (rs.count, rs.widths) w₀ (ds.held, ds.dependencies)
-            (drop (1 + 3 * ds.held) part1) tail_of.1 w₂))
+        tail_of =
+            let (rest, w₁) = value-got ((dependencies schema).get part1) ds (sym g₁ ∙ ed) in
+            let b : Bytes part1 = rw e₁ (stretch-bytes file (table_at file 1) hb) in
+            let (room, is) = rest-starts schema part1 ds rest b w₁ in
+            (room, w₁ ∙ ap (λ (r : List ℕ). got ds r) is)
 
-        reads-places : js.good ≡ true
-            → record_read (rs.count, rs.widths) (ds.held, ds.dependencies) (js.joined, js.joins)
-            (read_places (take rs.count rs.widths) (stretches (n - 2) file (drop 10 file)))
-            ≡ (read_all (stretches n file (drop 2 file)))
-        unfolding schema
-        reads-places g =
-            let w₀ = relations-some (complete bad_relations (relations.get part0)) rs er g₀ in
-            let w₂ = joins-some (read_joins schema (drop (1 + 3 * ds.held) part1)) js tail-read g in
-            sym (all file n low part0 part1 e₀ e₁
-            ∙ parts-places part0 part1 (stretches (n - 2) file (drop 10 file)) (rs.count, rs.widths) w₀ (ds.held, ds.dependencies)
-            (drop (1 + 3 * ds.held) part1) tail_of.1 (js.joined, js.joins) w₂)
+        module _ (third : Maybe (ℕ × List JoinDependency)) (ej : third ≡ value_given (read_joins (take rs.0 rs.1) (take (length part1 - (1 + 3 * ds.0))
+            (drop (1 + 3 * ds.0) part1)))) where
+          tail-read : third ≡ value_given (read_joins (take rs.0 rs.1) (drop (1 + 3 * ds.0) part1))
+          tail-read =
+              ej ∙ ap (λ (l : List ℕ). value_given (read_joins (take rs.0 rs.1) l))
+              (take_all (length part1 - (1 + 3 * ds.0)) (drop (1 + 3 * ds.0) part1) (omega (arith, length-drop (1 + 3 * ds.0) part1)))
 
+          refuses-joins : third ≡ None → refused bad_join ≡ read_all (stretches n file (drop 2 file))
+          unfolding schema
+          refuses-joins g =
+              let (m, w) = reply-bad (read_joins schema (drop (1 + 3 * ds.0) part1)) (sym tail-read ∙ g) in
+              let w₂ = joins-refused schema (drop (1 + 3 * ds.0) part1) m w in
+              sym (all file n low part0 part1 e₀ e₁
+              ∙ bad-joins-part part0 part1 (stretches (n - 2) file (drop 10 file)) rs relations-read ds (drop (1 + 3 * ds.0) part1) tail_of.1 w₂)
+
+          reads-places : (js : ℕ × List JoinDependency) → third ≡ Some js
+              → record_read rs ds js (read_places (take rs.0 rs.1) (stretches (n - 2) file (drop 10 file))) ≡ read_all (stretches n file (drop 2 file))
+          unfolding schema
+          reads-places js g =
+              let w₂ = reply-some (read_joins schema (drop (1 + 3 * ds.0) part1)) js (sym tail-read ∙ g) in
+              sym (all file n low part0 part1 e₀ e₁
+              ∙ parts-places part0 part1 (stretches (n - 2) file (drop 10 file)) rs relations-read ds (drop (1 + 3 * ds.0) part1) tail_of.1 js w₂)
+
+-- ---- what holds at each place
 pub part-requires : goal.part-requires
 part-requires c =
     record {
       k_in_bounds = omega (arith, c.requires.le_n.2);
       file_in_bounds = stretch-fits c.args.file.now c.args.n (2 + 4 * c.args.n) 0 (omega (arith, c.requires.le_n.0)) c.requires.file_value;
     }
-
-pub returns-then-not-first : goal.returns-then-not-first
-returns-then-not-first c =
-    refuses-relations c.args.file.now c.args.n c.requires.le_n.0 c.part.result.now
-    c.part.ensures c.read_relations-first.result c.read_relations-first.ensures
-    (not-true c.read_relations-first.result.good c.if-not-first.true)
 
 pub part-second-requires : goal.part-second-requires
 part-second-requires c =
@@ -214,79 +184,61 @@ part-second-requires c =
       file_in_bounds = stretch-fits c.args.file.now c.args.n (2 + 4 * c.args.n) 1 (omega (arith, c.requires.le_n.0)) c.requires.file_value;
     }
 
--- What is known where the relations are good
-module _ (c : goal.Else-not-first) where
-  first_good : c.read_relations-first.result.good ≡ true
-  first_good = not-false c.read_relations-first.result.good c.if-not-first.false
+pub returns-in_default : goal.returns-in_default
+returns-in_default c =
+    refuses-relations c.args.file.now c.args.n c.requires.le_n.0 c.part.result.now c.part.ensures c.read_relations.result c.read_relations.ensures
+    c.in_default.is
 
+-- What is known where the relations are good
+module _ (c : In-Some) where
   file-bytes : Bytes c.args.file.now
   file-bytes = bytes-known c.args.file.now (λ i. (c.type_inv.file i).fits)
 
-  relations-known : good_relations c.read_relations-first.result.count c.read_relations-first.result.widths ≡ true
+  relations-known : good_relations c.in-Some.relations.0 c.in-Some.relations.1 ≡ true
   relations-known =
-      good-count c.args.file.now c.args.n c.requires.le_n.0 c.part.result.now c.part.ensures
-      c.read_relations-first.result c.read_relations-first.ensures file-bytes first_good
+      good-count c.args.file.now c.args.n c.requires.le_n.0 c.part.result.now c.part.ensures c.read_relations.result c.read_relations.ensures
+      c.in-Some.relations c.in-Some.is file-bytes
 
 pub read_dependencies-functional-requires : goal.read_dependencies-functional-requires
-read_dependencies-functional-requires c = relations-known (goal.at.read_dependencies-functional-requires c).Else-not-first
+read_dependencies-functional-requires c = relations-known (goal.at.read_dependencies-functional-requires c).In-Some
 
-pub returns-then-not-functional : goal.returns-then-not-functional
-returns-then-not-functional c =
-    refuses-dependencies c.args.file.now c.args.n c.requires.le_n.0 c.part.result.now
-    c.part.ensures c.read_relations-first.result c.read_relations-first.ensures
-    c.part-second.result.now c.part-second.ensures (first_good (goal.at.returns-then-not-functional c).Else-not-first)
-    c.read_dependencies-functional.result c.read_dependencies-functional.ensures
-    (not-true c.read_dependencies-functional.result.good c.if-not-functional.true)
+pub returns-in_default-functional : goal.returns-in_default-functional
+returns-in_default-functional c =
+    refuses-dependencies c.args.file.now c.args.n c.requires.le_n.0 c.part.result.now c.part.ensures c.read_relations.result c.read_relations.ensures
+    c.in-Some.relations c.in-Some.is c.part-second.result.now c.part-second.ensures c.read_dependencies-functional.result
+    c.read_dependencies-functional.ensures c.in_default-functional.is
 
--- What is known where the functional dependencies are good too
-module _ (c : goal.Else-not-functional) where
-  known-bytes : Bytes c.args.file.now
-  known-bytes = bytes-known c.args.file.now (λ i. (c.type_inv.file i).fits)
-
-  second-good : c.read_dependencies-functional.result.good ≡ true
-  second-good = not-false c.read_dependencies-functional.result.good c.if-not-functional.false
-
-  tail-fits : 1 + 3 * c.read_dependencies-functional.result.held ≤ length c.part-second.result.now
-  tail-fits =
-      (tail_of c.args.file.now c.args.n c.requires.le_n.0 c.part.result.now c.part.ensures c.read_relations-first.result
-      c.read_relations-first.ensures c.part-second.result.now c.part-second.ensures
-      (not-false c.read_relations-first.result.good c.if-not-first.false) c.read_dependencies-functional.result
-      c.read_dependencies-functional.ensures known-bytes second-good).0
+-- Where the join dependencies start
+tail-fits : (c : In-Some-functional) → 1 + 3 * c.in-Some-functional.functional.0 ≤ length c.part-second.result.now
+tail-fits c =
+    (tail_of c.args.file.now c.args.n c.requires.le_n.0 c.part.result.now c.part.ensures c.read_relations.result c.read_relations.ensures
+    c.in-Some.relations c.in-Some.is c.part-second.result.now c.part-second.ensures c.read_dependencies-functional.result
+    c.read_dependencies-functional.ensures (bytes-known c.args.file.now (λ i. (c.type_inv.file i).fits)) c.in-Some-functional.functional
+    c.in-Some-functional.is).0
 
 pub slice_bounds-read_joins-count : goal.slice_bounds-read_joins-count
-slice_bounds-read_joins-count c = let room = tail-fits (goal.at.slice_bounds-read_joins-count c).Else-not-functional in omega arith
+slice_bounds-read_joins-count c = let room = tail-fits (goal.at.slice_bounds-read_joins-count c).In-Some-functional in omega arith
 
 pub slice_bounds-read_joins-start : goal.slice_bounds-read_joins-start
-slice_bounds-read_joins-start c = let room = tail-fits (goal.at.slice_bounds-read_joins-start c).Else-not-functional in omega arith
-
-pub slice_bounds-read_joins-end : goal.slice_bounds-read_joins-end
-slice_bounds-read_joins-end c = let room = tail-fits (goal.at.slice_bounds-read_joins-end c).Else-not-functional in omega arith
+slice_bounds-read_joins-start c = let room = tail-fits (goal.at.slice_bounds-read_joins-start c).In-Some-functional in omega arith
 
 pub read_joins-rest-requires : goal.read_joins-rest-requires
-read_joins-rest-requires c = relations-known (goal.at.read_joins-rest-requires c).Else-not-first
+read_joins-rest-requires c = relations-known (goal.at.read_joins-rest-requires c).In-Some
 
-pub returns-then-not-rest : goal.returns-then-not-rest
-returns-then-not-rest c =
-    refuses-joins c.args.file.now c.args.n c.requires.le_n.0 c.part.result.now
-    c.part.ensures c.read_relations-first.result c.read_relations-first.ensures c.part-second.result.now c.part-second.ensures
-    (not-false c.read_relations-first.result.good c.if-not-first.false) c.read_dependencies-functional.result
-    c.read_dependencies-functional.ensures (known-bytes (goal.at.returns-then-not-rest c).Else-not-functional)
-    (second-good (goal.at.returns-then-not-rest c).Else-not-functional) c.read_joins-rest.result c.read_joins-rest.ensures
-    (not-true c.read_joins-rest.result.good c.if-not-rest.true)
+pub returns-in_default-rest : goal.returns-in_default-rest
+returns-in_default-rest c =
+    refuses-joins c.args.file.now c.args.n c.requires.le_n.0 c.part.result.now c.part.ensures c.read_relations.result c.read_relations.ensures
+    c.in-Some.relations c.in-Some.is c.part-second.result.now c.part-second.ensures c.read_dependencies-functional.result
+    c.read_dependencies-functional.ensures (bytes-known c.args.file.now (λ i. (c.type_inv.file i).fits)) c.in-Some-functional.functional
+    c.in-Some-functional.is c.read_joins-rest.result c.read_joins-rest.ensures c.in_default-rest.is
 
-pub read_places-requires : goal.read_places-requires
-read_places-requires c =
-    record {
-      widths_value = relations-known (goal.at.read_places-requires c).Else-not-first;
-      le_n = c.requires.le_n;
-      file_value = c.requires.file_value;
-    }
+pub read_places-requires-clause-widths_value : goal.read_places-requires-clause-widths_value
+read_places-requires-clause-widths_value c = relations-known (goal.at.read_places-requires-clause-widths_value c).In-Some
 
 pub returns : goal.returns
 returns c =
-    c.read_places.ensures ∙ reads-places c.args.file.now c.args.n c.requires.le_n.0 c.part.result.now
-    c.part.ensures c.read_relations-first.result c.read_relations-first.ensures c.part-second.result.now c.part-second.ensures
-    (not-false c.read_relations-first.result.good c.if-not-first.false) c.read_dependencies-functional.result
-    c.read_dependencies-functional.ensures (known-bytes (goal.at.returns c).Else-not-functional)
-    (second-good (goal.at.returns c).Else-not-functional) c.read_joins-rest.result c.read_joins-rest.ensures
-    (not-false c.read_joins-rest.result.good c.if-not-rest.false)
+    c.read_places.ensures
+    ∙ reads-places c.args.file.now c.args.n c.requires.le_n.0 c.part.result.now c.part.ensures c.read_relations.result c.read_relations.ensures
+    c.in-Some.relations c.in-Some.is c.part-second.result.now c.part-second.ensures c.read_dependencies-functional.result
+    c.read_dependencies-functional.ensures (bytes-known c.args.file.now (λ i. (c.type_inv.file i).fits)) c.in-Some-functional.functional
+    c.in-Some-functional.is c.read_joins-rest.result c.read_joins-rest.ensures c.in-Some-rest.rest c.in-Some-rest.is
