@@ -4,7 +4,7 @@ use mathlib.Core.List.{List}
 use mathlib.Core.Option.{Option, none, some}
 use Prim.Native.Nat.{ℕ}
 use Rattle.record.specs.declared.Record.{Record}
-use Rattle.std.specs.Prelude.{Ok, Err}
+use Rattle.std.specs.Prelude.{Ok}
 use Rattle.record.specs.declared.Outcome.{Outcome}
 use Rattle.record.specs.Calls.{outcome_reply}
 use Rattle.refusals.specs.Refusals.{Condition, first_holding, Reply, reply, refusal_in}

@@ -11,7 +11,8 @@ use Rattle.std.specs.Prelude.{Ok, Err}
 use Rattle.record.specs.declared.Outcome.{Outcome}
 use Rattle.record.specs.Rule.{good_record}
 use Rattle.record.specs.Calls.{outcome_reply}
-use Rattle.refusals.specs.Refusal.{reply_of}
+use Rattle.refusals.specs.declared.Refusal.{Refusal}
+use Rattle.refusals.specs.Refusal.{number_of, reply_of}
 use Rattle.format.specs.File.{read_file, read_outcome, file_of}
 use Rattle.format.proofs.RoundTrip.{sound-record, file-written-back}
 use Rattle.format.proofs.Bytes.{bytes-known}
@@ -50,9 +51,9 @@ pub result-done : (o : Outcome) → o.answer ≡ Ok tt → result_of (outcome_re
 unfolding ◌>>=◌
 result-done o a = rw a
 
-pub result-refused : (o : Outcome) (n : ℕ) → o.answer ≡ Err n → result_of (outcome_reply o) ≡ refused n
+pub result-refused : (o : Outcome) (why : Refusal) → o.answer ≡ Err why → result_of (outcome_reply o) ≡ refused (number_of why)
 unfolding ◌>>=◌
-result-refused o n a = rw a
+result-refused o why a = rw a
 
 -- ---- a file that is read
 
@@ -76,8 +77,9 @@ module _ (file : List ℕ) (o : Outcome) (e : outcome_reply o ≡ read_outcome (
   read_done next a = goes_on (outcome-done (read_file file) o e a) next
 
   -- and stops with the number of a refused one
-  pub read-refused : {A : Type 0} (next : Record → Reply A) (n : ℕ) → o.answer ≡ Err n → (read_file file >>= next) ≡ refused n
-  read-refused next n a = still-refused (outcome-refused (read_file file) o n e a) next
+  pub read-refused : {A : Type 0} (next : Record → Reply A) (why : Refusal) (n : ℕ) → n ≡ number_of why → o.answer ≡ Err why
+      → (read_file file >>= next) ≡ refused n
+  read-refused next why n same a = still-refused (outcome-refused (read_file file) o why e a) next ∙ ap refused (sym same)
 
   module _ (bytes : (i : ℕ) → get_or file i 0 < 256) where
     pub read_back : (r : Record) → read_file file ≡ gives r → (good_record r ≡ true) × (file_of r ≡ file)

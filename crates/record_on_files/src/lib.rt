@@ -10,7 +10,7 @@ ghost use Rattle.lent_numbers.specs.Lent.{fitted, returned, leaves, Wrote};
 ghost use Rattle.record_on_files.specs.Records.{result_of, file_fitted, join_with, put_part, copied, opened, added, added_join, put_in, dropped, determined_in};
 ghost use Rattle.record_on_files.specs.internal.Steps.{GoodIfDone};
 
-use lent_numbers::{leave_columns, leave_length, number_of};
+use lent_numbers::{leave_columns, leave_count, number_of};
 use query::{Dependency, JoinDependency};
 use record::calls::refused;
 use record::{Outcome, Record};
@@ -24,7 +24,7 @@ pub fn store(given: Record, out: &mut [u8], size: &mut usize) -> u8
     requires { good_record given ≡ true }
     ensures { Wrote (fitted (length out.old) (file_of given)) out.old size.old result out.new size.new }
 {
-    leave_length(write_good(given, out), size)
+    leave_count(write_good(given, out), size)
 }
 
 // Stores the record of a call, unless it is refused.
@@ -48,14 +48,8 @@ pub fn put_part(given: Record, place: usize, part: &[u8]) -> Outcome
         return refused(Refusal::NoSuchPlace, given);
     }
     let widths = given.widths;
-    let read = decoder::read_place(part, true, given.relations, widths);
-    let answer = read.answer;
-    match answer {
-        Ok(()) => {
-            let p = read.place;
-            let query = p.query;
-            given.put(place, query)
-        }
+    match decoder::read_place(part, true, given.relations, widths) {
+        Ok(read) => given.put(place, read.query),
         Err(refusal) => refused(refusal, given),
     }
 }
@@ -84,9 +78,7 @@ pub fn add_sets(given: Record, relation: u8, sets: &[u8]) -> Outcome
 pub fn check_file(file: &[u8]) -> u8
     ensures { result ≡ returned (read_file file.now) }
 {
-    let outcome = file::read(file);
-    let answer = outcome.answer;
-    number_of(answer)
+    number_of(file::read(file).answer)
 }
 
 // Reads a file and writes its record back.

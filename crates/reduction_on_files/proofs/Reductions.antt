@@ -14,7 +14,8 @@ use Rattle.query.specs.declared.Cell.{Cell}
 use Rattle.record.specs.declared.Record.{Record}
 use Rattle.std.specs.Prelude.{Ok, Err}
 use Rattle.record.specs.Rule.{good_record}
-use Rattle.refusals.specs.Refusal.{reply_of}
+use Rattle.refusals.specs.declared.Refusal.{Refusal}
+use Rattle.refusals.specs.Refusal.{number_of, reply_of}
 use Rattle.lists.specs.Over.{over}
 use Rattle.format.specs.File.{read_file, file_of}
 use Rattle.writer.specs.Write.{written, after_writing}
@@ -36,9 +37,9 @@ module _ (o : Reduced) (out : List ℕ) (size count : ℕ) (mapping : List ℕ) 
   pub reduction-none : {x : Reply Reduced} {n : ℕ} → x ≡ refused n → ReductionGiven x out size count mapping n out size count mapping
   reduction-none {n = n} p = reduction-same p n out size count mapping (refl, refl, refl, refl, refl)
 
-  pub reduction-refused : (n : ℕ) → o.answer ≡ Err n → reduction_fits (length out) (length mapping) o ≡ refused n
+  pub reduction-refused : (why : Refusal) (n : ℕ) → n ≡ number_of why → o.answer ≡ Err why → reduction_fits (length out) (length mapping) o ≡ refused n
   unfolding ◌>>=◌
-  reduction-refused n e = rw e
+  reduction-refused why n same e = rw (e, same)
 
   module _ (done : o.answer ≡ Ok tt) where
     pub reduction-short : length mapping < 192 → reduction_fits (length out) (length mapping) o ≡ refused buffer_too_short
@@ -92,8 +93,9 @@ module _ (file : List ℕ) (source target : ℕ) (out : List ℕ) (size count : 
         given = w;
       }
 
-  pub reduce-refused : (n : ℕ) → read_file file ≡ refused n → ReduceGives file source target out size count mapping n out size count mapping
-  reduce-refused n e =
+  pub reduce-refused : (n m : ℕ) → n ≡ m → read_file file ≡ refused m → ReduceGives file source target out size count mapping n out size count mapping
+  reduce-refused n m same a =
+      let e : read_file file ≡ refused n = a ∙ ap refused (sym same) in
       record {
         result = refused n;
         reducing = subst (λ (x : Reply Record). Reducing x source target (refused n) (length out) (length mapping)) (sym e) refl;

@@ -26,7 +26,7 @@ pub fn store_reduction(
     match answer {
         Ok(()) => {
             if mapping.len() < 192 {
-                return Refusal::BufferTooShort;
+                return u8::from(Refusal::BufferTooShort);
             }
             let after = reduced.record;
             let images = reduced.images;

@@ -3,7 +3,7 @@ use mathlib.Core.Path.{◌≡◌, refl, sym, ap, ◌∙◌}
 use mathlib.Core.List.{List}
 use Prim.Native.Nat.{ℕ}
 use Rattle.admission.specs.Conditions.{search_conditions}
-use Rattle.replies.specs.Replies.{count_reply}
+use Rattle.refusals.specs.Refusal.{reply_of}
 use Rattle.database.specs.Calls.{counted, UnusedIfRefused}
 use Rattle.database_on_files.specs.Databases.{counted_in, UnusedInFile}
 use Rattle.refusals.specs.Refusals.{Reply, refused}
@@ -16,12 +16,12 @@ use Rattle.database_on_files.proofs.count_in_file_lent.Goals.{After-count_lent-d
 
 -- Once the file is read the count is that of its record
 of-record : (c : After-count_lent-done)
-    → count_reply c.count_lent-done.result ≡ counted_in c.args.file.now c.args.place c.args.words.now
+    → reply_of c.count_lent-done.result ≡ counted_in c.args.file.now c.args.place c.args.words.now
 of-record c =
     let s = c.args in
     let o = c.read-outcome in
     c.count_lent-done.ensures.result_value
-    ∙ sym (read_done s.file.now o.result o.ensures (λ r. counted r s.place s.words.now) c.in-Done.is)
+    ∙ sym (read_done s.file.now o.result o.ensures (λ r. counted r s.place s.words.now) c.in-Ok.is)
 
 -- Working memory is as the call on its record leaves it
 unused : (c : After-count_lent-done) (before after : List ℕ)
@@ -30,12 +30,12 @@ unused : (c : After-count_lent-done) (before after : List ℕ)
 unused c before after =
     let s = c.args in
     let o = c.read-outcome in
-    unused-read s.file.now o.result o.ensures c.in-Done.is
+    unused-read s.file.now o.result o.ensures c.in-Ok.is
     (λ r. search_conditions r s.place s.words.now) before after
 
-pub returns-in-Done : goal.returns-in-Done
-returns-in-Done c =
-    let k = (goal.at.returns-in-Done c).After-count_lent-done in
+pub returns-in-Ok : goal.returns-in-Ok
+returns-in-Ok c =
+    let k = (goal.at.returns-in-Ok c).After-count_lent-done in
     let p = of-record k in
     let l = c.leave_count.ensures in
     let m = c.count_lent-done.ensures in
@@ -48,12 +48,12 @@ returns-in-Done c =
       unused_in_file_4 = unused k _ _ m.unused_if_refused_4;
     }
 
-pub returns-in-Refused : goal.returns-in-Refused
-returns-in-Refused c =
+pub returns-in-Err : goal.returns-in-Err
+returns-in-Err c =
     let o = c.read-outcome in
     let s = c.args in
-    let p : counted_in s.file.now s.place s.words.now ≡ refused c.in-Refused.n =
-    read-refused s.file.now o.result o.ensures (λ r. counted r s.place s.words.now) _ c.in-Refused.is in
+    let p : counted_in s.file.now s.place s.words.now ≡ refused c.from.result =
+    read-refused s.file.now o.result o.ensures (λ r. counted r s.place s.words.now) c.in-Err.refusal c.from.result c.from.ensures c.in-Err.is in
     record {
       value = refused-number p;
       count_after = refused-leaves p (λ n. n) s.count.now;

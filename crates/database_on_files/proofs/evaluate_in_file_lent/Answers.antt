@@ -4,7 +4,7 @@ use mathlib.Core.List.{List}
 use lib.ListN.{length}
 use Prim.Native.Nat.{ℕ}
 use Rattle.admission.specs.Conditions.{search_conditions}
-use Rattle.replies.specs.Replies.{count_reply}
+use Rattle.refusals.specs.Refusal.{reply_of}
 use Rattle.database.specs.Calls.{evaluated, buffer_then, UnusedIfRefused}
 use Rattle.database_on_files.specs.Databases.{evaluated_in, answers_left, UnusedInFile}
 use Rattle.refusals.specs.Refusals.{Reply, refused}
@@ -19,12 +19,12 @@ use Rattle.database_on_files.proofs.evaluate_in_file_lent.Goals.{After-evaluate_
 
 -- Once the file is read the count is that of its record
 of-record : (c : After-evaluate_lent-done)
-    → count_reply c.evaluate_lent-done.result ≡ evaluated_in c.args.file.now c.args.place c.args.words.now (length c.args.answers.now)
+    → reply_of c.evaluate_lent-done.result ≡ evaluated_in c.args.file.now c.args.place c.args.words.now (length c.args.answers.now)
 of-record c =
     let s = c.args in
     let o = c.read-outcome in
     c.evaluate_lent-done.ensures.result_value
-    ∙ sym (read_done s.file.now o.result o.ensures (λ r. evaluated r s.place s.words.now (length s.answers.now)) c.in-Done.is)
+    ∙ sym (read_done s.file.now o.result o.ensures (λ r. evaluated r s.place s.words.now (length s.answers.now)) c.in-Ok.is)
 
 -- And the answers are those of its place
 written : (c : After-evaluate_lent-done)
@@ -33,7 +33,7 @@ written : (c : After-evaluate_lent-done)
 written c =
     let s = c.args in
     let o = c.read-outcome in
-    done-leaves (outcome-done (read_file s.file.now) o.result o.ensures c.in-Done.is)
+    done-leaves (outcome-done (read_file s.file.now) o.result o.ensures c.in-Ok.is)
     (λ r. buffer_then r s.place s.words.now s.answers.now) s.answers.now
 
 -- Working memory is as the call on its record leaves it
@@ -43,12 +43,12 @@ unused : (c : After-evaluate_lent-done) (before after : List ℕ)
 unused c before after =
     let s = c.args in
     let o = c.read-outcome in
-    unused-read s.file.now o.result o.ensures c.in-Done.is
+    unused-read s.file.now o.result o.ensures c.in-Ok.is
     (λ r. search_conditions r s.place s.words.now) before after
 
-pub returns-in-Done : goal.returns-in-Done
-returns-in-Done c =
-    let k = (goal.at.returns-in-Done c).After-evaluate_lent-done in
+pub returns-in-Ok : goal.returns-in-Ok
+returns-in-Ok c =
+    let k = (goal.at.returns-in-Ok c).After-evaluate_lent-done in
     let p = of-record k in
     let l = c.leave_count.ensures in
     let m = c.evaluate_lent-done.ensures in
@@ -62,16 +62,16 @@ returns-in-Done c =
       unused_in_file_4 = unused k _ _ m.unused_if_refused_4;
     }
 
-pub returns-in-Refused : goal.returns-in-Refused
-returns-in-Refused c =
+pub returns-in-Err : goal.returns-in-Err
+returns-in-Err c =
     let o = c.read-outcome in
     let s = c.args in
-    let p : evaluated_in s.file.now s.place s.words.now (length s.answers.now) ≡ refused c.in-Refused.n =
-    read-refused s.file.now o.result o.ensures (λ r. evaluated r s.place s.words.now (length s.answers.now)) _ c.in-Refused.is in
+    let p : evaluated_in s.file.now s.place s.words.now (length s.answers.now) ≡ refused c.from.result =
+    read-refused s.file.now o.result o.ensures (λ r. evaluated r s.place s.words.now (length s.answers.now)) c.in-Err.refusal c.from.result c.from.ensures c.in-Err.is in
     record {
       value = refused-number p;
       answers_after =
-          refused-leaves (outcome-refused (read_file s.file.now) o.result _ o.ensures c.in-Refused.is)
+          refused-leaves (outcome-refused (read_file s.file.now) o.result c.in-Err.refusal o.ensures c.in-Err.is)
           (λ r. buffer_then r s.place s.words.now s.answers.now) s.answers.now;
       count_after = refused-leaves p (λ n. n) s.count.now;
       unused_in_file = λ n r. refl;

@@ -1,5 +1,6 @@
 -- `test_in_file` gives what a test of the file's record says. Assumes nothing.
 use mathlib.Core.Path.{◌≡◌, sym, ap, ◌∙◌}
+use Rattle.std.specs.Prelude.{Option as Maybe}
 use Rattle.refusals.specs.Refusals.{◌>>=◌, gives, refused, Reply}
 use Rattle.words.specs.declared.Violation.{Violation}
 use Rattle.database.specs.Calls.{tested}
@@ -11,17 +12,17 @@ use Rattle.database_on_files.specs.Databases.{tested_in}
 use Rattle.record_on_files.proofs.Files.{read_done, read-refused}
 use Rattle.database_on_files.proofs.test_in_file.Goals as goal
 
-abbrev next : Violation → Reply TestNumbers
+abbrev next : Maybe Violation → Reply TestNumbers
 next v = gives (test_numbers v)
 
-pub returns-in-Done : goal.returns-in-Done
-returns-in-Done c =
+pub returns-in-Ok : goal.returns-in-Ok
+returns-in-Ok c =
     let a = c.args in
     let o = c.read-outcome in
     let l = c.leave_test.ensures in
     let p : test_result c.test-found.result ≡ tested_in a.file.now a.words.now =
-    ap (λ (x : Reply Violation). x >>= next) c.test-found.ensures
-    ∙ sym (read_done a.file.now o.result o.ensures (λ r. tested r a.words.now >>= next) c.in-Done.is) in
+    ap (λ (x : Reply (Maybe Violation)). x >>= next) c.test-found.ensures
+    ∙ sym (read_done a.file.now o.result o.ensures (λ r. tested r a.words.now >>= next) c.in-Ok.is) in
     record {
       value = l.value ∙ ap returned p;
       verdict_after = l.verdict_after ∙ leaves-same p (λ t. t.verdict) a.verdict.now;
@@ -32,12 +33,12 @@ returns-in-Done c =
       fourth_after = l.fourth_after ∙ leaves-same p (λ t. t.fourth) a.fourth.now;
     }
 
-pub returns-in-Refused : goal.returns-in-Refused
-returns-in-Refused c =
+pub returns-in-Err : goal.returns-in-Err
+returns-in-Err c =
     let a = c.args in
     let o = c.read-outcome in
-    let p : tested_in a.file.now a.words.now ≡ refused c.in-Refused.n =
-    read-refused a.file.now o.result o.ensures (λ r. tested r a.words.now >>= next) _ c.in-Refused.is in
+    let p : tested_in a.file.now a.words.now ≡ refused c.from.result =
+    read-refused a.file.now o.result o.ensures (λ r. tested r a.words.now >>= next) c.in-Err.refusal c.from.result c.from.ensures c.in-Err.is in
     record {
       value = refused-number p;
       verdict_after = refused-leaves p (λ t. t.verdict) a.verdict.now;

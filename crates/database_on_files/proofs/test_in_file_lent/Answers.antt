@@ -7,6 +7,7 @@ use Rattle.database.specs.Calls.{tested, UnusedIfRefused}
 use Rattle.lent_numbers.specs.Numbers.{TestNumbers, test_numbers}
 use Rattle.lent_numbers.specs.internal.Results.{test_result}
 use Rattle.database_on_files.specs.Databases.{tested_in, UnusedInFile}
+use Rattle.std.specs.Prelude.{Option as Maybe}
 use Rattle.refusals.specs.Refusals.{Reply, gives, refused, ◌>>=◌}
 use Rattle.words.specs.declared.Violation.{Violation}
 use Rattle.lent_numbers.specs.Lent.{returned, leaves}
@@ -21,9 +22,9 @@ of-record : (c : After-test_lent-found) → test_result c.test_lent-found.result
 of-record c =
     let s = c.args in
     let o = c.read-outcome in
-    let next : Violation → Reply TestNumbers = λ v. gives (test_numbers v) in
-    ap (λ (x : Reply Violation). x >>= next) c.test_lent-found.ensures.result_value
-    ∙ sym (read_done s.file.now o.result o.ensures (λ r. tested r s.words.now >>= next) c.in-Done.is)
+    let next : Maybe Violation → Reply TestNumbers = λ v. gives (test_numbers v) in
+    ap (λ (x : Reply (Maybe Violation)). x >>= next) c.test_lent-found.ensures.result_value
+    ∙ sym (read_done s.file.now o.result o.ensures (λ r. tested r s.words.now >>= next) c.in-Ok.is)
 
 -- Working memory is as the test on its record leaves it
 unused : (c : After-test_lent-found) (before after : List ℕ)
@@ -32,12 +33,12 @@ unused : (c : After-test_lent-found) (before after : List ℕ)
 unused c before after =
     let s = c.args in
     let o = c.read-outcome in
-    unused-read s.file.now o.result o.ensures c.in-Done.is
+    unused-read s.file.now o.result o.ensures c.in-Ok.is
     (λ r. test_conditions r s.words.now) before after
 
-pub returns-in-Done : goal.returns-in-Done
-returns-in-Done c =
-    let k = (goal.at.returns-in-Done c).After-test_lent-found in
+pub returns-in-Ok : goal.returns-in-Ok
+returns-in-Ok c =
+    let k = (goal.at.returns-in-Ok c).After-test_lent-found in
     let p = of-record k in
     let a = c.args in
     let l = c.leave_test.ensures in
@@ -54,12 +55,12 @@ returns-in-Done c =
       unused_in_file_2 = unused k _ _ m.unused_if_refused_2;
     }
 
-pub returns-in-Refused : goal.returns-in-Refused
-returns-in-Refused c =
+pub returns-in-Err : goal.returns-in-Err
+returns-in-Err c =
     let a = c.args in
     let o = c.read-outcome in
-    let p : tested_in a.file.now a.words.now ≡ refused c.in-Refused.n =
-    read-refused a.file.now o.result o.ensures (λ r. tested r a.words.now >>= λ v. gives (test_numbers v)) _ c.in-Refused.is in
+    let p : tested_in a.file.now a.words.now ≡ refused c.from.result =
+    read-refused a.file.now o.result o.ensures (λ r. tested r a.words.now >>= λ v. gives (test_numbers v)) c.in-Err.refusal c.from.result c.from.ensures c.in-Err.is in
     record {
       value = refused-number p;
       verdict_after = refused-leaves p (λ t. t.verdict) a.verdict.now;

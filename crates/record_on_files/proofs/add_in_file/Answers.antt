@@ -18,27 +18,27 @@ store_outcome-requires c =
     add-sound r (read-good s.args.file.now c.read-outcome.result
     c.read-outcome.ensures (λ i.
     (c.type_inv.file i).fits)
-    c.in-Done.is) _ c.add_dependency.result
+    c.in-Ok.is) _ c.add_dependency.result
     (read-long s.args.file.now c.read-outcome.result
     c.read-outcome.ensures (λ i.
     (c.type_inv.file i).fits)
-    c.in-Done.is) c.add_dependency.ensures
+    c.in-Ok.is) c.add_dependency.ensures
 
-pub returns-in-Done : goal.returns-in-Done
-returns-in-Done c =
+pub returns-in-Ok : goal.returns-in-Ok
+returns-in-Ok c =
     let s = c in
     let out = s.args.out.now in
     let d : Dependency = record { relation = s.args.relation; left = s.args.left; right = s.args.right } in
     wrote-same (ap (file_fitted (length out)) (read_done s.args.file.now
     c.read-outcome.result
     c.read-outcome.ensures (λ r. result_of (add_dependency r d))
-    c.in-Done.is ∙ ap result_of
+    c.in-Ok.is ∙ ap result_of
     (sym c.add_dependency.ensures))) out s.args.size.now _ _ _ c.store_outcome.ensures
 
-pub returns-in-Refused : goal.returns-in-Refused
-returns-in-Refused c =
+pub returns-in-Err : goal.returns-in-Err
+returns-in-Err c =
     let s = c in
     let out = s.args.out.now in
     let d : Dependency = record { relation = s.args.relation; left = s.args.left; right = s.args.right } in
     wrote_none (still-refused (read-refused s.args.file.now c.read-outcome.result c.read-outcome.ensures
-    (λ r. result_of (add_dependency r d)) _ c.in-Refused.is) (λ r. fitted (length out) (file_of r))) out s.args.size.now
+    (λ r. result_of (add_dependency r d)) c.in-Err.refusal c.from.result c.from.ensures c.in-Err.is) (λ r. fitted (length out) (file_of r))) out s.args.size.now

@@ -6,4 +6,4 @@ use Rattle.record_on_files.proofs.check_file.Goals as goal
 pub returns : goal.returns
 returns c =
     c.number_of.ensures
-    ∙ read_number c.args.file.now c.read-outcome.result c.read-outcome.ensures
+    ∙ read_number c.args.file.now c.read.result c.read.ensures

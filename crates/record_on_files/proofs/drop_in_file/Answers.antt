@@ -17,21 +17,21 @@ store_outcome-requires c =
     (read-good s.args.file.now c.read-outcome.result
     c.read-outcome.ensures (λ i.
     (c.type_inv.file i).fits)
-    c.in-Done.is) _ c.drop_query.result c.drop_query.ensures
+    c.in-Ok.is) _ c.drop_query.result c.drop_query.ensures
 
-pub returns-in-Done : goal.returns-in-Done
-returns-in-Done c =
+pub returns-in-Ok : goal.returns-in-Ok
+returns-in-Ok c =
     let s = c in
     let out = s.args.out.now in
     wrote-same (ap (file_fitted (length out)) (read_done s.args.file.now
     c.read-outcome.result
     c.read-outcome.ensures (λ r. result_of (drop_query r s.args.place))
-    c.in-Done.is ∙ ap result_of
+    c.in-Ok.is ∙ ap result_of
     (sym c.drop_query.ensures))) out s.args.size.now _ _ _ c.store_outcome.ensures
 
-pub returns-in-Refused : goal.returns-in-Refused
-returns-in-Refused c =
+pub returns-in-Err : goal.returns-in-Err
+returns-in-Err c =
     let s = c in
     let out = s.args.out.now in
     wrote_none (still-refused (read-refused s.args.file.now c.read-outcome.result c.read-outcome.ensures
-    (λ r. result_of (drop_query r s.args.place)) _ c.in-Refused.is) (λ r. fitted (length out) (file_of r))) out s.args.size.now
+    (λ r. result_of (drop_query r s.args.place)) c.in-Err.refusal c.from.result c.from.ensures c.in-Err.is) (λ r. fitted (length out) (file_of r))) out s.args.size.now

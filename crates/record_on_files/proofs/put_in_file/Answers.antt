@@ -12,25 +12,25 @@ pub put_part-requires : goal.put_part-requires
 put_part-requires c =
     read-good c.args.file.now c.read-outcome.result
     c.read-outcome.ensures (λ i. (c.type_inv.file i).fits)
-    c.in-Done.is
+    c.in-Ok.is
 
 pub store_outcome-requires : goal.store_outcome-requires
 store_outcome-requires c =
     c.put_part.ensures.1
 
-pub returns-in-Done : goal.returns-in-Done
-returns-in-Done c =
+pub returns-in-Ok : goal.returns-in-Ok
+returns-in-Ok c =
     let s = c in
     let out = s.args.out.now in
     wrote-same (ap (file_fitted (length out)) (read_done s.args.file.now
     c.read-outcome.result
     c.read-outcome.ensures (put_part s.args.place s.args.query.now)
-    c.in-Done.is ∙ sym c.put_part.ensures.0))
+    c.in-Ok.is ∙ sym c.put_part.ensures.0))
     out s.args.size.now _ _ _ c.store_outcome.ensures
 
-pub returns-in-Refused : goal.returns-in-Refused
-returns-in-Refused c =
+pub returns-in-Err : goal.returns-in-Err
+returns-in-Err c =
     let s = c in
     let out = s.args.out.now in
     wrote_none (still-refused (read-refused s.args.file.now c.read-outcome.result c.read-outcome.ensures
-    (put_part s.args.place s.args.query.now) _ c.in-Refused.is) (λ r. fitted (length out) (file_of r))) out s.args.size.now
+    (put_part s.args.place s.args.query.now) c.in-Err.refusal c.from.result c.from.ensures c.in-Err.is) (λ r. fitted (length out) (file_of r))) out s.args.size.now

@@ -12,24 +12,24 @@ store_reduction-requires c =
     c.args.target
     c.reduce-reduced.result c.reduce-reduced.ensures
 
-pub returns-in-Done : goal.returns-in-Done
-returns-in-Done c =
+pub returns-in-Ok : goal.returns-in-Ok
+returns-in-Ok c =
     let a = c.args in
     reduce-done a.file.now a.source a.target a.out.now a.size.now a.count.now a.mapping.now
     c.read-outcome.result.«record»
     (outcome-done (read_file a.file.now)
     c.read-outcome.result
     c.read-outcome.ensures
-    c.in-Done.is)
+    c.in-Ok.is)
     c.reduce-reduced.result
     c.reduce-reduced.ensures
     (reduced-shaped c.reduce-reduced.result _
     c.reduce-reduced.type_inv) _ _ _ _ _
     c.store_reduction.ensures
 
-pub returns-in-Refused : goal.returns-in-Refused
-returns-in-Refused c =
+pub returns-in-Err : goal.returns-in-Err
+returns-in-Err c =
     let a = c.args in
-    reduce-refused a.file.now a.source a.target a.out.now a.size.now a.count.now a.mapping.now _
+    reduce-refused a.file.now a.source a.target a.out.now a.size.now a.count.now a.mapping.now _ _ c.from.ensures
     (outcome-refused (read_file a.file.now) c.read-outcome.result _ c.read-outcome.ensures
-    c.in-Refused.is)
+    c.in-Err.is)

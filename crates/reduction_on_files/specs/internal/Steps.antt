@@ -1,6 +1,6 @@
 -- What the functions behind the calls ask and answer. No promise of a call cites this.
 use Rattle.std.specs.Prelude.{◌≡◌, true}
-use Rattle.std.specs.Prelude.{Ok, Err}
+use Rattle.std.specs.Prelude.{Ok}
 use Rattle.record.specs.Rule.{good_record}
 use Rattle.reduction.specs.declared.Reduced.{Reduced}
 
